@@ -2,8 +2,8 @@
 use Rattle.rw_base.proofs.Common.{◌≡◌, ℕ, ◌+◌, ◌*◌, max, Bool, true, false, List, ◌∷◌, refl, ap, ◌∙◌, subst, if◌then◌else◌}
 use Rattle.rpl_tree.specs.declared.words.TwoWord.TheVariants as W
 use Rattle.rpl_tree.proofs.Common.{Budget, capped, limits, Costed, Price, costed_heads, most, most_arguments, most_named, most_of, most_of_act, most_of_acts, most_of_body, price_of_looks, price_of_puts, price_of_steps, to_widen, Head, Names, count_of, kind_named, takes_named, tree_kind, Tree, Trees, tree, bind, call, choice, each, list, mapped, name, two, Acts, with_name, Kind, element_of, is_same_kind, room_of, weight}
-use Rattle.rpl_budget.specs.Pass.{Priced, heads_of}
-use Rattle.rpl_budget.specs.Loads.{widening}
+use Rattle.rpl_budget.specs.Pass.{Priced, priced_heads}
+use Rattle.rpl_budget.specs.Loads.{widening_weight}
 use Rattle.rpl_budget.proofs.Exact.{costed, heads_same}
 use Rattle.rpl_budget.proofs.Sums as Sums
 use Rattle.rpl_budget.proofs.Sums.{plus}
@@ -62,7 +62,7 @@ module _ (lane : Lane) (functions : List Priced) where
   C names t = cap (most lane.price F names t)
 
   -- what is read with the kinds that these functions give
-  by_heads : (P : List Head → Type 0) → P (costed_heads F) → P (heads_of functions)
+  by_heads : (P : List Head → Type 0) → P (costed_heads F) → P (priced_heads functions)
   by_heads P p = subst P (heads_same lane.part functions) p
 
   -- room that is given, if it is given
@@ -70,7 +70,7 @@ module _ (lane : Lane) (functions : List Priced) where
   given true w = lane.none
   given false w = lane.stop w
 
-  widened : (place kind : Kind) → lane.steps (widening place kind) ≡ cap (to_widen lane.price F place kind)
+  widened : (place kind : Kind) → lane.steps (widening_weight place kind) ≡ cap (to_widen lane.price F place kind)
   widened place kind = given (is_same_kind place kind) (weight place)
 
   abbrev price : Price
@@ -91,7 +91,7 @@ module _ (lane : Lane) (functions : List Priced) where
 
   -- a value of a kind, where another kind's room is given
   abbrev Fitted : Kind → Kind → ℕ → ℕ
-  Fitted place kind cost = and cost (and (lane.steps (widening place kind)) 0)
+  Fitted place kind cost = and cost (and (lane.steps (widening_weight place kind)) 0)
 
   abbrev Choice : Names → Tree → Tree → Tree → List Head → Type 0
   Choice names c y n h =
@@ -99,7 +99,7 @@ module _ (lane : Lane) (functions : List Priced) where
       and (C names c) (and (max (Fitted kind (tree_kind h names y) (C names y)) (Fitted kind (tree_kind h names n) (C names n))) (lane.steps 3))
       ≡ C names (choice c y n)
 
-  pub choice_cost : (names : Names) (c y n : Tree) → Choice names c y n (heads_of functions)
+  pub choice_cost : (names : Names) (c y n : Tree) → Choice names c y n (priced_heads functions)
   choice_cost names c y n =
       by_heads (Choice names c y n)
       (Sums.choice lane.limit (of names c) (of names y) (of names n) _ _ _ _ _ _
@@ -110,7 +110,7 @@ module _ (lane : Lane) (functions : List Priced) where
       let kind = tree_kind h names e in
       and (C names e) (and (lane.steps (weight kind)) (C ((x, kind) ∷ names) b)) ≡ C names (bind x e b)
 
-  pub bind_cost : (names : Names) (x : List ℕ) (e b : Tree) → Bind names x e b (heads_of functions)
+  pub bind_cost : (names : Names) (x : List ℕ) (e b : Tree) → Bind names x e b (priced_heads functions)
   bind_cost names x e b =
       let kind = tree_kind H names e in
       by_heads (Bind names x e b) (Sums.bind lane.limit (of names e) _ _ (of ((x, kind) ∷ names) b) (lane.stop (weight kind)))
@@ -124,7 +124,7 @@ module _ (lane : Lane) (functions : List Priced) where
       (cap (room_of all * and (Fitted total (tree_kind h inside b) (C inside b)) (lane.steps (weight total + 1)))))
       ≡ C names (each x l a f b)
 
-  pub each_cost : (names : Names) (x : List ℕ) (l : Tree) (a : List ℕ) (f b : Tree) → Each names x l a f b (heads_of functions)
+  pub each_cost : (names : Names) (x : List ℕ) (l : Tree) (a : List ℕ) (f b : Tree) → Each names x l a f b (priced_heads functions)
   each_cost names x l a f b =
       let all = tree_kind H names l in
       let total = tree_kind H names f in
@@ -140,7 +140,7 @@ module _ (lane : Lane) (functions : List Priced) where
       and (C names l) (and (and (lane.steps 1) 0) (cap (room_of all * and (C ((x, element_of all) ∷ names) b) (lane.steps 1))))
       ≡ C names (mapped x l b)
 
-  pub mapped_cost : (names : Names) (x : List ℕ) (l b : Tree) → Mapped names x l b (heads_of functions)
+  pub mapped_cost : (names : Names) (x : List ℕ) (l b : Tree) → Mapped names x l b (priced_heads functions)
   mapped_cost names x l b =
       let all = tree_kind H names l in
       by_heads (Mapped names x l b)
@@ -167,7 +167,7 @@ module _ (lane : Lane) (functions : List Priced) where
       ≡ cap (most_arguments price F names (kind ∷ kinds) (tree t ts))
 
   pub argument_cost : (names : Names) (kind : Kind) (kinds : List Kind) (t : Tree) (ts : Trees)
-      → Argument names kind kinds t ts (heads_of functions)
+      → Argument names kind kinds t ts (priced_heads functions)
   argument_cost names kind kinds t ts =
       by_heads (Argument names kind kinds t ts)
       (Sums.argument lane.limit (of names t) _ _ (most_arguments price F names kinds ts) (widened kind (tree_kind H names t)))
@@ -176,7 +176,7 @@ module _ (lane : Lane) (functions : List Priced) where
   Body names result body h =
       Fitted result (tree_kind h names body) (C names body) ≡ cap (most_of_body price F names result body)
 
-  pub body_cost : (names : Names) (result : Kind) (body : Tree) → Body names result body (heads_of functions)
+  pub body_cost : (names : Names) (result : Kind) (body : Tree) → Body names result body (priced_heads functions)
   body_cost names result body =
       by_heads (Body names result body)
       (Sums.room lane.limit (of names body) _ _ (widened result (tree_kind H names body)))
@@ -187,7 +187,7 @@ module _ (lane : Lane) (functions : List Priced) where
       and (C names e) (and (lane.steps (weight kind)) (cap (most_of_acts price F ((x, kind) ∷ names) body)))
       ≡ cap (most_of_act price F names (with_name x e body))
 
-  pub with_cost : (names : Names) (x : List ℕ) (e : Tree) (body : Acts) → WithName names x e body (heads_of functions)
+  pub with_cost : (names : Names) (x : List ℕ) (e : Tree) (body : Acts) → WithName names x e body (priced_heads functions)
   with_cost names x e body =
       let kind = tree_kind H names e in
       by_heads (WithName names x e body)
@@ -197,7 +197,7 @@ module _ (lane : Lane) (functions : List Priced) where
   Append names l r h =
       and (C names l) (and (C names r) (lane.steps (room_of (tree_kind h names l) + 2))) ≡ C names (two W.Append l r)
 
-  pub append_cost : (names : Names) (l r : Tree) → Append names l r (heads_of functions)
+  pub append_cost : (names : Names) (l r : Tree) → Append names l r (priced_heads functions)
   append_cost names l r =
       by_heads (Append names l r) (Sums.two lane.limit (of names l) (of names r) _ _ (lane.stop (room_of (tree_kind H names l) + 2)))
 
@@ -206,6 +206,6 @@ module _ (lane : Lane) (functions : List Priced) where
   Call names f ts h =
       and (cap (most_arguments price F names (takes_named h f) ts)) (cap (most_named F f)) ≡ C names (call f ts)
 
-  pub call_cost : (names : Names) (f : List ℕ) (ts : Trees) → Call names f ts (heads_of functions)
+  pub call_cost : (names : Names) (f : List ℕ) (ts : Trees) → Call names f ts (priced_heads functions)
   call_cost names f ts =
       by_heads (Call names f ts) (Sums.sum lane.limit (most_arguments price F names (takes_named H f) ts) (most_named F f))

@@ -2,7 +2,7 @@
 use Rattle.std.proofs.Common.{◌≡◌, ℕ, ◌+◌, max, List, [], ◌∷◌, refl, sym, ap, ap₂, ◌∙◌, subst, arith}
 use Rattle.rpl_tree.proofs.Common.{Budget, budget, capped, limits, Costed, costed_heads, costs_from, most_of_acts, most_of_body, param_names, price_of_looks, price_of_puts, price_of_steps, Head, Names, kind_of_type, acts_local_kinds, local_kinds, param_kinds, Tree, Acts, Declared, Parameter, TypeName, rule, function, Kind, weight, weights, height, height_of_acts, words_from}
 use Rattle.rpl_budget.specs.Budgets.{budgets_of, side_by_side}
-use Rattle.rpl_budget.specs.Pass.{Priced, call_budget, declared_budget, function_budget, heads_of, pass, passed_from, predefined_priced, rule_budget, room_for}
+use Rattle.rpl_budget.specs.Pass.{Priced, call_budget, declared_budget, function_budget, priced_heads, pass, passed_from, predefined_priced, budget_of_load, room_for}
 use Rattle.rpl_budget.proofs.Costs as Costs
 use Rattle.rpl_budget.proofs.Costs.{counting, looking, putting}
 use Rattle.rpl_budget.proofs.Exact.{costed, heads_same, stopped, stopped_budget}
@@ -18,7 +18,7 @@ module _ (functions : List Priced) where
   abbrev words_of : List Costed
   words_of = F (λ b. b.words)
 
-  by_heads : (P : List Head → Type 0) → P (heads_of functions) → P (costed_heads words_of)
+  by_heads : (P : List Head → Type 0) → P (priced_heads functions) → P (costed_heads words_of)
   by_heads P p = subst P (sym (heads_same (λ b. b.words) functions)) p
 
   -- ---- a rule
@@ -33,8 +33,8 @@ module _ (functions : List Priced) where
 
   rule_is : (body : Acts) → declared_budget (stopped functions) (rule [] body) ≡ stopped_budget (exact_rule body)
   rule_is body =
-      ap rule_budget (acts_are functions [] body)
-      ∙ by_heads (λ h. rule_budget (acts_found functions [] body) ≡ budget (capped limits.count (exact_rule body).count) (capped limits.looks (exact_rule body).looks)
+      ap budget_of_load (acts_are functions [] body)
+      ∙ by_heads (λ h. budget_of_load (acts_found functions [] body) ≡ budget (capped limits.count (exact_rule body).count) (capped limits.looks (exact_rule body).looks)
       (capped limits.puts (exact_rule body).puts) (capped limits.words (rule_words body h)))
       (same_budget refl refl refl (omega arith))
 

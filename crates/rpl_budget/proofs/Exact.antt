@@ -1,7 +1,7 @@
 -- Functions with exact costs, what stops of them, and what definitions see of them.
 use Rattle.rw_base.proofs.Common.{◌≡◌, ℕ, Bool, true, false, List, [], ◌∷◌, map, bytes_eq, refl, sym, ap, ◌∙◌, if◌then◌else◌}
 use Rattle.rpl_tree.proofs.Common.{Budget, budget, capped, limits, Costed, costed_heads, most_named, result_named, takes_named}
-use Rattle.rpl_budget.specs.Pass.{Priced, function_named, heads_of, room_for}
+use Rattle.rpl_budget.specs.Pass.{Priced, priced_named, priced_heads, room_for}
 
 -- as one price sees them
 abbrev pub costed : (Budget → ℕ) → List Priced → List Costed
@@ -14,7 +14,7 @@ stopped_budget b =
 abbrev pub stopped : List Priced → List Priced
 stopped functions = map (λ (f : Priced). record { head = f.head; room = room_for f.head.takes; most = stopped_budget f.most }) functions
 
-pub heads_same : (part : Budget → ℕ) (functions : List Priced) → costed_heads (costed part functions) ≡ heads_of functions
+pub heads_same : (part : Budget → ℕ) (functions : List Priced) → costed_heads (costed part functions) ≡ priced_heads functions
 heads_same part [] = refl
 heads_same part (f ∷ functions) = ap (λ hs. f.head ∷ hs) (heads_same part functions)
 
@@ -25,19 +25,19 @@ of_choice part true x y z e = refl
 of_choice part false x y z e = e
 
 pub takes_same : (functions : List Priced) (f : List ℕ)
-    → (function_named (stopped functions) f).head.takes ≡ takes_named (heads_of functions) f
+    → (priced_named (stopped functions) f).head.takes ≡ takes_named (priced_heads functions) f
 takes_same [] f = refl
 takes_same (known ∷ functions) f =
     of_choice (λ (p : Priced). p.head.takes) (bytes_eq known.head.name f) _ _ _ (takes_same functions f)
 
 pub result_same : (functions : List Priced) (f : List ℕ)
-    → (function_named (stopped functions) f).head.result ≡ result_named (heads_of functions) f
+    → (priced_named (stopped functions) f).head.result ≡ result_named (priced_heads functions) f
 result_same [] f = refl
 result_same (known ∷ functions) f =
     of_choice (λ (p : Priced). p.head.result) (bytes_eq known.head.name f) _ _ _ (result_same functions f)
 
 pub room_same : (functions : List Priced) (f : List ℕ)
-    → (function_named (stopped functions) f).room ≡ room_for (takes_named (heads_of functions) f)
+    → (priced_named (stopped functions) f).room ≡ room_for (takes_named (priced_heads functions) f)
 room_same [] f = refl
 room_same (known ∷ functions) f =
     of_choice (λ (p : Priced). p.room) (bytes_eq known.head.name f) _ _ _ (room_same functions f)
@@ -56,7 +56,7 @@ most_by true known rest x y e f = e
 most_by false known rest x y e f = f
 
 pub most_same : (functions : List Priced) (f : List ℕ)
-    → (function_named (stopped functions) f).most ≡ stopped_budget (most_of_all functions f)
+    → (priced_named (stopped functions) f).most ≡ stopped_budget (most_of_all functions f)
 most_same [] f = refl
 most_same (known ∷ functions) f =
     most_by (bytes_eq known.head.name f) known.most (most_of_all functions f) _ _ refl (most_same functions f)

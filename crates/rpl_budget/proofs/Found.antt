@@ -4,9 +4,9 @@ use Rattle.rpl_tree.specs.Kinds.{kind_named}
 use Rattle.rpl_scope.specs.Scope.{first_named}
 use Rattle.rpl_budget.specs.declared.kind.TreeKind.{TreeKind}
 use Rattle.rpl_budget.specs.declared.kind.TreeKind.TheVariants.{Number}
-use Rattle.rpl_budget.specs.Seen.{kind_seen, names_of}
+use Rattle.rpl_budget.specs.Seen.{tree_kind_seen, names_of}
 use Rattle.rpl_budget.proofs.Exact.{of_choice}
-use Rattle.rpl_budget.specs.Pass.{Priced, function_named, no_function}
+use Rattle.rpl_budget.specs.Pass.{Priced, priced_named, no_function}
 
 module _ {A B : Type 0} (passes : A → Bool) (value : A → B) where
   abbrev pub first_of_all : B → List A → B
@@ -31,10 +31,10 @@ module _ {A B : Type 0} (passes : A → Bool) (value : A → B) where
 -- ---- names
 
 pub kind_found : (names : List (List ℕ × TreeKind)) (x : List ℕ)
-    → kind_seen (unwrap_or (first_named names x) Number) ≡ kind_named (names_of names) x
+    → tree_kind_seen (unwrap_or (first_named names x) Number) ≡ kind_named (names_of names) x
 kind_found [] x = refl
 kind_found (entry ∷ names) x =
-    of_choice (λ kind. kind_seen (unwrap_or kind Number)) (bytes_eq entry.0 x) (Some entry.1) (first_named names x) _ (kind_found names x)
+    of_choice (λ kind. tree_kind_seen (unwrap_or kind Number)) (bytes_eq entry.0 x) (Some entry.1) (first_named names x) _ (kind_found names x)
 
 -- ---- functions
 
@@ -42,9 +42,9 @@ abbrev pub last_function : List ℕ → Priced → List Priced → Priced
 last_function x = last_of_all (λ (f : Priced). bytes_eq f.head.name x) (λ (f : Priced). f)
 
 latest : (x : List ℕ) (functions : List Priced)
-    → first_of_all (λ (f : Priced). bytes_eq f.head.name x) (λ (f : Priced). f) no_function functions ≡ function_named functions x
+    → first_of_all (λ (f : Priced). bytes_eq f.head.name x) (λ (f : Priced). f) no_function functions ≡ priced_named functions x
 latest x [] = refl
 latest x (f ∷ functions) = ap (λ found. if bytes_eq f.head.name x then f else found) (latest x functions)
 
-pub function_found : (x : List ℕ) (functions : List Priced) → last_function x no_function functions ≡ function_named (reverse functions) x
+pub function_found : (x : List ℕ) (functions : List Priced) → last_function x no_function functions ≡ priced_named (reverse functions) x
 function_found x functions = last_is_first (λ (f : Priced). bytes_eq f.head.name x) (λ (f : Priced). f) no_function functions ∙ latest x (reverse functions)

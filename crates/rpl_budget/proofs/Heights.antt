@@ -1,7 +1,7 @@
 -- How high each form stands, and what its locals take, by its parts, where each number stops above the limit.
 use Rattle.std.proofs.Common.{◌≡◌, ℕ, ◌+◌, ◌*◌, max, List, [], ◌∷◌, ◌++◌, sym, ap, ◌∙◌, subst, arith}
 use Rattle.rpl_tree.proofs.Common.{capped, limits, Costed, costed_heads, most_named, Head, Names, result_named, takes_named, tree_kind, Tree, Trees, tree, bind, call, choice, each, mapped, Acts, with_name, Kind, element_of, room_of, weight, weights, height, height_of_act, height_of_acts, height_of_arguments}
-use Rattle.rpl_budget.specs.Pass.{Priced, heads_of}
+use Rattle.rpl_budget.specs.Pass.{Priced, priced_heads}
 use Rattle.rpl_budget.proofs.Exact.{costed, heads_same}
 
 abbrev pub cap : ℕ → ℕ
@@ -70,7 +70,7 @@ module _ (functions : List Priced) where
   abbrev T : Names → Tree → ℕ
   T names t = cap (height F names t)
 
-  by_heads : (P : List Head → Type 0) → P H → P (heads_of functions)
+  by_heads : (P : List Head → Type 0) → P H → P (priced_heads functions)
   by_heads P p = subst P (heads_same (λ b. b.words) functions) p
 
   abbrev Choice : Names → Tree → Tree → Tree → List Head → Type 0
@@ -78,7 +78,7 @@ module _ (functions : List Priced) where
       let words = cap (weight (tree_kind h names (choice c y n))) in
       max (T names c) (max (max (max (T names y) (max 0 words)) (max (T names n) (max 0 words))) 0) ≡ T names (choice c y n)
 
-  pub choice_height : (names : Names) (c y n : Tree) → Choice names c y n (heads_of functions)
+  pub choice_height : (names : Names) (c y n : Tree) → Choice names c y n (priced_heads functions)
   choice_height names c y n =
       by_heads (Choice names c y n)
       (one_of_two (height F names c) (height F names y) (height F names n) (weight (tree_kind H names (choice c y n))))
@@ -86,7 +86,7 @@ module _ (functions : List Priced) where
   abbrev Bind : Names → List ℕ → Tree → Tree → List Head → Type 0
   Bind names x e b h = max (T names e) (max 0 (T ((x, tree_kind h names e) ∷ names) b)) ≡ T names (bind x e b)
 
-  pub bind_height : (names : Names) (x : List ℕ) (e b : Tree) → Bind names x e b (heads_of functions)
+  pub bind_height : (names : Names) (x : List ℕ) (e b : Tree) → Bind names x e b (priced_heads functions)
   bind_height names x e b = by_heads (Bind names x e b) (omega arith)
 
   abbrev Each : Names → List ℕ → Tree → List ℕ → Tree → Tree → List Head → Type 0
@@ -98,7 +98,7 @@ module _ (functions : List Priced) where
       (max (max 0 (max 0 0)) (cap (room_of all + 3 + max (max (T inside b) (max 0 (cap (weight total)))) 0)))
       ≡ T names (each x l a f b)
 
-  pub each_height : (names : Names) (x : List ℕ) (l : Tree) (a : List ℕ) (f b : Tree) → Each names x l a f b (heads_of functions)
+  pub each_height : (names : Names) (x : List ℕ) (l : Tree) (a : List ℕ) (f b : Tree) → Each names x l a f b (priced_heads functions)
   each_height names x l a f b =
       let all = tree_kind H names l in
       let total = tree_kind H names f in
@@ -112,7 +112,7 @@ module _ (functions : List Priced) where
       max (T names l) (max (max 0 0) (cap (2 * room_of all + 4 + max (T ((x, element_of all) ∷ names) b) 0)))
       ≡ T names (mapped x l b)
 
-  pub mapped_height : (names : Names) (x : List ℕ) (l b : Tree) → Mapped names x l b (heads_of functions)
+  pub mapped_height : (names : Names) (x : List ℕ) (l b : Tree) → Mapped names x l b (priced_heads functions)
   mapped_height names x l b = by_heads (Mapped names x l b) (omega arith)
 
   abbrev Argument : Names → Kind → List Kind → Tree → Trees → List Head → Type 0
@@ -121,7 +121,7 @@ module _ (functions : List Priced) where
       ≡ cap (height_of_arguments F names (kind ∷ kinds) (tree t ts))
 
   pub argument_height : (names : Names) (kind : Kind) (kinds : List Kind) (t : Tree) (ts : Trees)
-      → Argument names kind kinds t ts (heads_of functions)
+      → Argument names kind kinds t ts (priced_heads functions)
   argument_height names kind kinds t ts = by_heads (Argument names kind kinds t ts) (omega arith)
 
   abbrev WithName : Names → List ℕ → Tree → Acts → List Head → Type 0
@@ -129,7 +129,7 @@ module _ (functions : List Priced) where
       max (T names e) (max 0 (cap (height_of_acts F ((x, tree_kind h names e) ∷ names) body)))
       ≡ cap (height_of_act F names (with_name x e body))
 
-  pub with_height : (names : Names) (x : List ℕ) (e : Tree) (body : Acts) → WithName names x e body (heads_of functions)
+  pub with_height : (names : Names) (x : List ℕ) (e : Tree) (body : Acts) → WithName names x e body (priced_heads functions)
   with_height names x e body = by_heads (WithName names x e body) (omega arith)
 
   -- a second value that is made while the first one waits
@@ -137,7 +137,7 @@ module _ (functions : List Priced) where
   Second names l r h =
       max (T names l) (max (cap (weight (tree_kind h names l) + T names r)) 0) ≡ cap (max (height F names l) (weight (tree_kind H names l) + height F names r))
 
-  pub second_height : (names : Names) (l r : Tree) → Second names l r (heads_of functions)
+  pub second_height : (names : Names) (l r : Tree) → Second names l r (priced_heads functions)
   second_height names l r = by_heads (Second names l r) (omega arith)
 
   -- a call, by the kinds that the function takes
@@ -146,5 +146,5 @@ module _ (functions : List Priced) where
       max (cap (height_of_arguments F names (takes_named h f) ts))
       (max (cap (cap (weights (takes_named h f)) + cap (most_named F f))) (cap (weight (result_named h f)))) ≡ T names (call f ts)
 
-  pub call_height : (names : Names) (f : List ℕ) (ts : Trees) → Call names f ts (heads_of functions)
+  pub call_height : (names : Names) (f : List ℕ) (ts : Trees) → Call names f ts (priced_heads functions)
   call_height names f ts = by_heads (Call names f ts) (omega arith)

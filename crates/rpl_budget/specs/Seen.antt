@@ -14,29 +14,29 @@ use Rattle.rpl_budget.specs.Pass.{Measured, Priced, measured, no_function}
 abbrev pub budget_seen : TreeCost → Budget
 budget_seen cost = budget cost.instructions cost.reads cost.puts cost.words
 
-abbrev pub kind_seen : TreeKind → Kind
-kind_seen Number = number_kind
-kind_seen Truth = truth_kind
-kind_seen Date = date_kind
-kind_seen Slot = slot_kind
-kind_seen (Numbers m) = numbers_kind m
-kind_seen (Slots m) = slots_kind m
+abbrev pub tree_kind_seen : TreeKind → Kind
+tree_kind_seen Number = number_kind
+tree_kind_seen Truth = truth_kind
+tree_kind_seen Date = date_kind
+tree_kind_seen Slot = slot_kind
+tree_kind_seen (Numbers m) = numbers_kind m
+tree_kind_seen (Slots m) = slots_kind m
 
-abbrev pub kinds_seen : List TreeKind → List Kind
-kinds_seen kinds = map kind_seen kinds
+abbrev pub tree_kinds_seen : List TreeKind → List Kind
+tree_kinds_seen kinds = map tree_kind_seen kinds
 
 abbrev pub measured_seen : Work → Measured
-measured_seen work = measured (kind_seen work.kind) work.load
+measured_seen work = measured (tree_kind_seen work.kind) work.load
 
 abbrev pub named_seen : Named → List ℕ × Kind
-named_seen n = (n.name.now, kind_seen n.kind)
+named_seen n = (n.name.now, tree_kind_seen n.kind)
 
 abbrev pub names_of : List (List ℕ × TreeKind) → Names
-names_of names = map (λ (entry : List ℕ × TreeKind). (entry.0, kind_seen entry.1)) names
+names_of names = map (λ (entry : List ℕ × TreeKind). (entry.0, tree_kind_seen entry.1)) names
 
 abbrev pub priced_seen : Known → Priced
 priced_seen f = record {
-  head = record { name = f.name.now; takes = kinds_seen f.takes.items; result = kind_seen f.result };
+  head = record { name = f.name.now; takes = tree_kinds_seen f.takes.items; result = tree_kind_seen f.result };
   room = f.room;
   most = budget_seen f.most;
 }

@@ -37,7 +37,7 @@ pub fn acts<'a>(
 
 // A test, and one of two.
 fn branched(test: Load, first: Load, second: Load) -> Load
-    ensures { result ≡ Pass.branched test first second }
+    ensures { result ≡ Pass.load_of_branches test first second }
 {
     both(test, both(either(first, second), steps(3)))
 }

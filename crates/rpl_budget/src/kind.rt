@@ -4,7 +4,7 @@ ghost use Rattle.rpl_tree.specs.declared.words.TwoWord.TheVariants as TwoWord;
 ghost use Rattle.rpl_tree.specs.Kinds as Kinds;
 ghost use Rattle.rpl_tree.specs.Seen.{type_of};
 ghost use Rattle.rpl_tree.specs.Value as Value;
-ghost use Rattle.rpl_budget.specs.Seen.{kind_seen};
+ghost use Rattle.rpl_budget.specs.Seen.{tree_kind_seen};
 
 use rpl_tree::{OneWord, TwoWord, TypeText};
 use rw_base::NoMemory;
@@ -21,7 +21,7 @@ pub enum TreeKind {
 }
 
 pub fn is_same_kind(a: TreeKind, b: TreeKind) -> bool
-    ensures { result ≡ Value.is_same_kind (kind_seen a) (kind_seen b) }
+    ensures { result ≡ Value.is_same_kind (tree_kind_seen a) (tree_kind_seen b) }
 {
     match (a, b) {
         (TreeKind::Number, TreeKind::Number) => true,
@@ -36,7 +36,7 @@ pub fn is_same_kind(a: TreeKind, b: TreeKind) -> bool
 
 /// How many words a value takes.
 pub fn weight(kind: TreeKind) -> u128
-    ensures is { result ≡ Value.weight (kind_seen kind) }
+    ensures is { result ≡ Value.weight (tree_kind_seen kind) }
     ensures bound { result ≤ 2 ^ 64 }
 {
     match kind {
@@ -47,7 +47,7 @@ pub fn weight(kind: TreeKind) -> u128
 }
 
 pub fn room_of(kind: TreeKind) -> u64
-    ensures { result ≡ Value.room_of (kind_seen kind) }
+    ensures { result ≡ Value.room_of (tree_kind_seen kind) }
 {
     match kind {
         TreeKind::Numbers(m) => m,
@@ -57,7 +57,7 @@ pub fn room_of(kind: TreeKind) -> u64
 }
 
 pub fn element_of(kind: TreeKind) -> TreeKind
-    ensures { kind_seen result ≡ Value.element_of (kind_seen kind) }
+    ensures { tree_kind_seen result ≡ Value.element_of (tree_kind_seen kind) }
 {
     match kind {
         TreeKind::Slots(_) => TreeKind::Slot,
@@ -66,7 +66,7 @@ pub fn element_of(kind: TreeKind) -> TreeKind
 }
 
 pub fn list_kind(m: u64, kind: TreeKind) -> TreeKind
-    ensures { kind_seen result ≡ Value.list_kind m (kind_seen kind) }
+    ensures { tree_kind_seen result ≡ Value.list_kind m (tree_kind_seen kind) }
 {
     match kind {
         TreeKind::Slot => TreeKind::Slots(m),
@@ -76,13 +76,13 @@ pub fn list_kind(m: u64, kind: TreeKind) -> TreeKind
 
 /// Of two lists that with more room.
 pub fn join(a: TreeKind, b: TreeKind) -> TreeKind
-    ensures { kind_seen result ≡ Kinds.join (kind_seen a) (kind_seen b) }
+    ensures { tree_kind_seen result ≡ Kinds.join (tree_kind_seen a) (tree_kind_seen b) }
 {
     if room_of(a) < room_of(b) { b } else { a }
 }
 
 pub fn one_kind(word: OneWord) -> TreeKind
-    ensures { kind_seen result ≡ Kinds.one_kind word }
+    ensures { tree_kind_seen result ≡ Kinds.one_kind word }
 {
     match word {
         OneWord::Not | OneWord::Known => TreeKind::Truth,
@@ -91,7 +91,7 @@ pub fn one_kind(word: OneWord) -> TreeKind
 }
 
 fn difference_kind(a: TreeKind, b: TreeKind) -> TreeKind
-    ensures { kind_seen result ≡ Kinds.difference_kind (kind_seen a) (kind_seen b) }
+    ensures { tree_kind_seen result ≡ Kinds.difference_kind (tree_kind_seen a) (tree_kind_seen b) }
 {
     match (a, b) {
         (TreeKind::Date, TreeKind::Number) => TreeKind::Date,
@@ -101,8 +101,8 @@ fn difference_kind(a: TreeKind, b: TreeKind) -> TreeKind
 
 // A list with one element more. There is no memory for so many elements that their number has no successor.
 fn longer(a: TreeKind, b: TreeKind) -> Result<TreeKind, NoMemory>
-    ensures { IfOk result (λ kind. kind_seen kind
-        ≡ Kinds.two_kind TwoWord.Append (kind_seen a) (kind_seen b)) }
+    ensures { IfOk result (λ kind. tree_kind_seen kind
+        ≡ Kinds.two_kind TwoWord.Append (tree_kind_seen a) (tree_kind_seen b)) }
 {
     let Some(room) = room_of(a).checked_add(1) else {
         return Err(NoMemory);
@@ -111,8 +111,8 @@ fn longer(a: TreeKind, b: TreeKind) -> Result<TreeKind, NoMemory>
 }
 
 pub fn two_kind(word: TwoWord, a: TreeKind, b: TreeKind) -> Result<TreeKind, NoMemory>
-    ensures { IfOk result (λ kind. kind_seen kind
-        ≡ Kinds.two_kind word (kind_seen a) (kind_seen b)) }
+    ensures { IfOk result (λ kind. tree_kind_seen kind
+        ≡ Kinds.two_kind word (tree_kind_seen a) (tree_kind_seen b)) }
 {
     match word {
         TwoWord::Plus => Ok(a),
@@ -126,7 +126,7 @@ pub fn two_kind(word: TwoWord, a: TreeKind, b: TreeKind) -> Result<TreeKind, NoM
 
 /// Of values of a type that is written.
 pub fn kind_of_type(written: &TypeText) -> TreeKind
-    ensures { kind_seen result ≡ Kinds.kind_of_type (type_of written.now) }
+    ensures { tree_kind_seen result ≡ Kinds.kind_of_type (type_of written.now) }
 {
     match written {
         TypeText::Numeric(_) => TreeKind::Number,

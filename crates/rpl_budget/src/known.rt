@@ -2,7 +2,7 @@ ghost use Rattle.std.specs.Prelude.{◌≡◌, bytes_eq, option_map, if◌then�
 ghost use Rattle.rpl_tree.specs.Budget.{capped, limits};
 ghost use Rattle.rpl_tree.specs.Value as Value;
 ghost use Rattle.rpl_budget.specs.Pass as Pass;
-ghost use Rattle.rpl_budget.specs.Seen.{functions_of, kind_seen, kinds_seen, priced_or_none, priced_seen};
+ghost use Rattle.rpl_budget.specs.Seen.{functions_of, tree_kind_seen, tree_kinds_seen, priced_or_none, priced_seen};
 
 use crate::TreeCost;
 use crate::kind::{TreeKind, weight};
@@ -22,7 +22,7 @@ pub struct Known<'a> {
 
 /// The words of values of these kinds.
 pub fn weights(kinds: &[TreeKind]) -> u64
-    ensures { result ≡ capped limits.words (Value.weights (kinds_seen kinds.now)) }
+    ensures { result ≡ capped limits.words (Value.weights (tree_kinds_seen kinds.now)) }
 {
     let mut sum = 0;
     for kind in kinds {
@@ -51,7 +51,7 @@ fn known_or<'a, 'b>(
 /// The function of a name that was declared last.
 pub fn function_named<'a, 'b>(known: &'a [Known<'b>], name: &[u8]) -> Option<&'a Known<'b>>
     ensures { priced_or_none (option_map (λ f. f.now) result)
-        ≡ Pass.function_named (functions_of known.now) name.now }
+        ≡ Pass.priced_named (functions_of known.now) name.now }
 {
     let mut found = None;
     for entry in known {
@@ -62,7 +62,7 @@ pub fn function_named<'a, 'b>(known: &'a [Known<'b>], name: &[u8]) -> Option<&'a
 
 /// A call of a function whose arguments are there.
 pub fn called(f: &Known) -> Load
-    ensures { result ≡ Pass.called (priced_seen f.now) }
+    ensures { result ≡ Pass.load_of_call (priced_seen f.now) }
 {
     let words = plus(f.room, f.most.words, WORDS);
     let result = stopped(weight(f.result), WORDS);

@@ -2,7 +2,7 @@
 ghost use Rattle.std.specs.Prelude.{◌≡◌, ◌<◌, ◌+◌, ◌*◌, ◌^◌};
 ghost use Rattle.rpl_tree.specs.Budget.{capped};
 ghost use Rattle.rpl_budget.specs.Loads as Loads;
-ghost use Rattle.rpl_budget.specs.Seen.{kind_seen};
+ghost use Rattle.rpl_budget.specs.Seen.{tree_kind_seen};
 
 use crate::kind::{TreeKind, is_same_kind, weight};
 
@@ -51,7 +51,7 @@ fn product(m: u64, n: u64, limit: u64) -> u64
 }
 
 pub fn nothing() -> Load
-    ensures { result ≡ Loads.nothing }
+    ensures { result ≡ Loads.no_load }
 {
     Load {
         count: 0,
@@ -93,7 +93,7 @@ pub fn one_put() -> Load
 
 /// Of a value that is made, or fetched from a local.
 pub fn fetched(kind: TreeKind) -> Load
-    ensures { result ≡ Loads.fetched (kind_seen kind) }
+    ensures { result ≡ Loads.fetched (tree_kind_seen kind) }
 {
     let words = weight(kind);
     Load {
@@ -105,7 +105,7 @@ pub fn fetched(kind: TreeKind) -> Load
 
 /// Of a value that is kept in a local.
 pub fn kept(kind: TreeKind) -> Load
-    ensures { result ≡ Loads.kept (kind_seen kind) }
+    ensures { result ≡ Loads.load_kept (tree_kind_seen kind) }
 {
     let words = weight(kind);
     Load {
@@ -117,7 +117,7 @@ pub fn kept(kind: TreeKind) -> Load
 
 /// Of a local that is there for a value of the kind.
 pub fn local(kind: TreeKind) -> Load
-    ensures { result ≡ Loads.local (kind_seen kind) }
+    ensures { result ≡ Loads.local (tree_kind_seen kind) }
 {
     Load {
         locals: stopped(weight(kind), WORDS),
@@ -127,7 +127,7 @@ pub fn local(kind: TreeKind) -> Load
 
 /// Of so many words that stand at once.
 pub fn standing(words: u128) -> Load
-    ensures { result ≡ Loads.standing words }
+    ensures { result ≡ Loads.load_standing words }
 {
     Load {
         height: stopped(words, WORDS),
@@ -137,7 +137,7 @@ pub fn standing(words: u128) -> Load
 
 /// One, and behind it another.
 pub fn both(a: Load, b: Load) -> Load
-    ensures { result ≡ Loads.both a b }
+    ensures { result ≡ Loads.load_both a b }
 {
     Load {
         count: plus(a.count, b.count, COUNT),
@@ -163,7 +163,7 @@ pub fn either(a: Load, b: Load) -> Load
 
 /// So often.
 pub fn times(m: u64, a: Load) -> Load
-    ensures { result ≡ Loads.times m a }
+    ensures { result ≡ Loads.load_times m a }
 {
     Load {
         count: product(m, a.count, COUNT),
@@ -207,7 +207,7 @@ pub fn unspent(a: Load) -> Load
 
 /// A value of a kind that is given the room of its place.
 pub fn fitted(place: TreeKind, kind: TreeKind, a: Load) -> Load
-    ensures { result ≡ Loads.fitted (kind_seen place) (kind_seen kind) a }
+    ensures { result ≡ Loads.fitted (tree_kind_seen place) (tree_kind_seen kind) a }
 {
     let widening = if is_same_kind(place, kind) {
         0

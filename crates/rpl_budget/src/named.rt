@@ -1,6 +1,6 @@
 ghost use Rattle.std.specs.Prelude.{◌≡◌, bytes_eq};
 ghost use Rattle.rpl_tree.specs.Kinds as Kinds;
-ghost use Rattle.rpl_budget.specs.Seen.{kind_seen, names_of};
+ghost use Rattle.rpl_budget.specs.Seen.{tree_kind_seen, names_of};
 
 use crate::kind::TreeKind;
 use rpl_scope::Scope;
@@ -22,7 +22,7 @@ pub fn is_same_name(a: &[u8], b: &[u8]) -> bool
 /// The kind of the innermost of a name, and that of a number where there is none.
 #[tactic(auto, using(crate::proofs::Found::kind_found))]
 pub fn kind_named<'a>(names: &Scope<'a, TreeKind>, name: &'a [u8]) -> TreeKind
-    ensures { kind_seen result ≡ Kinds.kind_named (names_of names.now) name.entry.now }
+    ensures { tree_kind_seen result ≡ Kinds.kind_named (names_of names.now) name.entry.now }
 {
     names.find(name).unwrap_or(TreeKind::Number)
 }

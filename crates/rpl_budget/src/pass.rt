@@ -3,7 +3,7 @@ ghost use Rattle.std.specs.Prelude.{◌≡◌, ◌∷◌, [], IfOk, OnOk, drop};
 ghost use Rattle.rpl_tree.specs.Seen.{tree_of, trees_in};
 ghost use Rattle.rpl_tree.specs.Tree.{call, list};
 ghost use Rattle.rpl_budget.specs.Pass as Pass;
-ghost use Rattle.rpl_budget.specs.Seen.{functions_of, kind_seen, kinds_seen, measured_seen, named_seen, names_of};
+ghost use Rattle.rpl_budget.specs.Seen.{functions_of, tree_kind_seen, tree_kinds_seen, measured_seen, named_seen, names_of};
 
 use crate::kind::{TreeKind, element_of, one_kind, room_of, two_kind, weight};
 use crate::known::{Known, called, function_named};
@@ -121,7 +121,7 @@ fn inside<'a>(
     body: &'a Expr,
 ) -> Result<Work, NoMemory>
     ensures found { IfOk result (λ work. measured_seen work
-        ≡ Pass.pass (functions_of known.now) ((name.now, kind_seen kind) ∷ names_of names.old)
+        ≡ Pass.pass (functions_of known.now) ((name.now, tree_kind_seen kind) ∷ names_of names.old)
         (tree_of body.now)) }
     ensures names { OnOk result (names.new ≡ names.old) }
 {
@@ -142,7 +142,7 @@ fn inside_turn<'a>(
     body: &'a Expr,
 ) -> Result<Work, NoMemory>
     ensures found { IfOk result (λ work. measured_seen work ≡ Pass.pass (functions_of known.now)
-        ((total.now, kind_seen kind) ∷ named_seen item.entry ∷ names_of names.old)
+        ((total.now, tree_kind_seen kind) ∷ named_seen item.entry ∷ names_of names.old)
         (tree_of body.now)) }
     ensures names { OnOk result (names.new ≡ names.old) }
 {
@@ -201,7 +201,7 @@ fn from_place(takes: &[TreeKind], k: usize) -> &[TreeKind]
 
 // An argument and those behind it, for parameters of these kinds.
 fn argument(takes: &[TreeKind], value: Work, others: Load) -> Load
-    ensures { result ≡ Pass.argument (kinds_seen takes.now) (measured_seen value) others }
+    ensures { result ≡ Pass.argument (tree_kinds_seen takes.now) (measured_seen value) others }
 {
     let [kind, ..] = takes else {
         return both(locals_alone(value.load), others);
@@ -219,7 +219,7 @@ fn arguments<'a>(
     args: &'a [Expr],
 ) -> Result<Load, NoMemory>
     ensures found { IfOk result (λ load. load ≡ Pass.pass_arguments (functions_of known.now)
-        (names_of names.old) (kinds_seen takes.now) (trees_in args.now)) }
+        (names_of names.old) (tree_kinds_seen takes.now) (trees_in args.now)) }
     ensures names { OnOk result (names.new ≡ names.old) }
 {
     let mut others = nothing();

@@ -5,7 +5,7 @@ ghost use Rattle.rpl_tree.specs.Mean as Mean;
 ghost use Rattle.rpl_tree.specs.Seen.{declared_of, parameter_of, rules_of};
 ghost use Rattle.rpl_budget.specs.Budgets.{budgets_of};
 ghost use Rattle.rpl_budget.specs.Pass as Pass;
-ghost use Rattle.rpl_budget.specs.Seen.{budget_seen, functions_of, kind_seen, kinds_seen, measured_seen, names_of, priced_seen};
+ghost use Rattle.rpl_budget.specs.Seen.{budget_seen, functions_of, tree_kind_seen, tree_kinds_seen, measured_seen, names_of, priced_seen};
 
 use crate::TreeCost;
 use crate::acts::acts;
@@ -20,7 +20,7 @@ use rw_base::NoMemory;
 use std::alloc::Global;
 
 fn rule_cost(all: Load) -> TreeCost
-    ensures { budget_seen result ≡ Pass.rule_budget all }
+    ensures { budget_seen result ≡ Pass.budget_of_load all }
 {
     TreeCost {
         instructions: all.count,
@@ -32,7 +32,7 @@ fn rule_cost(all: Load) -> TreeCost
 
 fn function_cost(room: u64, answers: TreeKind, body: Work) -> TreeCost
     ensures { budget_seen result
-        ≡ Pass.function_budget room (kind_seen answers) (measured_seen body) }
+        ≡ Pass.function_budget room (tree_kind_seen answers) (measured_seen body) }
 {
     let all = fitted(answers, body.kind, body.load);
     let own = plus(all.locals, all.height, WORDS);
@@ -57,7 +57,7 @@ fn call_cost(room: u64, inside: TreeCost) -> TreeCost
 
 // The kinds of parameters, in order.
 fn param_kinds(alloc: Global, params: &[Param]) -> Result<Vec<TreeKind>, NoMemory>
-    ensures { IfOk result (λ kinds. kinds_seen kinds.items
+    ensures { IfOk result (λ kinds. tree_kinds_seen kinds.items
         ≡ Mean.param_kinds (map parameter_of params.now)) }
 {
     let mut kinds = Vec::new(alloc);
@@ -91,7 +91,7 @@ fn declared<'a>(
     ensures cost { IfOk result (λ cost. budget_seen cost
         ≡ Pass.declared_budget (functions_of known.old.items) (declared_of declaration.now)) }
     ensures known { OnOk result (functions_of known.new.items
-        ≡ Pass.and_function (functions_of known.old.items) (declared_of declaration.now)) }
+        ≡ Pass.and_priced (functions_of known.old.items) (declared_of declaration.now)) }
 {
     match declaration {
         Declaration::Rule { body, .. } => {
@@ -124,7 +124,7 @@ fn declared<'a>(
 
 // A function of numbers that there is in each ruleset.
 fn of_numbers(name: &'static [u8], takes: Vec<TreeKind>) -> Known<'static>
-    ensures { priced_seen result ≡ Pass.of_numbers name.now (kinds_seen takes.items) }
+    ensures { priced_seen result ≡ Pass.priced_of_numbers name.now (tree_kinds_seen takes.items) }
 {
     let most = TreeCost {
         instructions: 1,

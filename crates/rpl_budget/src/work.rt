@@ -1,7 +1,7 @@
 // What a pass finds of an expression, by what it finds of its parts.
 ghost use Rattle.std.specs.Prelude.{◌≡◌, ◌+◌};
 ghost use Rattle.rpl_budget.specs.Pass as Pass;
-ghost use Rattle.rpl_budget.specs.Seen.{kind_seen, measured_seen};
+ghost use Rattle.rpl_budget.specs.Seen.{tree_kind_seen, measured_seen};
 ghost use Rattle.rpl_tree.specs.Seen.{tree_of};
 
 use crate::kind::{TreeKind, element_of, join, list_kind, room_of, weight};
@@ -19,7 +19,7 @@ pub struct Work {
 
 /// A value of a kind that is made, or fetched from a local.
 pub fn made(kind: TreeKind) -> Work
-    ensures { measured_seen result ≡ Pass.made (kind_seen kind) }
+    ensures { measured_seen result ≡ Pass.made (tree_kind_seen kind) }
 {
     Work {
         kind,
@@ -28,7 +28,7 @@ pub fn made(kind: TreeKind) -> Work
 }
 
 pub fn leaf(kind: TreeKind) -> Work
-    ensures { measured_seen result ≡ Pass.leaf (kind_seen kind) }
+    ensures { measured_seen result ≡ Pass.measured_leaf (tree_kind_seen kind) }
 {
     Work {
         kind,
@@ -38,7 +38,8 @@ pub fn leaf(kind: TreeKind) -> Work
 
 /// An element and those behind it.
 pub fn element(value: Work, others: Work) -> Work
-    ensures { measured_seen result ≡ Pass.element (measured_seen value) (measured_seen others) }
+    ensures { measured_seen result
+        ≡ Pass.measured_element (measured_seen value) (measured_seen others) }
 {
     Work {
         kind: value.kind,
@@ -48,7 +49,7 @@ pub fn element(value: Work, others: Work) -> Work
 
 /// A list of so many elements.
 pub fn listed(count: u64, all: Work) -> Work
-    ensures { measured_seen result ≡ Pass.listed count (measured_seen all) }
+    ensures { measured_seen result ≡ Pass.measured_list count (measured_seen all) }
 {
     let words = u128::from(count) + 1;
     Work {
@@ -59,7 +60,8 @@ pub fn listed(count: u64, all: Work) -> Work
 
 // One of two values, each given the room of their kind.
 fn one_of(kind: TreeKind, first: Work, second: Work) -> Load
-    ensures { result ≡ Pass.one_of (kind_seen kind) (measured_seen first) (measured_seen second) }
+    ensures { result
+        ≡ Pass.one_of (tree_kind_seen kind) (measured_seen first) (measured_seen second) }
 {
     let a = fitted(kind, first.kind, first.load);
     let b = fitted(kind, second.kind, second.load);
@@ -69,7 +71,7 @@ fn one_of(kind: TreeKind, first: Work, second: Work) -> Load
 /// An IF of a test and two values.
 pub fn chosen(test: Work, first: Work, second: Work) -> Work
     ensures { measured_seen result
-        ≡ Pass.chosen (measured_seen test) (measured_seen first) (measured_seen second) }
+        ≡ Pass.measured_choice (measured_seen test) (measured_seen first) (measured_seen second) }
 {
     let kind = join(first.kind, second.kind);
     Work {
@@ -80,14 +82,15 @@ pub fn chosen(test: Work, first: Work, second: Work) -> Work
 
 /// A value under a name, and what is done with it.
 pub fn bound(value: Work, body: Load) -> Load
-    ensures { result ≡ Pass.bound (measured_seen value) body }
+    ensures { result ≡ Pass.measured_binding (measured_seen value) body }
 {
     both(value.load, both(kept(value.kind), body))
 }
 
 // The turns of a loop over a list.
 fn turns(all: TreeKind, total: TreeKind, body: Work) -> Load
-    ensures { result ≡ Pass.turns (kind_seen all) (kind_seen total) (measured_seen body) }
+    ensures { result
+        ≡ Pass.load_of_turns (tree_kind_seen all) (tree_kind_seen total) (measured_seen body) }
 {
     let turn = both(
         fitted(total, body.kind, body.load),
@@ -98,7 +101,8 @@ fn turns(all: TreeKind, total: TreeKind, body: Work) -> Load
 
 /// A loop over a list, with an accumulator.
 pub fn turned(all: Work, first: Work, body: Work) -> Load
-    ensures { result ≡ Pass.turned (measured_seen all) (measured_seen first) (measured_seen body) }
+    ensures { result
+        ≡ Pass.load_of_loop (measured_seen all) (measured_seen first) (measured_seen body) }
 {
     let total = first.kind;
     let before = both(all.load, above(weight(all.kind), first.load));
@@ -141,7 +145,7 @@ pub fn one_load(word: OneWord, e: &Expr, load: Load) -> Load
 }
 
 fn operation(word: TwoWord, kind: TreeKind) -> u128
-    ensures { result ≡ Pass.operation word (kind_seen kind) }
+    ensures { result ≡ Pass.operation_weight word (tree_kind_seen kind) }
 {
     match word {
         TwoWord::Unequal | TwoWord::Greater | TwoWord::GreaterEqual => 2,

@@ -10,15 +10,15 @@ use Rattle.rpl_code.specs.declared.said.Said.TheVariants as S
 use Rattle.rpl_code.specs.Bounds.{AreKinds, IsInstruction, IsHead, IsBlock, IsCode}
 use Rattle.rpl_code.specs.Parting.{parted, in_front}
 use Rattle.rpl_code.specs.Words.{if_so}
-use Rattle.rpl_code.specs.Spelling.{joined, instruction_line, head_line, locals_line, block_lines, ended, spelt}
-use Rattle.rpl_code.specs.Reading.{Stage, top, between, headed, inside, behind, said_by, may_say, may_end, said_at, CodeRefusal, bad_line, truncated, all_said, and_then_all, unless_bad, locals_said, lines_said, blocks_said, result_of, read}
+use Rattle.rpl_code.specs.Spelling.{texts_joined, instruction_line, head_line, locals_line, block_lines, lines_ended, spelt}
+use Rattle.rpl_code.specs.Reading.{Stage, top, between, headed, inside, stage_behind, said_by, may_say, may_end, said_at, CodeRefusal, bad_line, truncated, all_said, and_then_all, unless_bad, locals_said, lines_said, blocks_said, result_of, read}
 use Rattle.rpl_code.proofs.WordsBack.{if_so_back, then_back, joined_parted}
 use Rattle.rpl_code.proofs.LinesBack.{IsSaid, line_said, line_back}
 
 -- each line is allowed where it stands, and no `END` is due behind the last
 abbrev pub Follows : Stage → List Said → Type 0
 Follows stage [] = may_end stage ≡ true
-Follows stage (says ∷ rest) = (may_say stage says ≡ true) × Follows (behind says) rest
+Follows stage (says ∷ rest) = (may_say stage says ≡ true) × Follows (stage_behind says) rest
 
 -- what is known of parts that say this
 pub record Told (stage : Stage) (parts : List (List ℕ)) (says : List Said) : Type 0 where
@@ -59,7 +59,7 @@ one_more first (Ok others) says e = (others, refl, same_ok (first ∷ others) sa
 one_more first (Err refusal) says e = err_ok refusal says e
 
 told_more : (stage : Stage) (line : List ℕ) (parts : List (List ℕ)) (first : Said) (others : List Said)
-    → said_at stage line ≡ Some first → Told (behind first) parts others → Told stage (line ∷ parts) (first ∷ others)
+    → said_at stage line ≡ Some first → Told (stage_behind first) parts others → Told stage (line ∷ parts) (first ∷ others)
 told_more stage line parts first others e told =
     let found = then_back (λ says. if_so (may_say stage says) says) (said_by (parted 32 line)) first e in
     let allowed = if_so_back (may_say stage found.0) found.0 first found.2 in
@@ -72,11 +72,11 @@ told_more stage line parts first others e told =
 
 by_line : (n : ℕ) (stage : Stage) (line : List ℕ) (parts : List (List ℕ)) (found : Option Said) (says : List Said)
     → said_at stage line ≡ found
-    → ((first : Said) (others : List Said) → all_said (n + 1) (behind first) parts ≡ Ok others → Told (behind first) parts others)
-    → unless_bad n found (λ s. all_said (n + 1) (behind s) parts) ≡ Ok says → Told stage (line ∷ parts) says
+    → ((first : Said) (others : List Said) → all_said (n + 1) (stage_behind first) parts ≡ Ok others → Told (stage_behind first) parts others)
+    → unless_bad n found (λ s. all_said (n + 1) (stage_behind s) parts) ≡ Ok says → Told stage (line ∷ parts) says
 by_line n stage line parts None says same later e = err_ok (bad_line n) says e
 by_line n stage line parts (Some first) says same later e =
-    let more = one_more first (all_said (n + 1) (behind first) parts) says e in
+    let more = one_more first (all_said (n + 1) (stage_behind first) parts) says e in
     subst (λ xs. Told stage (line ∷ parts) xs) more.2 (told_more stage line parts first more.0 same (later first more.0 more.1))
 
 told : (n : ℕ) (stage : Stage) (parts : List (List ℕ)) (says : List Said) → all_said n stage parts ≡ Ok says → Told stage parts says
@@ -84,7 +84,7 @@ told n stage [] says e = err_ok truncated says e
 told n stage (part ∷ []) says e = last_part (may_end stage && bytes_eq part []) stage part says refl e
 told n stage (line ∷ next ∷ parts) says e =
     by_line n stage line (next ∷ parts) (said_at stage line) says refl
-    (λ first others f. told (n + 1) (behind first) (next ∷ parts) others f) e
+    (λ first others f. told (n + 1) (stage_behind first) (next ∷ parts) others f) e
 
 -- ---- the blocks that lines say
 
@@ -174,7 +174,7 @@ grouped (S.Locals kinds ∷ rest) inside h f few = not_whole f.0
 
 -- ---- the whole text
 
-ended_joined : (lines : List (List ℕ)) → joined 10 (lines ++ [] ∷ []) ≡ ended lines
+ended_joined : (lines : List (List ℕ)) → texts_joined 10 (lines ++ [] ∷ []) ≡ lines_ended lines
 ended_joined [] = refl
 ended_joined (line ∷ []) = refl
 ended_joined (line ∷ next ∷ lines) = ap (λ text. line ++ 10 ∷ text) (ended_joined (next ∷ lines))
@@ -214,7 +214,7 @@ text_back text [] is few = not_whole is.follows
 text_back text (S.Heading ∷ rest) is few =
     let blocks : Blocks rest = grouped rest between is.each.1 is.follows.1 (omega (arith, few)) in
     record {
-      is = sym (joined_parted 10 text) ∙ ap (joined 10) is.lines ∙ ended_joined (map line_said (S.Heading ∷ rest)) ∙ ap (λ ls. ended (codes "CODE 1" ∷ ls)) blocks.lines;
+      is = sym (joined_parted 10 text) ∙ ap (texts_joined 10) is.lines ∙ ended_joined (map line_said (S.Heading ∷ rest)) ∙ ap (λ ls. lines_ended (codes "CODE 1" ∷ ls)) blocks.lines;
       code = record { each = blocks.each; numbers = omega (arith, few, blocks_fewer rest) };
     }
 text_back text (S.Opening head ∷ rest) is few = not_whole is.follows.0

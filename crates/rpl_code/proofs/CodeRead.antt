@@ -6,7 +6,7 @@ use Rattle.rpl_code.specs.declared.said.Said.{Said}
 use Rattle.rpl_code.specs.declared.said.Said.TheVariants as S
 use Rattle.rpl_code.specs.Bounds.{IsInstruction, IsBlock, IsCode}
 use Rattle.rpl_code.specs.Spelling.{instruction_line, head_line, locals_line, block_lines, code_lines, spelt}
-use Rattle.rpl_code.specs.Reading.{Stage, top, between, headed, inside, behind, may_say, said_at, all_said, and_then_all, unless_bad, lines_said, blocks_said, result_of, read}
+use Rattle.rpl_code.specs.Reading.{Stage, top, between, headed, inside, stage_behind, may_say, said_at, all_said, and_then_all, unless_bad, lines_said, blocks_said, result_of, read}
 use Rattle.rpl_code.proofs.Parted.{Lacks, parted_ended}
 use Rattle.rpl_code.proofs.LinesRead.{Shows, instruction_shows, locals_show, head_shows, end_shows}
 
@@ -48,10 +48,10 @@ line_at : (stage : Stage) (line : List ℕ) (says : Said) → Shows line says �
 line_at stage line says shows may = rw (shows.said, may) refl
 
 next_said : (stage : Stage) (line : List ℕ) (parts : List (List ℕ)) (says : Said) (rest : List Said)
-    → Shows line says → may_say stage says ≡ true → IsMore parts → Say (behind says) parts rest → Say stage (line ∷ parts) (says ∷ rest)
+    → Shows line says → may_say stage says ≡ true → IsMore parts → Say (stage_behind says) parts rest → Say stage (line ∷ parts) (says ∷ rest)
 next_said stage line [] says rest shows may more said n = absurd more
 next_said stage line (part ∷ parts) says rest shows may more said n =
-    ap (λ found. unless_bad n found (λ s. all_said (n + 1) (behind s) (part ∷ parts))) (line_at stage line says shows may)
+    ap (λ found. unless_bad n found (λ s. all_said (n + 1) (stage_behind s) (part ∷ parts))) (line_at stage line says shows may)
     ∙ ap (and_then_all says) (said (n + 1))
 
 more_behind : (is : List Instruction) (rest : List (List ℕ)) → IsMore rest → IsMore (map instruction_line is ++ rest)

@@ -5,11 +5,11 @@ use Rattle.rpl_code.specs.declared.instruction.Instruction.TheVariants as I
 use Rattle.rpl_code.specs.declared.block.BlockHead.TheVariants.{Rule, Function}
 use Rattle.rpl_code.specs.declared.said.Said.{Said}
 use Rattle.rpl_code.specs.declared.said.Said.TheVariants as S
-use Rattle.rpl_code.specs.Bounds.{IsNumber, IsLength, IsName, AreKinds, IsInstruction, IsHead}
+use Rattle.rpl_code.specs.Bounds.{IsNumber, IsLength, IsCodeName, AreKinds, IsInstruction, IsHead}
 use Rattle.rpl_code.specs.Parting.{parted}
-use Rattle.rpl_code.specs.Words.{if_so, entry_at, number_in, count_in, length_in, quantity_in, truth_in, name_in, slot_in, kind_in, kinds_in}
-use Rattle.rpl_code.specs.Spelling.{joined, kind_text, kinds_text, slot_text, truth_text, word_of, operands_of}
-use Rattle.rpl_code.specs.Reading.{alone, with_one, with_two, made_of, function_of, put_of, said_by}
+use Rattle.rpl_code.specs.Words.{if_so, entry_at, number_in, count_in, length_in, quantity_in, truth_in, name_in, slot_spelt, kind_in, kinds_in}
+use Rattle.rpl_code.specs.Spelling.{texts_joined, kind_text, kinds_text, slot_text, truth_text, word_of, operands_of}
+use Rattle.rpl_code.specs.Reading.{alone, with_one, with_two, instruction_of, function_line, put_line, said_by}
 use Rattle.rpl_code.proofs.WordsBack.{none_some, if_so_back, mapped_back, then_back, entry_back, joined_parted, number_back, count_back, length_back, quantity_back, truth_back, name_back, AreNames, slot_back, kind_back, kinds_back}
 
 -- the words of a line that says this
@@ -46,7 +46,7 @@ Speaks word reads = (one : List ℕ) (says : Said) → reads one ≡ Some says �
 made_back : {A : Type 0} (word : List ℕ) (make : A → Instruction) (text : A → List ℕ) (Is : A → Type 0) (reads : List ℕ → Option A)
     → ((x : A) (one : List ℕ) → reads one ≡ Some x → (one ≡ text x) × Is x)
     → ((x : A) → Is x → Spoken (word ∷ text x ∷ []) (S.Instruction (make x)))
-    → Speaks word (λ one. made_of make (reads one))
+    → Speaks word (λ one. instruction_of make (reads one))
 made_back word make text Is reads back spoken one says e =
     let found = mapped_back (λ x. S.Instruction (make x)) (reads one) says e in
     let is = back found.0 one found.1 in
@@ -54,16 +54,16 @@ made_back word make text Is reads back spoken one says e =
     (ap (λ t. word ∷ t ∷ []) is.0 ∙ of_x.0 ∙ ap words_said found.2, subst IsSaid found.2 of_x.1)
 
 count_speaks : (word : List ℕ) (make : ℕ → Instruction) → ((n : ℕ) → IsNumber n → Spoken (word ∷ decimal n ∷ []) (S.Instruction (make n)))
-    → Speaks word (λ one. made_of make (count_in one))
+    → Speaks word (λ one. instruction_of make (count_in one))
 count_speaks word make spoken = made_back word make decimal IsNumber count_in count_back spoken
 
 length_speaks : (word : List ℕ) (make : ℕ → Instruction) → ((n : ℕ) → IsLength n → Spoken (word ∷ decimal n ∷ []) (S.Instruction (make n)))
-    → Speaks word (λ one. made_of make (length_in one))
+    → Speaks word (λ one. instruction_of make (length_in one))
 length_speaks word make spoken = made_back word make decimal IsLength length_in length_back spoken
 
-name_speaks : (word : List ℕ) (make : List ℕ → Instruction) → ((n : List ℕ) → IsName n → Spoken (word ∷ n ∷ []) (S.Instruction (make n)))
-    → Speaks word (λ one. made_of make (name_in one))
-name_speaks word make spoken = made_back word make (λ n. n) IsName name_in name_back spoken
+name_speaks : (word : List ℕ) (make : List ℕ → Instruction) → ((n : List ℕ) → IsCodeName n → Spoken (word ∷ n ∷ []) (S.Instruction (make n)))
+    → Speaks word (λ one. instruction_of make (name_in one))
+name_speaks word make spoken = made_back word make (λ n. n) IsCodeName name_in name_back spoken
 
 heading_speaks : Speaks (codes "CODE") (λ word. if_so (bytes_eq word (codes "1")) S.Heading)
 heading_speaks one says e =
@@ -86,7 +86,7 @@ with_one_speak = (
       (
         made_back (codes "bool") I.Bool truth_text (λ b. Unit {0}) truth_in (λ b one e. (truth_back b one e, tt)) (λ b h. (refl, tt)),
         (
-          made_back (codes "slot") (λ names. I.Slot names.0 names.1) (λ names. slot_text names.0 names.1) AreNames slot_in slot_back (λ names h. (refl, h)),
+          made_back (codes "slot") (λ names. I.Slot names.0 names.1) (λ names. slot_text names.0 names.1) AreNames slot_spelt slot_back (λ names h. (refl, h)),
           (
             count_speaks (codes "load") I.Load (λ n h. (refl, h)),
             (
@@ -135,7 +135,7 @@ with_one_speak = (
 abbrev pub SpeaksTwo : List ℕ → (List ℕ → List ℕ → Option Said) → Type 0
 SpeaksTwo word reads = (one two : List ℕ) (says : Said) → reads one two ≡ Some says → Spoken (word ∷ one ∷ two ∷ []) says
 
-function_speaks : SpeaksTwo (codes "FUNCTION") function_of
+function_speaks : SpeaksTwo (codes "FUNCTION") function_line
 function_speaks one two says e =
     let first = then_back (λ kind. option_map (λ kinds. S.Opening (Function kind kinds)) (kinds_in two)) (kind_in one) says e in
     let second = mapped_back (λ kinds. S.Opening (Function first.0 kinds)) (kinds_in two) says first.2 in
@@ -143,9 +143,9 @@ function_speaks one two says e =
     let parameters = kinds_back second.0 two second.1 in
     (ap₂ (λ x y. codes "FUNCTION" ∷ x ∷ y ∷ []) result.0 parameters.0 ∙ ap words_said second.2, subst IsSaid second.2 (result.1, parameters.1))
 
-put_speaks : SpeaksTwo (codes "put") put_of
+put_speaks : SpeaksTwo (codes "put") put_line
 put_speaks one two says e =
-    let first = then_back (λ (names : (List ℕ) × (List ℕ)). option_map (λ n. S.Instruction (I.Put names.0 names.1 n)) (number_in 0 255 two)) (slot_in one) says e in
+    let first = then_back (λ (names : (List ℕ) × (List ℕ)). option_map (λ n. S.Instruction (I.Put names.0 names.1 n)) (number_in 0 255 two)) (slot_spelt one) says e in
     let second = mapped_back (λ n. S.Instruction (I.Put first.0.0 first.0.1 n)) (number_in 0 255 two) says first.2 in
     let names = slot_back first.0 one first.1 in
     let ahead = number_back 0 255 second.0 two second.1 in (
@@ -165,7 +165,7 @@ said_back (word ∷ one ∷ two ∷ []) says e =
 said_back (word ∷ one ∷ two ∷ more ∷ words) says e = none_some says e
 
 abbrev pub line_said : Said → List ℕ
-line_said says = joined 32 (words_said says)
+line_said says = texts_joined 32 (words_said says)
 
 pub line_back : (line : List ℕ) (says : Said) → said_by (parted 32 line) ≡ Some says → (line ≡ line_said says) × IsSaid says
-line_back line says e = let back = said_back (parted 32 line) says e in (sym (joined_parted 32 line) ∙ ap (joined 32) back.0, back.1)
+line_back line says e = let back = said_back (parted 32 line) says e in (sym (joined_parted 32 line) ∙ ap (texts_joined 32) back.0, back.1)

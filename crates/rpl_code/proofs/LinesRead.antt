@@ -10,9 +10,9 @@ use Rattle.rpl_code.specs.declared.block.BlockHead.{BlockHead}
 use Rattle.rpl_code.specs.declared.block.BlockHead.TheVariants.{Rule, Function}
 use Rattle.rpl_code.specs.declared.said.Said.{Said}
 use Rattle.rpl_code.specs.declared.said.Said.TheVariants as S
-use Rattle.rpl_code.specs.Bounds.{IsName, IsKind, AreKinds, IsInstruction, IsHead}
+use Rattle.rpl_code.specs.Bounds.{IsCodeName, IsCodeKind, AreKinds, IsInstruction, IsHead}
 use Rattle.rpl_code.specs.Parting.{parted}
-use Rattle.rpl_code.specs.Spelling.{each_after, joined, kind_text, kinds_text, slot_text, truth_text, word_of, operands_of, instruction_line, head_line, locals_line}
+use Rattle.rpl_code.specs.Spelling.{each_after, texts_joined, kind_text, kinds_text, slot_text, truth_text, word_of, operands_of, instruction_line, head_line, locals_line}
 use Rattle.rpl_code.specs.Reading.{said_by}
 use Rattle.rpl_code.proofs.Parted.{Lacks, Above, all_append, lacks_above, above_less, parted_joined}
 use Rattle.rpl_code.proofs.WordsRead.{decimal_above, number_is, count_is, length_is, quantity_is, truth_is, name_above, name_is, slot_is, kind_is, kinds_are}
@@ -25,10 +25,10 @@ AreInk = AllByRecursion (Above 32)
 count_ink : (n : ℕ) → n < 2 ^ 32 → Above 32 (decimal n)
 count_ink n h = above_less 46 32 (decimal n) (omega arith) (decimal_above n (omega (arith, h)))
 
-name_ink : (name : List ℕ) → IsName name → Above 32 name
+name_ink : (name : List ℕ) → IsCodeName name → Above 32 name
 name_ink name h = above_less 46 32 name (omega arith) (name_above name h)
 
-slot_ink : (object slot : List ℕ) → IsName object → IsName slot → Above 32 (slot_text object slot)
+slot_ink : (object slot : List ℕ) → IsCodeName object → IsCodeName slot → Above 32 (slot_text object slot)
 slot_ink object slot o s = all_append (λ b. 32 < b) object (46 ∷ slot) (name_ink object o) (omega arith, name_ink slot s)
 
 quantity_ink : (z : ℤ) → IsQuantity z → Above 32 (signed_decimal z)
@@ -41,7 +41,7 @@ truth_ink : (b : Bool) → Above 32 (truth_text b)
 truth_ink true = (omega arith, (omega arith, (omega arith, (omega arith, tt))))
 truth_ink false = (omega arith, (omega arith, (omega arith, (omega arith, (omega arith, tt)))))
 
-kind_ink : (kind : ValueKind) → IsKind kind → Above 32 (kind_text kind)
+kind_ink : (kind : ValueKind) → IsCodeKind kind → Above 32 (kind_text kind)
 kind_ink K.N h = (omega arith, tt)
 kind_ink K.B h = (omega arith, tt)
 kind_ink K.D h = (omega arith, tt)
@@ -168,10 +168,10 @@ after_lacks : (texts : List (List ℕ)) → AreInk texts → Lacks 10 (each_afte
 after_lacks [] ink = tt
 after_lacks (text ∷ texts) ink = (refl, all_append (λ b. (b == 10) ≡ false) text _ (lacks_above 32 10 text (omega arith) ink.0) (after_lacks texts ink.1))
 
-pub line_lacks : (text : List ℕ) (texts : List (List ℕ)) → AreInk (text ∷ texts) → Lacks 10 (joined 32 (text ∷ texts))
+pub line_lacks : (text : List ℕ) (texts : List (List ℕ)) → AreInk (text ∷ texts) → Lacks 10 (texts_joined 32 (text ∷ texts))
 line_lacks text texts ink = all_append (λ b. (b == 10) ≡ false) text _ (lacks_above 32 10 text (omega arith) ink.0) (after_lacks texts ink.1)
 
-pub line_parted : (text : List ℕ) (texts : List (List ℕ)) → AreInk (text ∷ texts) → parted 32 (joined 32 (text ∷ texts)) ≡ text ∷ texts
+pub line_parted : (text : List ℕ) (texts : List (List ℕ)) → AreInk (text ∷ texts) → parted 32 (texts_joined 32 (text ∷ texts)) ≡ text ∷ texts
 line_parted text texts ink = parted_joined 32 text texts (lacks_each (text ∷ texts) ink)
 
 -- ---- what the words of a line say
@@ -227,7 +227,7 @@ pub record Shows (line : List ℕ) (says : Said) : Type 0 where
   pub said : said_by (parted 32 line) ≡ Some says
   pub whole : Lacks 10 line
 
-shows : (word : List ℕ) (words : List (List ℕ)) (says : Said) → AreInk (word ∷ words) → said_by (word ∷ words) ≡ Some says → Shows (joined 32 (word ∷ words)) says
+shows : (word : List ℕ) (words : List (List ℕ)) (says : Said) → AreInk (word ∷ words) → said_by (word ∷ words) ≡ Some says → Shows (texts_joined 32 (word ∷ words)) says
 shows word words says ink is = record { said = ap said_by (line_parted word words ink) ∙ is; whole = line_lacks word words ink }
 
 pub instruction_shows : (i : Instruction) → IsInstruction i → Shows (instruction_line i) (S.Instruction i)

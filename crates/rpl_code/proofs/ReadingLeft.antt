@@ -11,7 +11,7 @@ use Rattle.rpl_code.specs.Spelling.{spelt}
 use Rattle.rpl_code.specs.Answers.{refusal_of}
 use Rattle.rpl_code.proofs.CodeRead.{read_spelt}
 use Rattle.rpl_code.specs.Parting.{parted}
-use Rattle.rpl_code.specs.Reading.{may_end, truncated, CodeRefusal, bad_line, behind, said_at, unless_bad, all_said, read}
+use Rattle.rpl_code.specs.Reading.{may_end, truncated, CodeRefusal, bad_line, stage_behind, said_at, unless_bad, all_said, read}
 use Rattle.rpl_code.specs.Progress.{stage_of, blocks_begun, code_with, reading_with, TakesLine}
 use Rattle.rpl_code.proofs.WordsBack.{IsMore, parted_more}
 
@@ -36,7 +36,7 @@ reads_bad blocks progress n left line rest whole e none is =
     by_parts : (parts : List (List ℕ)) → IsMore parts → reading_with blocks progress n (line ∷ parts) ≡ whole → whole ≡ Err (bad_line n)
     by_parts [] more h = absurd more
     by_parts (part ∷ parts) more h =
-        sym h ∙ ap (λ found. code_with blocks progress (unless_bad n found (λ s. all_said (n + 1) (behind s) (part ∷ parts)))) none
+        sym h ∙ ap (λ found. code_with blocks progress (unless_bad n found (λ s. all_said (n + 1) (stage_behind s) (part ∷ parts)))) none
 
 -- the loop's end behind the last line
 pub reads_all : (blocks : List Block) (progress : Progress) (n : ℕ) (left : List ℕ) (whole : Result (List Block) CodeRefusal)

@@ -2,11 +2,11 @@
 use Rattle.rw_base.proofs.Common.{◌≡◌, ℕ, zero, suc, List, [], ◌∷◌, ◌++◌, Bool, true, false, refl, sym, ap, ap₂, subst, ◌∙◌, append-nil, ◌≤◌, arith, ℤ, pos, ◌==◌, ◌&&◌, if◌then◌else◌, nat_le, Option, Some, None, is_some, unwrap_or, option_map, option_and_then, map, codes, neg_ℤ, AllByRecursion, bytes_eq, digits_value, decimal, signed_decimal, bytes_eq-Decides, eqb-true, leb-true, and_parts, false≢true, ints}
 use Rattle.rw_base.specs.Quantity.{IsQuantity}
 use Rattle.rpl_code.specs.declared.kind.ValueKind.{ValueKind}
-use Rattle.rpl_code.specs.Names.{is_name}
-use Rattle.rpl_code.specs.Bounds.{IsNumber, IsLength, IsName, IsKind, AreKinds}
+use Rattle.rpl_code.specs.Names.{is_code_name}
+use Rattle.rpl_code.specs.Bounds.{IsNumber, IsLength, IsCodeName, IsCodeKind, AreKinds}
 use Rattle.rpl_code.specs.Parting.{parted, in_front}
-use Rattle.rpl_code.specs.Words.{if_so, entry_at, number_in, count_in, length_in, quantity_in, truths, plain_kinds, list_kinds, truth_in, name_in, slot_in, slot_of, kind_in, kind_of, kinds_in, each_kind}
-use Rattle.rpl_code.specs.Spelling.{joined, kind_text, kinds_text, slot_text, truth_text}
+use Rattle.rpl_code.specs.Words.{if_so, entry_at, number_in, count_in, length_in, quantity_in, truths, plain_kinds, list_kinds, truth_in, name_in, slot_spelt, slot_of, kind_in, kind_spelt, kinds_in, each_kind}
+use Rattle.rpl_code.specs.Spelling.{texts_joined, kind_text, kinds_text, slot_text, truth_text}
 
 -- ---- what an answer tells of its parts
 
@@ -43,7 +43,7 @@ entry_back P (row ∷ rows) w b holds e =
 
 -- ---- joining what was parted
 
-joined_front : (c b : ℕ) (texts : List (List ℕ)) → joined c (in_front b texts) ≡ b ∷ joined c texts
+joined_front : (c b : ℕ) (texts : List (List ℕ)) → texts_joined c (in_front b texts) ≡ b ∷ texts_joined c texts
 joined_front c b [] = refl
 joined_front c b (text ∷ texts) = refl
 
@@ -51,7 +51,7 @@ abbrev pub IsMore : List (List ℕ) → Type 0
 IsMore [] = ⊥
 IsMore (text ∷ texts) = Unit {0}
 
-joined_empty : (c : ℕ) (texts : List (List ℕ)) → IsMore texts → joined c ([] ∷ texts) ≡ c ∷ joined c texts
+joined_empty : (c : ℕ) (texts : List (List ℕ)) → IsMore texts → texts_joined c ([] ∷ texts) ≡ c ∷ texts_joined c texts
 joined_empty c [] more = absurd more
 joined_empty c (text ∷ texts) more = refl
 
@@ -67,12 +67,12 @@ pub parted_more : (c : ℕ) (text : List ℕ) → IsMore (parted c text)
 parted_more c [] = tt
 parted_more c (b ∷ bs) = more_by (b == c) b (parted c bs)
 
-joined_by : (t : Bool) (c b : ℕ) (bs : List ℕ) (texts : List (List ℕ)) → (b == c) ≡ t → IsMore texts → joined c texts ≡ bs
-    → joined c (if t then [] ∷ texts else in_front b texts) ≡ b ∷ bs
+joined_by : (t : Bool) (c b : ℕ) (bs : List ℕ) (texts : List (List ℕ)) → (b == c) ≡ t → IsMore texts → texts_joined c texts ≡ bs
+    → texts_joined c (if t then [] ∷ texts else in_front b texts) ≡ b ∷ bs
 joined_by true c b bs texts same more is = joined_empty c texts more ∙ ap₂ (λ x xs. x ∷ xs) (sym (eqb-true b c same)) is
 joined_by false c b bs texts same more is = joined_front c b texts ∙ ap (λ xs. b ∷ xs) is
 
-pub joined_parted : (c : ℕ) (text : List ℕ) → joined c (parted c text) ≡ text
+pub joined_parted : (c : ℕ) (text : List ℕ) → texts_joined c (parted c text) ≡ text
 joined_parted c [] = refl
 joined_parted c (b ∷ bs) = joined_by (b == c) c b bs (parted c bs) refl (parted_more c bs) (joined_parted c bs)
 
@@ -126,45 +126,45 @@ truth_back truth text e = entry_back (λ word b. word ≡ truth_text b) truths t
 
 -- ---- names
 
-pub name_back : (name text : List ℕ) → name_in text ≡ Some name → (text ≡ name) × IsName name
-name_back name text e = let found = if_so_back (is_name text) text name e in (found.1, subst IsName found.1 found.0)
+pub name_back : (name text : List ℕ) → name_in text ≡ Some name → (text ≡ name) × IsCodeName name
+name_back name text e = let found = if_so_back (is_code_name text) text name e in (found.1, subst IsCodeName found.1 found.0)
 
 abbrev pub AreNames : (List ℕ) × (List ℕ) → Type 0
-AreNames names = IsName names.0 × IsName names.1
+AreNames names = IsCodeName names.0 × IsCodeName names.1
 
 slot_of_back : (texts : List (List ℕ)) (names : (List ℕ) × (List ℕ)) → slot_of texts ≡ Some names
-    → (joined 46 texts ≡ slot_text names.0 names.1) × AreNames names
+    → (texts_joined 46 texts ≡ slot_text names.0 names.1) × AreNames names
 slot_of_back [] names e = none_some names e
 slot_of_back (object ∷ []) names e = none_some names e
 slot_of_back (object ∷ slot ∷ []) names e =
     let pair : (List ℕ) × (List ℕ) = (object, slot) in
-    let found = if_so_back (is_name object && is_name slot) pair names e in (
+    let found = if_so_back (is_code_name object && is_code_name slot) pair names e in (
       ap (λ text. object ++ 46 ∷ text) (append-nil slot) ∙ ap (λ (both : (List ℕ) × (List ℕ)). slot_text both.0 both.1) found.1,
-      subst AreNames found.1 (and_parts (is_name object) (is_name slot) found.0),
+      subst AreNames found.1 (and_parts (is_code_name object) (is_code_name slot) found.0),
     )
 slot_of_back (object ∷ slot ∷ other ∷ texts) names e = none_some names e
 
-pub slot_back : (names : (List ℕ) × (List ℕ)) (text : List ℕ) → slot_in text ≡ Some names → (text ≡ slot_text names.0 names.1) × AreNames names
+pub slot_back : (names : (List ℕ) × (List ℕ)) (text : List ℕ) → slot_spelt text ≡ Some names → (text ≡ slot_text names.0 names.1) × AreNames names
 slot_back names text e = let back = slot_of_back (parted 46 text) names e in (sym (joined_parted 46 text) ∙ back.0, back.1)
 
 -- ---- kinds
 
-kind_of_back : (texts : List (List ℕ)) (kind : ValueKind) → kind_of texts ≡ Some kind → (joined 42 texts ≡ kind_text kind) × IsKind kind
+kind_of_back : (texts : List (List ℕ)) (kind : ValueKind) → kind_spelt texts ≡ Some kind → (texts_joined 42 texts ≡ kind_text kind) × IsCodeKind kind
 kind_of_back [] kind e = none_some kind e
 kind_of_back (letter ∷ []) kind e =
-    entry_back (λ word k. (joined 42 (word ∷ []) ≡ kind_text k) × IsKind k) plain_kinds letter kind ((refl, tt), ((refl, tt), ((refl, tt), ((refl, tt), tt)))) e
+    entry_back (λ word k. (texts_joined 42 (word ∷ []) ≡ kind_text k) × IsCodeKind k) plain_kinds letter kind ((refl, tt), ((refl, tt), ((refl, tt), ((refl, tt), tt)))) e
 kind_of_back (letter ∷ digits ∷ []) kind e =
     let found = then_back (λ (of_most : ℕ → ValueKind). option_map of_most (length_in digits)) (entry_at list_kinds letter) kind e in
     let most = mapped_back found.0 (length_in digits) kind found.2 in
     let back = length_back most.0 digits most.1 in
-    let made = entry_back (λ word (of_most : ℕ → ValueKind). (m : ℕ) → IsLength m → (joined 42 (word ∷ decimal m ∷ []) ≡ kind_text (of_most m)) × IsKind (of_most m))
+    let made = entry_back (λ word (of_most : ℕ → ValueKind). (m : ℕ) → IsLength m → (texts_joined 42 (word ∷ decimal m ∷ []) ≡ kind_text (of_most m)) × IsCodeKind (of_most m))
     list_kinds letter found.0
     ((λ m h. (ap (λ text. codes "N*" ++ text) (append-nil (decimal m)), h)), ((λ m h. (ap (λ text. codes "S*" ++ text) (append-nil (decimal m)), h)), tt))
     found.1 most.0 back.1 in
-    (ap (λ text. joined 42 (letter ∷ text ∷ [])) back.0 ∙ made.0 ∙ ap kind_text most.2, subst IsKind most.2 made.1)
+    (ap (λ text. texts_joined 42 (letter ∷ text ∷ [])) back.0 ∙ made.0 ∙ ap kind_text most.2, subst IsCodeKind most.2 made.1)
 kind_of_back (letter ∷ digits ∷ other ∷ texts) kind e = none_some kind e
 
-pub kind_back : (kind : ValueKind) (text : List ℕ) → kind_in text ≡ Some kind → (text ≡ kind_text kind) × IsKind kind
+pub kind_back : (kind : ValueKind) (text : List ℕ) → kind_in text ≡ Some kind → (text ≡ kind_text kind) × IsCodeKind kind
 kind_back kind text e = let back = kind_of_back (parted 42 text) kind e in (sym (joined_parted 42 text) ∙ back.0, back.1)
 
 each_back : (texts : List (List ℕ)) (kinds : List ValueKind) → each_kind texts ≡ Some kinds → (texts ≡ map kind_text kinds) × AreKinds kinds
@@ -176,10 +176,10 @@ each_back (text ∷ texts) kinds e =
     let rest = each_back texts others.0 others.1 in
     subst (λ ks. ((text ∷ texts) ≡ map kind_text ks) × AreKinds ks) others.2 (ap₂ (λ x xs. x ∷ xs) one.0 rest.0, (one.1, rest.1))
 
-some_kinds : (texts : List (List ℕ)) (kinds : List ValueKind) → IsMore texts → texts ≡ map kind_text kinds → joined 44 texts ≡ kinds_text kinds
+some_kinds : (texts : List (List ℕ)) (kinds : List ValueKind) → IsMore texts → texts ≡ map kind_text kinds → texts_joined 44 texts ≡ kinds_text kinds
 some_kinds [] kinds more e = absurd more
 some_kinds (text ∷ texts) [] more e = absurd (subst IsMore e tt)
-some_kinds (text ∷ texts) (kind ∷ kinds) more e = ap (joined 44) e
+some_kinds (text ∷ texts) (kind ∷ kinds) more e = ap (texts_joined 44) e
 
 kinds_by : (t : Bool) (text : List ℕ) (kinds : List ValueKind) → bytes_eq text (codes "-") ≡ t
     → (if t then Some [] else each_kind (parted 44 text)) ≡ Some kinds → (text ≡ kinds_text kinds) × AreKinds kinds

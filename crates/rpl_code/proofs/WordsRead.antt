@@ -5,9 +5,9 @@ use Rattle.rw_base.specs.Quantity.{IsQuantity}
 use Rattle.rpl_code.specs.declared.kind.ValueKind.{ValueKind}
 use Rattle.rpl_code.specs.declared.kind.ValueKind.TheVariants as K
 use Rattle.rpl_code.specs.Names.{is_letter, is_digit}
-use Rattle.rpl_code.specs.Bounds.{IsNumber, IsLength, IsName, IsKind, AreKinds}
+use Rattle.rpl_code.specs.Bounds.{IsNumber, IsLength, IsCodeName, IsCodeKind, AreKinds}
 use Rattle.rpl_code.specs.Parting.{parted}
-use Rattle.rpl_code.specs.Words.{number_in, count_in, length_in, quantity_in, truth_in, name_in, slot_in, kind_in, kinds_in, each_kind}
+use Rattle.rpl_code.specs.Words.{number_in, count_in, length_in, quantity_in, truth_in, name_in, slot_spelt, kind_in, kinds_in, each_kind}
 use Rattle.rpl_code.specs.Spelling.{each_after, kind_text, kinds_text, slot_text, truth_text}
 use Rattle.rpl_code.proofs.Parted.{Lacks, Above, all_append, lacks_above, parted_whole, parted_at, parted_joined}
 
@@ -61,17 +61,17 @@ further_above (b ∷ bs) h =
     byte_above : (b : ℕ) → (is_letter b || is_digit b) ≡ true → 46 < b
     byte_above b h = grind (arith, nat_tests)
 
-pub name_above : (name : List ℕ) → IsName name → Above 46 name
+pub name_above : (name : List ℕ) → IsCodeName name → Above 46 name
 name_above [] h = tt
 name_above (b ∷ bs) h =
     let parts = and_parts (nat_le (length (b ∷ bs)) 32) (is_letter b && list_all (λ c. is_letter c || is_digit c) bs) h in
     let bytes = and_parts (is_letter b) (list_all (λ c. is_letter c || is_digit c) bs) parts.1 in
     (letter_above b bytes.0, further_above bs bytes.1)
 
-pub name_is : (name : List ℕ) → IsName name → name_in name ≡ Some name
+pub name_is : (name : List ℕ) → IsCodeName name → name_in name ≡ Some name
 name_is name h = rw h refl
 
-pub slot_is : (object slot : List ℕ) → IsName object → IsName slot → slot_in (slot_text object slot) ≡ Some (object, slot)
+pub slot_is : (object slot : List ℕ) → IsCodeName object → IsCodeName slot → slot_spelt (slot_text object slot) ≡ Some (object, slot)
 slot_is object slot o s =
     let parts = parted_at 46 object slot (lacks_above 46 46 object (omega arith) (name_above object o))
     ∙ ap (λ rest. object ∷ rest) (parted_whole 46 slot (lacks_above 46 46 slot (omega arith) (name_above slot s))) in
@@ -82,7 +82,7 @@ slot_is object slot o s =
 length_text : (n : ℕ) → IsLength n → parted 42 (decimal n) ≡ decimal n ∷ []
 length_text n h = parted_whole 42 (decimal n) (lacks_above 46 42 (decimal n) (omega arith) (decimal_above n (omega (arith, h.1))))
 
-pub kind_is : (kind : ValueKind) → IsKind kind → kind_in (kind_text kind) ≡ Some kind
+pub kind_is : (kind : ValueKind) → IsCodeKind kind → kind_in (kind_text kind) ≡ Some kind
 kind_is K.N h = refl
 kind_is K.B h = refl
 kind_is K.D h = refl
@@ -90,7 +90,7 @@ kind_is K.S h = refl
 kind_is (K.NList most) h = rw (length_text most h, length_is most h) refl
 kind_is (K.SList most) h = rw (length_text most h, length_is most h) refl
 
-kind_lacks : (kind : ValueKind) → IsKind kind → Lacks 44 (kind_text kind)
+kind_lacks : (kind : ValueKind) → IsCodeKind kind → Lacks 44 (kind_text kind)
 kind_lacks K.N h = (refl, tt)
 kind_lacks K.B h = (refl, tt)
 kind_lacks K.D h = (refl, tt)

@@ -1,10 +1,10 @@
 -- What words come to, where it is known how they were cut.
 use Rattle.rw_base.proofs.Common.{◌≡◌, ◌⊎◌, inl, inr, ℕ, List, [], ◌∷◌, ◌++◌, refl, sym, ap, ap₂, subst, ◌∙◌, append-nil, ◌<◌, arith, length, Bool, true, false, ◌&&◌, ◌||◌, nat_le, Option, Some, None, is_some, Result, Ok, Err, option_map, option_and_then, list_all, IsErrAnd, IsAscii, IsUtf8, IsUtf8-from_ascii, IsAscii-nil, IsAscii-cons, and_parts, false≢true, nat_tests}
 use Rattle.rpl_code.specs.declared.kind.ValueKind.{ValueKind}
-use Rattle.rpl_code.specs.Names.{is_letter, is_digit, is_name}
+use Rattle.rpl_code.specs.Names.{is_letter, is_digit, is_code_name}
 use Rattle.rpl_code.specs.Parting.{parted}
-use Rattle.rpl_code.specs.Words.{if_so, entry_at, length_in, name_in, slot_in, slot_of, list_kinds, kind_in, kind_of, each_kind}
-use Rattle.rpl_code.specs.Spelling.{joined}
+use Rattle.rpl_code.specs.Words.{if_so, entry_at, length_in, name_in, slot_spelt, slot_of, list_kinds, kind_in, kind_spelt, each_kind}
+use Rattle.rpl_code.specs.Spelling.{texts_joined}
 use Rattle.rpl_code.specs.declared.line_fault.LineFault.{LineFault}
 use Rattle.rpl_code.specs.declared.line_fault.LineFault.TheVariants.{Bad}
 use Rattle.rpl_code.specs.Answers.{Says}
@@ -24,7 +24,7 @@ says_none meant (Err e) fault same none = λ bad. none (sym same ∙ bad)
 abbrev pub OneOrMore : ℕ → List ℕ → Type 0
 OneOrMore c text = (parted c text ≡ text ∷ []) ⊎ ((first : List ℕ) × (second : List ℕ) × (rest : List (List ℕ)) × (parted c text ≡ first ∷ second ∷ rest))
 
-one_or_by : (c : ℕ) (text : List ℕ) (parts : List (List ℕ)) → parted c text ≡ parts → IsMore parts → joined c parts ≡ text → OneOrMore c text
+one_or_by : (c : ℕ) (text : List ℕ) (parts : List (List ℕ)) → parted c text ≡ parts → IsMore parts → texts_joined c parts ≡ text → OneOrMore c text
 one_or_by c text [] e more whole = absurd more
 one_or_by c text (part ∷ []) e more whole = inl (e ∙ ap (λ p. p ∷ []) (sym (append-nil part) ∙ whole))
 one_or_by c text (first ∷ second ∷ rest) e more whole = inr (first, second, rest, e)
@@ -52,22 +52,22 @@ not_listed letter digits first second rest e = none_but (listed_kind letter digi
 pub kind_cut : (word letter digits : List ℕ) → parted 42 word ≡ letter ∷ parted 42 digits → kind_in word ≡ listed_kind letter digits
 kind_cut word letter digits e =
     elim (one_or_more 42 digits) [
-      | inl one ↦ ap kind_of (e ∙ ap (λ parts. letter ∷ parts) one)
-      | inr more ↦ ap kind_of (e ∙ ap (λ parts. letter ∷ parts) more.3) ∙ sym (not_listed letter digits more.0 more.1 more.2 more.3)
+      | inl one ↦ ap kind_spelt (e ∙ ap (λ parts. letter ∷ parts) one)
+      | inr more ↦ ap kind_spelt (e ∙ ap (λ parts. letter ∷ parts) more.3) ∙ sym (not_listed letter digits more.0 more.1 more.2 more.3)
     ]
 
 -- ---- slots
 
 abbrev pub both_names : List ℕ → List ℕ → Option ((List ℕ) × (List ℕ))
-both_names object slot = if_so (is_name object && is_name slot) (object, slot)
+both_names object slot = if_so (is_code_name object && is_code_name slot) (object, slot)
 
 not_both : (object slot first second : List ℕ) (rest : List (List ℕ)) → parted 46 slot ≡ first ∷ second ∷ rest → both_names object slot ≡ None
 not_both object slot first second rest e = none_but (both_names object slot)
     (λ names is. let pair : (List ℕ) × (List ℕ) = (object, slot) in
-    let both = and_parts (is_name object) (is_name slot) (if_so_back (is_name object && is_name slot) pair names is).0 in
+    let both = and_parts (is_code_name object) (is_code_name slot) (if_so_back (is_code_name object && is_code_name slot) pair names is).0 in
     one_not_more 46 slot first second rest (lacks_above 46 46 slot (omega arith) (name_above slot both.1)) e)
 
-pub slot_cut : (word object slot : List ℕ) → parted 46 word ≡ object ∷ parted 46 slot → slot_in word ≡ both_names object slot
+pub slot_cut : (word object slot : List ℕ) → parted 46 word ≡ object ∷ parted 46 slot → slot_spelt word ≡ both_names object slot
 slot_cut word object slot e =
     elim (one_or_more 46 slot) [
       | inl one ↦ ap slot_of (e ∙ ap (λ parts. object ∷ parts) one)
@@ -88,14 +88,14 @@ further_ascii (b ∷ bs) h =
     let parts = and_parts (is_letter b || is_digit b) (list_all (λ c. is_letter c || is_digit c) bs) h in
     IsAscii-cons b bs (byte_small b parts.0) (further_ascii bs parts.1)
 
-name_ascii : (name : List ℕ) → is_name name ≡ true → IsAscii name
+name_ascii : (name : List ℕ) → is_code_name name ≡ true → IsAscii name
 name_ascii [] h = IsAscii-nil
 name_ascii (b ∷ bs) h =
     let parts = and_parts (nat_le (length (b ∷ bs)) 32) (is_letter b && list_all (λ c. is_letter c || is_digit c) bs) h in
     let bytes = and_parts (is_letter b) (list_all (λ c. is_letter c || is_digit c) bs) parts.1 in
     IsAscii-cons b bs (letter_small b bytes.0) (further_ascii bs bytes.1)
 
-pub name_utf8 : (name : List ℕ) → is_name name ≡ true → IsUtf8 name
+pub name_utf8 : (name : List ℕ) → is_code_name name ≡ true → IsUtf8 name
 name_utf8 name h = IsUtf8-from_ascii name (name_ascii name h)
 
 -- ---- kinds one after the other: those that were read, and those that are left
@@ -116,8 +116,8 @@ second_false true true a b e = absurd (false≢true (sym (ap is_some e)))
 second_false true false a b e = refl
 second_false false t a b e = refl
 
-pub slot_named : (word object slot x y : List ℕ) → parted 46 word ≡ object ∷ parted 46 slot → name_in object ≡ Some x → name_in slot ≡ Some y → slot_in word ≡ Some (x, y)
-slot_named word object slot x y e first second = slot_cut word object slot e ∙ both_true (is_name object) (is_name slot) x y object slot first second
+pub slot_named : (word object slot x y : List ℕ) → parted 46 word ≡ object ∷ parted 46 slot → name_in object ≡ Some x → name_in slot ≡ Some y → slot_spelt word ≡ Some (x, y)
+slot_named word object slot x y e first second = slot_cut word object slot e ∙ both_true (is_code_name object) (is_code_name slot) x y object slot first second
 
-pub slot_unnamed : (word object slot : List ℕ) → parted 46 word ≡ object ∷ parted 46 slot → name_in slot ≡ None → slot_in word ≡ None
-slot_unnamed word object slot e none = slot_cut word object slot e ∙ second_false (is_name object) (is_name slot) object slot none
+pub slot_unnamed : (word object slot : List ℕ) → parted 46 word ≡ object ∷ parted 46 slot → name_in slot ≡ None → slot_spelt word ≡ None
+slot_unnamed word object slot e none = slot_cut word object slot e ∙ second_false (is_code_name object) (is_code_name slot) object slot none

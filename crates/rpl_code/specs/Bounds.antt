@@ -9,7 +9,7 @@ use Rattle.rpl_code.specs.declared.instruction.Instruction.TheVariants as I
 use Rattle.rpl_code.specs.declared.block.BlockHead.{BlockHead}
 use Rattle.rpl_code.specs.declared.block.BlockHead.TheVariants.{Rule, Function}
 use Rattle.rpl_code.specs.declared.block.Block.{Block}
-use Rattle.rpl_code.specs.Names.{is_name}
+use Rattle.rpl_code.specs.Names.{is_code_name}
 
 -- the number of a place, a local or a block
 abbrev pub IsNumber : ℕ → Type 0
@@ -19,25 +19,25 @@ IsNumber n = n < 2 ^ 32
 abbrev pub IsLength : ℕ → Type 0
 IsLength n = (1 ≤ n) × (n ≤ 4096)
 
-abbrev pub IsName : List ℕ → Type 0
-IsName name = IsTrue (is_name name)
+abbrev pub IsCodeName : List ℕ → Type 0
+IsCodeName name = IsTrue (is_code_name name)
 
-abbrev pub IsKind : ValueKind → Type 0
-IsKind (NList most) = IsLength most
-IsKind (SList most) = IsLength most
-IsKind _ = Unit {0}
+abbrev pub IsCodeKind : ValueKind → Type 0
+IsCodeKind (NList most) = IsLength most
+IsCodeKind (SList most) = IsLength most
+IsCodeKind _ = Unit {0}
 
 abbrev pub AreKinds : List ValueKind → Type 0
-AreKinds = AllByRecursion IsKind
+AreKinds = AllByRecursion IsCodeKind
 
 abbrev pub IsInstruction : Instruction → Type 0
 IsInstruction (I.Num v) = IsQuantity v
-IsInstruction (I.Slot object slot) = IsName object × IsName slot
+IsInstruction (I.Slot object slot) = IsCodeName object × IsCodeName slot
 IsInstruction (I.Load n) = IsNumber n
 IsInstruction (I.Store n) = IsNumber n
-IsInstruction (I.ToElevation object) = IsName object
-IsInstruction (I.ToStorage object) = IsName object
-IsInstruction (I.Call name) = IsName name
+IsInstruction (I.ToElevation object) = IsCodeName object
+IsInstruction (I.ToStorage object) = IsCodeName object
+IsInstruction (I.Call name) = IsCodeName name
 IsInstruction (I.Invoke n) = IsNumber n
 IsInstruction (I.List n) = IsLength n
 IsInstruction (I.Widen n) = IsLength n
@@ -46,12 +46,12 @@ IsInstruction (I.Branch n) = IsNumber n
 IsInstruction (I.Target kinds) = AreKinds kinds
 IsInstruction (I.Foreach n) = IsNumber n
 IsInstruction (I.Map n) = IsNumber n
-IsInstruction (I.Put object slot ahead) = IsName object × IsName slot × (ahead ≤ 255)
+IsInstruction (I.Put object slot ahead) = IsCodeName object × IsCodeName slot × (ahead ≤ 255)
 IsInstruction _ = Unit {0}
 
 abbrev pub IsHead : BlockHead → Type 0
 IsHead Rule = Unit {0}
-IsHead (Function result parameters) = IsKind result × AreKinds parameters
+IsHead (Function result parameters) = IsCodeKind result × AreKinds parameters
 
 pub record IsBlock (b : Block) : Type 0 where
   pub head : IsHead b.head

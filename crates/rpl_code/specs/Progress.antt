@@ -4,7 +4,7 @@ use Rattle.rpl_code.specs.declared.block.Block.{Block}
 use Rattle.rpl_code.specs.declared.said.Said.{Said}
 use Rattle.rpl_code.specs.declared.progress.Progress.{Progress}
 use Rattle.rpl_code.specs.declared.progress.Progress.TheVariants as P
-use Rattle.rpl_code.specs.Reading.{Stage, top, between, headed, inside, behind, may_say, CodeRefusal, locals_said, lines_said, blocks_said, all_said}
+use Rattle.rpl_code.specs.Reading.{Stage, top, between, headed, inside, stage_behind, may_say, CodeRefusal, locals_said, lines_said, blocks_said, all_said}
 
 -- where the next line stands
 abbrev pub stage_of : Progress → Stage
@@ -32,7 +32,7 @@ reading_with blocks progress n parts = code_with blocks progress (all_said n (st
 -- what is said may be said there, and is gone over: the code is the same
 pub record Takes (blocks : List Block) (progress : Progress) (says : Said) (blocks_after : List Block) (after : Progress) : Type 0 where
   pub may : may_say (stage_of progress) says ≡ true
-  pub stage : stage_of after ≡ behind says
+  pub stage : stage_of after ≡ stage_behind says
   pub code : (rest : List Said) → blocks_after ++ blocks_begun after rest ≡ blocks ++ blocks_begun progress (says ∷ rest)
 
 -- the same of a line, whichever it is and whatever comes behind it

@@ -9,7 +9,7 @@ use Rattle.rpl_code.specs.declared.block.Block.{Block}
 use Rattle.rpl_code.specs.declared.said.Said.{Said}
 use Rattle.rpl_code.specs.declared.said.Said.TheVariants as S
 use Rattle.rpl_code.specs.Parting.{parted}
-use Rattle.rpl_code.specs.Words.{if_so, entry_at, number_in, count_in, length_in, quantity_in, truth_in, name_in, slot_in, kind_in, kinds_in}
+use Rattle.rpl_code.specs.Words.{if_so, entry_at, number_in, count_in, length_in, quantity_in, truth_in, name_in, slot_spelt, kind_in, kinds_in}
 
 -- lines of one word
 abbrev pub alone : List ((List ℕ) × Said)
@@ -26,43 +26,43 @@ alone =
     ∷ (codes "yield", S.Instruction I.Yield) ∷ []
 
 -- an instruction of what a word stands for
-abbrev pub made_of : {A : Type 0} → (A → Instruction) → Option A → Option Said
-made_of make read = option_map (λ x. S.Instruction (make x)) read
+abbrev pub instruction_of : {A : Type 0} → (A → Instruction) → Option A → Option Said
+instruction_of make read = option_map (λ x. S.Instruction (make x)) read
 
 -- lines of a word and another behind it
 abbrev pub with_one : List ((List ℕ) × (List ℕ → Option Said))
 with_one =
     (codes "CODE", λ word. if_so (bytes_eq word (codes "1")) S.Heading)
     ∷ (codes "LOCALS", λ word. option_map S.Locals (kinds_in word))
-    ∷ (codes "num", λ word. made_of I.Num (quantity_in word))
-    ∷ (codes "bool", λ word. made_of I.Bool (truth_in word))
-    ∷ (codes "slot", λ word. made_of (λ names. I.Slot names.0 names.1) (slot_in word))
-    ∷ (codes "load", λ word. made_of I.Load (count_in word))
-    ∷ (codes "store", λ word. made_of I.Store (count_in word))
-    ∷ (codes "toelevation", λ word. made_of I.ToElevation (name_in word))
-    ∷ (codes "tostorage", λ word. made_of I.ToStorage (name_in word))
-    ∷ (codes "call", λ word. made_of I.Call (name_in word))
-    ∷ (codes "invoke", λ word. made_of I.Invoke (count_in word))
-    ∷ (codes "list", λ word. made_of I.List (length_in word))
-    ∷ (codes "widen", λ word. made_of I.Widen (length_in word))
-    ∷ (codes "jump", λ word. made_of I.Jump (count_in word))
-    ∷ (codes "branch", λ word. made_of I.Branch (count_in word))
-    ∷ (codes "target", λ word. made_of I.Target (kinds_in word))
-    ∷ (codes "foreach", λ word. made_of I.Foreach (count_in word))
-    ∷ (codes "map", λ word. made_of I.Map (count_in word)) ∷ []
+    ∷ (codes "num", λ word. instruction_of I.Num (quantity_in word))
+    ∷ (codes "bool", λ word. instruction_of I.Bool (truth_in word))
+    ∷ (codes "slot", λ word. instruction_of (λ names. I.Slot names.0 names.1) (slot_spelt word))
+    ∷ (codes "load", λ word. instruction_of I.Load (count_in word))
+    ∷ (codes "store", λ word. instruction_of I.Store (count_in word))
+    ∷ (codes "toelevation", λ word. instruction_of I.ToElevation (name_in word))
+    ∷ (codes "tostorage", λ word. instruction_of I.ToStorage (name_in word))
+    ∷ (codes "call", λ word. instruction_of I.Call (name_in word))
+    ∷ (codes "invoke", λ word. instruction_of I.Invoke (count_in word))
+    ∷ (codes "list", λ word. instruction_of I.List (length_in word))
+    ∷ (codes "widen", λ word. instruction_of I.Widen (length_in word))
+    ∷ (codes "jump", λ word. instruction_of I.Jump (count_in word))
+    ∷ (codes "branch", λ word. instruction_of I.Branch (count_in word))
+    ∷ (codes "target", λ word. instruction_of I.Target (kinds_in word))
+    ∷ (codes "foreach", λ word. instruction_of I.Foreach (count_in word))
+    ∷ (codes "map", λ word. instruction_of I.Map (count_in word)) ∷ []
 
 -- the line of a function, and that of a put
-abbrev pub function_of : List ℕ → List ℕ → Option Said
-function_of result parameters =
+abbrev pub function_line : List ℕ → List ℕ → Option Said
+function_line result parameters =
     option_and_then (λ kind. option_map (λ kinds. S.Opening (Function kind kinds)) (kinds_in parameters)) (kind_in result)
 
-abbrev pub put_of : List ℕ → List ℕ → Option Said
-put_of slot ahead =
-    option_and_then (λ names. option_map (λ n. S.Instruction (I.Put names.0 names.1 n)) (number_in 0 255 ahead)) (slot_in slot)
+abbrev pub put_line : List ℕ → List ℕ → Option Said
+put_line slot ahead =
+    option_and_then (λ names. option_map (λ n. S.Instruction (I.Put names.0 names.1 n)) (number_in 0 255 ahead)) (slot_spelt slot)
 
 -- lines of a word and two others behind it
 abbrev pub with_two : List ((List ℕ) × (List ℕ → List ℕ → Option Said))
-with_two = (codes "FUNCTION", function_of) ∷ (codes "put", put_of) ∷ []
+with_two = (codes "FUNCTION", function_line) ∷ (codes "put", put_line) ∷ []
 
 -- what a line of these words says, if it is a line
 abbrev pub said_by : List (List ℕ) → Option Said
@@ -88,12 +88,12 @@ may_say inside S.Ending = true
 may_say _ _ = false
 
 -- where the line behind this one stands
-abbrev pub behind : Said → Stage
-behind S.Heading = between
-behind (S.Opening head) = headed
-behind (S.Locals kinds) = inside
-behind (S.Instruction i) = inside
-behind S.Ending = between
+abbrev pub stage_behind : Said → Stage
+stage_behind S.Heading = between
+stage_behind (S.Opening head) = headed
+stage_behind (S.Locals kinds) = inside
+stage_behind (S.Instruction i) = inside
+stage_behind S.Ending = between
 
 -- whether the text may end there: no `END` is due
 abbrev pub may_end : Stage → Bool
@@ -123,7 +123,7 @@ abbrev pub all_said : ℕ → Stage → List (List ℕ) → Result (List Said) C
 all_said n stage [] = Err truncated
 all_said n stage (part ∷ []) = if may_end stage && bytes_eq part [] then Ok [] else Err truncated
 all_said n stage (line ∷ next ∷ parts) =
-    unless_bad n (said_at stage line) (λ says. all_said (n + 1) (behind says) (next ∷ parts))
+    unless_bad n (said_at stage line) (λ says. all_said (n + 1) (stage_behind says) (next ∷ parts))
 
 -- the locals and the instructions of the block whose first line stands before these
 abbrev pub locals_said : List Said → List ValueKind

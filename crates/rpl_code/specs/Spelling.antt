@@ -15,14 +15,14 @@ each_after c [] = []
 each_after c (text ∷ texts) = c ∷ (text ++ each_after c texts)
 
 -- texts with the byte between them
-abbrev pub joined : ℕ → List (List ℕ) → List ℕ
-joined c [] = []
-joined c (text ∷ texts) = text ++ each_after c texts
+abbrev pub texts_joined : ℕ → List (List ℕ) → List ℕ
+texts_joined c [] = []
+texts_joined c (text ∷ texts) = text ++ each_after c texts
 
 -- lines, each with its line feed
-abbrev pub ended : List (List ℕ) → List ℕ
-ended [] = []
-ended (line ∷ lines) = line ++ 10 ∷ ended lines
+abbrev pub lines_ended : List (List ℕ) → List ℕ
+lines_ended [] = []
+lines_ended (line ∷ lines) = line ++ 10 ∷ lines_ended lines
 
 abbrev pub kind_text : ValueKind → List ℕ
 kind_text K.N = codes "N"
@@ -35,7 +35,7 @@ kind_text (K.SList most) = codes "S*" ++ decimal most
 -- kinds with commas, and `-` for none
 abbrev pub kinds_text : List ValueKind → List ℕ
 kinds_text [] = codes "-"
-kinds_text (kind ∷ kinds) = joined 44 (map kind_text (kind ∷ kinds))
+kinds_text (kind ∷ kinds) = texts_joined 44 (map kind_text (kind ∷ kinds))
 
 abbrev pub slot_text : List ℕ → List ℕ → List ℕ
 slot_text object slot = object ++ 46 ∷ slot
@@ -121,14 +121,14 @@ operands_of (I.Put object slot ahead) = slot_text object slot ∷ decimal ahead 
 operands_of _ = []
 
 abbrev pub instruction_line : Instruction → List ℕ
-instruction_line i = joined 32 (word_of i ∷ operands_of i)
+instruction_line i = texts_joined 32 (word_of i ∷ operands_of i)
 
 abbrev pub head_line : BlockHead → List ℕ
 head_line Rule = codes "RULE"
-head_line (Function result parameters) = joined 32 (codes "FUNCTION" ∷ kind_text result ∷ kinds_text parameters ∷ [])
+head_line (Function result parameters) = texts_joined 32 (codes "FUNCTION" ∷ kind_text result ∷ kinds_text parameters ∷ [])
 
 abbrev pub locals_line : List ValueKind → List ℕ
-locals_line kinds = joined 32 (codes "LOCALS" ∷ kinds_text kinds ∷ [])
+locals_line kinds = texts_joined 32 (codes "LOCALS" ∷ kinds_text kinds ∷ [])
 
 abbrev pub block_lines : Block → List (List ℕ)
 block_lines b = head_line b.head ∷ locals_line b.locals ∷ (map instruction_line b.lines ++ codes "END" ∷ [])
@@ -138,4 +138,4 @@ code_lines blocks = codes "CODE 1" ∷ flat_map block_lines blocks
 
 -- the text of a code
 abbrev pub spelt : List Block → List ℕ
-spelt blocks = ended (code_lines blocks)
+spelt blocks = lines_ended (code_lines blocks)

@@ -5,7 +5,7 @@ use Rattle.std.specs.Str.Parse.{digits_value}
 use Rattle.std.specs.Fmt.{decimal}
 use Rattle.rpl_code.specs.declared.kind.ValueKind.{ValueKind}
 use Rattle.rpl_code.specs.declared.kind.ValueKind.TheVariants as K
-use Rattle.rpl_code.specs.Names.{is_name}
+use Rattle.rpl_code.specs.Names.{is_code_name}
 use Rattle.rpl_code.specs.Parting.{parted}
 
 -- x where the test holds, and nothing elsewhere
@@ -45,15 +45,15 @@ abbrev pub truth_in : List ℕ → Option Bool
 truth_in = entry_at truths
 
 abbrev pub name_in : List ℕ → Option (List ℕ)
-name_in text = if_so (is_name text) text
+name_in text = if_so (is_code_name text) text
 
 -- an object's name and a slot's, with a point between them
 abbrev pub slot_of : List (List ℕ) → Option ((List ℕ) × (List ℕ))
-slot_of (object ∷ slot ∷ []) = if_so (is_name object && is_name slot) (object, slot)
+slot_of (object ∷ slot ∷ []) = if_so (is_code_name object && is_code_name slot) (object, slot)
 slot_of _ = None
 
-abbrev pub slot_in : List ℕ → Option ((List ℕ) × (List ℕ))
-slot_in text = slot_of (parted 46 text)
+abbrev pub slot_spelt : List ℕ → Option ((List ℕ) × (List ℕ))
+slot_spelt text = slot_of (parted 46 text)
 
 abbrev pub plain_kinds : List ((List ℕ) × ValueKind)
 plain_kinds = (codes "N", K.N) ∷ (codes "B", K.B) ∷ (codes "D", K.D) ∷ (codes "S", K.S) ∷ []
@@ -63,14 +63,14 @@ abbrev pub list_kinds : List ((List ℕ) × (ℕ → ValueKind))
 list_kinds = (codes "N", K.NList) ∷ (codes "S", K.SList) ∷ []
 
 -- a kind without a length, or with one behind `*`
-abbrev pub kind_of : List (List ℕ) → Option ValueKind
-kind_of (letter ∷ []) = entry_at plain_kinds letter
-kind_of (letter ∷ digits ∷ []) =
+abbrev pub kind_spelt : List (List ℕ) → Option ValueKind
+kind_spelt (letter ∷ []) = entry_at plain_kinds letter
+kind_spelt (letter ∷ digits ∷ []) =
     option_and_then (λ (of_most : ℕ → ValueKind). option_map of_most (length_in digits)) (entry_at list_kinds letter)
-kind_of _ = None
+kind_spelt _ = None
 
 abbrev pub kind_in : List ℕ → Option ValueKind
-kind_in text = kind_of (parted 42 text)
+kind_in text = kind_spelt (parted 42 text)
 
 abbrev pub each_kind : List (List ℕ) → Option (List ValueKind)
 each_kind [] = Some []

@@ -11,11 +11,11 @@ ghost use Rattle.rpl_code.specs.Reading.{read, bad_line, truncated};
 ghost use Rattle.rpl_code.specs.Answers.{refusal_of};
 ghost use Rattle.rpl_code.specs.Worked.{
   plain_rule,
-  capped,
+  capped_code,
   capped_text,
   mixed,
   mixed_text,
-  rule_of,
+  rule_text,
   seven_kept,
   seven_kept_text,
   two_puts,
@@ -24,8 +24,8 @@ ghost use Rattle.rpl_code.specs.Worked.{
 
 /// The text of a code is these lines, and they are read as the code.
 pub fn worked_codes()
-    ensures capped { spelt capped ≡ capped_text }
-    ensures capped_is_read { read capped_text ≡ Ok capped }
+    ensures capped { spelt capped_code ≡ capped_text }
+    ensures capped_is_read { read capped_text ≡ Ok capped_code }
     ensures mixed { spelt mixed ≡ mixed_text }
     ensures mixed_is_read { read mixed_text ≡ Ok mixed }
     ensures seven_kept { spelt seven_kept ≡ seven_kept_text }
@@ -34,28 +34,28 @@ pub fn worked_codes()
     ensures two_puts_is_read { read two_puts_text ≡ Ok two_puts }
     ensures none { spelt [] ≡ codes "CODE 1\n" }
     ensures none_is_read { read (codes "CODE 1\n") ≡ Ok [] }
-    ensures one { read (rule_of (codes "add")) ≡ Ok (plain_rule (Instruction.Add ∷ [])) }
+    ensures one { read (rule_text (codes "add")) ≡ Ok (plain_rule (Instruction.Add ∷ [])) }
 {}
 
 /// Lines that are no lines, each the fourth of its text. Numbers have no leading zeros, names begin with no digit, and
 /// one blank stands between words.
 pub fn worked_refusals()
-    ensures zeros { read (rule_of (codes "num 01")) ≡ Err (bad_line 4) }
-    ensures minus_zero { read (rule_of (codes "num -0")) ≡ Err (bad_line 4) }
-    ensures great { read (rule_of (codes "num 100000000000000001")) ≡ Err (bad_line 4) }
-    ensures number { read (rule_of (codes "load 4294967296")) ≡ Err (bad_line 4) }
-    ensures long { read (rule_of (codes "list 4097")) ≡ Err (bad_line 4) }
-    ensures short { read (rule_of (codes "widen 0")) ≡ Err (bad_line 4) }
-    ensures ahead { read (rule_of (codes "put Dam.Outflow 256")) ≡ Err (bad_line 4) }
-    ensures name { read (rule_of (codes "slot 2.Outflow")) ≡ Err (bad_line 4) }
-    ensures point { read (rule_of (codes "slot Dam")) ≡ Err (bad_line 4) }
-    ensures kind { read (rule_of (codes "target N,")) ≡ Err (bad_line 4) }
-    ensures blank { read (rule_of (codes "add ")) ≡ Err (bad_line 4) }
-    ensures empty { read (rule_of []) ≡ Err (bad_line 4) }
-    ensures word { read (rule_of (codes "plus")) ≡ Err (bad_line 4) }
-    ensures carriage_return { read (rule_of (codes "add" ++ 13 ∷ [])) ≡ Err (bad_line 4) }
-    ensures two_blanks { read (rule_of (codes "num  7")) ≡ Err (bad_line 4) }
-    ensures plus { read (rule_of (codes "num +7")) ≡ Err (bad_line 4) }
+    ensures zeros { read (rule_text (codes "num 01")) ≡ Err (bad_line 4) }
+    ensures minus_zero { read (rule_text (codes "num -0")) ≡ Err (bad_line 4) }
+    ensures great { read (rule_text (codes "num 100000000000000001")) ≡ Err (bad_line 4) }
+    ensures number { read (rule_text (codes "load 4294967296")) ≡ Err (bad_line 4) }
+    ensures long { read (rule_text (codes "list 4097")) ≡ Err (bad_line 4) }
+    ensures short { read (rule_text (codes "widen 0")) ≡ Err (bad_line 4) }
+    ensures ahead { read (rule_text (codes "put Dam.Outflow 256")) ≡ Err (bad_line 4) }
+    ensures name { read (rule_text (codes "slot 2.Outflow")) ≡ Err (bad_line 4) }
+    ensures point { read (rule_text (codes "slot Dam")) ≡ Err (bad_line 4) }
+    ensures kind { read (rule_text (codes "target N,")) ≡ Err (bad_line 4) }
+    ensures blank { read (rule_text (codes "add ")) ≡ Err (bad_line 4) }
+    ensures empty { read (rule_text []) ≡ Err (bad_line 4) }
+    ensures word { read (rule_text (codes "plus")) ≡ Err (bad_line 4) }
+    ensures carriage_return { read (rule_text (codes "add" ++ 13 ∷ [])) ≡ Err (bad_line 4) }
+    ensures two_blanks { read (rule_text (codes "num  7")) ≡ Err (bad_line 4) }
+    ensures plus { read (rule_text (codes "num +7")) ≡ Err (bad_line 4) }
 {}
 
 /// Lines that are not allowed in their place, and texts that end too early.

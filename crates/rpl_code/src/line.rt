@@ -4,7 +4,7 @@ ghost use Rattle.std.specs.Str.{bytes_eq};
 ghost use Rattle.rpl_code.specs.declared.said.Said.TheVariants as Said;
 ghost use Rattle.rpl_code.specs.Parting.{parted};
 ghost use Rattle.rpl_code.specs.Words.{if_so, entry_at, truth_in};
-ghost use Rattle.rpl_code.specs.Reading.{alone, with_one, with_two, function_of, put_of, said_by};
+ghost use Rattle.rpl_code.specs.Reading.{alone, with_one, with_two, function_line, put_line, said_by};
 ghost use Rattle.rpl_code.specs.Answers.{Says};
 
 use crate::cut::cut;
@@ -109,7 +109,7 @@ fn said_with_one(alloc: Global, word: &str, one: &[u8]) -> Result<Said, LineFaul
 }
 
 fn function_of(alloc: Global, kind: &[u8], parameters: &[u8]) -> Result<Said, LineFault>
-    ensures { Says (function_of kind.now parameters.now) result }
+    ensures { Says (function_line kind.now parameters.now) result }
 {
     let kind = kind_in(kind)?;
     let parameters = kinds_in(alloc, parameters)?;
@@ -120,7 +120,7 @@ fn function_of(alloc: Global, kind: &[u8], parameters: &[u8]) -> Result<Said, Li
 }
 
 fn put_of(alloc: Global, slot: &[u8], ahead: &[u8]) -> Result<Said, LineFault>
-    ensures { Says (put_of slot.now ahead.now) result }
+    ensures { Says (put_line slot.now ahead.now) result }
 {
     let (object, slot) = slot_in(alloc, slot)?;
     let ahead = ahead_in(ahead)?;

@@ -1,8 +1,8 @@
 // Names in words.
 ghost use Rattle.std.specs.Prelude.{◌≡◌, ◌||◌};
 ghost use Rattle.std.specs.List.{list_all};
-ghost use Rattle.rpl_code.specs.Names.{is_letter, is_digit, is_name};
-ghost use Rattle.rpl_code.specs.Words.{name_in, slot_in};
+ghost use Rattle.rpl_code.specs.Names.{is_letter, is_digit, is_code_name};
+ghost use Rattle.rpl_code.specs.Words.{name_in, slot_spelt};
 ghost use Rattle.rpl_code.specs.Answers.{Says};
 
 use crate::cut::cut;
@@ -32,7 +32,7 @@ fn all_go_on(bytes: &[u8]) -> bool
 }
 
 fn is_name(word: &[u8]) -> bool
-    ensures { result ≡ is_name word.now }
+    ensures { result ≡ is_code_name word.now }
 {
     match word {
         [] => false,
@@ -56,7 +56,7 @@ pub(crate) fn name_in(alloc: Global, word: &[u8]) -> Result<Name, LineFault>
 
 /// The names of an object and of its slot, with a point between them.
 pub(crate) fn slot_in(alloc: Global, word: &[u8]) -> Result<(Name, Name), LineFault>
-    ensures { Says (slot_in word.now) result }
+    ensures { Says (slot_spelt word.now) result }
 {
     let Some((object, slot)) = cut(word, b'.') else {
         return Err(LineFault::Bad);

@@ -1,7 +1,7 @@
 // The lines of a code.
 ghost use Rattle.std.specs.Prelude.{◌≡◌, ◌++◌, ◌∷◌, [], OnOk, IfOk, string_bytes, map, flat_map};
 ghost use Rattle.rpl_code.specs.Bounds.{IsCode};
-ghost use Rattle.rpl_code.specs.Spelling.{instruction_line, head_line, locals_line, block_lines, ended, spelt};
+ghost use Rattle.rpl_code.specs.Spelling.{instruction_line, head_line, locals_line, block_lines, lines_ended, spelt};
 
 use crate::spelling::{push_kind, push_kinds_word, push_operands, word_of};
 use crate::{Block, BlockHead, Code, Instruction, Kinds};
@@ -10,7 +10,7 @@ use std::alloc::Global;
 
 fn push_instruction(text: &mut String, instruction: &Instruction) -> Result<(), NoMemory>
     ensures { OnOk result (string_bytes text.new ≡ string_bytes text.old
-        ++ ended (instruction_line instruction.now ∷ [])) }
+        ++ lines_ended (instruction_line instruction.now ∷ [])) }
 {
     text.push_str(word_of(instruction))?;
     push_operands(text, instruction)?;
@@ -20,7 +20,7 @@ fn push_instruction(text: &mut String, instruction: &Instruction) -> Result<(), 
 
 fn push_instructions(text: &mut String, lines: &[Instruction]) -> Result<(), NoMemory>
     ensures { OnOk result (string_bytes text.new ≡ string_bytes text.old
-        ++ ended (map instruction_line lines.now)) }
+        ++ lines_ended (map instruction_line lines.now)) }
 {
     for instruction in lines {
         push_instruction(text, instruction)?;
@@ -54,7 +54,7 @@ fn push_locals(text: &mut String, locals: &Kinds) -> Result<(), NoMemory>
 
 fn push_block(text: &mut String, block: &Block) -> Result<(), NoMemory>
     ensures { OnOk result (string_bytes text.new ≡ string_bytes text.old
-        ++ ended (block_lines block.now)) }
+        ++ lines_ended (block_lines block.now)) }
 {
     push_head(text, &block.head)?;
     text.push_str("\n")?;
@@ -67,7 +67,7 @@ fn push_block(text: &mut String, block: &Block) -> Result<(), NoMemory>
 
 fn push_blocks(text: &mut String, blocks: &[Block]) -> Result<(), NoMemory>
     ensures { OnOk result (string_bytes text.new ≡ string_bytes text.old
-        ++ ended (flat_map block_lines blocks.now)) }
+        ++ lines_ended (flat_map block_lines blocks.now)) }
 {
     for block in blocks {
         push_block(text, block)?;

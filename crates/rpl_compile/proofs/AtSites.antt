@@ -6,8 +6,8 @@ use Rattle.rpl_code.specs.declared.instruction.Instruction.{Instruction}
 use Rattle.rpl_code.specs.declared.instruction.Instruction.TheVariants as I
 use Rattle.rpl_tree.specs.Value.{Kind, is_same_kind, room_of}
 use Rattle.rpl_compile.specs.Operations.{code_kind, code_kinds, target, widening, widening_size}
-use Rattle.rpl_compile.specs.Site.{Bound, Site, bound, keeping, knowing, on, over}
-use Rattle.rpl_compile.specs.Written.{Written, at_line, outer, step, with_end, with_kind, with_line, with_local, with_name, with_operand, with_room, with_second, with_value_end, without_name, without_operands}
+use Rattle.rpl_compile.specs.Site.{BoundName, Site, bound, keeping, knowing, on, over}
+use Rattle.rpl_compile.specs.Written.{Written, at_line, outer, written_step, with_end, with_kind, with_line, with_local, with_name, with_operand, written_with_room, with_second, with_value_end, without_name, without_operands}
 
 -- with these locals and these lines so far
 pub record At (w : Written) (s : Site) (ls : List ValueKind) (is : List Instruction) : Type 0 where
@@ -164,7 +164,7 @@ name_at {w} {s} {ls} {is} x k l m n e f h = record {
 }
 
 -- the name is taken away
-pub unnamed_at : {w : Written} {ls : List ValueKind} {is : List Instruction} (b : Bound) (s : Site) → At w (knowing b s) ls is → At
+pub unnamed_at : {w : Written} {ls : List ValueKind} {is : List Instruction} (b : BoundName) (s : Site) → At w (knowing b s) ls is → At
     (without_name w) s ls is
 unnamed_at {w} {ls} {is} b s h = record {
   scope = ap outer h.scope;
@@ -193,10 +193,10 @@ room_by {w} {s} {ls} {is} true i h = lines_as (is ++ []) (sym (append-nil is)) (
 room_by {w} {s} {ls} {is} false i h = line_at i i refl h
 
 pub room_at : {w : Written} {s : Site} {ls : List ValueKind} {is : List Instruction} (k l m n : Kind) → k ≡ m → l ≡ n
-    → At w s ls is → At (with_room k (step l w)) (on (widening_size m n) s) ls (is ++ widening m n)
+    → At w s ls is → At (written_with_room k (written_step l w)) (on (widening_size m n) s) ls (is ++ widening m n)
 room_at {w} {s} {ls} {is} k l m n e f h =
-    subst (λ (x : Kind). At (with_room k (step l w)) (on (widening_size m x) s) ls (is ++ widening m x)) f
-    (subst (λ (x : Kind). At (with_room k (step l w)) (on (widening_size x l) s) ls (is ++ widening x l)) e
+    subst (λ (x : Kind). At (written_with_room k (written_step l w)) (on (widening_size m x) s) ls (is ++ widening m x)) f
+    (subst (λ (x : Kind). At (written_with_room k (written_step l w)) (on (widening_size x l) s) ls (is ++ widening x l)) e
     (room_by (is_same_kind k l) (I.Widen (room_of k)) h))
 
 -- ---- branches

@@ -2,7 +2,7 @@
 use Rattle.rw_base.proofs.Common.{◌≡◌, ℕ, suc, ◌+◌, ◌<◌, ◌≤◌, List, ◌∷◌, ◌++◌, length, set, Some, refl, ◌∙◌, subst, arith, slice_get, slice_get_within}
 use Rattle.rpl_code.specs.declared.instruction.Instruction.{Instruction}
 use Rattle.rpl_code.specs.declared.instruction.Instruction.TheVariants as I
-use Rattle.rpl_tree.specs.Value.{Kind, Value, kind_of, weight}
+use Rattle.rpl_tree.specs.Value.{Kind, Value, kind_of_value, weight}
 use Rattle.rpl_tree.specs.Outcome.{Outcome, after, spent, ◌>>=◌}
 use Rattle.rpl_tree.specs.Tree.{Tree, bind}
 use Rattle.rpl_tree.specs.Mean.{Env, value_of}
@@ -79,19 +79,19 @@ module _ (g : Setting) where
       (knowing (bound x (kind_at (H g) site e) site.free) (on 1 (after_tree g.callees e (keeping 1 site)))) ((x, v) ∷ env) us ops
       → Goes g.code g.world (fr g (site.place + size (H g) (names_in site.scope) e + 1) us ops lo ∷ rest) (go v) Q)
       → Goes g.code g.world (fr g site.place ls ops lo ∷ rest)
-      (value_of g.world g.functions env e >>= (λ v. after (spent (weight (kind_of v))) (go v))) Q
+      (value_of g.world g.functions env e >>= (λ v. after (spent (weight (kind_of_value v))) (go v))) Q
   binds x e site env ls ops lo rest lines kinds go Q c kinded h b inside =
       let k = kind_at (H g) site e in
       let q : ℕ = site.place + size (H g) (names_in site.scope) e in
       part g k (site.free + 1) q ls ops lo rest (fr g site.place ls ops lo ∷ rest) (value_of g.world g.functions env e)
-      (λ v. after (spent (weight (kind_of v))) (go v)) Q
+      (λ v. after (spent (weight (kind_of_value v))) (go v)) Q
       (c (keeping 1 site) env ls ops lo rest (b.value_at, b.value_kinds, kinded) (here_on g site env ls ls ops 1 h (same_kept site.free ls)))
       (λ v us hv ku.
       let k1 = kept_less site.free (site.free + 1) ls us (omega arith) ku in
       let z : q + 1 ≡ suc q = omega arith in
       let m : site.free + suc (local_count e) ≡ site.free + 1 + local_count e = omega arith in
       let there = here_known site env ls us ops x k v (local_count e) hv b.local h k1 in
-      goes_first g.code g.world (fr g q us (v ∷ ops) lo) rest (fr g (suc q) (set us site.free v) ops lo ∷ rest) (spent (weight (kind_of v))) (go v) Q
+      goes_first g.code g.world (fr g q us (v ∷ ops) lo) rest (fr g (suc q) (set us site.free v) ops lo ∷ rest) (spent (weight (kind_of_value v))) (go v) Q
       (stores g q site.free us ops lo rest v k b.keeps b.local hv)
       (goes_at g (q + 1) (suc q) (set us site.free v) ops lo rest (go v) Q z
       (inside v (set us site.free v) (kept_set site.free site.free ls us v (omega arith) k1)

@@ -15,7 +15,7 @@ use Rattle.rpl_verify.specs.Names.{Scope}
 use Rattle.rpl_verify.specs.Fits.{before, scope_of}
 use Rattle.rpl_verify.specs.Notes.{words_kept}
 use Rattle.rpl_compile.specs.Operations.{code_kind, code_kinds}
-use Rattle.rpl_compile.specs.Site.{Bound, Site, behind, names_in, parameters_from, start}
+use Rattle.rpl_compile.specs.Site.{BoundName, Site, behind, names_in, parameters_from, start}
 use Rattle.rpl_compile.specs.Kinded.{AreKindedActs, IsKindedBody}
 use Rattle.rpl_compile.specs.Translate.{Callee, callee_heads, function_block, rule_block}
 use Rattle.rpl_compile.proofs.Sizes.{code-size}
@@ -93,7 +93,7 @@ module _ (basin : Draft) (all : List Block) (number : ℕ) (callees : List Calle
       let block : Block = function_block callees params result body in
       let scope : Scope = scope_of basin all number block in
       let lines : List Instruction = block.lines in
-      let bounds : List Bound = parameters_from 0 params in
+      let bounds : List BoundName = parameters_from 0 params in
       let site : Site = start bounds (length params) in
       let heads : List Head = callee_heads callees in
       let own = code_kinds (local_kinds heads (names_in bounds) body) in

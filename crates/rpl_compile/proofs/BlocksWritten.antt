@@ -7,7 +7,7 @@ use Rattle.rpl_tree.specs.Value.{slots_kind}
 use Rattle.rpl_tree.proofs.Common.{Acts, Declared, Parameter, Tree, TypeName, function, rule, kind_of_type, local_kinds, numbers_kind, param_kinds, param_names}
 use Rattle.rpl_compile.specs.Kinded.{AreKinded, AreKindedActs, AreKindedFrom, IsKinded, IsKindedBody}
 use Rattle.rpl_compile.specs.Operations.{code_kind, code_kinds}
-use Rattle.rpl_compile.specs.Rooms.{AreRoomy, HasRoom, HaveRoom}
+use Rattle.rpl_compile.specs.Rooms.{AreRoomy, HasListRoom, HaveRoom}
 use Rattle.rpl_compile.specs.Site.{bound, names_in, parameters_from, start}
 use Rattle.rpl_compile.specs.Translate.{Callee, blocks_from, callee_heads, function_block, kind_of_tree, predefined_callees, rule_block, translate}
 use Rattle.rpl_compile.specs.Written.{begun, begun_function, written_function, written_from, written_kind, written_parameters, written_rule, written_takes}
@@ -19,7 +19,7 @@ use Rattle.rpl_compile.proofs.Texts.{small_text}
 
 -- ---- types that are written
 
-kind_is : (written : TypeName) → HasRoom written → written_kind written ≡ kind_of_type written
+kind_is : (written : TypeName) → HasListRoom written → written_kind written ≡ kind_of_type written
 kind_is (numeric unit) h = refl
 kind_is boolean h = refl
 kind_is datetime h = refl
@@ -65,7 +65,7 @@ module _ (basin : Draft) (valid : IsBasin basin) where
       λ i. record { head = Rule; locals = left.locals i; lines = left.lines i }
 
   function_is : (callees : List Callee) (params : List Parameter) (result : TypeName) (body : Tree) → AllByRecursion IsSpelt callees → HaveRoom params
-      → HasRoom result → IsKindedBody basin (callee_heads callees) (param_names params) (kind_of_type result) body
+      → HasListRoom result → IsKindedBody basin (callee_heads callees) (param_names params) (kind_of_type result) body
       → written_function callees params (written_kind result) body ≡ function_block callees params (kind_of_type result) body
   function_is callees params result body spelled rooms room h =
       let scope = parameters_from 0 params in

@@ -10,7 +10,7 @@ use Rattle.rpl_tree.specs.Operators.{widened}
 use Rattle.rpl_tree.specs.Tree.{Tree, Parameter}
 use Rattle.rpl_tree.specs.Kinds.{Names, kind_of_type, tree_kind}
 use Rattle.rpl_tree.specs.Cost.{param_names}
-use Rattle.rpl_tree.specs.Mean.{Env, Function, function_of, heads_of, param_kinds, value_of, with_arguments}
+use Rattle.rpl_tree.specs.Mean.{Env, Function, function_of, function_heads, param_kinds, value_of, with_arguments}
 use Rattle.rpl_tree.specs.Locals.{local_kinds}
 use Rattle.rpl_verify.specs.declared.verify_kind.VerifyKind.TheVariants.{WrongOperand}
 use Rattle.rpl_verify.specs.Kinds.{are_same_kinds, words_of_all}
@@ -22,7 +22,7 @@ use Rattle.rpl_verify.proofs.KindFacts.{same_kinds_refl}
 use Rattle.rpl_verify.proofs.Stepping.{kinds_turned}
 use Rattle.rpl_compile.specs.Operations.{code_kind, code_kinds, widening_size}
 use Rattle.rpl_compile.specs.Size.{size}
-use Rattle.rpl_compile.specs.Site.{Bound, Site, kind_at, names_in, parameters_from, start}
+use Rattle.rpl_compile.specs.Site.{BoundName, Site, kind_at, names_in, parameters_from, start}
 use Rattle.rpl_compile.specs.Translate.{Callee, callee_heads, code_of, function_block, room_lines}
 use Rattle.rpl_compile.specs.Kinded.{FitsIn, IsKinded, IsKindedBody}
 use Rattle.rpl_compile.proofs.Goes.{Goes, goes_first, goes_free}
@@ -83,12 +83,12 @@ module _ (code : List Block) (world : World) where
       ∙ ap (λ (t : Bool). if t then gives (handed_back vs callers) 0 else is_stuck)
       (ap (are_same_kinds (end_kinds x.head)) h ∙ same_kinds_refl (end_kinds x.head))
 
-  module _ (callees : List Callee) (functions : List Function) (same_heads : heads_of functions ≡ callee_heads callees)
+  module _ (callees : List Callee) (functions : List Function) (same_heads : function_heads functions ≡ callee_heads callees)
       (calls : CanCall code world callees functions)
       (number : ℕ) (called_so : List ℕ) (params : List Parameter) (result : Kind) (body : Tree)
       (at : numbered code number ≡ Some (function_block callees params result body))
       (kinded : IsKindedBody world.basin (callee_heads callees) (param_names params) result body) where
-    abbrev scope : List Bound
+    abbrev scope : List BoundName
     scope = parameters_from 0 params
 
     abbrev site : Site

@@ -10,10 +10,10 @@ use Rattle.rpl_tree.specs.Value.{Kind, number_kind}
 use Rattle.rpl_tree.specs.Tree.{TypeName, numeric, boolean, datetime, slot_type, numeric_list, slot_list, Parameter}
 use Rattle.rpl_tree.specs.Kinds.{Head, Names, kind_of_type, result_named, takes_named}
 use Rattle.rpl_tree.specs.Cost.{param_names}
-use Rattle.rpl_tree.specs.Mean.{heads_of, param_kinds, predefined_functions}
+use Rattle.rpl_tree.specs.Mean.{function_heads, param_kinds, predefined_functions}
 use Rattle.rpl_types.specs.declared.type_kind.TypeKind.TheVariants.{DuplicateName, ListTooLong, NotEarlier, UnknownName, WrongCount, WrongType}
 use Rattle.rpl_types.specs.Fits.{Typed, arguments_misfit, longest, misfit, misfit_among, misfit_in_places}
-use Rattle.rpl_types.specs.Forms.{Scope, a_dimension}
+use Rattle.rpl_types.specs.Forms.{TypeScope, a_dimension}
 use Rattle.rpl_types.specs.Functions.{Callable, Signature, call_type, called_type, count_named, declared_type, head_misfit, is_duplicate, made_by, measured_by, numbers_type, param_scope, predefined_count, product_over_type, refusal_in, repeats_name, signature, signature_named, type_here, type_or_plain, unknown_type, with_room, with_unit, written_type}
 use Rattle.rpl_types.specs.Judged.{head_refusal}
 use Rattle.rpl_compile.specs.Kinded.{FitsIn, HasHead}
@@ -83,9 +83,9 @@ pub record Matches (earlier : List Signature) (heads : List Head) : Type 0 where
   pub declared : (f : List ℕ) (known : Signature) → predefined_count f ≡ None → signature_named earlier f ≡ Some known
       → Finds heads f (kinds_of_types known.takes) (kind_of_rpl_type known.result)
 
-pub matches_none : Matches [] (heads_of predefined_functions)
+pub matches_none : Matches [] (function_heads predefined_functions)
 matches_none = record {
-  predefined = λ f count h. found_numbers (heads_of predefined_functions) f count
+  predefined = λ f count h. found_numbers (function_heads predefined_functions) f count
       (refl, refl, (refl, refl, (refl, refl, (refl, refl, (refl, refl, (refl, refl, (refl, refl, tt))))))) h;
   declared = λ f known h e. absurd (cc e);
 }
@@ -176,7 +176,7 @@ kind_here w h = by (written_type w) refl h
     by (Err kind) e h = absurd (cc h)
 
 -- the kinds of the names whose types these are
-abbrev pub type_names : Scope → Names
+abbrev pub type_names : TypeScope → Names
 type_names [] = []
 type_names (variable ∷ scope) = (variable.0, kind_of_rpl_type variable.1) ∷ type_names scope
 

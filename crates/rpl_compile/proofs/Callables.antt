@@ -7,7 +7,7 @@ use Rattle.rpl_code.specs.declared.block.Block.{Block}
 use Rattle.rpl_tree.specs.Value.{Kind, number_kind, Value}
 use Rattle.rpl_tree.specs.World.{World}
 use Rattle.rpl_tree.specs.Kinds.{Head, result_named, takes_named}
-use Rattle.rpl_tree.specs.Mean.{Function, called, heads_of, predefined_functions}
+use Rattle.rpl_tree.specs.Mean.{Function, called, function_heads, predefined_functions}
 use Rattle.rpl_verify.specs.Table.{call_row, function_named, left_of, operand_count, or_wrong}
 use Rattle.rpl_verify.specs.Names.{unless_there}
 use Rattle.rpl_verify.specs.Fits.{locals_of}
@@ -133,11 +133,11 @@ module _ (code : List Block) (world : World) where
       (many ∙ sym (length-replicate n K.N) ∙ ap (λ o. operand_count (call_row o)) (sym named)) leaves))
 
   named_known : (fs : List Function) (f : List ℕ) → ((known : Function) → function_named fs f ≡ Some known → DoesCall code world (I.Call f) known)
-      → HasHead (callee_heads (map (λ (head : Head). record { head = head; block = None }) (heads_of fs))) f
-      → Known code world (map (λ (head : Head). record { head = head; block = None }) (heads_of fs)) fs f
+      → HasHead (callee_heads (map (λ (head : Head). record { head = head; block = None }) (function_heads fs))) f
+      → Known code world (map (λ (head : Head). record { head = head; block = None }) (function_heads fs)) fs f
   named_known [] f does h = absurd (cc h)
   named_known (fn ∷ fs) f does h =
-      known_first code world (record { head = fn.head; block = None }) fn (map (λ (head : Head). record { head = head; block = None }) (heads_of fs))
+      known_first code world (record { head = fn.head; block = None }) fn (map (λ (head : Head). record { head = head; block = None }) (function_heads fs))
       fs f refl
       (λ q. does fn (ap (λ (t : Bool). if t then Some fn else function_named fs f) q))
       (λ q. named_known fs f (λ known e. does known (ap (λ (t : Bool). if t then Some fn else function_named fs f) q ∙ e))) h
@@ -145,5 +145,5 @@ module _ (code : List Block) (world : World) where
   pub predefined_called : CanCall code world predefined_callees predefined_functions
   predefined_called f h = named_known predefined_functions f (predefined_does f) h
 
-pub predefined_heads : heads_of predefined_functions ≡ callee_heads predefined_callees
+pub predefined_heads : function_heads predefined_functions ≡ callee_heads predefined_callees
 predefined_heads = refl

@@ -12,7 +12,7 @@ use Rattle.rpl_verify.specs.declared.verify_kind.VerifyKind.{VerifyKind}
 use Rattle.rpl_verify.specs.declared.verify_kind.VerifyKind.TheVariants.{LaterCall}
 use Rattle.rpl_verify.specs.Table.{call_row, function_named, invoke_row}
 use Rattle.rpl_verify.specs.Names.{Scope, call_misfit, unless_there}
-use Rattle.rpl_verify.specs.Fits.{Before, Open, before, judged, taken, unless_misfit}
+use Rattle.rpl_verify.specs.Fits.{Before, Open, before, judged_at, taken, unless_misfit}
 use Rattle.rpl_compile.specs.Operations.{code_kind, code_kinds}
 use Rattle.rpl_compile.specs.Kinded.{HasHead}
 use Rattle.rpl_compile.specs.Translate.{Callee, call_by, call_line, callee_heads, predefined_callees}
@@ -23,7 +23,7 @@ use Rattle.rpl_verify.specs.Budget.{onward, going_of}
 abbrev pub LinesFit : Scope → List Callee → Type 0
 LinesFit scope callees =
     (f : List ℕ) → HasHead (callee_heads callees) f → (p : ℕ) (ls : List ValueKind) (os : List Open)
-    → judged scope p (before (reverse (code_kinds (takes_named (callee_heads callees) f)) ++ ls) os) (call_line callees f)
+    → judged_at scope p (before (reverse (code_kinds (takes_named (callee_heads callees) f)) ++ ls) os) (call_line callees f)
     ≡ Ok (before (code_kind (result_named (callee_heads callees) f) ∷ ls) os)
 
 pub call_onward : (callees : List Callee) (f : List ℕ) → going_of (call_line callees f) ≡ onward
@@ -88,7 +88,7 @@ module _ (scope : Scope) where
   invoke_fits : (block : ℕ) (result : ValueKind) (parameters : List ValueKind) → block < scope.number
       → numbered scope.heads block ≡ Some (Function result parameters)
       → (p : ℕ) (ls : List ValueKind) (os : List Open)
-      → judged scope p (before (reverse parameters ++ ls) os) (I.Invoke block) ≡ Ok (before (result ∷ ls) os)
+      → judged_at scope p (before (reverse parameters ++ ls) os) (I.Invoke block) ≡ Ok (before (result ∷ ls) os)
   invoke_fits block result parameters lt there p ls os =
       let b : Before = before (reverse parameters ++ ls) os in
       let is_earlier : nat_lt block scope.number ≡ true = grind (arith, nat_tests, lt) in
@@ -98,7 +98,7 @@ module _ (scope : Scope) where
       ∙ takes_kinds scope (I.Invoke block) (reverse parameters) (result ∷ []) ls os (ap invoke_row there)
 
   call_fits : (f : List ℕ) (head : Head) → head.name ≡ f → IsPredefined head → (p : ℕ) (ls : List ValueKind) (os : List Open)
-      → judged scope p (before (reverse (code_kinds head.takes) ++ ls) os) (I.Call f) ≡ Ok (before (code_kind head.result ∷ ls) os)
+      → judged_at scope p (before (reverse (code_kinds head.takes) ++ ls) os) (I.Call f) ≡ Ok (before (code_kind head.result ∷ ls) os)
   call_fits f head e is p ls os =
       let b : Before = before (reverse (code_kinds head.takes) ++ ls) os in
       let found : function_named predefined_functions f ≡ Some is.known = ap (function_named predefined_functions) (sym e) ∙ is.named in
@@ -109,7 +109,7 @@ module _ (scope : Scope) where
 
   callable_fits : (f : List ℕ) (head : Head) (block : Option ℕ) → head.name ≡ f → IsCallable scope.heads scope.number head block
       → (p : ℕ) (ls : List ValueKind) (os : List Open)
-      → judged scope p (before (reverse (code_kinds head.takes) ++ ls) os) (call_by f block) ≡ Ok (before (code_kind head.result ∷ ls) os)
+      → judged_at scope p (before (reverse (code_kinds head.takes) ++ ls) os) (call_by f block) ≡ Ok (before (code_kind head.result ∷ ls) os)
   callable_fits f head None e h p ls os = call_fits f head e h p ls os
   callable_fits f head (Some block) e h p ls os = invoke_fits block (code_kind head.result) (code_kinds head.takes) h.earlier h.there p ls os
 
@@ -119,9 +119,9 @@ module _ (scope : Scope) where
     where
       by : (t : Bool) → bytes_eq c.head.name f ≡ t → IsTrue (t || list_any (λ (head : Head). bytes_eq head.name f) (callee_heads callees))
           → (HasHead (callee_heads callees) f
-          → judged scope p (before (reverse (code_kinds (takes_named (callee_heads callees) f)) ++ ls) os) (call_line callees f)
+          → judged_at scope p (before (reverse (code_kinds (takes_named (callee_heads callees) f)) ++ ls) os) (call_line callees f)
           ≡ Ok (before (code_kind (result_named (callee_heads callees) f) ∷ ls) os))
-          → judged scope p (before (reverse (code_kinds (if t then c.head.takes else takes_named (callee_heads callees) f)) ++ ls) os)
+          → judged_at scope p (before (reverse (code_kinds (if t then c.head.takes else takes_named (callee_heads callees) f)) ++ ls) os)
           (if t then call_by f c.block else call_line callees f)
           ≡ Ok (before (code_kind (if t then c.head.result else result_named (callee_heads callees) f) ∷ ls) os)
       by true e has later = callable_fits f c.head c.block ((bytes_eq-Decides c.head.name f).0 e) h.0 p ls os

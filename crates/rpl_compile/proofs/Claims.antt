@@ -16,7 +16,7 @@ use Rattle.rpl_compile.specs.Operations.{code_kind, code_kinds, convert_line, nu
 use Rattle.rpl_compile.specs.Site.{Site, bound, keeping, knowing, local_named, names_in, on, over}
 use Rattle.rpl_compile.specs.Size.{size}
 use Rattle.rpl_compile.specs.Translate.{Callee, after_room, after_tree, all_code, arguments_code, call_line, callee_heads, code_of, kind_of_tree, room_lines}
-use Rattle.rpl_compile.specs.Written.{Written, callee_named, compiled, compiled_all, compiled_arguments, first_ahead, number_of, spelt}
+use Rattle.rpl_compile.specs.Written.{Written, callee_named, compiled, compiled_all, compiled_arguments, first_ahead, number_in_units, spelt_name}
 use Rattle.rpl_compile.proofs.Forms.{Claim, codes_append, ended, gathered_twice, on_and, on_at, on_bind, on_choice, on_known, on_leaf, on_mapped, on_one, on_or, on_two, two_more}
 use Rattle.rpl_compile.proofs.KindsFound.{first_is}
 use Rattle.rpl_compile.proofs.Plain.{IsSpelt, call_is, number_is, owner_spelt, result_is, short_is, slot_spelt, table_spelt, takes_is}
@@ -200,12 +200,12 @@ module _ (basin : Draft) (callees : List Callee) where
     mutual
       pub claim : (t : Tree) → Claim basin callees t
       claim (literal n unit) = λ w s ls is start h.
-          on_leaf basin callees (literal n unit) number_kind (I.Num (number_of n unit)) (number_line n unit) w s ls is start h refl (ap I.Num
+          on_leaf basin callees (literal n unit) number_kind (I.Num (number_in_units n unit)) (number_line n unit) w s ls is start h refl (ap I.Num
           (number_is n unit h)) refl refl
       claim (truth b) = λ w s ls is start h. on_leaf basin callees (truth b) truth_kind (I.Bool b) (I.Bool b) w s ls is start h refl refl refl refl
       claim now = λ w s ls is start h. on_leaf basin callees now date_kind I.Now I.Now w s ls is start h refl refl refl refl
       claim (slot o x) = λ w s ls is start h.
-          on_leaf basin callees (slot o x) slot_kind (I.Slot (spelt o) (spelt x)) (I.Slot o x) w s ls is start h refl
+          on_leaf basin callees (slot o x) slot_kind (I.Slot (spelt_name o) (spelt_name x)) (I.Slot o x) w s ls is start h refl
           (λ i. I.Slot (owner_spelt basin valid o x h i) (slot_spelt basin valid o x h i)) refl refl
       claim (name x) = λ w s ls is start h.
           on_leaf basin callees (name x) (kind_named (names_in w.scope) x) (I.Load (local_named w.scope x)) (I.Load
@@ -226,7 +226,7 @@ module _ (basin : Draft) (callees : List Callee) where
       claim (two Two.And l r) = on_and basin callees l r (claim l) (claim r)
       claim (two word l r) = λ w s ls is start h. on_two basin callees word l r (claim l) (claim r) w s ls is start h refl
       claim (convert word o e) = λ w s ls is start h.
-          on_one basin callees (convert word o e) e number_kind (convert_line word (spelt o)) (convert_line word o)
+          on_one basin callees (convert word o e) e number_kind (convert_line word (spelt_name o)) (convert_line word o)
           (claim e) w s ls is start h h.1 refl
           (ap (convert_line word) (table_spelt basin valid o h.0)) refl refl
       claim (at sl d) = on_at basin callees sl d (claim sl) (claim d)

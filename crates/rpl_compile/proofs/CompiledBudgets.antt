@@ -10,7 +10,7 @@ use Rattle.rpl_tree.specs.Kinds.{Head, kind_of_type}
 use Rattle.rpl_tree.specs.Mean.{param_kinds}
 use Rattle.rpl_tree.specs.Budget.{Budget, budget, budget_of, capped, limits}
 use Rattle.rpl_tree.specs.Cost.{Costed, Price, costed_heads, costs, costs_from, most_of_acts, most_of_body, param_names, predefined_costs, price_of_looks, price_of_puts, price_of_steps}
-use Rattle.rpl_tree.specs.Words.{height, height_of_acts, words, words_from}
+use Rattle.rpl_tree.specs.Words.{height, height_of_acts, words_of_rules, words_from}
 use Rattle.rpl_tree.specs.Locals.{acts_local_kinds, local_kinds}
 use Rattle.rpl_parse.specs.Bounds.{function_count, rule_count}
 use Rattle.rpl_types.specs.declared.type_kind.TypeKind.TheVariants.{TooCostly}
@@ -24,7 +24,7 @@ use Rattle.rpl_verify.specs.Budget.{IsWithinLimits, block_ruling, budget_by, par
 use Rattle.rpl_verify.specs.Verified.{verified, with_budgets}
 use Rattle.rpl_verify.proofs.KindFacts.{and_true}
 use Rattle.rpl_verify.proofs.Accepted.{numbered_by}
-use Rattle.rpl_compile.specs.Budgets.{accepted_code, budgets_from, budgets_of}
+use Rattle.rpl_compile.specs.Budgets.{accepted_code, budgets_from, code_budgets_of}
 use Rattle.rpl_compile.specs.Kinded.{AreKindedFrom}
 use Rattle.rpl_compile.specs.Translate.{Callee, blocks_from, callee_heads, function_block, predefined_callees, rule_block, translate}
 use Rattle.rpl_compile.proofs.Placing.{has_behind}
@@ -96,7 +96,7 @@ pub record Walked (rules : List Declared) (all : List Block) (callees : List Cal
   pub left_steps : (j : ℕ) → slice_index (costs price_of_steps rules) (length earlier + j) ≡ slice_index (costs_from price_of_steps steps ds) j
   pub left_looks : (j : ℕ) → slice_index (costs price_of_looks rules) (length earlier + j) ≡ slice_index (costs_from price_of_looks looks ds) j
   pub left_puts : (j : ℕ) → slice_index (costs price_of_puts rules) (length earlier + j) ≡ slice_index (costs_from price_of_puts puts ds) j
-  pub left_words : (j : ℕ) → slice_index (words rules) (length earlier + j) ≡ slice_index (words_from deep ds) j
+  pub left_words : (j : ℕ) → slice_index (words_of_rules rules) (length earlier + j) ≡ slice_index (words_from deep ds) j
 
 -- a declaration of a number costs so much
 pub record Costs (rules : List Declared) (number count looks puts most : ℕ) : Type 0 where
@@ -109,15 +109,15 @@ here_is all n number x e h = let z : number - 1 ≡ n + 0 = omega (arith, e) in 
 
 costs_here : (rules : List Declared) (n number a b c d : ℕ) → number ≡ suc n → cost_refusal (budget_of rules number) ≡ None
     → slice_index (costs price_of_steps rules) (n + 0) ≡ a → slice_index (costs price_of_looks rules) (n + 0) ≡ b
-    → slice_index (costs price_of_puts rules) (n + 0) ≡ c → slice_index (words rules) (n + 0) ≡ d → Costs rules number a b c d
+    → slice_index (costs price_of_puts rules) (n + 0) ≡ c → slice_index (words_of_rules rules) (n + 0) ≡ d → Costs rules number a b c d
 costs_here rules n number a b c d e cheap f1 f2 f3 f4 = record {
   is =
       let g1 = here_is (costs price_of_steps rules) n number a e f1 in
       let g2 = here_is (costs price_of_looks rules) n number b e f2 in
       let g3 = here_is (costs price_of_puts rules) n number c e f3 in
-      let g4 = here_is (words rules) n number d e f4 in
+      let g4 = here_is (words_of_rules rules) n number d e f4 in
       ap₂ (λ x y. budget (capped limits.count x) (capped limits.looks y) (capped limits.puts (slice_index (costs price_of_puts rules) (number - 1)))
-      (capped limits.words (slice_index (words rules) (number - 1)))) g1 g2
+      (capped limits.words (slice_index (words_of_rules rules) (number - 1)))) g1 g2
       ∙ ap₂ (λ x y. budget (capped limits.count a) (capped limits.looks b) (capped limits.puts x) (capped limits.words y)) g3 g4;
   within = limited (budget_of rules number) cheap;
 }
@@ -207,8 +207,8 @@ module _ (rules : List Declared) (all : List Block) (callees : List Callee) (num
             (left_next n (most_of_acts price_of_looks looks [] body) (costs price_of_looks rules) (costs_from price_of_looks looks ds) w.left_looks);
         left_puts = one_further earlier block (costs price_of_puts rules) (costs_from price_of_puts puts ds)
             (left_next n (most_of_acts price_of_puts puts [] body) (costs price_of_puts rules) (costs_from price_of_puts puts ds) w.left_puts);
-        left_words = one_further earlier block (words rules) (words_from deep ds)
-            (left_next n (weights (acts_local_kinds (costed_heads deep) [] body) + height_of_acts deep [] body) (words rules)
+        left_words = one_further earlier block (words_of_rules rules) (words_from deep ds)
+            (left_next n (weights (acts_local_kinds (costed_heads deep) [] body) + height_of_acts deep [] body) (words_of_rules rules)
             (words_from deep ds) w.left_words);
       }
 
@@ -269,8 +269,8 @@ module _ (rules : List Declared) (all : List Block) (callees : List Callee) (num
           left_puts = one_further earlier block (costs price_of_puts rules) (costs_from price_of_puts (known_by price_of_puts puts ∷ puts) ds)
               (left_next n (most_of_body price_of_puts puts (param_names params) (kind_of_type result) body) (costs price_of_puts rules)
               (costs_from price_of_puts (known_by price_of_puts puts ∷ puts) ds) w.left_puts);
-          left_words = one_further earlier block (words rules) (words_from (known_words ∷ deep) ds)
-              (left_next n words_inside (words rules) (words_from (known_words ∷ deep) ds) w.left_words);
+          left_words = one_further earlier block (words_of_rules rules) (words_from (known_words ∷ deep) ds)
+              (left_next n words_inside (words_of_rules rules) (words_from (known_words ∷ deep) ds) w.left_words);
         }
 
 -- ---- all declarations
@@ -342,7 +342,7 @@ from_first : (all : List ℕ) → AreLeft 0 all all
 from_first all j = let z : 0 + j ≡ j = omega arith in ap (slice_index all) z
 
 pub compiled_budgets : (basin : Draft) (rules : List Declared) → IsTyped basin rules → rule_count rules ≤ 200 → function_count rules ≤ 200
-    → ruling basin (translate rules) ≡ Ok (budgets_of rules)
+    → ruling basin (translate rules) ≡ Ok (code_budgets_of rules)
 compiled_budgets basin rules typed few_rules few_functions =
     let first : Walked rules (translate rules) predefined_callees 1 rules [] [] (predefined_costs 1) (predefined_costs 0) (predefined_costs 0)
     (predefined_costs 0) = record {
@@ -357,7 +357,7 @@ compiled_budgets basin rules typed few_rules few_functions =
       left_steps = from_first (costs price_of_steps rules);
       left_looks = from_first (costs price_of_looks rules);
       left_puts = from_first (costs price_of_puts rules);
-      left_words = from_first (words rules);
+      left_words = from_first (words_of_rules rules);
     } in
     all_pass basin rules (translate rules) (few_blocks rules few_rules few_functions) predefined_callees 1 [] rules [] [] (predefined_costs 1)
     (predefined_costs 0) (predefined_costs 0)

@@ -11,7 +11,7 @@ use Rattle.rpl_tree.specs.Kinds.{kind_of_type}
 use Rattle.rpl_tree.specs.Mean.{param_kinds}
 use Rattle.rpl_parse.specs.Bounds.{function_count, rule_count}
 use Rattle.rpl_verify.specs.declared.verify_kind.VerifyKind.TheVariants.{TooMany}
-use Rattle.rpl_verify.specs.Fits.{AreFit, Before, Misplaced, Refusal, before, befores, block_befores, count_alike, each_block, heads_of, in_block, is_alike, refusal_in, scope_of}
+use Rattle.rpl_verify.specs.Fits.{AreFit, Before, Misplaced, Refusal, before, befores, block_befores, count_alike, each_block, heads_of, in_block, is_alike, refusal_in_result, scope_of}
 use Rattle.rpl_verify.proofs.Accepted.{numbered_by}
 use Rattle.rpl_compile.specs.Kinded.{AreKinded, AreKindedFrom}
 use Rattle.rpl_compile.specs.Translate.{Callee, blocks_from, callee_heads, function_block, predefined_callees, rule_block, translate}
@@ -178,4 +178,4 @@ pub compiled_code_fits : (basin : Draft) (rules : List Declared) → AreKinded b
 compiled_code_fits basin rules kinded few_rules few_functions =
     let p = blocks_fit basin (translate rules) (few_blocks rules few_rules few_functions) predefined_callees 1 rules [] []
     (reached_first rules) kinded in
-    ap (λ (r : Result (List (List Before)) Refusal). refusal_in r) p.1
+    ap (λ (r : Result (List (List Before)) Refusal). refusal_in_result r) p.1

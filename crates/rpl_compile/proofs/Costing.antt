@@ -13,7 +13,7 @@ use Rattle.rpl_verify.specs.Notes.{words_kept}
 use Rattle.rpl_tree.specs.Cost.{Costed, Price, costed_heads, most, most_named, to_widen}
 use Rattle.rpl_tree.specs.Words.{height}
 use Rattle.rpl_verify.specs.Names.{Scope}
-use Rattle.rpl_verify.specs.Fits.{Before, Open, before, judged}
+use Rattle.rpl_verify.specs.Fits.{Before, Open, before, judged_at}
 use Rattle.rpl_compile.specs.Operations.{code_kind, code_kinds}
 use Rattle.rpl_compile.specs.Site.{Site, behind, names_in}
 use Rattle.rpl_compile.specs.Kinded.{HasHead, IsKinded}
@@ -30,7 +30,7 @@ use Rattle.rpl_compile.proofs.TreeCosts.{words_weight}
 pub record CallFits (scope : Scope) (lines : List Instruction) (pays : Price) (account : Account scope lines pays) (callees : List Callee)
     (functions deep : List Costed)
     (f : List ℕ) (p : ℕ) (b c : Before) : Type 0 where
-  pub fits : judged scope p b (call_line callees f) ≡ Ok c
+  pub fits : judged_at scope p b (call_line callees f) ≡ Ok c
   pub goes_on : going_of (call_line callees f) ≡ onward
   pub sum : account.sum_at b (call_line callees f) ≡ most_named functions f
   pub high : account.high_at b (call_line callees f) ≡ words_kept scope.locals b + most_named deep f
@@ -93,7 +93,7 @@ module _ (costing : Costing) where
       goes_to costing.scope costing.lines costing.spots_are costing.pays costing.account {xs = xs} {p = p} {s = s} {h = h} {b = b} {c = c} {d = d} e
       way
 
-  pub line : {i : Instruction} {p s : ℕ} {b c : Before} → judged costing.scope p b i ≡ Ok c → going_of i ≡ onward → (IsInvoke i → ⊥)
+  pub line : {i : Instruction} {p s : ℕ} {b c : Before} → judged_at costing.scope p b i ≡ Ok c → going_of i ≡ onward → (IsInvoke i → ⊥)
       → costing.account.sum_at b i ≡ s
       → Leads (i ∷ []) p b c s (max (words_kept costing.scope.locals b) (words_kept costing.scope.locals c))
   line {i} {p} {s} {b} {c} j w none e =

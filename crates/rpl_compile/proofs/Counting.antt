@@ -7,7 +7,7 @@ use Rattle.rpl_code.specs.declared.instruction.Instruction.TheVariants as I
 use Rattle.rpl_tree.specs.Cost.{Price}
 use Rattle.rpl_verify.specs.Places.{rest_of}
 use Rattle.rpl_verify.specs.Names.{Scope}
-use Rattle.rpl_verify.specs.Fits.{Before, Open, judged, room_on_top}
+use Rattle.rpl_verify.specs.Fits.{Before, Open, judged_at, room_on_top}
 use Rattle.rpl_verify.specs.Budget.{entering, onward, turning, going_of}
 use Rattle.rpl_verify.specs.Notes.{words_kept}
 
@@ -48,22 +48,22 @@ pub record Account (scope : Scope) (lines : List Instruction) (pays : Price) : T
   pub high_at : Before → Instruction → ℕ
   pub prices : Prices scope pays sum_at
   pub high_is : (b : Before) (i : Instruction) → (IsInvoke i → ⊥) → high_at b i ≡ words_kept scope.locals b
-  pub one : (p : ℕ) (b c : Before) (i : Instruction) → slice_get lines p ≡ Some i → judged scope p b i ≡ Ok c → going_of i ≡ onward
+  pub one : (p : ℕ) (b c : Before) (i : Instruction) → slice_get lines p ≡ Some i → judged_at scope p b i ≡ Ok c → going_of i ≡ onward
       → F p b (sum_at b i) (max (high_at b i) (words_kept scope.locals c)) (suc p) c
   pub next : (p q r s h t g : ℕ) (b c d : Before) → F p b s h q c → F q c t g r d → F p b (s + t) (max h g) r d
   pub none : (p : ℕ) (b : Before) → F p b 0 (words_kept scope.locals b) p b
   -- a branch, a part, a jump, a target, another part, and a target
   pub choice : (p q jump_at to r last s h t g : ℕ) (ks ls : List ValueKind) (b c d : Before) → suc p ≡ q → suc jump_at ≡ to → suc to ≡ r → p < to
       → jump_at < last
-      → slice_get lines p ≡ Some (I.Branch to) → judged scope p b (I.Branch to) ≡ Ok c → F q c s h jump_at d
-      → slice_get lines jump_at ≡ Some (I.Jump last) → judged scope jump_at d (I.Jump last) ≡ Ok c
-      → slice_get lines to ≡ Some (I.Target ks) → judged scope to c (I.Target ks) ≡ Ok c → F r c t g last d
-      → slice_get lines last ≡ Some (I.Target ls) → judged scope last d (I.Target ls) ≡ Ok d
+      → slice_get lines p ≡ Some (I.Branch to) → judged_at scope p b (I.Branch to) ≡ Ok c → F q c s h jump_at d
+      → slice_get lines jump_at ≡ Some (I.Jump last) → judged_at scope jump_at d (I.Jump last) ≡ Ok c
+      → slice_get lines to ≡ Some (I.Target ks) → judged_at scope to c (I.Target ks) ≡ Ok c → F r c t g last d
+      → slice_get lines last ≡ Some (I.Target ls) → judged_at scope last d (I.Target ls) ≡ Ok d
       → words_kept scope.locals c ≤ words_kept scope.locals b → words_kept scope.locals d ≤ h → words_kept scope.locals d ≤ g
       → F p b (max s t + pays.step 3) (max (words_kept scope.locals b) (max h g)) (suc last) d
   -- a loop over a list with so much room
   pub loop : (p q last room s h : ℕ) (i j : Instruction) (o : Open) (b c d e : Before) → suc p ≡ q → p < last
-      → slice_get lines p ≡ Some i → judged scope p b i ≡ Ok c → going_of i ≡ entering → IsUnit i → room_on_top b.kinds ≡ room
+      → slice_get lines p ≡ Some i → judged_at scope p b i ≡ Ok c → going_of i ≡ entering → IsUnit i → room_on_top b.kinds ≡ room
       → F q c s h last d → o.start ≡ p → d.loops ≡ o ∷ e.loops
-      → slice_get lines last ≡ Some j → judged scope last d j ≡ Ok e → going_of j ≡ turning → IsUnit j → words_kept scope.locals d ≤ h
+      → slice_get lines last ≡ Some j → judged_at scope last d j ≡ Ok e → going_of j ≡ turning → IsUnit j → words_kept scope.locals d ≤ h
       → F p b (pays.step 1 + room * (s + pays.step 1)) (max (words_kept scope.locals b) (max h (words_kept scope.locals e))) (suc last) e

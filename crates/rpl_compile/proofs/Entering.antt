@@ -5,7 +5,7 @@ use Rattle.rpl_tree.specs.Value.{Kind, number_kind, slot_kind, numbers_kind, slo
 use Rattle.rpl_tree.specs.Outcome.{Outcome, gives, spent, stuck, value, ◌>>=◌}
 use Rattle.rpl_tree.specs.Operators.{elements_of}
 use Rattle.rpl_tree.specs.Mean.{with_elements}
-use Rattle.rpl_verify.specs.Kinds.{element_of as code_element_of, is_kind, room_of as code_room_of}
+use Rattle.rpl_verify.specs.Kinds.{element_kind as code_element_of, is_that_kind, list_room as code_room_of}
 use Rattle.rpl_verify.specs.Table.{goes_by, left_of, of_list}
 use Rattle.rpl_verify.specs.Places.{Loop, visiting, mapping, is_same_loop, loop_end}
 use Rattle.rpl_verify.specs.Operations.{kind_of as code_kind_of}
@@ -115,7 +115,7 @@ module _ (g : Setting) where
       let go : List Value → Outcome Frame = λ all. gives
       (turned (past_of p) (loop_at p loop (code_room_of (code_kind_of v)) n all []) all lo (fr g p us ops lo)) 1 in
       ap (λ (t : Bool). (if t then with_elements (elements_of v) go else record { answer = stuck; trail = spent 0 }) >>= (λ h. gives (h ∷ rest) 0))
-      (ap₂ (λ a b. is_kind a b) (local_kind g n (element_of k) has) e.element ∙ is_kind_refl (code_kind (element_of k)))
+      (ap₂ (λ a b. is_that_kind a b) (local_kind g n (element_of k) has) e.element ∙ is_kind_refl (code_kind (element_of k)))
       ∙ ap (λ o. with_elements o go >>= (λ h. gives (h ∷ rest) 0)) e.are
       ∙ ap (λ m. gives (turned (past_of p) (loop_at p loop m n e.all []) e.all lo (fr g p us ops lo)) 1 >>= (λ h. gives (h ∷ rest) 0)) e.room
       ∙ ap (λ (f : Frame). gives f 1 >>= (λ h. gives (h ∷ rest) 0))

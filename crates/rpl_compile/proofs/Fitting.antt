@@ -8,7 +8,7 @@ use Rattle.rpl_tree.specs.Value.{Kind}
 use Rattle.rpl_tree.specs.Tree.{Tree, Acts, Parameter}
 use Rattle.rpl_verify.specs.declared.verify_kind.VerifyKind.{VerifyKind}
 use Rattle.rpl_verify.specs.Names.{Scope}
-use Rattle.rpl_verify.specs.Fits.{Before, Misplaced, at_place, before, befores, end_kinds, judged, scope_of, then_do}
+use Rattle.rpl_verify.specs.Fits.{Before, Misplaced, at_place, before, befores, end_kinds, judged_at, scope_of, then_do}
 use Rattle.rpl_verify.specs.Notes.{words_kept}
 use Rattle.rpl_verify.proofs.Loops.{drop_at}
 use Rattle.rpl_code.specs.declared.instruction.Instruction.TheVariants as I
@@ -32,7 +32,7 @@ module _ (scope : Scope) (lines : List Instruction) where
   abbrev pub Back : ℕ → Before → ℕ → Before → Type 0
   Back p b q c = Fitted q c → Fitted p b
 
-  pub back_one : (p : ℕ) (b c : Before) (i : Instruction) → slice_get lines p ≡ Some i → judged scope p b i ≡ Ok c → Back p b (suc p) c
+  pub back_one : (p : ℕ) (b c : Before) (i : Instruction) → slice_get lines p ≡ Some i → judged_at scope p b i ≡ Ok c → Back p b (suc p) c
   back_one p b c i g j h = (
     b ∷ h.0,
     ap (befores scope p b) (drop_at lines p i g)
@@ -64,10 +64,10 @@ module _ (scope : Scope) (lines : List Instruction) where
   back p b q c = Back scope lines p b q c
 
   back_choice : (p q jump_at to r last : ℕ) (ks ls : List ValueKind) (b c d : Before) → suc p ≡ q → suc jump_at ≡ to → suc to ≡ r
-      → slice_get lines p ≡ Some (I.Branch to) → judged scope p b (I.Branch to) ≡ Ok c → back q c jump_at d
-      → slice_get lines jump_at ≡ Some (I.Jump last) → judged scope jump_at d (I.Jump last) ≡ Ok c
-      → slice_get lines to ≡ Some (I.Target ks) → judged scope to c (I.Target ks) ≡ Ok c → back r c last d
-      → slice_get lines last ≡ Some (I.Target ls) → judged scope last d (I.Target ls) ≡ Ok d → back p b (suc last) d
+      → slice_get lines p ≡ Some (I.Branch to) → judged_at scope p b (I.Branch to) ≡ Ok c → back q c jump_at d
+      → slice_get lines jump_at ≡ Some (I.Jump last) → judged_at scope jump_at d (I.Jump last) ≡ Ok c
+      → slice_get lines to ≡ Some (I.Target ks) → judged_at scope to c (I.Target ks) ≡ Ok c → back r c last d
+      → slice_get lines last ≡ Some (I.Target ls) → judged_at scope last d (I.Target ls) ≡ Ok d → back p b (suc last) d
   back_choice p q jump_at to r last ks ls b c d e1 e2 e3 a1 j1 f a2 j2 a3 j3 g a4 j4 end =
       let t4 = back_one scope lines last d d (I.Target ls) a4 j4 end in
       let t3 = back_one scope lines to c c (I.Target ks) a3 j3 (subst (λ n. Fitted scope lines n c) (sym e3) (g t4)) in

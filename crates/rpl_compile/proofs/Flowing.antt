@@ -20,7 +20,7 @@ use Rattle.rpl_verify.specs.Budget.{onward, going_of}
 use Rattle.rpl_code.specs.Weight.{words_of}
 use Rattle.rpl_tree.specs.Cost.{costed_heads, to_widen}
 use Rattle.rpl_verify.specs.Names.{unless_there}
-use Rattle.rpl_verify.specs.Fits.{Before, Open, before, judged, taken, unless_misfit}
+use Rattle.rpl_verify.specs.Fits.{Before, Open, before, judged_at, taken, unless_misfit}
 use Rattle.rpl_compile.specs.Operations.{code_kind, code_kinds, convert_line, one_line, two_lines, widening_size}
 use Rattle.rpl_compile.specs.Size.{size}
 use Rattle.rpl_compile.specs.Site.{Site, behind, names_in, on, over}
@@ -39,7 +39,7 @@ module _ (costing : Costing) where
   -- ---- leaves
 
   pub leaf : (i : Instruction) (k : ValueKind) (site : Site) (os : List Open) → words_of k ≡ 1
-      → judged costing.scope site.place (here site os) i ≡ Ok (before (k ∷ code_kinds site.below) os)
+      → judged_at costing.scope site.place (here site os) i ≡ Ok (before (k ∷ code_kinds site.below) os)
       → going_of i ≡ onward → (IsInvoke i → ⊥) → IsUnit i
       → Leads costing (i ∷ []) site.place (here site os) (before (k ∷ code_kinds site.below) os) (costing.pays.step 1)
       (kept costing (here site os) + 1)
@@ -64,14 +64,14 @@ module _ (costing : Costing) where
       there i (Some rows) h b = refl
 
       converts : (word : ConvertWord)
-          → judged costing.scope (behind (heads costing) e site).place (with_one (kind_of_code costing site e) site os) (convert_line word o)
+          → judged_at costing.scope (behind (heads costing) e site).place (with_one (kind_of_code costing site e) site os) (convert_line word o)
           ≡ Ok (before (K.N ∷ code_kinds site.below) os)
       converts StorageToElevation =
-          ap (λ k. judged costing.scope (behind (heads costing) e site).place (before (code_kind k ∷ code_kinds site.below) os) (I.ToElevation o)) h.2
+          ap (λ k. judged_at costing.scope (behind (heads costing) e site).place (before (code_kind k ∷ code_kinds site.below) os) (I.ToElevation o)) h.2
           ∙ there (I.ToElevation o) (table_named costing.scope.basin o) h.0 (before (K.N ∷ code_kinds site.below) os)
           ∙ takes_kinds costing.scope (I.ToElevation o) (K.N ∷ []) (K.N ∷ []) (code_kinds site.below) os refl
       converts ElevationToStorage =
-          ap (λ k. judged costing.scope (behind (heads costing) e site).place (before (code_kind k ∷ code_kinds site.below) os) (I.ToStorage o)) h.2
+          ap (λ k. judged_at costing.scope (behind (heads costing) e site).place (before (code_kind k ∷ code_kinds site.below) os) (I.ToStorage o)) h.2
           ∙ there (I.ToStorage o) (table_named costing.scope.basin o) h.0 (before (K.N ∷ code_kinds site.below) os)
           ∙ takes_kinds costing.scope (I.ToStorage o) (K.N ∷ []) (K.N ∷ []) (code_kinds site.below) os refl
 
@@ -134,7 +134,7 @@ module _ (costing : Costing) where
 
   -- `s[d]`, and KNOWN of it
   looks_at : (s d : Tree) (i : Instruction) (left : ValueKind) → Claim costing s → Claim costing d → words_of left ≡ 1
-      → ((p : ℕ) (ls : List ValueKind) (os : List Open) → judged costing.scope p (before (K.D ∷ K.S ∷ ls) os) i ≡ Ok (before (left ∷ ls) os))
+      → ((p : ℕ) (ls : List ValueKind) (os : List Open) → judged_at costing.scope p (before (K.D ∷ K.S ∷ ls) os) i ≡ Ok (before (left ∷ ls) os))
       → going_of i ≡ onward → (IsInvoke i → ⊥) → ((b : Before) → costing.account.sum_at b i ≡ costing.pays.look)
       → (site : Site) (os : List Open) → IsKinded costing.scope.basin (heads costing) (names_in site.scope) (at s d)
       → Placed costing.scope.locals site.scope → Own costing site (at s d)
@@ -150,7 +150,7 @@ module _ (costing : Costing) where
       let ws : words_of (code_kind (kind_of_code costing site s)) ≡ 1 = ap (λ k. words_of (code_kind k)) h.1 in
       let wd : words_of (code_kind (kind_of_code costing above d)) ≡ 1 = ap (λ k. words_of (code_kind k)) h.3 in
       told costing (seq costing (far costing site s h.0) a (seq costing (far costing above d h.2) b
-      (line costing (ap₂ (λ k l. judged costing.scope (behind (heads costing) d above).place
+      (line costing (ap₂ (λ k l. judged_at costing.scope (behind (heads costing) d above).place
       (before (code_kind k ∷ code_kind l ∷ code_kinds site.below) os) i) h.3 h.1
       ∙ fits (behind (heads costing) d above).place (code_kinds site.below) os) on none (price _))))
       refl (omega (arith, low, w, ws, wd))

@@ -12,7 +12,7 @@ use Rattle.rpl_tree.specs.Locals.{act_local_kinds, acts_local_kinds, local_kinds
 use Rattle.rpl_verify.specs.Notes.{words_kept}
 use Rattle.rpl_tree.specs.Cost.{costed_heads, most_of_act, most_of_acts}
 use Rattle.rpl_tree.specs.Words.{height_of_act, height_of_acts}
-use Rattle.rpl_verify.specs.Fits.{Before, Open, before, judged}
+use Rattle.rpl_verify.specs.Fits.{Before, Open, before, judged_at}
 use Rattle.rpl_compile.specs.Operations.{code_kind, code_kinds}
 use Rattle.rpl_compile.specs.Size.{size_of_acts}
 use Rattle.rpl_compile.specs.Site.{Site, behind, behind_act, behind_acts, bound, keeping, knowing, names_in, on}
@@ -76,7 +76,7 @@ module _ (costing : Costing) (in_rule : costing.scope.head ≡ Rule) where
       let low = way.tall in
       told costing (seq costing (ap (λ n. site.place + n) (sym (code-size costing.scope.basin costing.callees site e h.0))) way
       (line costing {i = I.Put o s (unsigned_abs ahead)} {p = q} {c = here site os}
-      (ap (λ k. judged costing.scope q (before (code_kind k ∷ code_kinds site.below) os) (I.Put o s (unsigned_abs ahead))) h.1
+      (ap (λ k. judged_at costing.scope q (before (code_kind k ∷ code_kinds site.below) os) (I.Put o s (unsigned_abs ahead))) h.1
       ∙ put_fits costing.scope q o s ahead (code_kinds site.below) os in_rule h.2) refl (λ x. x)
       (costing.account.prices.put _ o s (unsigned_abs ahead)))) refl (omega (arith, low))
 

@@ -15,7 +15,7 @@ use Rattle.rpl_compile.specs.Kinded.{IsKinded}
 use Rattle.rpl_compile.specs.Operations.{code_kind, code_kinds, target, test_line, two_lines}
 use Rattle.rpl_compile.specs.Site.{Site, bound, keeping, knowing, names_in, on, over}
 use Rattle.rpl_compile.specs.Translate.{Callee, after_room, after_tree, callee_heads, code_of, kind_of_tree}
-use Rattle.rpl_compile.specs.Written.{Step, Written, compiled, kind_ahead, kind_of_two, outer, step, with_line, with_local, with_operand, with_two, without_operands, written}
+use Rattle.rpl_compile.specs.Written.{WrittenStep, Written, compiled, kind_ahead, kind_of_two, outer, written_step, with_line, with_local, with_operand, written_with_two, without_operands, written}
 use Rattle.rpl_compile.proofs.KindsFound.{ahead_is, kind_of_two_is, locals_counted}
 use Rattle.rpl_compile.proofs.Sizes.{code-size}
 use Rattle.rpl_compile.proofs.AtSites.{At, kind_at, line_at, lines_as, local_at, locals_as, longer, as_long, name_at, operand_at, room_at, second_at, taken_at, value_end_at}
@@ -74,7 +74,7 @@ thrice_on s h = record {
 }
 
 -- a word between two expressions
-two_written : (word : TwoWord) (k l : Kind) (w : Written) → with_two word k l w ≡ written w.scope w.locals w.below (w.lines ++ two_lines word k l)
+two_written : (word : TwoWord) (k l : Kind) (w : Written) → written_with_two word k l w ≡ written w.scope w.locals w.below (w.lines ++ two_lines word k l)
 two_written Two.Or k l w = λ i. written w.scope w.locals w.below (sym (append-nil w.lines) i)
 two_written Two.And k l w = λ i. written w.scope w.locals w.below (sym (append-nil w.lines) i)
 two_written Two.Unequal k l w = λ i. written w.scope w.locals w.below (append_assoc w.lines (test_line k I.Eq I.Deq ∷ []) (I.Not ∷ []) i)
@@ -84,7 +84,7 @@ two_written word k l w = refl
 
 module _ (basin : Draft) (callees : List Callee) where
   -- an expression's kind, and what is written behind these locals and lines
-  pub record Left (t : Tree) (x : Step) (s : Site) (ls : List ValueKind) (is : List Instruction) : Type 0 where
+  pub record Left (t : Tree) (x : WrittenStep) (s : Site) (ls : List ValueKind) (is : List Instruction) : Type 0 where
     pub kind : x.kind ≡ kind_of_tree callees s t
     pub on : At x.on (after_tree callees t s) (ls ++ code_kinds (local_kinds (callee_heads callees) (names_in s.scope) t)) (is ++ code_of callees s t)
 
@@ -103,11 +103,11 @@ module _ (basin : Draft) (callees : List Callee) where
         (ls ++ code_kinds (local_kinds (callee_heads callees) (names_in s.scope) l ++ local_kinds (callee_heads callees) (names_in s.scope) r))
         (is ++ (code_of callees s l ++ code_of callees (over (kind_of_tree callees s l) (after_tree callees l s)) r))
 
-  abbrev operated : TwoWord → Tree → Tree → Written → Step
+  abbrev operated : TwoWord → Tree → Tree → Written → WrittenStep
   operated word l r w =
       let left = compiled callees w l in
       let right = compiled callees (with_operand left.kind left.on) r in
-      step (kind_of_two word left.kind right.kind) (with_two word left.kind right.kind (without_operands 1 right.on))
+      written_step (kind_of_two word left.kind right.kind) (written_with_two word left.kind right.kind (without_operands 1 right.on))
 
   abbrev plain_two : TwoWord → Tree → Tree → Site → List Instruction
   plain_two word l r s =
@@ -115,7 +115,7 @@ module _ (basin : Draft) (callees : List Callee) where
       ++ two_lines word (kind_of_tree callees s l) (kind_of_tree callees s r))
 
   -- places and numbers follow
-  pub ended : {w : Written} {s : Site} {ls : List ValueKind} {is : List Instruction} (t : Tree) (x : Step) → At w s ls is
+  pub ended : {w : Written} {s : Site} {ls : List ValueKind} {is : List Instruction} (t : Tree) (x : WrittenStep) → At w s ls is
       → IsKinded basin (callee_heads callees) (names_in s.scope) t → x.kind ≡ kind_of_tree callees s t → x.on.scope ≡ s.scope
       → x.on.below ≡ reverse (code_kinds s.below) → x.on.locals ≡ ls ++ code_kinds (local_kinds (callee_heads callees) (names_in s.scope) t)
       → x.on.lines ≡ is ++ code_of callees s t → Left t x s ls is
@@ -138,9 +138,9 @@ module _ (basin : Draft) (callees : List Callee) where
   pub on_leaf : (t : Tree) (kind : Kind) (i j : Instruction) (w : Written) (s : Site) (ls : List ValueKind) (is : List Instruction) → At w s ls is
       → IsKinded basin (callee_heads callees) (names_in s.scope) t → kind ≡ kind_of_tree callees s t → i ≡ j
       → code_of callees s t ≡ j ∷ [] → local_kinds (callee_heads callees) (names_in s.scope) t ≡ []
-      → Left t (step kind (with_line i w)) s ls is
+      → Left t (written_step kind (with_line i w)) s ls is
   on_leaf t kind i j w s ls is start h known same code none =
-      ended t (step kind (with_line i w)) start h known start.scope start.below
+      ended t (written_step kind (with_line i w)) start h known start.scope start.below
       (start.locals ∙ sym (append-nil ls) ∙ ap (λ ks. ls ++ code_kinds ks) (sym none))
       ((λ x. start.lines x ++ same x ∷ []) ∙ ap (λ js. is ++ js) (sym code))
 
@@ -304,9 +304,9 @@ module _ (basin : Draft) (callees : List Callee) where
       → IsKinded basin (callee_heads callees) (names_in s.scope) t → IsKinded basin (callee_heads callees) (names_in s.scope) e
       → kind ≡ kind_of_tree callees s t → i ≡ j → code_of callees s t ≡ code_of callees s e ++ j ∷ []
       → local_kinds (callee_heads callees) (names_in s.scope) t ≡ local_kinds (callee_heads callees) (names_in s.scope) e
-      → Left t (step kind (with_line i (compiled callees w e).on)) s ls is
+      → Left t (written_step kind (with_line i (compiled callees w e).on)) s ls is
   on_one t e kind i j claim_e w s ls is start h part known same code locals =
       let own = claim_e w s ls is start part in
-      ended t (step kind (with_line i (compiled callees w e).on)) start h known own.on.scope own.on.below
+      ended t (written_step kind (with_line i (compiled callees w e).on)) start h known own.on.scope own.on.below
       (own.on.locals ∙ ap (λ ks. ls ++ code_kinds ks) (sym locals))
       ((λ x. own.on.lines x ++ same x ∷ []) ∙ append_assoc is _ (j ∷ []) ∙ ap (λ js. is ++ js) (sym code))

@@ -7,12 +7,12 @@ use Rattle.rpl_code.specs.declared.instruction.Instruction.TheVariants as I
 use Rattle.rpl_verify.specs.declared.verify_kind.VerifyKind.{VerifyKind}
 use Rattle.rpl_verify.specs.declared.verify_kind.VerifyKind.TheVariants.{MissingOperand, WrongOperand}
 use Rattle.rpl_verify.specs.Places.{Spot, spots}
-use Rattle.rpl_verify.specs.Table.{Row, goes_by, left_of, on_top_of, operand_count, operands_behind, or_wrong, row, takes}
+use Rattle.rpl_verify.specs.Table.{OperandRow, goes_by, left_of, on_top_of, operand_count, operands_behind, or_wrong, operand_row, takes}
 use Rattle.rpl_verify.specs.Names.{Scope}
 use Rattle.rpl_verify.specs.Budget.{entering, onward, turning, going_of}
 use Rattle.rpl_verify.specs.Notes.{words_kept}
 use Rattle.rpl_tree.specs.Cost.{Price}
-use Rattle.rpl_verify.specs.Fits.{Before, Open, before, carried, declared_at, if_fits, judged, restarted, room_on_top, taken, then_do}
+use Rattle.rpl_verify.specs.Fits.{Before, Open, before, carried, declared_at, if_fits, judged_at, restarted, room_on_top, taken, then_do}
 use Rattle.rpl_verify.proofs.KindFacts.{same_kinds_refl}
 use Rattle.rpl_compile.proofs.Counting.{Account, IsInvoke, IsUnit}
 use Rattle.rpl_compile.proofs.Placing.{HasAt, declares_at, has_back, has_front, lands, level_on, openers_before, openers_of, opens_on}
@@ -22,7 +22,7 @@ use Rattle.rpl_compile.proofs.Placing.{HasAt, declares_at, has_back, has_front, 
 enough : (ks ls : List ValueKind) → nat_lt (length (ks ++ ls)) (length ks) ≡ false
 enough ks ls = let e = length-append ks ls in grind (arith, nat_tests, e)
 
-behind_row : (r : Row) (ks left ls : List ValueKind) → operand_count r ≡ length ks → left_of r ks ≡ Ok left
+behind_row : (r : OperandRow) (ks left ls : List ValueKind) → operand_count r ≡ length ks → left_of r ks ≡ Ok left
     → operands_behind r (ks ++ ls) ≡ Ok (left ++ ls)
 behind_row r ks left ls n h = by (nat_lt (length (ks ++ ls)) (operand_count r)) (ap (nat_lt (length (ks ++ ls))) n ∙ enough ks ls)
   where
@@ -39,7 +39,7 @@ taken_kinds ks left = ap (λ t. if t then Ok left else Err WrongOperand) (same_k
 
 module _ (scope : Scope) where
   -- an instruction that takes these kinds
-  pub takes_kinds : (i : Instruction) (ks left ls : List ValueKind) (os : List Open) → row scope.heads scope.locals i ≡ takes ks left
+  pub takes_kinds : (i : Instruction) (ks left ls : List ValueKind) (os : List Open) → operand_row scope.heads scope.locals i ≡ takes ks left
       → taken scope i (before (ks ++ ls) os) ≡ Ok (before (left ++ ls) os)
   takes_kinds i ks left ls os r =
       ap (λ (o : Result (List ValueKind) VerifyKind). then_do o (λ kinds. Ok (before kinds os)))
@@ -47,7 +47,7 @@ module _ (scope : Scope) where
 
   -- one that goes by kinds
   pub takes_by : (i : Instruction) (n : ℕ) (left_for : List ValueKind → Option (List ValueKind)) (ks left ls : List ValueKind) (os : List Open)
-      → row scope.heads scope.locals i ≡ goes_by n left_for → n ≡ length ks → left_for ks ≡ Some left
+      → operand_row scope.heads scope.locals i ≡ goes_by n left_for → n ≡ length ks → left_for ks ≡ Some left
       → taken scope i (before (ks ++ ls) os) ≡ Ok (before (left ++ ls) os)
   takes_by i n left_for ks left ls os r e h =
       ap (λ (o : Result (List ValueKind) VerifyKind). then_do o (λ kinds. Ok (before kinds os)))
@@ -56,7 +56,7 @@ module _ (scope : Scope) where
   pub carries : (ks : List ValueKind) (os : List Open) → carried ks (before ks os) ≡ Ok (before ks os)
   carries ks os = ap (λ t. if_fits t (before ks os)) (same_kinds_refl ks)
 
-  pub target_fits : (p : ℕ) (ks : List ValueKind) (os : List Open) → judged scope p (before ks os) (I.Target (reverse ks)) ≡ Ok (before ks os)
+  pub target_fits : (p : ℕ) (ks : List ValueKind) (os : List Open) → judged_at scope p (before ks os) (I.Target (reverse ks)) ≡ Ok (before ks os)
   target_fits p ks os = ap (λ ls. carried ls (before ks os)) (reverse-reverse ks) ∙ carries ks os
 
 -- an IF over these kinds, whose parts both come to the same kinds
@@ -82,7 +82,7 @@ module _ (scope : Scope) (lines : List Instruction) (spots_are : scope.spots ≡
     tall = omega arith;
   }
 
-  pub goes_one : (p : ℕ) (b c : Before) (i : Instruction) → judged scope p b i ≡ Ok c → going_of i ≡ onward
+  pub goes_one : (p : ℕ) (b c : Before) (i : Instruction) → judged_at scope p b i ≡ Ok c → going_of i ≡ onward
       → Goes (i ∷ []) p b c (account.sum_at b i) (max (account.high_at b i) (words_kept scope.locals c))
   goes_one p b c i j w = record {
     go = λ h o.
@@ -107,14 +107,14 @@ module _ (scope : Scope) (lines : List Instruction) (spots_are : scope.spots ≡
   }
 
   -- an instruction that comes to so much and calls no block
-  pub goes_line : {i : Instruction} {p s : ℕ} {b c : Before} → judged scope p b i ≡ Ok c → going_of i ≡ onward → (IsInvoke i → ⊥)
+  pub goes_line : {i : Instruction} {p s : ℕ} {b c : Before} → judged_at scope p b i ≡ Ok c → going_of i ≡ onward → (IsInvoke i → ⊥)
       → account.sum_at b i ≡ s
       → Goes (i ∷ []) p b c s (max (words_kept scope.locals b) (words_kept scope.locals c))
   goes_line {i} {p} {s} {b} {c} j w none e =
       subst (λ n. Goes (i ∷ []) p b c n (max (kept b) (kept c))) e
       (subst (λ n. Goes (i ∷ []) p b c (account.sum_at b i) (max n (kept c))) (account.high_is b i none) (goes_one p b c i j w))
 
-  pub goes_cons : {i : Instruction} {xs : List Instruction} {p q s t g : ℕ} {b c d : Before} → q ≡ p + 1 → judged scope p b i ≡ Ok c
+  pub goes_cons : {i : Instruction} {xs : List Instruction} {p q s t g : ℕ} {b c d : Before} → q ≡ p + 1 → judged_at scope p b i ≡ Ok c
       → going_of i ≡ onward
       → (IsInvoke i → ⊥) → account.sum_at b i ≡ s → Goes xs q c d t g
       → Goes (i ∷ xs) p b d (s + t) (max (max (words_kept scope.locals b) (words_kept scope.locals c)) g)
@@ -132,7 +132,7 @@ module _ (scope : Scope) (lines : List Instruction) (spots_are : scope.spots ≡
   -- the branch and the jump of an IF
   branch_fits : (p to : ℕ) (below : List ValueKind) (os : List Open) → p < to → slice_get lines to ≡ Some (I.Target (reverse below))
       → openers_before lines to ≡ openers_of os
-      → judged scope p (before (K.B ∷ below) os) (I.Branch to) ≡ Ok (before below os)
+      → judged_at scope p (before (K.B ∷ below) os) (I.Branch to) ≡ Ok (before below os)
   branch_fits p to below os lt h o =
       let b : Before = before (K.B ∷ below) os in
       ap (λ (f : Result (List ValueKind) VerifyKind). then_do f (λ declared. then_do (taken scope (I.Branch to) b) (carried declared)))
@@ -142,7 +142,7 @@ module _ (scope : Scope) (lines : List Instruction) (spots_are : scope.spots ≡
 
   jump_fits : (p to : ℕ) (below result : List ValueKind) (os : List Open) → p < to → slice_get lines (suc p) ≡ Some (I.Target (reverse below))
       → slice_get lines to ≡ Some (I.Target (reverse result)) → openers_before lines to ≡ openers_of os
-      → judged scope p (before result os) (I.Jump to) ≡ Ok (before below os)
+      → judged_at scope p (before result os) (I.Jump to) ≡ Ok (before below os)
   jump_fits p to below result os lt g h o =
       let b : Before = before result os in
       ap (λ (f : Result (List ValueKind) VerifyKind). then_do f
@@ -203,9 +203,9 @@ module _ (scope : Scope) (lines : List Instruction) (spots_are : scope.spots ≡
 
   -- a loop, which its first and last line open and close
   pub goes_loop : (xs : List Instruction) (p q last room s h : ℕ) (i j : Instruction) (o : Open) (b c d e : Before) → q ≡ p + 1 → last ≡ q + length xs
-      → judged scope p b i ≡ Ok c → going_of i ≡ entering → IsUnit i → room_on_top b.kinds ≡ room → Goes xs q c d s h → o.start ≡ p
+      → judged_at scope p b i ≡ Ok c → going_of i ≡ entering → IsUnit i → room_on_top b.kinds ≡ room → Goes xs q c d s h → o.start ≡ p
       → d.loops ≡ o ∷ e.loops
-      → judged scope last d j ≡ Ok e → going_of j ≡ turning → IsUnit j
+      → judged_at scope last d j ≡ Ok e → going_of j ≡ turning → IsUnit j
       → Goes (i ∷ (xs ++ j ∷ [])) p b e (pays.step 1 + room * (s + pays.step 1)) (max (words_kept scope.locals b) (max h (words_kept scope.locals e)))
   goes_loop xs p q last room s h i j o b c d e eq el enters is_entering i_unit room_is body start opened_here leaves is_turning j_unit = record {
     go = λ at openers.

@@ -4,7 +4,7 @@ use Rattle.rw_base.specs.Dimension.{Dimension}
 use Rattle.rw_base.specs.Unit.{units, unit_in}
 use Rattle.rw_model.specs.Objects.{slot_named}
 use Rattle.rpl_code.specs.declared.instruction.Instruction.TheVariants as I
-use Rattle.rpl_tree.specs.Value.{Kind, number_kind, truth_kind, date_kind, slot_kind, Value, a_number, kind_of, weight}
+use Rattle.rpl_tree.specs.Value.{Kind, number_kind, truth_kind, date_kind, slot_kind, Value, a_number, kind_of_value, weight}
 use Rattle.rpl_tree.specs.Outcome.{gives, is_stuck}
 use Rattle.rpl_tree.specs.Tree.{literal, truth, now, slot, name, brackets, Tree}
 use Rattle.rpl_tree.specs.Kinds.{kind_named}
@@ -12,7 +12,7 @@ use Rattle.rpl_tree.specs.Mean.{Env, named, quantity_or_stuck}
 use Rattle.rpl_verify.specs.Names.{unless_there}
 use Rattle.rpl_verify.specs.Machine.{Frame, Running}
 use Rattle.rpl_compile.specs.Operations.{factor_of}
-use Rattle.rpl_compile.specs.Site.{Bound, local_named, names_in}
+use Rattle.rpl_compile.specs.Site.{BoundName, local_named, names_in}
 use Rattle.rpl_compile.specs.Kinded.{HasName, IsLiteral}
 use Rattle.rpl_compile.proofs.Goes.{Goes}
 use Rattle.rpl_compile.proofs.OfKind.{HasKind, at_head}
@@ -20,15 +20,15 @@ use Rattle.rpl_compile.proofs.Setting.{Claim, Holds, Left, Setting, fr}
 use Rattle.rpl_compile.proofs.Steps.{loads, operates}
 
 -- what a name stands for
-record Named (kinds : List Kind) (scope : List Bound) (env : Env) (ls : List Value) (x : List ℕ) : Type 0 where
+record Named (kinds : List Kind) (scope : List BoundName) (env : Env) (ls : List Value) (x : List ℕ) : Type 0 where
   it : Value
-  called_so : named env x ≡ gives it (weight (kind_of it))
+  called_so : named env x ≡ gives it (weight (kind_of_value it))
   of_kind : HasKind (kind_named (names_in scope) x) it
   holds : slice_get ls (local_named scope x) ≡ Some it
   kind : Kind
   has : slice_get kinds (local_named scope x) ≡ Some kind
 
-named_at : (kinds : List Kind) (scope : List Bound) (env : Env) (ls : List Value) (free : ℕ) (x : List ℕ) → Holds kinds scope env ls free
+named_at : (kinds : List Kind) (scope : List BoundName) (env : Env) (ls : List Value) (free : ℕ) (x : List ℕ) → Holds kinds scope env ls free
     → HasName (names_in scope) x → Named kinds scope env ls x
 named_at kinds [] [] ls free x h n = absurd (cc n)
 named_at kinds [] (e ∷ env) ls free x h n = absurd h
@@ -41,7 +41,7 @@ named_at kinds (b ∷ scope) (e ∷ env) ls free x h n = by (bytes_eq b.name x) 
         let p : bytes_eq e.0 x ≡ true = ap (λ l. bytes_eq l x) (sym h.0) ∙ q in
         record {
           it = e.1;
-          called_so = ap (λ (t : Bool). if t then gives e.1 (weight (kind_of e.1)) else named env x) p;
+          called_so = ap (λ (t : Bool). if t then gives e.1 (weight (kind_of_value e.1)) else named env x) p;
           of_kind = subst (λ (t : Bool). HasKind (if t then b.kind else kind_named (names_in scope) x) e.1) (sym q) h.1;
           holds = ap (λ (t : Bool). slice_get ls (if t then b.local else local_named scope x)) q ∙ h.2;
           kind = b.kind;
@@ -52,7 +52,7 @@ named_at kinds (b ∷ scope) (e ∷ env) ls free x h n = by (bytes_eq b.name x) 
         let r = later n in
         record {
           it = r.it;
-          called_so = ap (λ (t : Bool). if t then gives e.1 (weight (kind_of e.1)) else named env x) p ∙ r.called_so;
+          called_so = ap (λ (t : Bool). if t then gives e.1 (weight (kind_of_value e.1)) else named env x) p ∙ r.called_so;
           of_kind = subst (λ (t : Bool). HasKind (if t then b.kind else kind_named (names_in scope) x) r.it) (sym q) r.of_kind;
           holds = ap (λ (t : Bool). slice_get ls (if t then b.local else local_named scope x)) q ∙ r.holds;
           kind = r.kind;

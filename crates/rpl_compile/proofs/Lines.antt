@@ -14,9 +14,9 @@ use Rattle.rpl_verify.specs.declared.verify_kind.VerifyKind.{VerifyKind}
 use Rattle.rpl_verify.specs.declared.verify_kind.VerifyKind.TheVariants.{NotSettable, TargetStep}
 use Rattle.rpl_verify.specs.Kinds as V
 use Rattle.rpl_verify.specs.Places.{Loop, mapping, visiting}
-use Rattle.rpl_verify.specs.Table.{goes_by, listed, load_row, of_list, row, store_row}
+use Rattle.rpl_verify.specs.Table.{goes_by, listed, load_row, of_list, operand_row, store_row}
 use Rattle.rpl_verify.specs.Names.{Scope, put_misfit, put_step_misfit, unless_there}
-use Rattle.rpl_verify.specs.Fits.{Before, Open, before, element_on_top, if_fits, judged, opened, room_on_top, shut, taken, then_do, unless_misfit}
+use Rattle.rpl_verify.specs.Fits.{Before, Open, before, element_on_top, if_fits, judged_at, opened, room_on_top, shut, taken, then_do, unless_misfit}
 use Rattle.rpl_verify.proofs.KindFacts.{same_kind_refl, same_kinds_refl}
 use Rattle.rpl_compile.specs.Operations.{code_kind}
 use Rattle.rpl_compile.specs.Kinded.{IsAnyList, IsElement, IsList, IsTarget}
@@ -32,7 +32,7 @@ tree_same slot_kind = refl
 tree_same (numbers_kind m) = search rules
 tree_same (slots_kind m) = search rules
 
-pub room_code : (k : Kind) → V.room_of (code_kind k) ≡ room_of k
+pub room_code : (k : Kind) → V.list_room (code_kind k) ≡ room_of k
 room_code number_kind = refl
 room_code truth_kind = refl
 room_code date_kind = refl
@@ -48,8 +48,8 @@ of_lists P n s k h = by h.0 h.1
     by m (inl e) = subst P (sym e) (n m)
     by m (inr e) = subst P (sym e) (s m)
 
-element_code : (k : Kind) → IsAnyList k → V.element_of (code_kind k) ≡ Some (code_kind (element_of k))
-element_code k h = of_lists (λ k. V.element_of (code_kind k) ≡ Some (code_kind (element_of k))) (λ m. refl) (λ m. refl) k h
+element_code : (k : Kind) → IsAnyList k → V.element_kind (code_kind k) ≡ Some (code_kind (element_of k))
+element_code k h = of_lists (λ k. V.element_kind (code_kind k) ≡ Some (code_kind (element_of k))) (λ m. refl) (λ m. refl) k h
 
 list_left : (left : List ValueKind) (k : Kind) → IsAnyList k → of_list left (code_kind k ∷ []) ≡ Some left
 list_left left k h = of_lists (λ k. of_list left (code_kind k ∷ []) ≡ Some left) (λ m. refl) (λ m. refl) k h
@@ -62,15 +62,15 @@ loop_at loop p room under = record { start = p; loop = loop; room = room; under 
 
 module _ (scope : Scope) where
   pub load_fits : (p n : ℕ) (k : ValueKind) (ls : List ValueKind) (os : List Open) → slice_get scope.locals n ≡ Some k
-      → judged scope p (before ls os) (I.Load n) ≡ Ok (before (k ∷ ls) os)
+      → judged_at scope p (before ls os) (I.Load n) ≡ Ok (before (k ∷ ls) os)
   load_fits p n k ls os h = takes_kinds scope (I.Load n) [] (k ∷ []) ls os (ap load_row h)
 
   pub store_fits : (p n : ℕ) (k : ValueKind) (ls : List ValueKind) (os : List Open) → slice_get scope.locals n ≡ Some k
-      → judged scope p (before (k ∷ ls) os) (I.Store n) ≡ Ok (before ls os)
+      → judged_at scope p (before (k ∷ ls) os) (I.Store n) ≡ Ok (before ls os)
   store_fits p n k ls os h = takes_kinds scope (I.Store n) (k ∷ []) [] ls os (ap store_row h)
 
   pub slot_fits : (p : ℕ) (o s : List ℕ) (ls : List ValueKind) (os : List Open) → IsSome (slot_named scope.basin.objects o s)
-      → judged scope p (before ls os) (I.Slot o s) ≡ Ok (before (K.S ∷ ls) os)
+      → judged_at scope p (before ls os) (I.Slot o s) ≡ Ok (before (K.S ∷ ls) os)
   slot_fits p o s ls os h = named (slot_named scope.basin.objects o s) h ∙ takes_kinds scope (I.Slot o s) [] (K.S ∷ []) ls os refl
     where
       named : (found : Option ℕ) → IsSome found
@@ -79,29 +79,29 @@ module _ (scope : Scope) where
       named (Some n) h = refl
 
   opening : (p n : ℕ) (loop : Loop) (i : Instruction) (k : Kind) (ls : List ValueKind) (os : List Open) → IsAnyList k
-      → slice_get scope.locals n ≡ Some (code_kind (element_of k)) → row scope.heads scope.locals i ≡ goes_by 1 (of_list [])
+      → slice_get scope.locals n ≡ Some (code_kind (element_of k)) → operand_row scope.heads scope.locals i ≡ goes_by 1 (of_list [])
       → opened scope p loop n i (before (code_kind k ∷ ls) os) ≡ Ok (before ls (loop_at loop p (room_of k) ls ∷ os))
   opening p n loop i k ls os h g r =
       let b : Before = before (code_kind k ∷ ls) os in
-      let same : V.is_kind (slice_get scope.locals n) (V.element_of (code_kind k)) ≡ true =
-      ap₂ (λ a b. V.is_kind a b) g (element_code k h) ∙ same_kind_refl (code_kind (element_of k)) in
-      ap (λ (t : Result Before VerifyKind). then_do t (λ (c : Before). if_fits (V.is_kind (slice_get scope.locals n) (element_on_top b.kinds))
+      let same : V.is_that_kind (slice_get scope.locals n) (V.element_kind (code_kind k)) ≡ true =
+      ap₂ (λ a b. V.is_that_kind a b) g (element_code k h) ∙ same_kind_refl (code_kind (element_of k)) in
+      ap (λ (t : Result Before VerifyKind). then_do t (λ (c : Before). if_fits (V.is_that_kind (slice_get scope.locals n) (element_on_top b.kinds))
       (before c.kinds (loop_at loop p (room_on_top b.kinds) c.kinds ∷ os))))
       (takes_by scope i 1 (of_list []) (code_kind k ∷ []) [] ls os r refl (list_left [] k h))
       ∙ ap₂ (λ t m. if_fits t (before ls (loop_at loop p m ls ∷ os))) same (room_code k)
 
   pub foreach_fits : (p n : ℕ) (k : Kind) (ls : List ValueKind) (os : List Open) → IsAnyList k
       → slice_get scope.locals n ≡ Some (code_kind (element_of k))
-      → judged scope p (before (code_kind k ∷ ls) os) (I.Foreach n) ≡ Ok (before ls (loop_at visiting p (room_of k) ls ∷ os))
+      → judged_at scope p (before (code_kind k ∷ ls) os) (I.Foreach n) ≡ Ok (before ls (loop_at visiting p (room_of k) ls ∷ os))
   foreach_fits p n k ls os h g = opening p n visiting (I.Foreach n) k ls os h g refl
 
   pub map_fits : (p n : ℕ) (k : Kind) (ls : List ValueKind) (os : List Open) → IsAnyList k
       → slice_get scope.locals n ≡ Some (code_kind (element_of k))
-      → judged scope p (before (code_kind k ∷ ls) os) (I.Map n) ≡ Ok (before ls (loop_at mapping p (room_of k) ls ∷ os))
+      → judged_at scope p (before (code_kind k ∷ ls) os) (I.Map n) ≡ Ok (before ls (loop_at mapping p (room_of k) ls ∷ os))
   map_fits p n k ls os h g = opening p n mapping (I.Map n) k ls os h g refl
 
   pub next_fits : (p start room : ℕ) (ls : List ValueKind) (os : List Open)
-      → judged scope p (before ls (loop_at visiting start room ls ∷ os)) I.Next ≡ Ok (before ls os)
+      → judged_at scope p (before ls (loop_at visiting start room ls ∷ os)) I.Next ≡ Ok (before ls os)
   next_fits p start room ls os =
       let o : Open = loop_at visiting start room ls in
       ap (λ (t : Result Before VerifyKind). then_do t (λ (c : Before). shut visiting c.kinds c.loops))
@@ -109,7 +109,7 @@ module _ (scope : Scope) where
       ∙ ap (λ t. if_fits t (before ls os)) (same_kinds_refl ls)
 
   pub yield_fits : (p start room : ℕ) (ls : List ValueKind) (os : List Open)
-      → judged scope p (before (K.N ∷ ls) (loop_at mapping start room ls ∷ os)) I.Yield ≡ Ok (before (K.NList room ∷ ls) os)
+      → judged_at scope p (before (K.N ∷ ls) (loop_at mapping start room ls ∷ os)) I.Yield ≡ Ok (before (K.NList room ∷ ls) os)
   yield_fits p start room ls os =
       let o : Open = loop_at mapping start room ls in
       ap (λ (t : Result Before VerifyKind). then_do t (λ (c : Before). shut mapping c.kinds c.loops))
@@ -118,7 +118,7 @@ module _ (scope : Scope) where
 
   pub put_fits : (p : ℕ) (o s : List ℕ) (ahead : ℤ) (ls : List ValueKind) (os : List Open) → scope.head ≡ Rule
       → IsTarget scope.basin [] (slot_named scope.basin.objects o s) ahead
-      → judged scope p (before (K.N ∷ ls) os) (I.Put o s (unsigned_abs ahead)) ≡ Ok (before ls os)
+      → judged_at scope p (before (K.N ∷ ls) os) (I.Put o s (unsigned_abs ahead)) ≡ Ok (before ls os)
   put_fits p o s ahead ls os rule h =
       named (slot_named scope.basin.objects o s) h.0 ∙ takes_kinds scope (I.Put o s (unsigned_abs ahead)) (K.N ∷ []) [] ls os refl
     where
@@ -137,22 +137,22 @@ module _ (scope : Scope) where
           (taken scope (I.Put o s (unsigned_abs ahead)) (before (K.N ∷ ls) os))) h
           ∙ ap (λ misfit. unless_misfit misfit (taken scope (I.Put o s (unsigned_abs ahead)) (before (K.N ∷ ls) os))) near
 
-  all_same : (n : ℕ) (k : ValueKind) → list_all (V.is_same_kind k) (replicate n k) ≡ true
+  all_same : (n : ℕ) (k : ValueKind) → list_all (V.is_same_value_kind k) (replicate n k) ≡ true
   all_same zero k = refl
-  all_same (suc n) k = ap (λ t. t && list_all (V.is_same_kind k) (replicate n k)) (same_kind_refl k) ∙ all_same n k
+  all_same (suc n) k = ap (λ t. t && list_all (V.is_same_value_kind k) (replicate n k)) (same_kind_refl k) ∙ all_same n k
 
   listed_kinds : (n : ℕ) (k : Kind) → IsElement k → listed (suc n) (replicate (suc n) (code_kind k)) ≡ Some (code_kind (list_kind (suc n) k) ∷ [])
   listed_kinds n k h =
-      ap (λ t. if t then option_map (λ kind. kind ∷ []) (V.list_kind (suc n) (code_kind k)) else None) (all_same n (code_kind k)) ∙ by h
+      ap (λ t. if t then option_map (λ kind. kind ∷ []) (V.list_value_kind (suc n) (code_kind k)) else None) (all_same n (code_kind k)) ∙ by h
     where
-      by : IsElement k → option_map (λ kind. kind ∷ []) (V.list_kind (suc n) (code_kind k)) ≡ Some (code_kind (list_kind (suc n) k) ∷ [])
-      by (inl e) = subst (λ k. option_map (λ kind. kind ∷ []) (V.list_kind (suc n) (code_kind k)) ≡ Some (code_kind (list_kind (suc n) k) ∷ []))
+      by : IsElement k → option_map (λ kind. kind ∷ []) (V.list_value_kind (suc n) (code_kind k)) ≡ Some (code_kind (list_kind (suc n) k) ∷ [])
+      by (inl e) = subst (λ k. option_map (λ kind. kind ∷ []) (V.list_value_kind (suc n) (code_kind k)) ≡ Some (code_kind (list_kind (suc n) k) ∷ []))
           (sym e) refl
-      by (inr e) = subst (λ k. option_map (λ kind. kind ∷ []) (V.list_kind (suc n) (code_kind k)) ≡ Some (code_kind (list_kind (suc n) k) ∷ []))
+      by (inr e) = subst (λ k. option_map (λ kind. kind ∷ []) (V.list_value_kind (suc n) (code_kind k)) ≡ Some (code_kind (list_kind (suc n) k) ∷ []))
           (sym e) refl
 
   pub list_fits : (p n : ℕ) (k : Kind) (ls : List ValueKind) (os : List Open) → 1 ≤ n → IsElement k
-      → judged scope p (before (replicate n (code_kind k) ++ ls) os) (I.List n) ≡ Ok (before (code_kind (list_kind n k) ∷ ls) os)
+      → judged_at scope p (before (replicate n (code_kind k) ++ ls) os) (I.List n) ≡ Ok (before (code_kind (list_kind n k) ∷ ls) os)
   list_fits p zero k ls os le h = absurd (omega (arith, le))
   list_fits p (suc n) k ls os le h =
       takes_by scope (I.List (suc n)) (suc n) (listed (suc n)) (replicate (suc n) (code_kind k)) (code_kind (list_kind (suc n) k) ∷ []) ls os refl

@@ -7,7 +7,7 @@ use Rattle.rpl_tree.specs.Kinds.{Head, Names, kind_named}
 use Rattle.rpl_tree.specs.Count.{act_locals, acts_locals, local_count, local_counts}
 use Rattle.rpl_tree.specs.Locals.{act_local_kinds, acts_local_kinds, all_local_kinds, local_kinds}
 use Rattle.rpl_compile.specs.Operations.{code_kind, code_kinds}
-use Rattle.rpl_compile.specs.Site.{Bound, local_named, names_in}
+use Rattle.rpl_compile.specs.Site.{BoundName, local_named, names_in}
 use Rattle.rpl_compile.specs.Kinded.{HasName}
 use Rattle.rpl_compile.proofs.Placing.{HasAt}
 
@@ -28,11 +28,11 @@ kinds_back locals n (suc m) (k ∷ ks) ls e h =
 
 -- ---- the locals of names
 
-abbrev pub Placed : List ValueKind → List Bound → Type 0
+abbrev pub Placed : List ValueKind → List BoundName → Type 0
 Placed locals [] = Unit {0}
 Placed locals (b ∷ scope) = (slice_get locals b.local ≡ Some (code_kind b.kind)) × Placed locals scope
 
-pub placed_name : (locals : List ValueKind) (scope : List Bound) (x : List ℕ) → Placed locals scope → HasName (names_in scope) x
+pub placed_name : (locals : List ValueKind) (scope : List BoundName) (x : List ℕ) → Placed locals scope → HasName (names_in scope) x
     → slice_get locals (local_named scope x) ≡ Some (code_kind (kind_named (names_in scope) x))
 placed_name locals [] x pl h = absurd (cc h)
 placed_name locals (b ∷ scope) x pl h = by (bytes_eq b.name x) h (λ g. placed_name locals scope x pl.1 g)

@@ -3,7 +3,7 @@ use Rattle.rw_base.proofs.Common.{◌≡◌, ℕ, zero, suc, ◌+◌, ◌<◌, �
 use Rattle.rpl_code.specs.Weight.{words_of}
 use Rattle.rpl_code.specs.declared.kind.ValueKind.{ValueKind}
 use Rattle.rpl_code.specs.declared.kind.ValueKind.TheVariants as K
-use Rattle.rpl_tree.specs.Value.{Kind, number_kind, truth_kind, date_kind, slot_kind, numbers_kind, slots_kind, Value, a_number, a_truth, a_date, a_slot, numbers, slots, kind_of, is_same_kind, weight, weights}
+use Rattle.rpl_tree.specs.Value.{Kind, number_kind, truth_kind, date_kind, slot_kind, numbers_kind, slots_kind, Value, a_number, a_truth, a_date, a_slot, numbers, slots, kind_of_value, is_same_kind, weight, weights}
 use Rattle.rpl_verify.specs.Kinds.{words_of_all}
 use Rattle.rpl_verify.specs.Operations.{kind_of as code_kind_of, kinds_of}
 use Rattle.rpl_verify.proofs.KindFacts.{IsRoomy, number_is as number_of, truth_is as truth_of}
@@ -12,14 +12,14 @@ use Rattle.rpl_compile.specs.Operations.{code_kind, code_kinds}
 -- ---- kinds
 
 abbrev pub HasKind : Kind → Value → Type 0
-HasKind k v = (kind_of v ≡ k) × IsRoomy v
+HasKind k v = (kind_of_value v ≡ k) × IsRoomy v
 
 abbrev pub HaveKinds : List Kind → List Value → Type 0
 HaveKinds [] [] = Unit {0}
 HaveKinds (k ∷ ks) (v ∷ vs) = HasKind k v × HaveKinds ks vs
 HaveKinds _ _ = ⊥
 
-pub coded : (v : Value) → code_kind_of v ≡ code_kind (kind_of v)
+pub coded : (v : Value) → code_kind_of v ≡ code_kind (kind_of_value v)
 coded (a_number z) = refl
 coded (a_truth b) = refl
 coded (a_date d) = refl
@@ -47,8 +47,8 @@ plain_coded slot_kind = refl
 plain_coded (numbers_kind m) = refl
 plain_coded (slots_kind m) = refl
 
-pub kind_from_code : (k : Kind) (v : Value) → code_kind_of v ≡ code_kind k → kind_of v ≡ k
-kind_from_code k v h = sym (plain_coded (kind_of v)) ∙ ap plain_kind (sym (coded v) ∙ h) ∙ plain_coded k
+pub kind_from_code : (k : Kind) (v : Value) → code_kind_of v ≡ code_kind k → kind_of_value v ≡ k
+kind_from_code k v h = sym (plain_coded (kind_of_value v)) ∙ ap plain_kind (sym (coded v) ∙ h) ∙ plain_coded k
 
 pub words_coded : (k : Kind) → words_of (code_kind k) ≡ weight k
 words_coded number_kind = refl
@@ -59,8 +59,8 @@ words_coded (numbers_kind m) = refl
 words_coded (slots_kind m) = refl
 
 -- how many words a value takes
-pub value_words : (v : Value) → words_of (code_kind_of v) ≡ weight (kind_of v)
-value_words v = ap words_of (coded v) ∙ words_coded (kind_of v)
+pub value_words : (v : Value) → words_of (code_kind_of v) ≡ weight (kind_of_value v)
+value_words v = ap words_of (coded v) ∙ words_coded (kind_of_value v)
 
 pub all_words_coded : (ks : List Kind) → words_of_all (code_kinds ks) ≡ weights ks
 all_words_coded [] = refl

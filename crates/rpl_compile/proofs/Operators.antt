@@ -28,7 +28,7 @@ use Rattle.rpl_compile.specs.Operations.{code_kind, difference_line, sum_line, t
 use Rattle.rpl_compile.specs.Size.{size}
 use Rattle.rpl_compile.specs.Site.{Site, keeping, kind_at, names_in, over}
 use Rattle.rpl_compile.specs.Translate.{after_tree, asked_code, code_of}
-use Rattle.rpl_compile.specs.Kinded.{AreBoth, AreComparable, CanAdd, CanAppend, IsAnyList, IsAsked, IsKinded}
+use Rattle.rpl_compile.specs.Kinded.{AreBoth, AreComparable, CanAddKinds, CanAppend, IsAnyList, IsAsked, IsKinded}
 use Rattle.rpl_compile.proofs.Goes.{Goes}
 use Rattle.rpl_compile.proofs.OfKind.{At, HasKind, at_back, at_front, at_head, at_moved, at_tail, kind_coded}
 use Rattle.rpl_compile.proofs.Sizes.{code-size}
@@ -191,13 +191,13 @@ module _ (g : Setting) where
   at_most_does k l = test_does I.Le I.Dle at_most_of k l (operator number_kind number_kind truth_kind I.Le tt refl refl refl)
       (operator date_kind date_kind truth_kind I.Dle tt refl refl refl)
 
-  sum_does : (k l : Kind) → CanAdd k l → Does k l k (sum_line k) sum_of
+  sum_does : (k l : Kind) → CanAddKinds k l → Does k l k (sum_line k) sum_of
   sum_does k l (inl e) = by_both (λ k l. Does k l k (sum_line k) sum_of) number_kind number_kind k l e
       (operator number_kind number_kind number_kind I.Add tt refl refl refl)
   sum_does k l (inr e) = by_both (λ k l. Does k l k (sum_line k) sum_of) date_kind number_kind k l e
       (operator date_kind number_kind date_kind I.Shift tt refl refl refl)
 
-  difference_does : (k l : Kind) → CanAdd k l ⊎ AreBoth date_kind date_kind k l → Does k l (difference_kind k l) (difference_line k l) difference_of
+  difference_does : (k l : Kind) → CanAddKinds k l ⊎ AreBoth date_kind date_kind k l → Does k l (difference_kind k l) (difference_line k l) difference_of
   difference_does k l (inl (inl e)) = by_both (λ k l. Does k l (difference_kind k l) (difference_line k l) difference_of) number_kind number_kind k l
       e (operator number_kind number_kind number_kind I.Sub tt refl refl refl)
   difference_does k l (inl (inr e)) = by_both (λ k l. Does k l (difference_kind k l) (difference_line k l) difference_of) date_kind number_kind k l e

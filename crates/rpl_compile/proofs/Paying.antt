@@ -8,7 +8,7 @@ use Rattle.rpl_tree.specs.Budget.{Budget}
 use Rattle.rpl_tree.specs.Cost.{Price}
 use Rattle.rpl_verify.specs.Places.{bracket, ends_before, spots}
 use Rattle.rpl_verify.specs.Names.{Scope}
-use Rattle.rpl_verify.specs.Fits.{Before, Open, before, before_at, befores, judged, room_on_top}
+use Rattle.rpl_verify.specs.Fits.{Before, Open, before, before_at, befores, judged_at, room_on_top}
 use Rattle.rpl_verify.specs.Budget.{at_a_time, entering, onward, summed, turning, going_of, words_at}
 use Rattle.rpl_verify.specs.Notes.{words_kept}
 use Rattle.rpl_verify.proofs.Loops.{Linked, P, ends_at, first_is, linked, past, spot}
@@ -79,8 +79,8 @@ module _ (scope : Scope) (lines : List Instruction) (bs : List Before) (spotted 
 
   -- ---- steps
 
-  on : (p : ℕ) (b c : Before) (i : Instruction) → slice_get lines p ≡ Some i → judged scope p b i ≡ Ok c → T p ≡ b → T (suc p) ≡ c
-  on p b c i at j here = same_before (T (suc p)) c (sym (spot scope lines bs spotted fits p i at) ∙ ap (λ b. judged scope p b i) here ∙ j)
+  on : (p : ℕ) (b c : Before) (i : Instruction) → slice_get lines p ≡ Some i → judged_at scope p b i ≡ Ok c → T p ≡ b → T (suc p) ≡ c
+  on p b c i at j here = same_before (T (suc p)) c (sym (spot scope lines bs spotted fits p i at) ∙ ap (λ b. judged_at scope p b i) here ∙ j)
 
   inside : (p : ℕ) (i : Instruction) → slice_get lines p ≡ Some i → suc p ≤ length lines
   inside p i at = let a = slice_get_within lines p i at in omega (arith, a)
@@ -91,7 +91,7 @@ module _ (scope : Scope) (lines : List Instruction) (bs : List Before) (spotted 
   kept_at : (p : ℕ) (b : Before) (i : Instruction) → IsUnit i → T p ≡ b → words_at scope budgets (T p) i ≡ kept b
   kept_at p b i u here = unit_words (T p) i u ∙ ap (words_kept scope.locals) here
 
-  pub pays_one : (p : ℕ) (b c : Before) (i : Instruction) → slice_get lines p ≡ Some i → judged scope p b i ≡ Ok c → going_of i ≡ onward
+  pub pays_one : (p : ℕ) (b c : Before) (i : Instruction) → slice_get lines p ≡ Some i → judged_at scope p b i ≡ Ok c → going_of i ≡ onward
       → F p b (price b i) (max (words_at scope budgets b i) (words_kept scope.locals c)) (suc p) c
   pays_one p b c i at j w here le =
       let there : T (suc p) ≡ c = on p b c i at j here in
@@ -124,10 +124,10 @@ module _ (scope : Scope) (lines : List Instruction) (bs : List Before) (spotted 
 
   pub pays_choice : (p q jump_at to r last s h t g : ℕ) (ks ls : List ValueKind) (b c d : Before) → suc p ≡ q → suc jump_at ≡ to → suc to ≡ r
       → p < to → jump_at < last
-      → slice_get lines p ≡ Some (I.Branch to) → judged scope p b (I.Branch to) ≡ Ok c → F q c s h jump_at d
-      → slice_get lines jump_at ≡ Some (I.Jump last) → judged scope jump_at d (I.Jump last) ≡ Ok c
-      → slice_get lines to ≡ Some (I.Target ks) → judged scope to c (I.Target ks) ≡ Ok c → F r c t g last d
-      → slice_get lines last ≡ Some (I.Target ls) → judged scope last d (I.Target ls) ≡ Ok d
+      → slice_get lines p ≡ Some (I.Branch to) → judged_at scope p b (I.Branch to) ≡ Ok c → F q c s h jump_at d
+      → slice_get lines jump_at ≡ Some (I.Jump last) → judged_at scope jump_at d (I.Jump last) ≡ Ok c
+      → slice_get lines to ≡ Some (I.Target ks) → judged_at scope to c (I.Target ks) ≡ Ok c → F r c t g last d
+      → slice_get lines last ≡ Some (I.Target ls) → judged_at scope last d (I.Target ls) ≡ Ok d
       → words_kept scope.locals c ≤ words_kept scope.locals b → words_kept scope.locals d ≤ h → words_kept scope.locals d ≤ g
       → F p b (max s t + pays.step 3) (max (words_kept scope.locals b) (max h g)) (suc last) d
   pays_choice p q jump_at to r last s h t g ks ls b c d e1 e2 e3 lt1 lt2 a1 j1 first a2 j2 a3 j3 second a4 j4 k1 k2 k3 here le =
@@ -169,9 +169,9 @@ module _ (scope : Scope) (lines : List Instruction) (bs : List Before) (spotted 
       }
 
   pub pays_loop : (p q last room s h : ℕ) (i j : Instruction) (o : Open) (b c d e : Before) → suc p ≡ q → p < last
-      → slice_get lines p ≡ Some i → judged scope p b i ≡ Ok c → going_of i ≡ entering → IsUnit i → room_on_top b.kinds ≡ room
+      → slice_get lines p ≡ Some i → judged_at scope p b i ≡ Ok c → going_of i ≡ entering → IsUnit i → room_on_top b.kinds ≡ room
       → F q c s h last d → o.start ≡ p → d.loops ≡ o ∷ e.loops
-      → slice_get lines last ≡ Some j → judged scope last d j ≡ Ok e → going_of j ≡ turning → IsUnit j → words_kept scope.locals d ≤ h
+      → slice_get lines last ≡ Some j → judged_at scope last d j ≡ Ok e → going_of j ≡ turning → IsUnit j → words_kept scope.locals d ≤ h
       → F p b (pays.step 1 + room * (s + pays.step 1)) (max (words_kept scope.locals b) (max h (words_kept scope.locals e))) (suc last) e
   pays_loop p q last room s h i j o b c d e e1 lt at enters w u room_is turn start open_there at_last leaves v y k here le =
       let m = summed scope budgets price in

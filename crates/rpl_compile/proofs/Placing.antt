@@ -7,7 +7,7 @@ use Rattle.rpl_verify.specs.declared.verify_kind.VerifyKind.TheVariants.{Backwar
 use Rattle.rpl_verify.specs.Places.{Bracket, Loop, Opener, Spot, bracket, closed, closing, declared_by, is_same_loop, level, opening, openers_behind, spots, spots_from, start_of}
 use Rattle.rpl_verify.specs.Kinds.{top_of}
 use Rattle.rpl_verify.specs.Names.{Scope}
-use Rattle.rpl_verify.specs.Fits.{Before, Open, found, innermost, is_same_place, judged, landing}
+use Rattle.rpl_verify.specs.Fits.{Before, Open, found, innermost, is_same_place, judged_at, landing}
 use Rattle.rpl_verify.proofs.Judged.{OpenRel, rel_of, same_loop_refl}
 
 -- ---- lists
@@ -94,7 +94,7 @@ level_on lines p i h e = openers_next 0 [] lines p i h ∙ ap (λ b. openers_beh
 
 module _ (scope : Scope) (lines : List Instruction) (spots_are : scope.spots ≡ spots lines) where
   -- an instruction that fits leads from the loops that are open to those that are open behind it
-  pub opens_on : (p : ℕ) (b c : Before) (i : Instruction) → slice_get lines p ≡ Some i → judged scope p b i ≡ Ok c
+  pub opens_on : (p : ℕ) (b c : Before) (i : Instruction) → slice_get lines p ≡ Some i → judged_at scope p b i ≡ Ok c
       → openers_before lines p ≡ openers_of b.loops
       → openers_before lines (suc p) ≡ openers_of c.loops
   opens_on p b c i h j e =

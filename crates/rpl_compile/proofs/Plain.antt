@@ -13,7 +13,7 @@ use Rattle.rpl_compile.specs.Kinded.{HasHead, IsLiteral}
 use Rattle.rpl_compile.proofs.Texts.{no_object}
 use Rattle.rpl_compile.specs.Operations.{factor_of}
 use Rattle.rpl_compile.specs.Translate.{Callee, call_by, call_line, callee_heads}
-use Rattle.rpl_compile.specs.Written.{byte, call_of, callee_named, number_of, short, spelt, within}
+use Rattle.rpl_compile.specs.Written.{byte, call_instruction, callee_named, number_in_units, short, spelt_name, within}
 
 -- ---- numbers
 
@@ -32,25 +32,25 @@ literal_by n None h = absurd h
 literal_by n (Some unit) h = by_test (is_quantity (n *ℤ unit.1)) (n *ℤ unit.1) (pos 0) h
 
 pub number_is : (n : ℤ) (unit : Option (List ℕ)) → IsLiteral n (unit_in units (unwrap_or unit []))
-    → number_of n unit ≡ n *ℤ factor_of (unit_in units (unwrap_or unit []))
+    → number_in_units n unit ≡ n *ℤ factor_of (unit_in units (unwrap_or unit []))
 number_is n unit h = literal_by n (unit_in units (unwrap_or unit [])) h
 
 -- ---- names
 
-pub spelt_is : (word : List ℕ) → IsUtf8 word → spelt word ≡ word
+pub spelt_is : (word : List ℕ) → IsUtf8 word → spelt_name word ≡ word
 spelt_is word h = by_test (is_utf8 word) word [] (is_utf8-from_IsUtf8 word h)
 
-spelt_unless : (word : List ℕ) → (¬ (IsUtf8 word) → ⊥) → spelt word ≡ word
+spelt_unless : (word : List ℕ) → (¬ (IsUtf8 word) → ⊥) → spelt_name word ≡ word
 spelt_unless word h = elim (cases_Bool (is_utf8 word)) [
   | inl e ↦ by_test (is_utf8 word) word [] e
   | inr e ↦ absurd (h (λ text. grind (arith, e, is_utf8-from_IsUtf8 word text)))
 ]
 
 module _ (basin : Draft) (valid : IsBasin basin) where
-  pub owner_spelt : (o s : List ℕ) → IsSome (slot_named basin.objects o s) → spelt o ≡ o
+  pub owner_spelt : (o s : List ℕ) → IsSome (slot_named basin.objects o s) → spelt_name o ≡ o
   owner_spelt o s h = spelt_unless o (λ none. absurd (false≢true (subst IsSome (no_owner basin o s valid none) h)))
 
-  pub slot_spelt : (o s : List ℕ) → IsSome (slot_named basin.objects o s) → spelt s ≡ s
+  pub slot_spelt : (o s : List ℕ) → IsSome (slot_named basin.objects o s) → spelt_name s ≡ s
   slot_spelt o s h = spelt_unless s (λ none. absurd (false≢true (subst IsSome (no_slot basin o s valid none) h)))
 
 -- ---- functions
@@ -71,7 +71,7 @@ pub result_is : (callees : List Callee) (f : List ℕ) → (callee_named callees
 result_is [] f = refl
 result_is (c ∷ callees) f = of_choice (λ (d : Callee). d.head.result) (bytes_eq c.head.name f) c (callee_named callees f) _ (result_is callees f)
 
-called : (f : List ℕ) (block : Option ℕ) → (block ≡ None → IsUtf8 f) → call_of f block ≡ call_by f block
+called : (f : List ℕ) (block : Option ℕ) → (block ≡ None → IsUtf8 f) → call_instruction f block ≡ call_by f block
 called f None h = ap I.Call (spelt_is f (h refl))
 called f (Some number) h = refl
 
@@ -80,7 +80,7 @@ other_head true rest e h = absurd (false≢true (sym e))
 other_head false rest e h = h
 
 pub call_is : (callees : List Callee) (f : List ℕ) → AllByRecursion IsSpelt callees → HasHead (callee_heads callees) f
-    → call_of f (callee_named callees f).block ≡ call_line callees f
+    → call_instruction f (callee_named callees f).block ≡ call_line callees f
 call_is [] f s h = absurd (false≢true h)
 call_is (c ∷ callees) f s h = elim (cases_Bool (bytes_eq c.head.name f)) [
   | inl e ↦ rw e (called f c.block (λ none. subst IsUtf8 ((bytes_eq-Decides c.head.name f).0 e) (s.0 none)))
@@ -88,7 +88,7 @@ call_is (c ∷ callees) f s h = elim (cases_Bool (bytes_eq c.head.name f)) [
 ]
 
 module _ (basin : Draft) (valid : IsBasin basin) where
-  pub table_spelt : (o : List ℕ) → IsSome (table_named basin o) → spelt o ≡ o
+  pub table_spelt : (o : List ℕ) → IsSome (table_named basin o) → spelt_name o ≡ o
   table_spelt o h = spelt_unless o (λ none. absurd (false≢true (subst IsSome (ap (λ (found : Option ℕ). option_and_then (λ
       (object : Object). table_in object.kind)
       (option_and_then (λ number. object_at basin.objects number) found)) (no_object basin o valid none)) h)))

@@ -2,7 +2,7 @@
 use Rattle.rw_base.proofs.Common.{◌≡◌, ◌⊎◌, inl, inr, ℕ, ◌+◌, ◌<◌, ◌==◌, Bool, true, false, nat_lt, nat_le, nat_tests, List, [], ◌∷◌, ◌++◌, Some, None, refl, sym, ap, ◌∙◌, subst, arith, slice_get, if◌then◌else◌}
 use Rattle.rpl_code.specs.declared.kind.ValueKind.TheVariants as K
 use Rattle.rpl_code.specs.declared.instruction.Instruction.TheVariants as I
-use Rattle.rpl_tree.specs.Value.{Kind, numbers_kind, slots_kind, Value, a_number, a_truth, a_date, a_slot, numbers, slots, kind_of, is_same_kind}
+use Rattle.rpl_tree.specs.Value.{Kind, numbers_kind, slots_kind, Value, a_number, a_truth, a_date, a_slot, numbers, slots, kind_of_value, is_same_kind}
 use Rattle.rpl_tree.specs.Outcome.{gives, is_stuck, ◌>>=◌}
 use Rattle.rpl_tree.specs.Operators.{roomier, widened}
 use Rattle.rpl_tree.specs.Tree.{Tree}
@@ -41,7 +41,7 @@ module _ (g : Setting) where
   as_it_is kind free q us ops lo rest v at hv =
       let z : q ≡ q + 0 = omega arith in
       let e : q ≡ q + widening_size kind kind = z ∙ ap (λ (t : Bool). q + (if t then 0 else 1)) (sym (same_kind_refl kind)) in
-      let t : is_same_kind kind (kind_of v) ≡ true = ap (is_same_kind kind) hv.0 ∙ same_kind_refl kind in
+      let t : is_same_kind kind (kind_of_value v) ≡ true = ap (is_same_kind kind) hv.0 ∙ same_kind_refl kind in
       subst (λ (t : Bool). Goes g.code g.world (fr g q us (v ∷ ops) lo ∷ rest) (if t then gives v 0 else roomier kind v)
       (Left g kind free (q + widening_size kind kind) us ops lo rest)) (sym t)
       (goes_none g.code g.world (fr g q us (v ∷ ops) lo ∷ rest) v (Left g kind free (q + widening_size kind kind) us ops lo rest)
@@ -49,7 +49,7 @@ module _ (g : Setting) where
 
   -- a list that is widened, where its line and its test are known
   wider : (place kind : Kind) (m q free : ℕ) (us ops : List Value) (lo : List Running) (rest : List Frame) (v : Value)
-      → is_same_kind place kind ≡ false → is_same_kind place (kind_of v) ≡ false
+      → is_same_kind place kind ≡ false → is_same_kind place (kind_of_value v) ≡ false
       → At g.block.lines q (if is_same_kind place kind then [] else I.Widen m ∷ [])
       → (slice_get g.block.lines q ≡ Some (I.Widen m) → Goes g.code g.world (fr g q us (v ∷ ops) lo ∷ rest) (roomier place v)
       (Left g place free (q + 1) us ops lo rest))

@@ -10,7 +10,7 @@ use Rattle.rpl_tree.specs.Kinds.{count_of, first_kind, result_named, takes_named
 use Rattle.rpl_tree.specs.Mean.{Env, Function, arguments_of, called, value_of, values_of}
 use Rattle.rpl_tree.specs.Count.{local_count}
 use Rattle.rpl_tree.specs.Locals.{all_local_kinds, local_kinds}
-use Rattle.rpl_verify.specs.Kinds.{is_same_kind, list_kind as code_list_kind}
+use Rattle.rpl_verify.specs.Kinds.{is_same_value_kind, list_value_kind as code_list_kind}
 use Rattle.rpl_verify.specs.Table.{listed, or_wrong}
 use Rattle.rpl_verify.specs.Operations.{kind_of as code_kind_of, kinds_of}
 use Rattle.rpl_verify.specs.Machine.{Frame, Running, State}
@@ -53,11 +53,11 @@ listed_is k n (v ∷ vs) e h le =
     ap (λ (t : Bool). or_wrong (if t then option_map (λ kind. kind ∷ []) (code_list_kind n (code_kind_of v)) else None)) (alike vs h.1)
     ∙ ap (λ c. or_wrong (option_map (λ kind. kind ∷ []) (code_list_kind n c))) (kind_coded k v h.0) ∙ by e
   where
-    alike : (us : List Value) → AllHave k us → list_all (is_same_kind (code_kind_of v)) (kinds_of us) ≡ true
+    alike : (us : List Value) → AllHave k us → list_all (is_same_value_kind (code_kind_of v)) (kinds_of us) ≡ true
     alike [] i = refl
     alike (u ∷ us) i =
-        let t : is_same_kind (code_kind_of v) (code_kind_of u) ≡ true =
-        ap₂ (λ a b. is_same_kind a b) (kind_coded k v h.0) (kind_coded k u i.0) ∙ same_kind_refl (code_kind k) in
+        let t : is_same_value_kind (code_kind_of v) (code_kind_of u) ≡ true =
+        ap₂ (λ a b. is_same_value_kind a b) (kind_coded k v h.0) (kind_coded k u i.0) ∙ same_kind_refl (code_kind k) in
         rw (t, alike us i.1) refl
 
     by : IsElement k → or_wrong (option_map (λ kind. kind ∷ []) (code_list_kind n (code_kind k))) ≡ Ok (code_kind (list_kind n k) ∷ [])

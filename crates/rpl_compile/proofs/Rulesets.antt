@@ -7,7 +7,7 @@ use Rattle.rpl_tree.specs.Outcome.{gives}
 use Rattle.rpl_tree.specs.World.{World}
 use Rattle.rpl_tree.specs.Tree.{Acts, Declared, Parameter, Tree, TypeName, rule, function}
 use Rattle.rpl_tree.specs.Kinds.{Head, kind_of_type}
-use Rattle.rpl_tree.specs.Mean.{Function, acts_done, function_of, heads_of, param_kinds, rule_done}
+use Rattle.rpl_tree.specs.Mean.{Function, acts_done, function_of, function_heads, param_kinds, rule_done}
 use Rattle.rpl_tree.specs.Locals.{acts_local_kinds}
 use Rattle.rpl_parse.specs.Bounds.{rule_count}
 use Rattle.rpl_verify.specs.Operations.{blank}
@@ -35,7 +35,7 @@ module _ (code : List Block) (world : World) where
   abbrev pub Over : Unit {0} → State → Type 0
   Over done s1 = (f : Frame) × (s1 ≡ f ∷ []) × (step code world f [] ≡ gives [] 0)
 
-  rule_goes : (callees : List Callee) (functions : List Function) (same_heads : heads_of functions ≡ callee_heads callees)
+  rule_goes : (callees : List Callee) (functions : List Function) (same_heads : function_heads functions ≡ callee_heads callees)
       → CanCall code world callees functions
       → (number : ℕ) (body : Acts) → numbered code number ≡ Some (rule_block callees body) → AreKindedActs world.basin (callee_heads callees) [] body
       → Goes code world (begin number (rule_block callees body) [] ∷ []) (acts_done world functions [] body) Over
@@ -110,7 +110,7 @@ module _ (code : List Block) (world : World) where
       record { at = r.at; block = r.block; rule_is = ap (λ n. rule_from n blocks number) z ∙ r.rule_is; there = r.there; goes = r.goes }
 
   pub found : (rest : List Declared) (callees : List Callee) (functions : List Function) (p number : ℕ) → At code p (blocks_from callees (p + 1) rest)
-      → heads_of functions ≡ callee_heads callees → CanCall code world callees functions → AreKindedFrom world.basin (callee_heads callees) rest
+      → function_heads functions ≡ callee_heads callees → CanCall code world callees functions → AreKindedFrom world.basin (callee_heads callees) rest
       → 1 ≤ number → number ≤ rule_count rest → Found callees functions rest (p + 1) number
   found [] callees functions p number placed same calls kinded low high = absurd (omega (arith, low, high))
   found (rule called_so body ∷ rest) callees functions p number placed same calls kinded low high =

@@ -8,14 +8,14 @@ use Rattle.rpl_tree.specs.Outcome.{Outcome, ◌>>=◌}
 use Rattle.rpl_tree.specs.World.{World}
 use Rattle.rpl_tree.specs.Tree.{Tree}
 use Rattle.rpl_tree.specs.Kinds.{Head, Names, result_named, takes_named}
-use Rattle.rpl_tree.specs.Mean.{Env, Function, called, heads_of, names_in as names_of_env, value_of}
+use Rattle.rpl_tree.specs.Mean.{Env, Function, called, function_heads, names_of_env, value_of}
 use Rattle.rpl_tree.specs.Locals.{local_kinds}
 use Rattle.rpl_verify.specs.Fits.{locals_of}
 use Rattle.rpl_verify.specs.Operations.{kinds_of}
 use Rattle.rpl_verify.specs.Machine.{Frame, Running, State}
 use Rattle.rpl_compile.specs.Operations.{code_kinds}
 use Rattle.rpl_compile.specs.Size.{size}
-use Rattle.rpl_compile.specs.Site.{Bound, Site, keeping, kind_at, names_in, over}
+use Rattle.rpl_compile.specs.Site.{BoundName, Site, keeping, kind_at, names_in, over}
 use Rattle.rpl_compile.specs.Translate.{Callee, call_line, callee_heads, code_of}
 use Rattle.rpl_compile.specs.Kinded.{HasHead, IsKinded}
 use Rattle.rpl_compile.proofs.Goes.{Goes, goes_bind, goes_weaker}
@@ -54,13 +54,13 @@ pub record Setting : Type 0 where
   pub functions : List Function
   pub stands : numbered code own ≡ Some block
   pub locals_are : locals_of block ≡ code_kinds kinds
-  pub same_heads : heads_of functions ≡ callee_heads callees
+  pub same_heads : function_heads functions ≡ callee_heads callees
   pub calls : CanCall code world callees functions
 
 -- ---- names
 
 -- names, their values, and the locals that hold them
-abbrev pub Holds : List Kind → List Bound → Env → List Value → ℕ → Type 0
+abbrev pub Holds : List Kind → List BoundName → Env → List Value → ℕ → Type 0
 Holds kinds [] [] ls free = Unit {0}
 Holds kinds (b ∷ scope) (e ∷ env) ls free =
     (b.name ≡ e.0) × HasKind b.kind e.1 × (slice_get ls b.local ≡ Some e.1) × (b.local < free) × (slice_get kinds b.local ≡ Some b.kind)
@@ -80,7 +80,7 @@ then_kept free more ls us vs le h g = (g.0 ∙ h.0, λ i lt. g.1 i (omega (arith
 pub kept_less : (free more : ℕ) (ls us : List Value) → free ≤ more → Kept more ls us → Kept free ls us
 kept_less free more ls us le h = (h.0, λ i lt. h.1 i (omega (arith, lt, le)))
 
-pub holds_kept : (kinds : List Kind) (scope : List Bound) (env : Env) (ls us : List Value) (free more : ℕ) → Holds kinds scope env ls free
+pub holds_kept : (kinds : List Kind) (scope : List BoundName) (env : Env) (ls us : List Value) (free more : ℕ) → Holds kinds scope env ls free
     → free ≤ more → Kept free ls us → Holds kinds scope env us more
 holds_kept kinds [] [] ls us free more h le k = tt
 holds_kept kinds (b ∷ scope) (e ∷ env) ls us free more h le k =
@@ -88,7 +88,7 @@ holds_kept kinds (b ∷ scope) (e ∷ env) ls us free more h le k =
 holds_kept kinds [] (e ∷ env) ls us free more h le k = absurd h
 holds_kept kinds (b ∷ scope) [] ls us free more h le k = absurd h
 
-pub names_same : (kinds : List Kind) (scope : List Bound) (env : Env) (ls : List Value) (free : ℕ) → Holds kinds scope env ls free
+pub names_same : (kinds : List Kind) (scope : List BoundName) (env : Env) (ls : List Value) (free : ℕ) → Holds kinds scope env ls free
     → names_of_env env ≡ names_in scope
 names_same kinds [] [] ls free h = refl
 names_same kinds (b ∷ scope) (e ∷ env) ls free h =

@@ -9,7 +9,7 @@ use Rattle.rpl_tree.specs.Count.{acts_locals, acts_nodes, local_count, node_coun
 use Rattle.rpl_tree.specs.Cost.{param_names}
 use Rattle.rpl_tree.specs.Locals.{acts_local_kinds, local_kinds}
 use Rattle.rpl_tree.specs.Mean.{param_kinds}
-use Rattle.rpl_parse.specs.Bounds.{AreBounded, AreWithin, function_count, rule_count}
+use Rattle.rpl_parse.specs.Bounds.{AreLimited, AreWithin, function_count, rule_count}
 use Rattle.rpl_types.specs.HasType.{IsTyped}
 use Rattle.rpl_compile.specs.Operations.{widening_size}
 use Rattle.rpl_compile.specs.Size.{size, size_of_acts}
@@ -125,7 +125,7 @@ each_counted [] = refl
 each_counted (rule f body ∷ ds) = let h = each_counted ds in omega (arith, h)
 each_counted (function f params result body ∷ ds) = let h = each_counted ds in omega (arith, h)
 
-pub compiled_can_be_spelt : (basin : Draft) (rules : List Declared) → IsBasin basin → IsTyped basin rules → AreBounded rules
+pub compiled_can_be_spelt : (basin : Draft) (rules : List Declared) → IsBasin basin → IsTyped basin rules → AreLimited rules
     → IsCode (translate rules)
 compiled_can_be_spelt basin rules valid typed bounded =
     let counted = each_counted rules in

@@ -14,7 +14,7 @@ use Rattle.rpl_tree.specs.Mean.{param_kinds}
 use Rattle.rpl_tree.specs.Budget.{Budget, budget_of, limits}
 use Rattle.rpl_tree.specs.Cost.{Costed, costed_heads, param_names, predefined_costs}
 use Rattle.rpl_tree.specs.Locals.{acts_local_kinds, local_kinds}
-use Rattle.rpl_tree.specs.Words.{height, height_of_acts, words, words_from}
+use Rattle.rpl_tree.specs.Words.{height, height_of_acts, words_of_rules, words_from}
 use Rattle.rpl_types.specs.declared.type_kind.TypeKind.TheVariants.{DuplicateName, ListTooLong, TooCostly}
 use Rattle.rpl_types.specs.Fits.{Typed, longest}
 use Rattle.rpl_types.specs.Functions.{Signature, head_misfit, is_duplicate, refusal_in, with_room, with_unit, written_type}
@@ -104,11 +104,11 @@ uncapped : (n : ℕ) → min n 1000001 ≤ 1000000 → n ≤ 1000000
 uncapped n h = omega (arith, h)
 
 -- the words of a declaration are those at its number
-words_at : (rules : List Declared) (k : ℕ) (before later : List ℕ) (own : ℕ) → before ++ own ∷ later ≡ words rules → k ≡ suc (length before)
+words_at : (rules : List Declared) (k : ℕ) (before later : List ℕ) (own : ℕ) → before ++ own ∷ later ≡ words_of_rules rules → k ≡ suc (length before)
     → cost_refusal (budget_of rules k) ≡ None → own ≤ 1000000
 words_at rules k before later own whole counted h =
     let at : k - 1 ≡ length before = omega (arith, counted) in
-    let found : slice_index (words rules) (k - 1) ≡ own =
+    let found : slice_index (words_of_rules rules) (k - 1) ≡ own =
     ap (λ (ns : List ℕ). slice_index ns (k - 1)) (sym whole) ∙ ap (slice_index (before ++ own ∷ later)) at ∙ get_or-append_seam before own later 0 in
     uncapped own (subst (λ n. min n 1000001 ≤ 1000000) found (affordable_words (budget_of rules k) h))
 
@@ -124,7 +124,7 @@ next_number : (before : List ℕ) (own k : ℕ) → k ≡ suc (length before) �
 next_number before own k e = omega (arith, e, length-append before (own ∷ []))
 
 heads_from : (basin : Draft) (rules : List Declared) (k : ℕ) (earlier : List Signature) (functions : List Costed) (before : List ℕ)
-    (ds : List Declared) → before ++ words_from functions ds ≡ words rules → k ≡ suc (length before) → AreDeclared basin rules k earlier ds → AreHeads ds
+    (ds : List Declared) → before ++ words_from functions ds ≡ words_of_rules rules → k ≡ suc (length before) → AreDeclared basin rules k earlier ds → AreHeads ds
 heads_from basin rules k earlier functions before [] whole counted h = tt
 heads_from basin rules k earlier functions before (rule f body ∷ ds) whole counted h =
     let own = weights (acts_local_kinds (costed_heads functions) [] body) + height_of_acts functions [] body in

@@ -1,7 +1,7 @@
 -- The kinds of expressions that are accepted can be spelt: lists have room for 1 to 4096 elements.
 use Rattle.rw_base.proofs.Common.{◌<◌, inl, inr, ◌⊎◌, ℕ, ◌+◌, nat_lt, Bool, true, false, List, [], ◌∷◌, ◌++◌, reverse, reverse-append, bytes_eq, sym, subst, arith, AllByRecursion, if◌then◌else◌}
 use Rattle.rw_model.specs.Draft.{Draft}
-use Rattle.rpl_code.specs.Bounds.{AreKinds, IsKind, IsLength}
+use Rattle.rpl_code.specs.Bounds.{AreKinds, IsCodeKind, IsLength}
 use Rattle.rpl_tree.specs.declared.words.TwoWord.{TwoWord}
 use Rattle.rpl_tree.specs.declared.words.OneWord.{OneWord}
 use Rattle.rpl_tree.specs.declared.words.OneWord.TheVariants.{Not, Minus, Known, Length, Month, Day, Year}
@@ -15,7 +15,7 @@ use Rattle.rpl_compile.specs.Kinded.{AreArguments, AreBoth, AreKindedActs, AreOf
 use Rattle.rpl_compile.proofs.Lines.{of_lists}
 
 abbrev pub IsSpelt : Kind → Type 0
-IsSpelt kind = IsKind (code_kind kind)
+IsSpelt kind = IsCodeKind (code_kind kind)
 
 abbrev pub AreSpelt : List Kind → Type 0
 AreSpelt = AllByRecursion IsSpelt

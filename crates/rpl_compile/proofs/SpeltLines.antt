@@ -21,7 +21,7 @@ use Rattle.rpl_tree.specs.World.{can_set}
 use Rattle.rpl_tree.specs.Kinds.{Head}
 use Rattle.rpl_tree.proofs.PutsAhead.{at_most_30}
 use Rattle.rpl_compile.specs.Operations.{code_kinds, convert_line, difference_line, factor_of, number_line, one_line, sum_line, target, test_line, two_lines, widening}
-use Rattle.rpl_compile.specs.Site.{Bound, Site, local_named, names_in}
+use Rattle.rpl_compile.specs.Site.{BoundName, Site, local_named, names_in}
 use Rattle.rpl_compile.specs.Kinded.{FitsIn, HasHead, IsLiteral, IsTarget}
 use Rattle.rpl_compile.specs.Translate.{Callee, call_by, call_line, callee_heads, choice_lines}
 use Rattle.rpl_compile.proofs.SpeltNames.{CanBeSpelt, slot_found}
@@ -167,15 +167,15 @@ call_spelt (c ∷ callees) f s h = by (bytes_eq c.head.name f) refl h (λ g. cal
 
 -- ---- names
 
-abbrev pub AreBoundSpelt : List Bound → Type 0
+abbrev pub AreBoundSpelt : List BoundName → Type 0
 AreBoundSpelt [] = Unit {0}
 AreBoundSpelt (b ∷ scope) = IsSpelt b.kind × IsNumber b.local × AreBoundSpelt scope
 
-pub names_known : (scope : List Bound) → AreBoundSpelt scope → AreNamesSpelt (names_in scope)
+pub names_known : (scope : List BoundName) → AreBoundSpelt scope → AreNamesSpelt (names_in scope)
 names_known [] h = tt
 names_known (b ∷ scope) h = (h.0, names_known scope h.2)
 
-pub local_spelt : (scope : List Bound) (x : List ℕ) → AreBoundSpelt scope → IsNumber (local_named scope x)
+pub local_spelt : (scope : List BoundName) (x : List ℕ) → AreBoundSpelt scope → IsNumber (local_named scope x)
 local_spelt [] x h = omega arith
 local_spelt (b ∷ scope) x h = by (bytes_eq b.name x) (local_spelt scope x h.2)
   where

@@ -14,7 +14,7 @@ use Rattle.rpl_compile.proofs.SpeltKinds.{both_all}
 
 -- a name as code spells it
 abbrev pub CanBeSpelt : List ℕ → Type 0
-CanBeSpelt name = C.is_name name ≡ true
+CanBeSpelt name = C.is_code_name name ≡ true
 
 both_pass : (a b : Bool) → a ≡ true → b ≡ true → (a && b) ≡ true
 both_pass a b e f = rw (e, f) refl

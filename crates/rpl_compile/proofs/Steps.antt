@@ -5,13 +5,13 @@ use Rattle.rpl_code.specs.declared.kind.ValueKind.{ValueKind}
 use Rattle.rpl_code.specs.declared.instruction.Instruction.{Instruction}
 use Rattle.rpl_code.specs.declared.instruction.Instruction.TheVariants as I
 use Rattle.rpl_code.specs.declared.block.Block.{Block}
-use Rattle.rpl_tree.specs.Value.{Kind, Value, a_truth, kind_of, weight}
+use Rattle.rpl_tree.specs.Value.{Kind, Value, a_truth, kind_of_value, weight}
 use Rattle.rpl_tree.specs.Outcome.{Answer, Outcome, Trail, ended, gives, goes_on, joined, spent, stuck, value, ◌>>=◌}
 use Rattle.rpl_tree.specs.World.{World}
 use Rattle.rpl_verify.specs.declared.verify_kind.VerifyKind.{VerifyKind}
 use Rattle.rpl_verify.specs.declared.verify_kind.VerifyKind.TheVariants.{MissingOperand, WrongOperand}
 use Rattle.rpl_verify.specs.Kinds.{are_same_kinds}
-use Rattle.rpl_verify.specs.Table.{Row, left_of, load_row, on_top_of, operand_count, operands_behind, store_row, takes}
+use Rattle.rpl_verify.specs.Table.{OperandRow, left_of, load_row, on_top_of, operand_count, operands_behind, store_row, takes}
 use Rattle.rpl_verify.specs.Places.{declared_by}
 use Rattle.rpl_verify.specs.Names.{Scope, name_misfit}
 use Rattle.rpl_verify.specs.Fits.{locals_of, scope_of}
@@ -31,7 +31,7 @@ enough : (ks below : List ValueKind) (n : ℕ) → length ks ≡ n → nat_lt (l
 enough ks below n e = let l : n ≤ length (ks ++ below) = omega (arith, length-append ks below, e) in grind (arith, nat_tests, l)
 
 -- what a row takes is on top
-row_ready : (r : Row) (ks below left : List ValueKind) → length ks ≡ operand_count r → left_of r ks ≡ Ok left
+row_ready : (r : OperandRow) (ks below left : List ValueKind) → length ks ≡ operand_count r → left_of r ks ≡ Ok left
     → is_ok (operands_behind r (ks ++ below)) ≡ true
 row_ready r ks below left e h =
     ap (λ (t : Bool). is_ok (if t then Err MissingOperand else on_top_of (drop (operand_count r) (ks ++ below))
@@ -81,7 +81,7 @@ module _ (code : List Block) (world : World) where
 -- ---- in a block
 
 module _ (g : Setting) where
-  abbrev pub Row_of : Instruction → Row
+  abbrev pub Row_of : Instruction → OperandRow
   Row_of i = row_in g.code g.world g.block i
 
   abbrev pub our_scope : Scope
@@ -141,9 +141,9 @@ module _ (g : Setting) where
 
   pub loads : (K : Kind) (free p n : ℕ) (ls ops : List Value) (lo : List Running) (rest : List Frame) (v : Value) (k : Kind)
       → slice_get g.block.lines p ≡ Some (I.Load n) → slice_get g.kinds n ≡ Some k → slice_get ls n ≡ Some v → HasKind K v
-      → Goes g.code g.world (fr g p ls ops lo ∷ rest) (gives v (weight (kind_of v))) (Left g K free (p + 1) ls ops lo rest)
+      → Goes g.code g.world (fr g p ls ops lo ∷ rest) (gives v (weight (kind_of_value v))) (Left g K free (p + 1) ls ops lo rest)
   loads K free p n ls ops lo rest v k at has holds hv =
-      goes_one g.code g.world (fr g p ls ops lo) rest (fr g (suc p) ls (v ∷ ops) lo ∷ rest) (spent (weight (kind_of v))) v
+      goes_one g.code g.world (fr g p ls ops lo) rest (fr g (suc p) ls (v ∷ ops) lo ∷ rest) (spent (weight (kind_of_value v))) v
       (Left g K free (p + 1) ls ops lo rest)
       (step_does p ls [] ops lo rest (I.Load n) (code_kind k ∷ []) at (ap (λ o. operand_count (load_row o)) (sym (kinds_at n k has)))
       (ap (λ o. left_of (load_row o) []) (kinds_at n k has))
@@ -153,7 +153,7 @@ module _ (g : Setting) where
 
   pub stores : (p n : ℕ) (us ops : List Value) (lo : List Running) (rest : List Frame) (v : Value) (k : Kind)
       → slice_get g.block.lines p ≡ Some (I.Store n) → slice_get g.kinds n ≡ Some k → HasKind k v
-      → step g.code g.world (fr g p us (v ∷ ops) lo) rest ≡ gives (fr g (suc p) (set us n v) ops lo ∷ rest) (weight (kind_of v))
+      → step g.code g.world (fr g p us (v ∷ ops) lo) rest ≡ gives (fr g (suc p) (set us n v) ops lo ∷ rest) (weight (kind_of_value v))
   stores p n us ops lo rest v k at has hv =
       step_does p us (v ∷ []) ops lo rest (I.Store n) [] at (ap (λ o. operand_count (store_row o)) (sym (kinds_at n k has)))
       (ap (λ o. left_of (store_row o) (code_kind_of v ∷ [])) (kinds_at n k has)

@@ -3,7 +3,7 @@ use Rattle.rw_base.proofs.Common.{arith, AllByRecursion, recursion_from_All, ◌
 use Rattle.rw_model.proofs.Common.{Draft, IsBasin, IsDigit, IsLetter, IsName, IsSound, Object, object_from, object_named}
 use Rattle.rw_base.specs.Dimension.{Dimension}
 use Rattle.rw_base.specs.Unit.{units, unit_in}
-use Rattle.rpl_compile.specs.Written.{spelt}
+use Rattle.rpl_compile.specs.Written.{spelt_name}
 
 abbrev is_small : List ℕ → Bool
 is_small = list_all (λ b. nat_lt b 128)
@@ -31,13 +31,13 @@ no_unit word not = no_row units word refl not
 
 -- ---- what is spelt
 
-spelt_by : (b : Bool) (word left : List ℕ) → is_utf8 word ≡ b → left ≡ (if b then word else []) → left ≡ spelt word
+spelt_by : (b : Bool) (word left : List ℕ) → is_utf8 word ≡ b → left ≡ (if b then word else []) → left ≡ spelt_name word
 spelt_by b word left e h = h ∙ ap (λ (t : Bool). if t then word else []) (sym e)
 
-pub spelt_text : (word : List ℕ) → IsUtf8 word → word ≡ spelt word
+pub spelt_text : (word : List ℕ) → IsUtf8 word → word ≡ spelt_name word
 spelt_text word h = spelt_by true word word (is_utf8-from_IsUtf8 word h) refl
 
-pub spelt_none : (word : List ℕ) → ¬ (IsUtf8 word) → [] ≡ spelt word
+pub spelt_none : (word : List ℕ) → ¬ (IsUtf8 word) → [] ≡ spelt_name word
 spelt_none word not = elim (cases_Bool (is_utf8 word)) [
   | inl e ↦ absurd (not (IsUtf8-from_is_utf8 word e))
   | inr e ↦ spelt_by false word [] e refl

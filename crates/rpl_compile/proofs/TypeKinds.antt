@@ -13,7 +13,7 @@ use Rattle.rpl_tree.specs.Value.{Kind, number_kind, truth_kind, date_kind, slot_
 use Rattle.rpl_tree.specs.Kinds.{join, one_kind, two_kind}
 use Rattle.rpl_types.specs.declared.type_kind.TypeKind.{TypeKind}
 use Rattle.rpl_types.specs.declared.type_kind.TypeKind.TheVariants.{ListTooLong}
-use Rattle.rpl_types.specs.Fits.{Typed, joined, length_misfit, longest, misfit, misfit_among, order, sooner, unit_misfit}
+use Rattle.rpl_types.specs.Fits.{Typed, joined_type, length_misfit, longest, misfit, misfit_among, refusal_order, sooner, unit_misfit}
 use Rattle.rpl_types.specs.Forms.{a_dimension, answers, append_type, asks, compared_type, convert_type, difference_type, element_type, is_boolean, is_datetime, item_type, length_type, list_type, look_type, mapped_type, measured_in, negative_type, one_type, only_if, product_type, sum_type, two_type}
 use Rattle.rpl_verify.proofs.KindFacts.{and_true}
 use Rattle.rpl_compile.specs.Kinded.{AreComparable, FitsIn, IsAnyList, IsElement, OneTakes, TwoTakes}
@@ -49,7 +49,7 @@ unrefused (Some kind) own t h = absurd (cc h)
 pub none_of_two : (a b : Option TypeKind) → sooner a b ≡ None → (a ≡ None) × (b ≡ None)
 none_of_two None b h = (refl, h)
 none_of_two (Some a) None h = absurd (cc h)
-none_of_two (Some a) (Some b) h = by (nat_lt (order b) (order a)) h
+none_of_two (Some a) (Some b) h = by (nat_lt (refusal_order b) (refusal_order a)) h
   where
     by : (t : Bool) → (if t then Some b else Some a) ≡ None → (Some a ≡ None) × (Some b ≡ None)
     by true h = absurd (cc h)
@@ -128,7 +128,7 @@ slots_join n m false e =
     let most : n ≡ max n m = omega (arith, le) in
     (ap slots_kind most, inl refl, slots_fit m n (same_or_below m n le))
 
-pub kinds_join : (a b t : RplType) → joined a b ≡ Ok t → Joins (kind_of_rpl_type a) (kind_of_rpl_type b) t
+pub kinds_join : (a b t : RplType) → joined_type a b ≡ Ok t → Joins (kind_of_rpl_type a) (kind_of_rpl_type b) t
 kinds_join (NumericList n a) (NumericList m b) t h =
     let j = numbers_join n m (nat_lt n m) refl in (j.0 ∙ (unrefused (unit_misfit a b) (NumericList (max n m) a) t h).1, j.1, j.2)
 kinds_join (SlotList n a) (SlotList m b) t h =

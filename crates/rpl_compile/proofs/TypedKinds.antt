@@ -17,10 +17,10 @@ use Rattle.rpl_tree.specs.Operators.{is_quantity}
 use Rattle.rpl_tree.specs.World.{can_put_ahead, can_set, table_named}
 use Rattle.rpl_tree.specs.Tree.{Tree, Trees, literal, truth, now, slot, name, call, brackets, list, choice, bind, each, mapped, one, two, convert, at, no_trees, tree, Act, Acts, assign, branch, with_name, no_acts, act, Declared, rule, function}
 use Rattle.rpl_tree.specs.Kinds.{Head, Names, count_of, join, kind_named, kind_of_type, takes_named, tree_kind, two_kind}
-use Rattle.rpl_tree.specs.Mean.{heads_of, predefined_functions}
+use Rattle.rpl_tree.specs.Mean.{function_heads, predefined_functions}
 use Rattle.rpl_types.specs.declared.type_kind.TypeKind.TheVariants.{LiteralRange, NotSettable, TargetStep}
 use Rattle.rpl_types.specs.Fits.{misfit}
-use Rattle.rpl_types.specs.Forms.{Scope, found_slot_type, found_target_misfit, in_unit, is_look, name_type}
+use Rattle.rpl_types.specs.Forms.{TypeScope, found_slot_type, found_target_misfit, literal_in_unit, is_look, name_type}
 use Rattle.rpl_types.specs.Functions.{Callable, Signature, param_scope, type_here}
 use Rattle.rpl_types.specs.HasType.{AllStand, AreDeclared, HasType, HaveTypes, IsTyped, Stands}
 use Rattle.rpl_types.specs.Judged.{and_function, function_names}
@@ -30,7 +30,7 @@ use Rattle.rpl_compile.proofs.CallKinds.{FitTypes, Matches, call_takes, fresh, m
 
 -- ---- leaves
 
-literal_found : (n : ℤ) (unit : Option (Dimension × ℤ)) (t : RplType) → in_unit n unit ≡ Ok t → (number_kind ≡ kind_of_rpl_type t) × IsLiteral n unit
+literal_found : (n : ℤ) (unit : Option (Dimension × ℤ)) (t : RplType) → literal_in_unit n unit ≡ Ok t → (number_kind ≡ kind_of_rpl_type t) × IsLiteral n unit
 literal_found n None t h = absurd (cc h)
 literal_found n (Some unit) t h = by (is_quantity (n *ℤ unit.1)) h
   where
@@ -42,7 +42,7 @@ slot_found : (basin : Draft) (found : Option ℕ) (t : RplType) → found_slot_t
 slot_found basin None t h = absurd (cc h)
 slot_found basin (Some s) t h = (same_kind (Slot (dim_of basin.objects s)) t h, refl)
 
-name_found : (scope : Scope) (x : List ℕ) (t : RplType) → name_type scope x ≡ Ok t
+name_found : (scope : TypeScope) (x : List ℕ) (t : RplType) → name_type scope x ≡ Ok t
     → (kind_named (type_names scope) x ≡ kind_of_rpl_type t) × HasName (type_names scope) x
 name_found [] x t h = absurd (cc h)
 name_found (variable ∷ scope) x t h = by (bytes_eq variable.0 x) h (λ g. name_found scope x t g)
@@ -89,30 +89,30 @@ module _ (basin : Draft) (callable : Callable) (heads : List Head) (matches : Ma
   Kinded names e kind = (tree_kind heads names e ≡ kind) × IsKinded basin heads names e
 
   abbrev Claim : Tree → Type 0
-  Claim e = (scope : Scope) (t : RplType) → HasType basin callable scope e t → Kinded (type_names scope) e (kind_of_rpl_type t)
+  Claim e = (scope : TypeScope) (t : RplType) → HasType basin callable scope e t → Kinded (type_names scope) e (kind_of_rpl_type t)
 
-  abbrev AllKinded : Scope → Trees → List RplType → Type 0
+  abbrev AllKinded : TypeScope → Trees → List RplType → Type 0
   AllKinded scope no_trees ts = ts ≡ []
   AllKinded scope (tree e es) ts =
       (first : RplType) × (rest : List RplType) × (ts ≡ first ∷ rest) × Kinded (type_names scope) e (kind_of_rpl_type first) × AllKinded scope es rest
 
   abbrev ClaimAll : Trees → Type 0
-  ClaimAll es = (scope : Scope) (ts : List RplType) → HaveTypes basin callable scope es ts → AllKinded scope es ts
+  ClaimAll es = (scope : TypeScope) (ts : List RplType) → HaveTypes basin callable scope es ts → AllKinded scope es ts
 
   looked : (e : Tree) (names : Names) → is_look e ≡ true → IsAsked Known e × (tree_kind heads names e ≡ number_kind)
   looked (at s d) names h = (tt, refl)
   looked _ names h = absurd (cc h)
 
-  of_kind : (scope : Scope) (es : Trees) (ts : List RplType) (kind : Kind) → AllKinded scope es ts → AreAlike kind ts
+  of_kind : (scope : TypeScope) (es : Trees) (ts : List RplType) (kind : Kind) → AllKinded scope es ts → AreAlike kind ts
       → AreOfKind basin heads (type_names scope) kind es
   of_kind scope no_trees ts kind h a = tt
   of_kind scope (tree e es) ts kind h a = let b = subst (AreAlike kind) h.2 a in (h.3.1, h.3.0 ∙ b.0, of_kind scope es h.1 kind h.4 b.1)
 
-  count_is : (scope : Scope) (es : Trees) (ts : List RplType) → AllKinded scope es ts → count_of es ≡ length ts
+  count_is : (scope : TypeScope) (es : Trees) (ts : List RplType) → AllKinded scope es ts → count_of es ≡ length ts
   count_is scope no_trees ts h = ap length (sym h)
   count_is scope (tree e es) ts h = let c = count_is scope es h.1 h.4 in let n = ap length h.2 in omega (arith, c, n)
 
-  arguments : (scope : Scope) (es : Trees) (ts : List RplType) (kinds : List Kind) → AllKinded scope es ts → FitTypes kinds ts
+  arguments : (scope : TypeScope) (es : Trees) (ts : List RplType) (kinds : List Kind) → AllKinded scope es ts → FitTypes kinds ts
       → AreArguments basin heads (type_names scope) kinds es
   arguments scope no_trees ts [] h f = tt
   arguments scope no_trees ts (k ∷ kinds) h f = absurd (subst (FitTypes (k ∷ kinds)) h f)
@@ -125,7 +125,7 @@ module _ (basin : Draft) (callable : Callable) (heads : List Head) (matches : Ma
       let c = call_takes callable heads f h.0 t matches h.2 in
       (c.result_is, (c.has, arguments scope es h.0 (takes_named heads f) (all scope h.0 h.1) c.fit))
 
-  listed : (scope : Scope) (es : Trees) (ts : List RplType) (t : RplType) → AllKinded scope es ts → Listed ts t
+  listed : (scope : TypeScope) (es : Trees) (ts : List RplType) (t : RplType) → AllKinded scope es ts → Listed ts t
       → Kinded (type_names scope) (list es) (kind_of_rpl_type t)
   listed scope no_trees ts t h l = absurd (cc (h, l.are))
   listed scope (tree e es) ts t h l =
@@ -280,10 +280,10 @@ module _ (basin : Draft) (callable : Callable) (heads : List Head) (matches : Ma
   -- ---- statements
 
   abbrev ClaimAct : Act → Type 0
-  ClaimAct a = (scope : Scope) → Stands basin callable scope a → IsKindedAct basin heads (type_names scope) a
+  ClaimAct a = (scope : TypeScope) → Stands basin callable scope a → IsKindedAct basin heads (type_names scope) a
 
   abbrev ClaimActs : Acts → Type 0
-  ClaimActs acts = (scope : Scope) → AllStand basin callable scope acts → AreKindedActs basin heads (type_names scope) acts
+  ClaimActs acts = (scope : TypeScope) → AllStand basin callable scope acts → AreKindedActs basin heads (type_names scope) acts
 
   on_assign : (o s : List ℕ) (ahead : ℤ) (e : Tree) → ClaimAct (assign o s ahead e)
   on_assign o s ahead e scope h =
@@ -329,4 +329,4 @@ kinded_from basin rules k earlier heads (function f ps result body ∷ ds) m h =
     )
 
 pub typed_is_kinded : (basin : Draft) (rules : List Declared) → IsTyped basin rules → AreKinded basin rules
-typed_is_kinded basin rules h = kinded_from basin rules 1 [] (heads_of predefined_functions) rules matches_none h
+typed_is_kinded basin rules h = kinded_from basin rules 1 [] (function_heads predefined_functions) rules matches_none h

@@ -10,10 +10,10 @@ use Rattle.rpl_tree.specs.declared.rpl_type.RplType.TheVariants.{NumericList, Sl
 use Rattle.rpl_tree.proofs.Common.{Declared, Parameter, TypeName, function, rule}
 use Rattle.rpl_types.specs.declared.type_kind.TypeKind.{TypeKind}
 use Rattle.rpl_types.specs.declared.type_kind.TypeKind.TheVariants.{DuplicateName, ListTooLong}
-use Rattle.rpl_types.specs.Fits.{longest, order, sooner}
+use Rattle.rpl_types.specs.Fits.{longest, refusal_order, sooner}
 use Rattle.rpl_types.specs.Functions.{Signature, head_misfit, is_duplicate, refusal_in, with_room, with_unit, written_type}
 use Rattle.rpl_types.specs.HasType.{AreDeclared, IsTyped}
-use Rattle.rpl_compile.specs.Rooms.{AreRoomy, HasRoom, HaveRoom}
+use Rattle.rpl_compile.specs.Rooms.{AreRoomy, HasListRoom, HaveRoom}
 
 no_some : {A : Type 0} (x : A) → Some x ≡ None → ⊥
 no_some x e = false≢true (subst IsSome e refl)
@@ -32,7 +32,7 @@ list_room : (found : Option (Dimension × ℤ)) (m : ℤ) (made : Dimension → 
 list_room None m made h = absurd (no_some _ h)
 list_room (Some unit) m made h = room_by _ m (made unit.0 (unsigned_abs m)) refl h
 
-type_room : (written : TypeName) → refusal_in (written_type written) ≡ None → HasRoom written
+type_room : (written : TypeName) → refusal_in (written_type written) ≡ None → HasListRoom written
 type_room (numeric unit) h = tt
 type_room boolean h = tt
 type_room datetime h = tt
@@ -47,9 +47,9 @@ one_of false x y = no_some y
 neither : (a b : Option TypeKind) → sooner a b ≡ None → (a ≡ None) × (b ≡ None)
 neither None b h = (refl, h)
 neither (Some x) None h = absurd (no_some x h)
-neither (Some x) (Some y) h = absurd (one_of (nat_lt (order y) (order x)) y x h)
+neither (Some x) (Some y) h = absurd (one_of (nat_lt (refusal_order y) (refusal_order x)) y x h)
 
-head_rooms : (params : List Parameter) (result : TypeName) → head_misfit params result ≡ None → HaveRoom params × HasRoom result
+head_rooms : (params : List Parameter) (result : TypeName) → head_misfit params result ≡ None → HaveRoom params × HasListRoom result
 head_rooms [] result h = (tt, type_room result h)
 head_rooms (p ∷ ps) result h =
     let both = neither (refusal_in (written_type p.of_type)) (head_misfit ps result) h in

@@ -2,7 +2,7 @@
 use Rattle.rw_base.proofs.Common.{◌≡◌, ℕ, suc, ◌+◌, ◌<◌, List, [], ◌∷◌, ◌++◌, length, set, Some, refl, sym, ap, ◌∙◌, subst, arith, append_assoc, slice_get, slice_get_within}
 use Rattle.rpl_code.specs.declared.instruction.Instruction.{Instruction}
 use Rattle.rpl_code.specs.declared.instruction.Instruction.TheVariants as I
-use Rattle.rpl_tree.specs.Value.{Kind, Value, kind_of, element_of, room_of, weight}
+use Rattle.rpl_tree.specs.Value.{Kind, Value, kind_of_value, element_of, room_of, weight}
 use Rattle.rpl_tree.specs.Outcome.{Outcome, after, gives, spent, ◌>>=◌}
 use Rattle.rpl_tree.specs.Operators.{elements_of, widened}
 use Rattle.rpl_tree.specs.Tree.{Tree, each}
@@ -198,7 +198,7 @@ module _ (g : Setting) where
           subst (λ s. Goes g.code g.world s (gives last W) Q) (sym c.is)
           (subst (λ k. Goes g.code g.world (fr g end c.locals1 ops lo ∷ rest) (gives last (weight k)) Q) c.of_kind.0
           (goes_left g total site.free site.free (end + 1) past ls c.locals1 ops lo rest (fr g end c.locals1 ops lo ∷ rest)
-          (gives last (weight (kind_of last))) (omega (arith, ends)) (omega arith)
+          (gives last (weight (kind_of_value last))) (omega (arith, ends)) (omega arith)
           (then_kept site.free site.free ls us1 c.locals1 (omega arith) k1 c.kept)
           (loads g total site.free end (site.free + 1) c.locals1 ops lo rest last total
           (subst (λ n. slice_get g.block.lines n ≡ Some (I.Load (site.free + 1))) ends at.gets) at.has_total c.total c.of_kind))))))))

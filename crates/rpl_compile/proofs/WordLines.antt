@@ -11,16 +11,16 @@ use Rattle.rpl_tree.specs.declared.words.TwoWord.TheVariants.{Or, And, Equal, Un
 use Rattle.rpl_tree.specs.Value.{Kind, number_kind, truth_kind, date_kind, slot_kind, numbers_kind, slots_kind, is_same_kind, room_of, weight}
 use Rattle.rpl_tree.specs.Kinds.{one_kind, two_kind}
 use Rattle.rpl_verify.specs.Places.{spots}
-use Rattle.rpl_verify.specs.Table.{appended, goes_by, of_list, picked, row, takes, widened}
+use Rattle.rpl_verify.specs.Table.{appended, goes_by, of_list, element_picked, operand_row, takes, widened_list}
 use Rattle.rpl_verify.specs.Names.{Scope}
 use Rattle.rpl_verify.specs.Kinds as V
 use Rattle.rpl_verify.specs.Budget.{onward, going_of}
 use Rattle.rpl_verify.specs.Notes.{words_kept}
 use Rattle.rpl_code.specs.Weight.{words_of}
 use Rattle.rpl_tree.specs.Cost.{Price}
-use Rattle.rpl_verify.specs.Fits.{Before, Open, before, judged, taken}
+use Rattle.rpl_verify.specs.Fits.{Before, Open, before, judged_at, taken}
 use Rattle.rpl_compile.specs.Operations.{code_kind, one_line, two_lines, widening}
-use Rattle.rpl_compile.specs.Kinded.{AreBoth, AreComparable, CanAdd, CanAppend, FitsIn, IsAnyList, IsWider, OneTakes, TwoTakes}
+use Rattle.rpl_compile.specs.Kinded.{AreBoth, AreComparable, CanAddKinds, CanAppend, FitsIn, IsAnyList, IsWider, OneTakes, TwoTakes}
 use Rattle.rpl_compile.proofs.TypeKinds.{IsPlain}
 use Rattle.rpl_compile.proofs.Counting.{Account, IsInvoke, IsUnit}
 use Rattle.rpl_compile.proofs.Going.{Goes, goes_as, goes_line, goes_none, goes_then, takes_by, takes_kinds}
@@ -62,17 +62,17 @@ module _ (scope : Scope) (lines : List Instruction) (spots_are : scope.spots ≡
 
   -- an instruction without names and jumps
   abbrev IsSimple : Instruction → Type 0
-  IsSimple i = ((p : ℕ) (b : Before) → judged scope p b i ≡ taken scope i b) × (going_of i ≡ onward) × (IsInvoke i → ⊥)
+  IsSimple i = ((p : ℕ) (b : Before) → judged_at scope p b i ≡ taken scope i b) × (going_of i ≡ onward) × (IsInvoke i → ⊥)
 
   -- it comes to so much
-  line : (i : Instruction) (ks left : List ValueKind) (s : ℕ) → IsSimple i → row scope.heads scope.locals i ≡ takes ks left
+  line : (i : Instruction) (ks left : List ValueKind) (s : ℕ) → IsSimple i → operand_row scope.heads scope.locals i ≡ takes ks left
       → (p : ℕ) (ls : List ValueKind) (os : List Open) → account.sum_at (before (ks ++ ls) os) i ≡ s
       → Leads (i ∷ []) p (before (ks ++ ls) os) (before (left ++ ls) os) s (max (kept (before (ks ++ ls) os)) (kept (before (left ++ ls) os)))
   line i ks left s simple r p ls os e =
       goes_line scope lines spots_are pays account (simple.0 p (before (ks ++ ls) os) ∙ takes_kinds scope i ks left ls os r) simple.1 simple.2 e
 
   line_by : (i : Instruction) (n : ℕ) (left_for : List ValueKind → Option (List ValueKind)) (ks left : List ValueKind) (s : ℕ) → IsSimple i
-      → row scope.heads scope.locals i ≡ goes_by n left_for → n ≡ length ks → left_for ks ≡ Some left
+      → operand_row scope.heads scope.locals i ≡ goes_by n left_for → n ≡ length ks → left_for ks ≡ Some left
       → (p : ℕ) (ls : List ValueKind) (os : List Open) → account.sum_at (before (ks ++ ls) os) i ≡ s
       → Leads (i ∷ []) p (before (ks ++ ls) os) (before (left ++ ls) os) s (max (kept (before (ks ++ ls) os)) (kept (before (left ++ ls) os)))
   line_by i n left_for ks left s simple r e h p ls os f =
@@ -94,7 +94,7 @@ module _ (scope : Scope) (lines : List Instruction) (spots_are : scope.spots ≡
   one_of : (word : OneWord) (a k : Kind) → k ≡ a → OneGoes word a → OneGoes word k
   one_of word a k e g = subst (OneGoes word) (sym e) g
 
-  unary : (i : Instruction) (k l : ValueKind) → IsSimple i → IsUnit i → row scope.heads scope.locals i ≡ takes (k ∷ []) (l ∷ [])
+  unary : (i : Instruction) (k l : ValueKind) → IsSimple i → IsUnit i → operand_row scope.heads scope.locals i ≡ takes (k ∷ []) (l ∷ [])
       → words_of l ≤ words_of k
       → (p : ℕ) (ls : List ValueKind) (os : List Open)
       → Leads (i ∷ []) p (before (k ∷ ls) os) (before (l ∷ ls) os) (pays.step 1) (kept (before (k ∷ ls) os))
@@ -129,20 +129,20 @@ module _ (scope : Scope) (lines : List Instruction) (spots_are : scope.spots ≡
   two_of word a b k l h g = subst (λ k. TwoGoes word k l) (sym h.0) (subst (TwoGoes word a) (sym h.1) g)
 
   -- of values of a word each
-  binary : (i : Instruction) (k l left : ValueKind) → IsSimple i → IsUnit i → row scope.heads scope.locals i ≡ takes (l ∷ k ∷ []) (left ∷ [])
+  binary : (i : Instruction) (k l left : ValueKind) → IsSimple i → IsUnit i → operand_row scope.heads scope.locals i ≡ takes (l ∷ k ∷ []) (left ∷ [])
       → words_of left ≤ words_of k → (p : ℕ) (ls : List ValueKind) (os : List Open)
       → Leads (i ∷ []) p (before (l ∷ k ∷ ls) os) (before (left ∷ ls) os) (pays.step 1) (kept (before (l ∷ k ∷ ls) os))
   binary i k l left simple u r le p ls os =
       told (line i (l ∷ k ∷ []) (left ∷ []) (pays.step 1) simple r p ls os (account.prices.unit (before (l ∷ k ∷ ls) os) i u)) refl
       (omega (arith, le))
 
-  numbers_line : (i : Instruction) (left : ValueKind) → IsSimple i → IsUnit i → row scope.heads scope.locals i ≡ takes (K.N ∷ K.N ∷ []) (left ∷ [])
+  numbers_line : (i : Instruction) (left : ValueKind) → IsSimple i → IsUnit i → operand_row scope.heads scope.locals i ≡ takes (K.N ∷ K.N ∷ []) (left ∷ [])
       → words_of left ≤ 1
       → (p : ℕ) (ls : List ValueKind) (os : List Open)
       → Leads (i ∷ []) p (before (K.N ∷ K.N ∷ ls) os) (before (left ∷ ls) os) (pays.step 1) (kept (before (K.N ∷ K.N ∷ ls) os))
   numbers_line i left simple u r le = binary i K.N K.N left simple u r le
 
-  dates_line : (i : Instruction) (left : ValueKind) → IsSimple i → IsUnit i → row scope.heads scope.locals i ≡ takes (K.D ∷ K.D ∷ []) (left ∷ [])
+  dates_line : (i : Instruction) (left : ValueKind) → IsSimple i → IsUnit i → operand_row scope.heads scope.locals i ≡ takes (K.D ∷ K.D ∷ []) (left ∷ [])
       → words_of left ≤ 1
       → (p : ℕ) (ls : List ValueKind) (os : List Open)
       → Leads (i ∷ []) p (before (K.D ∷ K.D ∷ ls) os) (before (left ∷ ls) os) (pays.step 1) (kept (before (K.D ∷ K.D ∷ ls) os))
@@ -164,7 +164,7 @@ module _ (scope : Scope) (lines : List Instruction) (spots_are : scope.spots ≡
   compared_goes word k l (inl h) n d = two_of word number_kind number_kind k l h n
   compared_goes word k l (inr h) n d = two_of word date_kind date_kind k l h d
 
-  added_goes : (word : TwoWord) (k l : Kind) → CanAdd k l → TwoGoes word number_kind number_kind → TwoGoes word date_kind number_kind
+  added_goes : (word : TwoWord) (k l : Kind) → CanAddKinds k l → TwoGoes word number_kind number_kind → TwoGoes word date_kind number_kind
       → TwoGoes word k l
   added_goes word k l (inl h) n d = two_of word number_kind number_kind k l h n
   added_goes word k l (inr h) n d = two_of word date_kind number_kind k l h d
@@ -177,7 +177,7 @@ module _ (scope : Scope) (lines : List Instruction) (spots_are : scope.spots ≡
 
   -- an element behind those of a list
   appending : (m : ℕ) (make : ℕ → ValueKind) (one : ValueKind) → appended (one ∷ make m ∷ []) ≡ Some (make (m + 1) ∷ []) → words_of one ≡ 1
-      → ((n : ℕ) → words_of (make n) ≡ n + 1) → V.room_of (make m) ≡ m
+      → ((n : ℕ) → words_of (make n) ≡ n + 1) → V.list_room (make m) ≡ m
       → (p : ℕ) (ls : List ValueKind) (os : List Open)
       → Leads (I.Append ∷ []) p (before (one ∷ make m ∷ ls) os) (before (make (m + 1) ∷ ls) os) (pays.step (m + 2))
       (kept (before (one ∷ make m ∷ ls) os))
@@ -193,10 +193,10 @@ module _ (scope : Scope) (lines : List Instruction) (spots_are : scope.spots ≡
       by m lt (inl e) = two_of Append (numbers_kind m) number_kind k l e (appending m K.NList K.N (room_grows m K.NList lt) refl (λ n. refl) refl)
       by m lt (inr e) = two_of Append (slots_kind m) slot_kind k l e (appending m K.SList K.S (room_grows m K.SList lt) refl (λ n. refl) refl)
 
-  picking : (k left : ValueKind) → picked (K.N ∷ k ∷ []) ≡ Some (left ∷ []) → words_of left ≡ 1 → (p : ℕ) (ls : List ValueKind) (os : List Open)
+  picking : (k left : ValueKind) → element_picked (K.N ∷ k ∷ []) ≡ Some (left ∷ []) → words_of left ≡ 1 → (p : ℕ) (ls : List ValueKind) (os : List Open)
       → Leads (I.Item ∷ []) p (before (K.N ∷ k ∷ ls) os) (before (left ∷ ls) os) (pays.step 1) (kept (before (K.N ∷ k ∷ ls) os))
   picking k left e w p ls os =
-      told (line_by I.Item 2 picked (K.N ∷ k ∷ []) (left ∷ []) (pays.step 1) (λ p b. refl, refl, λ x. x) refl refl e p ls os
+      told (line_by I.Item 2 element_picked (K.N ∷ k ∷ []) (left ∷ []) (pays.step 1) (λ p b. refl, refl, λ x. x) refl refl e p ls os
       (account.prices.unit (before (K.N ∷ k ∷ ls) os) I.Item tt)) refl (omega (arith, w))
 
   picked_goes : (k l : Kind) → IsAnyList k → l ≡ number_kind → TwoGoes Item k l
@@ -256,11 +256,11 @@ module _ (scope : Scope) (lines : List Instruction) (spots_are : scope.spots ≡
       (sym (tree_same k))
       (told (goes_none scope lines spots_are pays account p b) refl (omega arith))
 
-  filling : (m n : ℕ) (make : ℕ → ValueKind) → widened m (make n ∷ []) ≡ Some (make m ∷ []) → (p : ℕ) (ls : List ValueKind) (os : List Open)
+  filling : (m n : ℕ) (make : ℕ → ValueKind) → widened_list m (make n ∷ []) ≡ Some (make m ∷ []) → (p : ℕ) (ls : List ValueKind) (os : List Open)
       → Leads (I.Widen m ∷ []) p (before (make n ∷ ls) os) (before (make m ∷ ls) os) (pays.step (m + 1))
       (max (kept (before (make n ∷ ls) os)) (kept (before (make m ∷ ls) os)))
   filling m n make e p ls os =
-      line_by (I.Widen m) 1 (widened m) (make n ∷ []) (make m ∷ []) (pays.step (m + 1)) (λ p b. refl, refl, λ x. x) refl refl e p ls os
+      line_by (I.Widen m) 1 (widened_list m) (make n ∷ []) (make m ∷ []) (pays.step (m + 1)) (λ p b. refl, refl, λ x. x) refl refl e p ls os
       (account.prices.widened (before (make n ∷ ls) os) m)
 
   wider : (place kind : Kind) → IsWider place kind → WidenGoes place kind

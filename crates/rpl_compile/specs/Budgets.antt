@@ -12,10 +12,10 @@ abbrev pub budgets_from : List Declared → ℕ → List Declared → List Budge
 budgets_from rules number [] = []
 budgets_from rules number (d ∷ ds) = budget_of rules number ∷ budgets_from rules (number + 1) ds
 
-abbrev pub budgets_of : List Declared → List Budget
-budgets_of rules = budgets_from rules 1 rules
+abbrev pub code_budgets_of : List Declared → List Budget
+code_budgets_of rules = budgets_from rules 1 rules
 
 -- the code of a ruleset with the budgets of its declarations, and its instructions resolved
 abbrev pub accepted_code : Draft → List Declared → Accepted
 accepted_code basin rules =
-    record { blocks = translate rules; budgets = budgets_of rules; resolved = resolved_code basin (translate rules) }
+    record { blocks = translate rules; budgets = code_budgets_of rules; resolved = resolved_code basin (translate rules) }

@@ -8,7 +8,7 @@ use Rattle.rpl_tree.specs.Outcome.{Outcome}
 use Rattle.rpl_tree.specs.World.{World}
 use Rattle.rpl_tree.specs.Tree.{Tree, Act, Declared}
 use Rattle.rpl_tree.specs.Mean.{fire_of, mean}
-use Rattle.rpl_tree.specs.Worked.{basin_of, numbers_object, pool, rule_of, unknown_cells, with_functions, x_rule}
+use Rattle.rpl_tree.specs.Worked.{basin_over_days, numbers_object, pool, rule_of, unknown_cells, with_functions, x_rule}
 use Rattle.rpl_parse.specs.Bounds.{rule_count}
 use Rattle.rpl_verify.specs.Machine.{Frame, fire_of_code, first_frame, run}
 use Rattle.rpl_compile.specs.Translate.{translate}
@@ -46,7 +46,7 @@ EndsAlike rules basin rule step values =
 
 -- in a basin of two numbers, X and Y
 abbrev pub RulesAlike : List Declared → (Cell → Option ℤ) → Type 0
-RulesAlike rules values = FiresAlike rules (basin_of 2 (numbers_object ∷ [])) 1 1 values
+RulesAlike rules values = FiresAlike rules (basin_over_days 2 (numbers_object ∷ [])) 1 1 values
 
 -- `D.X[t] := e;` there, where nothing is known; beside the functions `Count` and `Both`; and statements
 abbrev pub TreeAlike : Tree → Type 0
@@ -60,4 +60,4 @@ ActsAlike statements = RulesAlike (rule_of statements ∷ []) unknown_cells
 
 -- beside a pool, at a timestep of forty
 abbrev pub PoolAlike : ℕ → Tree → Type 0
-PoolAlike step e = FiresAlike (x_rule e) (basin_of 40 (numbers_object ∷ pool ∷ [])) 1 step unknown_cells
+PoolAlike step e = FiresAlike (x_rule e) (basin_over_days 40 (numbers_object ∷ pool ∷ [])) 1 step unknown_cells

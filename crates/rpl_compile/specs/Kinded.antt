@@ -16,7 +16,7 @@ use Rattle.rpl_tree.specs.World.{can_put_ahead, can_set, table_named}
 use Rattle.rpl_tree.specs.Tree.{Tree, Trees, literal, truth, now, slot, name, call, brackets, list, choice, bind, each, mapped, one, two, convert, at, no_trees, tree, Act, Acts, assign, branch, with_name, no_acts, act, Declared, rule, function}
 use Rattle.rpl_tree.specs.Kinds.{Head, Names, count_of, first_kind, kind_of_type, takes_named, tree_kind}
 use Rattle.rpl_tree.specs.Cost.{param_names}
-use Rattle.rpl_tree.specs.Mean.{heads_of, param_kinds, predefined_functions}
+use Rattle.rpl_tree.specs.Mean.{function_heads, param_kinds, predefined_functions}
 
 -- ---- kinds
 
@@ -45,8 +45,8 @@ abbrev pub AreComparable : Kind → Kind → Type 0
 AreComparable k l = AreBoth number_kind number_kind k l ⊎ AreBoth date_kind date_kind k l
 
 -- a number can be added to a number or a date, and taken from one
-abbrev pub CanAdd : Kind → Kind → Type 0
-CanAdd k l = AreBoth number_kind number_kind k l ⊎ AreBoth date_kind number_kind k l
+abbrev pub CanAddKinds : Kind → Kind → Type 0
+CanAddKinds k l = AreBoth number_kind number_kind k l ⊎ AreBoth date_kind number_kind k l
 
 -- a list of fewer than 4,096, and an element of it
 abbrev pub CanAppend : Kind → Kind → Type 0
@@ -71,8 +71,8 @@ TwoTakes Less k l = AreComparable k l
 TwoTakes LessEqual k l = AreComparable k l
 TwoTakes Greater k l = AreComparable k l
 TwoTakes GreaterEqual k l = AreComparable k l
-TwoTakes Plus k l = CanAdd k l
-TwoTakes Less_by k l = CanAdd k l ⊎ AreBoth date_kind date_kind k l
+TwoTakes Plus k l = CanAddKinds k l
+TwoTakes Less_by k l = CanAddKinds k l ⊎ AreBoth date_kind date_kind k l
 TwoTakes Times k l = AreBoth number_kind number_kind k l
 TwoTakes Divide k l = AreBoth number_kind number_kind k l
 TwoTakes Append k l = CanAppend k l
@@ -178,4 +178,4 @@ AreKindedFrom basin heads (function called_so params result body ∷ rest) =
     IsKindedBody basin heads (param_names params) kind body × AreKindedFrom basin (head ∷ heads) rest
 
 abbrev pub AreKinded : Draft → List Declared → Type 0
-AreKinded basin rules = AreKindedFrom basin (heads_of predefined_functions) rules
+AreKinded basin rules = AreKindedFrom basin (function_heads predefined_functions) rules

@@ -6,7 +6,7 @@ use Rattle.rpl_tree.specs.Value.{Kind, number_kind, truth_kind, date_kind, slot_
 use Rattle.rpl_compile.specs.declared.known.Known.{Known}
 use Rattle.rpl_compile.specs.declared.writing.Local.{Local}
 use Rattle.rpl_compile.specs.declared.writing.Writing.{Writing}
-use Rattle.rpl_compile.specs.Site.{Bound, bound}
+use Rattle.rpl_compile.specs.Site.{BoundName, bound}
 use Rattle.rpl_compile.specs.Translate.{Callee}
 use Rattle.rpl_compile.specs.Written.{Written, no_callee, written}
 
@@ -21,10 +21,10 @@ kind_seen (K.SList m) = slots_kind m
 abbrev pub kinds_seen : List ValueKind → List Kind
 kinds_seen kinds = map kind_seen kinds
 
-abbrev pub bound_seen : List ℕ × Local → Bound
+abbrev pub bound_seen : List ℕ × Local → BoundName
 bound_seen entry = bound entry.0 (kind_seen entry.1.kind) entry.1.number
 
-abbrev pub scope_seen : List (List ℕ × Local) → List Bound
+abbrev pub scope_seen : List (List ℕ × Local) → List BoundName
 scope_seen names = map bound_seen names
 
 abbrev pub written_of : Writing → Written

@@ -7,36 +7,36 @@ use Rattle.rpl_tree.specs.Count.{local_count, act_locals, acts_locals}
 use Rattle.rpl_compile.specs.Size.{size, size_of_act, size_of_acts}
 
 -- a name that can be used: the kind of its value, and the local that holds it
-pub record Bound : Type 0 where
+pub record BoundName : Type 0 where
   pub name : List ℕ
   pub kind : Kind
   pub local : ℕ
 
-abbrev pub bound : List ℕ → Kind → ℕ → Bound
+abbrev pub bound : List ℕ → Kind → ℕ → BoundName
 bound name kind local = record { name = name; kind = kind; local = local }
 
 -- the names that can be used, innermost first; the first local that no name has; the place of the first line; and the kinds of the
 -- operands that are there already, last one first
 pub record Site : Type 0 where
-  pub scope : List Bound
+  pub scope : List BoundName
   pub free : ℕ
   pub place : ℕ
   pub below : List Kind
 
 -- at the beginning of a block
-abbrev pub start : List Bound → ℕ → Site
+abbrev pub start : List BoundName → ℕ → Site
 start scope free = record { scope = scope; free = free; place = 0; below = [] }
 
-abbrev pub names_in : List Bound → Names
+abbrev pub names_in : List BoundName → Names
 names_in [] = []
 names_in (b ∷ scope) = (b.name, b.kind) ∷ names_in scope
 
-abbrev pub local_named : List Bound → List ℕ → ℕ
+abbrev pub local_named : List BoundName → List ℕ → ℕ
 local_named [] x = 0
 local_named (b ∷ scope) x = if bytes_eq b.name x then b.local else local_named scope x
 
 -- parameters are the first locals
-abbrev pub parameters_from : ℕ → List Parameter → List Bound
+abbrev pub parameters_from : ℕ → List Parameter → List BoundName
 parameters_from n [] = []
 parameters_from n (p ∷ ps) = bound p.name (kind_of_type p.of_type) n ∷ parameters_from (n + 1) ps
 
@@ -55,7 +55,7 @@ abbrev pub keeping : ℕ → Site → Site
 keeping locals site = record { scope = site.scope; free = site.free + locals; place = site.place; below = site.below }
 
 -- with this name for a local
-abbrev pub knowing : Bound → Site → Site
+abbrev pub knowing : BoundName → Site → Site
 knowing b site = record { scope = b ∷ site.scope; free = site.free; place = site.place; below = site.below }
 
 module _ (heads : List Head) where

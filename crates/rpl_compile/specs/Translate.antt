@@ -11,7 +11,7 @@ use Rattle.rpl_tree.specs.Value.{Kind, truth_kind, element_of}
 use Rattle.rpl_tree.specs.Tree.{Tree, Trees, literal, truth, now, slot, name, call, brackets, list, choice, bind, each, mapped, one, two, convert, at, no_trees, tree, Act, Acts, assign, branch, with_name, no_acts, act, Parameter, Declared, rule, function}
 use Rattle.rpl_tree.specs.Kinds.{Head, count_of, kind_of_type, takes_named}
 use Rattle.rpl_tree.specs.Locals.{local_kinds, acts_local_kinds}
-use Rattle.rpl_tree.specs.Mean.{heads_of, param_kinds, predefined_functions}
+use Rattle.rpl_tree.specs.Mean.{function_heads, param_kinds, predefined_functions}
 use Rattle.rpl_compile.specs.Operations.{code_kind, code_kinds, convert_line, number_line, one_line, target, two_lines, widening, widening_size}
 use Rattle.rpl_compile.specs.Site.{Site, behind, behind_act, behind_acts, bound, keeping, kind_at, knowing, local_named, names_in, on, over, parameters_from, start}
 
@@ -165,7 +165,7 @@ module _ (callees : List Callee) where
       }
 
 abbrev pub predefined_callees : List Callee
-predefined_callees = map (λ (head : Head). record { head = head; block = None }) (heads_of predefined_functions)
+predefined_callees = map (λ (head : Head). record { head = head; block = None }) (function_heads predefined_functions)
 
 -- of the declarations from a number on, where these functions may be called, the last one first
 abbrev pub blocks_from : List Callee → ℕ → List Declared → List Block

@@ -22,17 +22,17 @@ lines_of_tree e = lines_of_acts (x_put e ∷ [])
 abbrev pub lines_beside_functions : Tree → List Instruction
 lines_beside_functions e = lines_of (translate (with_functions e))
 
-abbrev pub number : ℕ → Instruction
-number n = I.Num (pos n)
+abbrev pub number_instruction : ℕ → Instruction
+number_instruction n = I.Num (pos n)
 
 -- `put D.X 0`
-abbrev pub put_x : Instruction
-put_x = I.Put (codes "D") (codes "X") 0
+abbrev pub put_dx : Instruction
+put_dx = I.Put (codes "D") (codes "X") 0
 
 -- these lines, and then `put D.X 0`
 abbrev pub putting : List Instruction → List Instruction
-putting lines = lines ++ put_x ∷ []
+putting lines = lines ++ put_dx ∷ []
 
 -- the lines of both functions, and then these
 abbrev pub behind_functions : List Instruction → List Instruction
-behind_functions lines = I.Load 0 ∷ I.Length ∷ number 7 ∷ number 8 ∷ I.List 2 ∷ I.Widen 3 ∷ lines
+behind_functions lines = I.Load 0 ∷ I.Length ∷ number_instruction 7 ∷ number_instruction 8 ∷ I.List 2 ∷ I.Widen 3 ∷ lines

@@ -4,12 +4,12 @@ use Rattle.rw_base.specs.declared.memory.NoMemory.{NoMemory}
 use Rattle.rpl_code.specs.declared.kind.ValueKind.{ValueKind}
 use Rattle.rpl_compile.specs.declared.writing.Writing.{Writing}
 use Rattle.rpl_compile.specs.Seen.{kind_seen, written_of}
-use Rattle.rpl_compile.specs.Written.{Step, Written, step}
+use Rattle.rpl_compile.specs.Written.{WrittenStep, Written, written_step}
 
 -- a call that answers a kind
-abbrev pub Writes : Writing → Result ValueKind NoMemory → Step → Type 0
-Writes left result given = IfOk result (λ kind. step (kind_seen kind) (written_of left) ≡ given)
+abbrev pub WritesKind : Writing → Result ValueKind NoMemory → WrittenStep → Type 0
+WritesKind left result given = IfOk result (λ kind. written_step (kind_seen kind) (written_of left) ≡ given)
 
 -- a call that answers nothing
-abbrev pub Leaves : Writing → Result (Unit {0}) NoMemory → Written → Type 0
-Leaves left result given = OnOk result (written_of left ≡ given)
+abbrev pub LeavesWritten : Writing → Result (Unit {0}) NoMemory → Written → Type 0
+LeavesWritten left result given = OnOk result (written_of left ≡ given)

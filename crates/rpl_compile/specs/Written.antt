@@ -17,7 +17,7 @@ use Rattle.rpl_tree.specs.Value.{Kind, number_kind, truth_kind, date_kind, slot_
 use Rattle.rpl_tree.specs.Tree.{TypeName, numeric, boolean, datetime, slot_type, numeric_list, slot_list, Tree, Trees, literal, truth, now, slot, name, call, brackets, list, choice, bind, each, mapped, one, two, convert, at, no_trees, tree, Act, Acts, assign, branch, with_name as with, no_acts, act, Parameter, Declared, rule, function}
 use Rattle.rpl_tree.specs.Kinds.{Names, count_of, join, kind_named, one_kind, two_kind}
 use Rattle.rpl_compile.specs.Operations.{code_kind, code_kinds, convert_line, difference_line, factor_of, one_line, sum_line, test_line}
-use Rattle.rpl_compile.specs.Site.{Bound, bound, local_named, names_in}
+use Rattle.rpl_compile.specs.Site.{BoundName, bound, local_named, names_in}
 use Rattle.rpl_compile.specs.Translate.{Callee}
 
 -- ---- what an instruction can hold
@@ -30,15 +30,15 @@ abbrev pub byte : ℕ → ℕ
 byte n = if nat_lt n 256 then n else 0
 
 -- a text, or an empty one
-abbrev pub spelt : List ℕ → List ℕ
-spelt word = if is_utf8 word then word else []
+abbrev pub spelt_name : List ℕ → List ℕ
+spelt_name word = if is_utf8 word then word else []
 
 -- a quantity, or 0
 abbrev pub within : ℤ → ℤ
 within z = if is_quantity z then z else pos 0
 
-abbrev pub number_of : ℤ → Option (List ℕ) → ℤ
-number_of n unit = within (n *ℤ factor_of (unit_in units (unwrap_or unit [])))
+abbrev pub number_in_units : ℤ → Option (List ℕ) → ℤ
+number_in_units n unit = within (n *ℤ factor_of (unit_in units (unwrap_or unit [])))
 
 -- ---- functions
 
@@ -49,9 +49,9 @@ abbrev pub callee_named : List Callee → List ℕ → Callee
 callee_named [] f = no_callee
 callee_named (c ∷ callees) f = if bytes_eq c.head.name f then c else callee_named callees f
 
-abbrev pub call_of : List ℕ → Option ℕ → Instruction
-call_of f None = I.Call (spelt f)
-call_of f (Some number) = I.Invoke number
+abbrev pub call_instruction : List ℕ → Option ℕ → Instruction
+call_instruction f None = I.Call (spelt_name f)
+call_instruction f (Some number) = I.Invoke number
 
 -- ---- kinds
 
@@ -97,12 +97,12 @@ module _ (callees : List Callee) where
 -- the names that can be used, innermost first; the kinds of all locals so far; those of the operands that are there, the last one last;
 -- and the lines
 pub record Written : Type 0 where
-  pub scope : List Bound
+  pub scope : List BoundName
   pub locals : List ValueKind
   pub below : List ValueKind
   pub lines : List Instruction
 
-abbrev pub written : List Bound → List ValueKind → List ValueKind → List Instruction → Written
+abbrev pub written : List BoundName → List ValueKind → List ValueKind → List Instruction → Written
 written scope locals below lines = record { scope = scope; locals = locals; below = below; lines = lines }
 
 abbrev pub with_line : Instruction → Written → Written
@@ -125,10 +125,10 @@ with_local w = written w.scope (w.locals ++ code_kind number_kind ∷ []) w.belo
 abbrev pub with_kind : ℕ → Kind → Written → Written
 with_kind local kind w = written w.scope (slice_set w.locals local (code_kind kind)) w.below w.lines
 
-abbrev pub with_name : Bound → Written → Written
+abbrev pub with_name : BoundName → Written → Written
 with_name b w = written (b ∷ w.scope) w.locals w.below w.lines
 
-abbrev pub outer : List Bound → List Bound
+abbrev pub outer : List BoundName → List BoundName
 outer [] = []
 outer (b ∷ scope) = scope
 
@@ -136,18 +136,18 @@ abbrev pub without_name : Written → Written
 without_name w = written (outer w.scope) w.locals w.below w.lines
 
 -- an expression's kind, and what is written with its code
-pub record Step : Type 0 where
+pub record WrittenStep : Type 0 where
   pub kind : Kind
   pub on : Written
 
-abbrev pub step : Kind → Written → Step
-step kind w = record { kind = kind; on = w }
+abbrev pub written_step : Kind → Written → WrittenStep
+written_step kind w = record { kind = kind; on = w }
 
 -- ---- forms
 
 -- with the room of a place
-abbrev pub with_room : Kind → Step → Written
-with_room kind s = if is_same_kind kind s.kind then s.on else with_line (I.Widen (room_of kind)) s.on
+abbrev pub written_with_room : Kind → WrittenStep → Written
+written_with_room kind s = if is_same_kind kind s.kind then s.on else with_line (I.Widen (room_of kind)) s.on
 
 -- a branch to a place that isn't known yet
 abbrev pub with_branch : Written → Written
@@ -166,41 +166,41 @@ abbrev pub with_value_end : ℕ → Kind → Written → Written
 with_value_end place kind w = with_end place (w.below ++ code_kind kind ∷ []) w
 
 -- KNOWN of what is asked, or a word of an expression
-abbrev pub one_step : OneWord → Written → Step → Step
-one_step Known asked part = step (one_kind Known) (with_line I.Known asked)
-one_step word asked part = step (one_kind word) (with_line (one_line word) part.on)
+abbrev pub one_step : OneWord → Written → WrittenStep → WrittenStep
+one_step Known asked part = written_step (one_kind Known) (with_line I.Known asked)
+one_step word asked part = written_step (one_kind word) (with_line (one_line word) part.on)
 
-abbrev pub with_two : TwoWord → Kind → Kind → Written → Written
-with_two Or k l w = w
-with_two And k l w = w
-with_two Equal k l w = with_line (test_line k I.Eq I.Deq) w
-with_two Unequal k l w = with_line I.Not (with_line (test_line k I.Eq I.Deq) w)
-with_two Less k l w = with_line (test_line k I.Lt I.Dlt) w
-with_two LessEqual k l w = with_line (test_line k I.Le I.Dle) w
-with_two Greater k l w = with_line I.Not (with_line (test_line k I.Le I.Dle) w)
-with_two GreaterEqual k l w = with_line I.Not (with_line (test_line k I.Lt I.Dlt) w)
-with_two Plus k l w = with_line (sum_line k) w
-with_two Less_by k l w = with_line (difference_line k l) w
-with_two Times k l w = with_line I.Mul w
-with_two Divide k l w = with_line I.Div w
-with_two Append k l w = with_line I.Append w
-with_two Item k l w = with_line I.Item w
+abbrev pub written_with_two : TwoWord → Kind → Kind → Written → Written
+written_with_two Or k l w = w
+written_with_two And k l w = w
+written_with_two Equal k l w = with_line (test_line k I.Eq I.Deq) w
+written_with_two Unequal k l w = with_line I.Not (with_line (test_line k I.Eq I.Deq) w)
+written_with_two Less k l w = with_line (test_line k I.Lt I.Dlt) w
+written_with_two LessEqual k l w = with_line (test_line k I.Le I.Dle) w
+written_with_two Greater k l w = with_line I.Not (with_line (test_line k I.Le I.Dle) w)
+written_with_two GreaterEqual k l w = with_line I.Not (with_line (test_line k I.Lt I.Dlt) w)
+written_with_two Plus k l w = with_line (sum_line k) w
+written_with_two Less_by k l w = with_line (difference_line k l) w
+written_with_two Times k l w = with_line I.Mul w
+written_with_two Divide k l w = with_line I.Div w
+written_with_two Append k l w = with_line I.Append w
+written_with_two Item k l w = with_line I.Item w
 
-abbrev pub first_of : List Kind → List Kind
-first_of [] = []
-first_of (k ∷ ks) = k ∷ []
+abbrev pub first_of_kinds : List Kind → List Kind
+first_of_kinds [] = []
+first_of_kinds (k ∷ ks) = k ∷ []
 
-abbrev pub rest_of : List Kind → List Kind
-rest_of [] = []
-rest_of (k ∷ ks) = ks
+abbrev pub kinds_behind_first : List Kind → List Kind
+kinds_behind_first [] = []
+kinds_behind_first (k ∷ ks) = ks
 
 -- an argument that fills the parameter of a kind
-abbrev pub with_argument : Kind → Step → Written
-with_argument kind s = with_operand kind (with_room kind s)
+abbrev pub with_argument : Kind → WrittenStep → Written
+with_argument kind s = with_operand kind (written_with_room kind s)
 
 -- an element and an accumulator, each in its local, that a turn begins with
-abbrev pub with_turns : ℕ → ℕ → Kind → Kind → Written → Written
-with_turns item total item_kind total_kind w =
+abbrev pub written_with_turn : ℕ → ℕ → Kind → Kind → Written → Written
+written_with_turn item total item_kind total_kind w =
     with_line (I.Foreach item) (with_line (I.Store total) (with_kind total total_kind (with_kind item item_kind (without_operands 1 w))))
 
 abbrev pub with_turns_end : ℕ → Written → Written
@@ -208,69 +208,69 @@ with_turns_end total w = with_line (I.Load total) (with_line I.Next (with_line (
 
 module _ (callees : List Callee) where
   abbrev mutual
-    pub compiled : Written → Tree → Step
-    compiled w (literal n unit) = step number_kind (with_line (I.Num (number_of n unit)) w)
-    compiled w (truth b) = step truth_kind (with_line (I.Bool b) w)
-    compiled w now = step date_kind (with_line I.Now w)
-    compiled w (slot o s) = step slot_kind (with_line (I.Slot (spelt o) (spelt s)) w)
-    compiled w (name x) = step (kind_named (names_in w.scope) x) (with_line (I.Load (local_named w.scope x)) w)
+    pub compiled : Written → Tree → WrittenStep
+    compiled w (literal n unit) = written_step number_kind (with_line (I.Num (number_in_units n unit)) w)
+    compiled w (truth b) = written_step truth_kind (with_line (I.Bool b) w)
+    compiled w now = written_step date_kind (with_line I.Now w)
+    compiled w (slot o s) = written_step slot_kind (with_line (I.Slot (spelt_name o) (spelt_name s)) w)
+    compiled w (name x) = written_step (kind_named (names_in w.scope) x) (with_line (I.Load (local_named w.scope x)) w)
     compiled w (call f ts) =
         let c = callee_named callees f in
-        step c.head.result
-        (with_line (call_of f c.block) (without_operands (length c.head.takes) (compiled_arguments w c.head.takes ts)))
+        written_step c.head.result
+        (with_line (call_instruction f c.block) (without_operands (length c.head.takes) (compiled_arguments w c.head.takes ts)))
     compiled w (brackets t) = compiled w t
     compiled w (list ts) =
-        step (list_kind (short (count_of ts)) (first_ahead callees (names_in w.scope) ts))
+        written_step (list_kind (short (count_of ts)) (first_ahead callees (names_in w.scope) ts))
         (with_line (I.List (short (count_of ts))) (without_operands (count_of ts) (compiled_all w ts)))
     compiled w (choice c y n) =
         let test = (compiled w c).on in
         let first = compiled (with_branch test) y in
         let kind = join first.kind (kind_ahead callees (names_in first.on.scope) n) in
-        let middle = with_room kind first in
+        let middle = written_with_room kind first in
         let second = compiled (with_second (length test.lines) middle) n in
-        step kind (with_value_end (length middle.lines) kind (with_room kind second))
+        written_step kind (with_value_end (length middle.lines) kind (written_with_room kind second))
     compiled w (bind x e b) =
         let local = length w.locals in
         let value = compiled (with_local w) e in
         let ahead = with_line (I.Store local) (with_kind local value.kind value.on) in
         let body = compiled (with_name (bound x value.kind local) ahead) b in
-        step body.kind (without_name body.on)
+        written_step body.kind (without_name body.on)
     compiled w (each x l a f b) =
         let local = length w.locals in
         let sum = length (with_local w).locals in
         let all = compiled (with_local (with_local w)) l in
         let total = compiled (with_operand all.kind all.on) f in
         let item = element_of all.kind in
-        let ahead = with_turns local sum item total.kind total.on in
+        let ahead = written_with_turn local sum item total.kind total.on in
         let body = compiled (with_name (bound a total.kind sum) (with_name (bound x item local) ahead)) b in
-        let turn = with_room total.kind (step body.kind (without_name (without_name body.on))) in
-        step total.kind (with_turns_end sum turn)
+        let turn = written_with_room total.kind (written_step body.kind (without_name (without_name body.on))) in
+        written_step total.kind (with_turns_end sum turn)
     compiled w (mapped x l b) =
         let local = length w.locals in
         let all = compiled (with_local w) l in
         let item = element_of all.kind in
         let ahead = with_line (I.Map local) (with_kind local item all.on) in
         let body = compiled (with_name (bound x item local) ahead) b in
-        step (numbers_kind (room_of all.kind)) (with_line I.Yield (without_name body.on))
+        written_step (numbers_kind (room_of all.kind)) (with_line I.Yield (without_name body.on))
     compiled w (one word e) = one_step word (asked w e) (compiled w e)
     compiled w (two Or l r) =
         let test = (compiled w l).on in
         let middle = with_line (I.Bool true) (with_branch test) in
         let second = (compiled (with_second (length test.lines) middle) r).on in
-        step truth_kind (with_value_end (length middle.lines) truth_kind second)
+        written_step truth_kind (with_value_end (length middle.lines) truth_kind second)
     compiled w (two And l r) =
         let test = (compiled w l).on in
         let middle = (compiled (with_branch test) r).on in
         let second = with_line (I.Bool false) (with_second (length test.lines) middle) in
-        step truth_kind (with_value_end (length middle.lines) truth_kind second)
+        written_step truth_kind (with_value_end (length middle.lines) truth_kind second)
     compiled w (two word l r) =
         let left = compiled w l in
         let right = compiled (with_operand left.kind left.on) r in
-        step (kind_of_two word left.kind right.kind) (with_two word left.kind right.kind (without_operands 1 right.on))
-    compiled w (convert word o e) = step number_kind (with_line (convert_line word (spelt o)) (compiled w e).on)
+        written_step (kind_of_two word left.kind right.kind) (written_with_two word left.kind right.kind (without_operands 1 right.on))
+    compiled w (convert word o e) = written_step number_kind (with_line (convert_line word (spelt_name o)) (compiled w e).on)
     compiled w (at s d) =
         let place = compiled w s in
-        step number_kind (with_line I.Read (without_operands 1 (compiled (with_operand place.kind place.on) d).on))
+        written_step number_kind (with_line I.Read (without_operands 1 (compiled (with_operand place.kind place.on) d).on))
 
     -- a slot, and the date at which it is looked at
     pub asked : Written → Tree → Written
@@ -298,7 +298,7 @@ module _ (callees : List Callee) where
 
   abbrev mutual
     pub compiled_act : Written → Act → Written
-    compiled_act w (assign o s ahead e) = with_line (I.Put (spelt o) (spelt s) (byte (unsigned_abs ahead))) (compiled w e).on
+    compiled_act w (assign o s ahead e) = with_line (I.Put (spelt_name o) (spelt_name s) (byte (unsigned_abs ahead))) (compiled w e).on
     compiled_act w (branch c first second) =
         let test = (compiled w c).on in
         let middle = compiled_acts (with_branch test) first in
@@ -313,11 +313,11 @@ module _ (callees : List Callee) where
 -- ---- rulesets
 
 -- at the beginning of a block whose parameters have these kinds
-abbrev pub begun : List Bound → List ValueKind → Written
+abbrev pub begun : List BoundName → List ValueKind → Written
 begun scope locals = written scope locals [] []
 
 -- parameters are the first locals
-abbrev pub written_parameters : ℕ → List Parameter → List Bound
+abbrev pub written_parameters : ℕ → List Parameter → List BoundName
 written_parameters n [] = []
 written_parameters n (p ∷ ps) = bound p.name (written_kind p.of_type) n ∷ written_parameters (n + 1) ps
 
@@ -339,7 +339,7 @@ function_block params result w =
 
 abbrev pub written_function : List Callee → List Parameter → Kind → Tree → Block
 written_function callees params result body =
-    function_block params result (with_room result (compiled callees (begun_function params) body))
+    function_block params result (written_with_room result (compiled callees (begun_function params) body))
 
 abbrev pub written_block : List Callee → Declared → Block
 written_block callees (rule called_so body) = written_rule callees body

@@ -4,12 +4,12 @@ ghost use Rattle.rw_model.specs.Draft.{Draft};
 ghost use Rattle.rpl_tree.specs.Tree.{Declared};
 ghost use Rattle.rw_model.specs.Basin.{IsBasin};
 ghost use Rattle.rpl_code.specs.Bounds.{IsCode};
-ghost use Rattle.rpl_parse.specs.Bounds.{AreBounded, function_count, rule_count};
+ghost use Rattle.rpl_parse.specs.Bounds.{AreLimited, function_count, rule_count};
 ghost use Rattle.rpl_types.specs.HasType.{IsTyped};
 ghost use Rattle.rpl_verify.specs.Budget.{ruling};
 ghost use Rattle.rpl_verify.specs.Fits.{AreFit};
 ghost use Rattle.rpl_verify.specs.Verified.{verified};
-ghost use Rattle.rpl_compile.specs.Budgets.{accepted_code, budgets_of};
+ghost use Rattle.rpl_compile.specs.Budgets.{accepted_code, code_budgets_of};
 ghost use Rattle.rpl_compile.specs.Kinded.{AreKinded};
 ghost use Rattle.rpl_compile.specs.Translate.{translate};
 
@@ -24,7 +24,7 @@ pub fn typed_is_kinded()
 /// of it is read as that code again.
 pub fn compiled_code_can_be_spelt()
     ensures { (basin : Draft) (rules : List Declared) → IsBasin basin → IsTyped basin rules
-        → AreBounded rules → IsCode (translate rules) }
+        → AreLimited rules → IsCode (translate rules) }
 {}
 
 /// Code fits the basin where the ruleset is of these kinds and has no more declarations than a parsed one has.
@@ -39,7 +39,7 @@ pub fn compiled_code_fits()
 pub fn compiled_budgets()
     ensures { (basin : Draft) (rules : List Declared) → IsTyped basin rules
         → rule_count rules ≤ 200 → function_count rules ≤ 200
-        → ruling basin (translate rules) ≡ Ok (budgets_of rules) }
+        → ruling basin (translate rules) ≡ Ok (code_budgets_of rules) }
 {}
 
 /// The code of an accepted ruleset is accepted.

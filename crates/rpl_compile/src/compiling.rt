@@ -1,6 +1,6 @@
 ghost use Rattle.std.specs.Prelude.{◌≡◌, Ok, IfOk, IsOk};
 ghost use Rattle.rpl_tree.specs.Seen.{rules_of};
-ghost use Rattle.rpl_types.specs.Judged.{judged};
+ghost use Rattle.rpl_types.specs.Judged.{rules_judged};
 ghost use Rattle.rpl_verify.specs.Verified.{verified};
 ghost use Rattle.rpl_compile.specs.Translate.{translate};
 
@@ -15,7 +15,7 @@ use std::alloc::Global;
 
 // The code of a ruleset that was accepted for the basin.
 fn code_of(alloc: Global, typed: &Typed, basin: &Basin) -> Result<Code, NoMemory>
-    requires { IsOk (judged basin.now (rules_of typed.now.rules)) }
+    requires { IsOk (rules_judged basin.now (rules_of typed.now.rules)) }
     ensures { IfOk result (λ code. code ≡ translate (rules_of typed.now.rules)) }
 {
     bounds();
@@ -29,7 +29,7 @@ fn code_of(alloc: Global, typed: &Typed, basin: &Basin) -> Result<Code, NoMemory
 /// under "What rules become". It is verified, and that of an accepted ruleset is never refused: want of memory is the one
 /// other answer.
 pub fn compile(alloc: Global, typed: &Typed, basin: &Basin) -> Result<Verified, NoMemory>
-    requires { IsOk (judged basin.now (rules_of typed.now.rules)) }
+    requires { IsOk (rules_judged basin.now (rules_of typed.now.rules)) }
     ensures code { IfOk result (λ code. code.blocks ≡ translate (rules_of typed.now.rules)) }
     ensures verified { IfOk result (λ code.
         verified basin.now (translate (rules_of typed.now.rules)) ≡ Ok code) }

@@ -5,7 +5,7 @@ ghost use Rattle.rpl_tree.specs.Seen.{tree_of, trees_in};
 ghost use Rattle.rpl_tree.specs.Tree.{at, bind, call, choice, convert, each, list, literal, mapped, name as name_tree, one, slot, two};
 ghost use Rattle.rpl_tree.specs.declared.words.TwoWord.TheVariants as TwoWord;
 ghost use Rattle.rpl_compile.specs.Seen.{callees_of, kind_seen, kinds_seen, written_of};
-ghost use Rattle.rpl_compile.specs.Writes.{Leaves, Writes};
+ghost use Rattle.rpl_compile.specs.Writes.{LeavesWritten, WritesKind};
 ghost use Rattle.rpl_compile.specs.Written as Written;
 ghost use Rattle.rpl_compile.specs.Written.{compiled, compiled_all, compiled_arguments, with_operand};
 
@@ -26,7 +26,7 @@ use std::alloc::Global;
 #[cycle(code)]
 #[tactic(auto, using(rpl_tree::proofs::Viewed::tree_of_list, rpl_tree::proofs::Viewed::tree_of_call))]
 pub fn code<'a>(known: &[Known], w: &mut Writing<'a>, e: &'a Expr) -> Result<ValueKind, NoMemory>
-    ensures { Writes w.new result (compiled (callees_of known.now) (written_of w.old)
+    ensures { WritesKind w.new result (compiled (callees_of known.now) (written_of w.old)
         (tree_of e.now)) }
 {
     match e {
@@ -62,15 +62,15 @@ pub fn code<'a>(known: &[Known], w: &mut Writing<'a>, e: &'a Expr) -> Result<Val
 
 // One line that makes a value.
 fn leaf(w: &mut Writing, kind: ValueKind, instruction: Instruction) -> Result<ValueKind, NoMemory>
-    ensures { Writes w.new result
-        (Written.step (kind_seen kind) (Written.with_line instruction (written_of w.old))) }
+    ensures { WritesKind w.new result
+        (Written.written_step (kind_seen kind) (Written.with_line instruction (written_of w.old))) }
 {
     line(w, instruction)?;
     Ok(kind)
 }
 
 fn slot(w: &mut Writing, text: &SlotText) -> Result<ValueKind, NoMemory>
-    ensures { Writes w.new result (compiled [] (written_of w.old)
+    ensures { WritesKind w.new result (compiled [] (written_of w.old)
         (slot text.now.object.items text.now.slot.items)) }
 {
     let object = name_of(w.alloc, &text.object)?;
@@ -79,7 +79,7 @@ fn slot(w: &mut Writing, text: &SlotText) -> Result<ValueKind, NoMemory>
 }
 
 fn variable<'a>(w: &mut Writing<'a>, name: &'a [u8]) -> Result<ValueKind, NoMemory>
-    ensures { Writes w.new result (compiled [] (written_of w.old) (name_tree name.now)) }
+    ensures { WritesKind w.new result (compiled [] (written_of w.old) (name_tree name.now)) }
 {
     let local = local_named(&w.names, name);
     leaf(w, local.kind, Instruction::Load(local.number))
@@ -89,7 +89,7 @@ fn variable<'a>(w: &mut Writing<'a>, name: &'a [u8]) -> Result<ValueKind, NoMemo
 
 // The line that calls a function whose arguments are there.
 fn call_line(alloc: Global, name: &[u8], block: Option<u32>) -> Result<Instruction, NoMemory>
-    ensures { IfOk result (λ made. made ≡ Written.call_of name.now block) }
+    ensures { IfOk result (λ made. made ≡ Written.call_instruction name.now block) }
 {
     match block {
         Some(number) => Ok(Instruction::Invoke(number)),
@@ -105,7 +105,7 @@ fn argument<'a>(
     kind: ValueKind,
     value: &'a Expr,
 ) -> Result<(), NoMemory>
-    ensures { Leaves w.new result (Written.with_argument (kind_seen kind)
+    ensures { LeavesWritten w.new result (Written.with_argument (kind_seen kind)
         (compiled (callees_of known.now) (written_of w.old) (tree_of value.now))) }
 {
     let own = code(known, w, value)?;
@@ -121,7 +121,8 @@ fn arguments<'a>(
     takes: &[ValueKind],
     args: &'a [Expr],
 ) -> Result<(), NoMemory>
-    ensures { Leaves w.new result (compiled_arguments (callees_of known.now) (written_of w.old)
+    ensures { LeavesWritten w.new result
+        (compiled_arguments (callees_of known.now) (written_of w.old)
         (kinds_seen takes.now) (trees_in args.now)) }
 {
     let mut k = 0;
@@ -142,7 +143,7 @@ fn call<'a>(
     name: &'a [u8],
     args: &'a [Expr],
 ) -> Result<ValueKind, NoMemory>
-    ensures { Writes w.new result (compiled (callees_of known.now) (written_of w.old)
+    ensures { WritesKind w.new result (compiled (callees_of known.now) (written_of w.old)
         (call name.now (trees_in args.now))) }
 {
     match function_named(known, name) {
@@ -158,7 +159,7 @@ fn call<'a>(
 // Elements, each of which waits for those behind it.
 #[cycle(code)]
 fn elements<'a>(known: &[Known], w: &mut Writing<'a>, items: &'a [Expr]) -> Result<(), NoMemory>
-    ensures { Leaves w.new result (compiled_all (callees_of known.now) (written_of w.old)
+    ensures { LeavesWritten w.new result (compiled_all (callees_of known.now) (written_of w.old)
         (trees_in items.now)) }
 {
     for item in items {
@@ -171,7 +172,7 @@ fn elements<'a>(known: &[Known], w: &mut Writing<'a>, items: &'a [Expr]) -> Resu
 #[cycle(code)]
 #[tactic(auto, using(crate::proofs::Counted::count_is))]
 fn list<'a>(known: &[Known], w: &mut Writing<'a>, items: &'a [Expr]) -> Result<ValueKind, NoMemory>
-    ensures { Writes w.new result (compiled (callees_of known.now) (written_of w.old)
+    ensures { WritesKind w.new result (compiled (callees_of known.now) (written_of w.old)
         (list (trees_in items.now))) }
 {
     let kind = list_ahead(known, &mut w.names, items)?;
@@ -190,7 +191,7 @@ fn choice<'a>(
     yes: &'a Expr,
     no: &'a Expr,
 ) -> Result<ValueKind, NoMemory>
-    ensures { Writes w.new result (compiled (callees_of known.now) (written_of w.old)
+    ensures { WritesKind w.new result (compiled (callees_of known.now) (written_of w.old)
         (choice (tree_of condition.now) (tree_of yes.now) (tree_of no.now))) }
 {
     let _test = code(known, w, condition)?;
@@ -213,7 +214,7 @@ fn or<'a>(
     left: &'a Expr,
     right: &'a Expr,
 ) -> Result<ValueKind, NoMemory>
-    ensures { Writes w.new result (compiled (callees_of known.now) (written_of w.old)
+    ensures { WritesKind w.new result (compiled (callees_of known.now) (written_of w.old)
         (two TwoWord.Or (tree_of left.now) (tree_of right.now))) }
 {
     let _test = code(known, w, left)?;
@@ -233,7 +234,7 @@ fn and<'a>(
     left: &'a Expr,
     right: &'a Expr,
 ) -> Result<ValueKind, NoMemory>
-    ensures { Writes w.new result (compiled (callees_of known.now) (written_of w.old)
+    ensures { WritesKind w.new result (compiled (callees_of known.now) (written_of w.old)
         (two TwoWord.And (tree_of left.now) (tree_of right.now))) }
 {
     let _test = code(known, w, left)?;
@@ -255,7 +256,7 @@ fn bind<'a>(
     value: &'a Expr,
     body: &'a Expr,
 ) -> Result<ValueKind, NoMemory>
-    ensures { Writes w.new result (compiled (callees_of known.now) (written_of w.old)
+    ensures { WritesKind w.new result (compiled (callees_of known.now) (written_of w.old)
         (bind name.now (tree_of value.now) (tree_of body.now))) }
 {
     let number = reserve(w)?;
@@ -276,7 +277,7 @@ fn mapped<'a>(
     list: &'a Expr,
     body: &'a Expr,
 ) -> Result<ValueKind, NoMemory>
-    ensures { Writes w.new result (compiled (callees_of known.now) (written_of w.old)
+    ensures { WritesKind w.new result (compiled (callees_of known.now) (written_of w.old)
         (mapped name.now (tree_of list.now) (tree_of body.now))) }
 {
     let number = reserve(w)?;
@@ -300,7 +301,7 @@ fn two<'a>(
     left: &'a Expr,
     right: &'a Expr,
 ) -> Result<ValueKind, NoMemory>
-    ensures { Writes w.new result (compiled (callees_of known.now) (written_of w.old)
+    ensures { WritesKind w.new result (compiled (callees_of known.now) (written_of w.old)
         (two word (tree_of left.now) (tree_of right.now))) }
 {
     match word {
@@ -325,7 +326,7 @@ fn convert<'a>(
     object: &[u8],
     arg: &'a Expr,
 ) -> Result<ValueKind, NoMemory>
-    ensures { Writes w.new result (compiled (callees_of known.now) (written_of w.old)
+    ensures { WritesKind w.new result (compiled (callees_of known.now) (written_of w.old)
         (convert word object.now (tree_of arg.now))) }
 {
     let _own = code(known, w, arg)?;
@@ -341,7 +342,7 @@ fn asked<'a>(
     slot: &'a Expr,
     step: &'a Expr,
 ) -> Result<(), NoMemory>
-    ensures { Leaves w.new result (Written.asked (callees_of known.now) (written_of w.old)
+    ensures { LeavesWritten w.new result (Written.asked (callees_of known.now) (written_of w.old)
         (at (tree_of slot.now) (tree_of step.now))) }
 {
     let place = code(known, w, slot)?;
@@ -354,7 +355,7 @@ fn asked<'a>(
 // What KNOWN asks of an expression.
 #[cycle(code)]
 fn asked_of<'a>(known: &[Known], w: &mut Writing<'a>, e: &'a Expr) -> Result<(), NoMemory>
-    ensures { Leaves w.new result (Written.asked (callees_of known.now) (written_of w.old)
+    ensures { LeavesWritten w.new result (Written.asked (callees_of known.now) (written_of w.old)
         (tree_of e.now)) }
 {
     match e {
@@ -370,7 +371,7 @@ fn one<'a>(
     word: OneWord,
     arg: &'a Expr,
 ) -> Result<ValueKind, NoMemory>
-    ensures { Writes w.new result (compiled (callees_of known.now) (written_of w.old)
+    ensures { WritesKind w.new result (compiled (callees_of known.now) (written_of w.old)
         (one word (tree_of arg.now))) }
 {
     match word {
@@ -397,7 +398,7 @@ fn each<'a>(
     first: &'a Expr,
     body: &'a Expr,
 ) -> Result<ValueKind, NoMemory>
-    ensures { Writes w.new result (compiled (callees_of known.now) (written_of w.old)
+    ensures { WritesKind w.new result (compiled (callees_of known.now) (written_of w.old)
         (each name.now (tree_of list.now) total.now (tree_of first.now) (tree_of body.now))) }
 {
     let number = reserve(w)?;
@@ -438,7 +439,7 @@ fn begin_turns(
     item_kind: ValueKind,
     total_kind: ValueKind,
 ) -> Result<(), NoMemory>
-    ensures { Leaves w.new result (Written.with_turns item total (kind_seen item_kind)
+    ensures { LeavesWritten w.new result (Written.written_with_turn item total (kind_seen item_kind)
         (kind_seen total_kind) (written_of w.old)) }
 {
     drop_operands(w, 1);
@@ -450,7 +451,7 @@ fn begin_turns(
 
 // Behind the body, which made the accumulator's next value.
 fn end_turns(w: &mut Writing, total: u32) -> Result<(), NoMemory>
-    ensures { Leaves w.new result (Written.with_turns_end total (written_of w.old)) }
+    ensures { LeavesWritten w.new result (Written.with_turns_end total (written_of w.old)) }
 {
     line(w, Instruction::Store(total))?;
     line(w, Instruction::Next)?;

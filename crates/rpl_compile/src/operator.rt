@@ -20,7 +20,7 @@ use std::str;
 #[tactic(auto, using(crate::proofs::Texts::spelt_text, crate::proofs::Texts::spelt_none))]
 /// A name. What is no text is none that is asked for.
 pub fn name_of(alloc: Global, word: &[u8]) -> Result<Name, NoMemory>
-    ensures { IfOk result (λ name. name ≡ Written.spelt word.now) }
+    ensures { IfOk result (λ name. name ≡ Written.spelt_name word.now) }
 {
     match str::from_utf8(word) {
         Ok(text) => Ok(Name::of(String::from_str(alloc, text)?)),
@@ -65,7 +65,7 @@ fn factor_named(word: &[u8]) -> i64
 
 /// A number that is written, with the unit if there is one.
 pub fn number_of(number: i64, unit: &Option<Vec<u8>>) -> i64
-    ensures { result ≡ Written.number_of number (option_map (λ word. word.items) unit.now) }
+    ensures { result ≡ Written.number_in_units number (option_map (λ word. word.items) unit.now) }
 {
     match unit {
         Some(word) => in_units(number, factor_named(word)),
@@ -157,7 +157,7 @@ fn opposite(w: &mut Writing, test: Instruction) -> Result<(), NoMemory>
 /// A word between two expressions of these kinds, which are there. OR and AND are branches.
 pub fn two_lines(w: &mut Writing, word: TwoWord, a: ValueKind, b: ValueKind) -> Result<(), NoMemory>
     ensures { OnOk result (written_of w.new
-        ≡ Written.with_two word (kind_seen a) (kind_seen b) (written_of w.old)) }
+        ≡ Written.written_with_two word (kind_seen a) (kind_seen b) (written_of w.old)) }
 {
     match word {
         TwoWord::Or | TwoWord::And => Ok(()),

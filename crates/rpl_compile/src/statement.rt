@@ -3,7 +3,7 @@ ghost use Rattle.std.specs.Prelude.{◌≡◌, IfOk, OnOk, length};
 ghost use Rattle.rpl_tree.specs.Seen.{act_of, acts_in, tree_of};
 ghost use Rattle.rpl_tree.specs.Tree.{assign};
 ghost use Rattle.rpl_compile.specs.Seen.{callees_of, written_of};
-ghost use Rattle.rpl_compile.specs.Writes.{Leaves};
+ghost use Rattle.rpl_compile.specs.Writes.{LeavesWritten};
 ghost use Rattle.rpl_compile.specs.Written.{compiled, compiled_act, compiled_acts, with_branch, with_value};
 
 use crate::expression::code;
@@ -24,7 +24,7 @@ pub fn statements<'a>(
     w: &mut Writing<'a>,
     body: &'a [Statement],
 ) -> Result<(), NoMemory>
-    ensures { Leaves w.new result (compiled_acts (callees_of known.now) (written_of w.old)
+    ensures { LeavesWritten w.new result (compiled_acts (callees_of known.now) (written_of w.old)
         (acts_in body.now)) }
 {
     for statement in body {
@@ -39,7 +39,7 @@ fn write_statement<'a>(
     w: &mut Writing<'a>,
     statement: &'a Statement,
 ) -> Result<(), NoMemory>
-    ensures { Leaves w.new result (compiled_act (callees_of known.now) (written_of w.old)
+    ensures { LeavesWritten w.new result (compiled_act (callees_of known.now) (written_of w.old)
         (act_of statement.now)) }
 {
     match statement {
@@ -72,7 +72,7 @@ fn set<'a>(
     ahead: i64,
     value: &'a Expr,
 ) -> Result<(), NoMemory>
-    ensures { Leaves w.new result (compiled_act (callees_of known.now) (written_of w.old)
+    ensures { LeavesWritten w.new result (compiled_act (callees_of known.now) (written_of w.old)
         (assign target.now.object.items target.now.slot.items ahead (tree_of value.now))) }
 {
     let _own = code(known, w, value)?;
@@ -111,7 +111,8 @@ fn begin_with<'a>(
     name: &'a [u8],
     value: &'a Expr,
 ) -> Result<(), NoMemory>
-    ensures { Leaves w.new result (with_value (callees_of known.now) name.now (tree_of value.now)
+    ensures { LeavesWritten w.new result
+        (with_value (callees_of known.now) name.now (tree_of value.now)
         (written_of w.old)) }
 {
     let number = reserve(w)?;

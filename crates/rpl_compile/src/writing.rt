@@ -83,8 +83,8 @@ pub fn drop_operands(w: &mut Writing, n: usize)
 
 /// Gives a value of a kind the room of its place.
 pub fn give_room(w: &mut Writing, place: ValueKind, kind: ValueKind) -> Result<(), NoMemory>
-    ensures { OnOk result (written_of w.new ≡ Written.with_room (kind_seen place)
-        (Written.step (kind_seen kind) (written_of w.old))) }
+    ensures { OnOk result (written_of w.new ≡ Written.written_with_room (kind_seen place)
+        (Written.written_step (kind_seen kind) (written_of w.old))) }
 {
     if is_same_kind(place, kind) {
         Ok(())

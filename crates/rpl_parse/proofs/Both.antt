@@ -9,9 +9,9 @@ use Rattle.rpl_parse.specs.Tokens.{Tok, mark, word, digits, text, toks}
 use Rattle.rpl_parse.specs.Depth.{depth, acts_depth}
 use Rattle.rpl_parse.specs.Grammar.{◌⨾◌, sign, token, Spells}
 use Rattle.rpl_parse.specs.Statements.{SpellsActs, SpellsType, SpellsParameter, SpellsParameters, SpellsMoreParameters, IsDeclaration}
-use Rattle.rpl_parse.specs.Reading.{◌>>=◌, Got, got, Named, read, behind, behind_name, closed}
+use Rattle.rpl_parse.specs.Reading.{◌>>=◌, Got, got, Named, read_tree, behind, behind_name, closed_by_mark}
 use Rattle.rpl_parse.specs.ReadingActs.{behind_number, read_acts, acts_of}
-use Rattle.rpl_parse.specs.ReadingDeclared.{behind_text, Typed, typed, in_unit, element, list_type, type_by, read_type, Given, given, read_parameter, Takes, takes, more_parameters, some_parameters, closed_parameters, parameters, if_all, rule_behind, body_behind, function_behind, read_declared}
+use Rattle.rpl_parse.specs.ReadingDeclared.{behind_text, TypeRead, typed, in_unit, element, list_type_read, type_by, read_type, Given, parameter_read, read_parameter, ParametersRead, params_read, more_parameters, some_parameters, closed_parameters, parameters, if_all, rule_behind, body_behind, function_behind, read_declared}
 use Rattle.rpl_parse.proofs.Sound.{some_one, and_then, found, behind_sound, name_sound, sound}
 use Rattle.rpl_parse.proofs.SoundActs.{number_sound, acts_sound}
 use Rattle.rpl_parse.proofs.Complete.{Shrinks, one_shrinks, shrinks_then, mark_then, Closes, behind_here, name_here, not_here}
@@ -30,17 +30,17 @@ text_here s ts us e = rw e refl
 
 -- Types.
 
-abbrev IsTyped : List Tok → Typed → Type 0
+abbrev IsTyped : List Tok → TypeRead → Type 0
 IsTyped ts k = SpellsType k.of_type ts k.next
 
 -- a type in a unit, behind its words
-unit_sound : (f : List ℕ → TypeName) (ts : List Tok) (k : Typed) → in_unit f ts ≡ Some k → (u : List ℕ) × (ts ≡ text u ∷ k.next) × (k ≡ typed (f u) k.next)
+unit_sound : (f : List ℕ → TypeName) (ts : List Tok) (k : TypeRead) → in_unit f ts ≡ Some k → (u : List ℕ) × (ts ≡ text u ∷ k.next) × (k ≡ typed (f u) k.next)
 unit_sound f ts k e =
     let u = and_then (behind_text ts) _ k e in
     let same : typed (f u.0.called) u.0.next ≡ k = some_one _ k u.2 in
-    (u.0.called, subst (λ (y : Typed). ts ≡ text u.0.called ∷ y.next) same (text_sound ts u.0 u.1), subst (λ (y : Typed). y ≡ typed (f u.0.called) y.next) same refl)
+    (u.0.called, subst (λ (y : TypeRead). ts ≡ text u.0.called ∷ y.next) same (text_sound ts u.0 u.1), subst (λ (y : TypeRead). y ≡ typed (f u.0.called) y.next) same refl)
 
-list_type_sound : (ts : List Tok) (k : Typed) → list_type ts ≡ Some k → IsTyped (mark M.List ∷ ts) k
+list_type_sound : (ts : List Tok) (k : TypeRead) → list_type_read ts ≡ Some k → IsTyped (mark M.List ∷ ts) k
 list_type_sound ts k e =
     let m = and_then (behind_number ts) _ k e in
     let o = and_then (behind M.Of m.0.next) (element m.0.value) k m.2 in
@@ -55,7 +55,7 @@ list_type_sound ts k e =
     let u = unit_sound (numeric_list m.0.value) us k go in
     subst (IsTyped (mark M.List ∷ ts)) (sym u.2) (ts, refl, (m.0.next, n, (o.0, b, (us, behind_sound M.Numeric o.0 us is, u.1)))))
 
-type_by_sound : (m : Mark) (ts : List Tok) (k : Typed) → type_by m ts ≡ Some k → IsTyped (mark m ∷ ts) k
+type_by_sound : (m : Mark) (ts : List Tok) (k : TypeRead) → type_by m ts ≡ Some k → IsTyped (mark m ∷ ts) k
 type_by_sound M.Numeric ts k e = let u = unit_sound numeric ts k e in subst (IsTyped (mark M.Numeric ∷ ts)) (sym u.2) (ts, refl, u.1)
 type_by_sound M.Boolean ts k e = subst (IsTyped (mark M.Boolean ∷ ts)) (some_one (typed boolean ts) k e) refl
 type_by_sound M.Datetime ts k e = subst (IsTyped (mark M.Datetime ∷ ts)) (some_one (typed datetime ts) k e) refl
@@ -63,7 +63,7 @@ type_by_sound M.Slot ts k e = let u = unit_sound slot_type ts k e in subst (IsTy
 type_by_sound M.List ts k e = list_type_sound ts k e
 type_by_sound _ ts k e = absurd (cc e)
 
-type_sound : (ts : List Tok) (k : Typed) → read_type ts ≡ Some k → IsTyped ts k
+type_sound : (ts : List Tok) (k : TypeRead) → read_type ts ≡ Some k → IsTyped ts k
 type_sound [] k e = absurd (cc e)
 type_sound (mark m ∷ ts) k e = type_by_sound m ts k e
 type_sound (word n ∷ ts) k e = absurd (cc e)
@@ -104,7 +104,7 @@ parameter_sound : (ts : List Tok) (p : Given) → read_parameter ts ≡ Some p �
 parameter_sound ts p e =
     let k = and_then (read_type ts) _ p e in
     let x = and_then (behind_name k.0.next) _ p k.2 in
-    subst (IsGiven ts) (some_one (given k.0.of_type x.0.called x.0.next) p x.2) (k.0.next, type_sound ts k.0 k.1, name_sound k.0.next x.0 x.1)
+    subst (IsGiven ts) (some_one (parameter_read k.0.of_type x.0.called x.0.next) p x.2) (k.0.next, type_sound ts k.0 k.1, name_sound k.0.next x.0 x.1)
 
 parameter_reads : (p : Parameter) (ts rest : List Tok) → SpellsParameter p ts rest → read_parameter ts ≡ Some (record { it = p; next = rest })
 parameter_reads p ts rest h = rw (type_reads p.of_type ts h.0 h.1, name_here p.name h.0 rest h.2) refl
@@ -120,12 +120,12 @@ pub parameters_shrink : (ps : List Parameter) → Shrinks (SpellsParameters ps)
 parameters_shrink [] = λ ts rest e. let f : length ts ≡ length rest = ap length e in omega arith
 parameters_shrink (p ∷ ps) = shrinks_then (SpellsParameter p) _ (parameter_shrinks p) (more_shrink ps)
 
-record IsTaken (a b : Takes) : Type 0 where
+record IsTaken (a b : ParametersRead) : Type 0 where
   others : List Parameter
   params : b.params ≡ a.params ++ others
   spells : SpellsMoreParameters others a.left b.left
 
-more_sound : (n : ℕ) (a b : Takes) → more_parameters n a ≡ Some b → IsTaken a b
+more_sound : (n : ℕ) (a b : ParametersRead) → more_parameters n a ≡ Some b → IsTaken a b
 unfolding more_parameters
 more_sound zero a b e = subst (IsTaken a) (some_one a b e) (record { others = []; params = sym (append-nil a.params); spells = refl })
 more_sound (suc n) a b e = found (behind M.Comma a.left) (Some a) _ b e
@@ -133,7 +133,7 @@ more_sound (suc n) a b e = found (behind M.Comma a.left) (Some a) _ b e
     (λ us is go.
     let p = and_then (read_parameter us) _ b go in
     let h = parameter_sound us p.0 p.1 in
-    let r = more_sound n (takes (a.params ++ p.0.it ∷ []) p.0.next) b p.2 in
+    let r = more_sound n (params_read (a.params ++ p.0.it ∷ []) p.0.next) b p.2 in
     record {
       others = p.0.it ∷ r.others;
       params = r.params ∙ append_assoc a.params (p.0.it ∷ []) r.others;
@@ -148,42 +148,42 @@ count_within (p ∷ ps) ts rest h =
     let b = count_within ps h.2.0 rest h.2.2 in
     omega arith
 
-more_reads : (ps : List Parameter) (n : ℕ) (a : Takes) (mid rest : List Tok) → SpellsMoreParameters ps a.left mid → mid ≡ mark M.RightParen ∷ rest → length ps ≤ n → more_parameters n a ≡ Some (takes (a.params ++ ps) mid)
+more_reads : (ps : List Parameter) (n : ℕ) (a : ParametersRead) (mid rest : List Tok) → SpellsMoreParameters ps a.left mid → mid ≡ mark M.RightParen ∷ rest → length ps ≤ n → more_parameters n a ≡ Some (params_read (a.params ++ ps) mid)
 more_reads [] n a mid rest h e le = more_stops n a (not_here M.Comma M.RightParen a.left rest refl (h ∙ e)) ∙ rw (append-nil a.params, ← h) refl
 more_reads (p ∷ ps) zero a mid rest h e le = absurd (omega arith)
 more_reads (p ∷ ps) (suc n) a mid rest h e le =
     more_turn n a h.0 (record { it = p; next = h.2.0 }) (behind_here M.Comma a.left h.0 h.1) (parameter_reads p h.0 h.2.0 h.2.1)
-    ∙ more_reads ps n (takes (a.params ++ p ∷ []) h.2.0) mid rest h.2.2 e (omega arith)
-    ∙ ap (λ l. Some (takes l mid)) (append_assoc a.params (p ∷ []) ps)
+    ∙ more_reads ps n (params_read (a.params ++ p ∷ []) h.2.0) mid rest h.2.2 e (omega arith)
+    ∙ ap (λ l. Some (params_read l mid)) (append_assoc a.params (p ∷ []) ps)
 
-abbrev IsTakes : List Tok → Takes → Type 0
+abbrev IsTakes : List Tok → ParametersRead → Type 0
 IsTakes ts a = (SpellsParameters a.params ⨾ sign M.RightParen) ts a.left
 
-closed_sound : (a b : Takes) → closed_parameters a ≡ Some b → (a.left ≡ mark M.RightParen ∷ b.left) × (b ≡ takes a.params b.left)
+closed_sound : (a b : ParametersRead) → closed_parameters a ≡ Some b → (a.left ≡ mark M.RightParen ∷ b.left) × (b ≡ params_read a.params b.left)
 closed_sound a b e =
     let t = and_then (behind M.RightParen a.left) _ b e in
-    subst (λ (y : Takes). (a.left ≡ mark M.RightParen ∷ y.left) × (y ≡ takes a.params y.left)) (some_one (takes a.params t.0) b t.2) (behind_sound M.RightParen a.left t.0 t.1, refl)
+    subst (λ (y : ParametersRead). (a.left ≡ mark M.RightParen ∷ y.left) × (y ≡ params_read a.params y.left)) (some_one (params_read a.params t.0) b t.2) (behind_sound M.RightParen a.left t.0 t.1, refl)
 
-parameters_sound : (ts : List Tok) (b : Takes) → parameters ts ≡ Some b → IsTakes ts b
+parameters_sound : (ts : List Tok) (b : ParametersRead) → parameters ts ≡ Some b → IsTakes ts b
 parameters_sound ts b e = found (behind M.RightParen ts) _ _ b e
     (λ none go.
     let a = and_then (some_parameters ts) closed_parameters b go in
     let p = and_then (read_parameter ts) _ a.0 a.1 in
     let h = parameter_sound ts p.0 p.1 in
-    let m = more_sound (length p.0.next) (takes (p.0.it ∷ []) p.0.next) a.0 p.2 in
+    let m = more_sound (length p.0.next) (params_read (p.0.it ∷ []) p.0.next) a.0 p.2 in
     let c = closed_sound a.0 b a.2 in
     subst (IsTakes ts) (sym c.1)
     (subst (λ l. (SpellsParameters l ⨾ sign M.RightParen) ts b.left) (sym m.params) (a.0.left, (p.0.next, h, m.spells), c.0)))
-    (λ us is go. subst (IsTakes ts) (some_one (takes [] us) b go) (ts, refl, behind_sound M.RightParen ts us is))
+    (λ us is go. subst (IsTakes ts) (some_one (params_read [] us) b go) (ts, refl, behind_sound M.RightParen ts us is))
 
-parameters_read : (ps : List Parameter) (ts mid rest : List Tok) → SpellsParameters ps ts mid → mid ≡ mark M.RightParen ∷ rest → parameters ts ≡ Some (takes ps rest)
+parameters_read : (ps : List Parameter) (ts mid rest : List Tok) → SpellsParameters ps ts mid → mid ≡ mark M.RightParen ∷ rest → parameters ts ≡ Some (params_read ps rest)
 parameters_read [] ts mid rest h e = rw (h ∙ e) refl
 parameters_read (p ∷ ps) ts mid rest h e =
     let none : behind M.RightParen ts ≡ None = type_first p.of_type ts h.1.0 h.1.1 in
     rw (
       none,
       parameter_reads p ts h.0 h.1,
-      more_reads ps (length h.0) (takes (p ∷ []) h.0) mid rest h.2 e (count_within ps h.0 mid h.2),
+      more_reads ps (length h.0) (params_read (p ∷ []) h.0) mid rest h.2 e (count_within ps h.0 mid h.2),
       behind_here M.RightParen mid rest e,
     ) refl
 
@@ -223,9 +223,9 @@ body_sound : (x : List ℕ) (ps : List Parameter) (ts : List Tok) (d : Declared)
 body_sound x ps ts d e =
     let k = and_then (behind M.Colon ts >>= read_type) _ d e in
     let c = and_then (behind M.Colon ts) read_type k.0 k.1 in
-    let b = and_then (behind M.Is k.0.next >>= read 100 7 >>= closed M.EndFunction) _ d k.2 in
-    let g = and_then (behind M.Is k.0.next >>= read 100 7) (closed M.EndFunction) b.0 b.1 in
-    let i = and_then (behind M.Is k.0.next) (read 100 7) g.0 g.1 in
+    let b = and_then (behind M.Is k.0.next >>= read_tree 100 7 >>= closed_by_mark M.EndFunction) _ d k.2 in
+    let g = and_then (behind M.Is k.0.next >>= read_tree 100 7) (closed_by_mark M.EndFunction) b.0 b.1 in
+    let i = and_then (behind M.Is k.0.next) (read_tree 100 7) g.0 g.1 in
     let v = and_then (behind M.EndFunction g.0.rest) _ b.0 g.2 in
     let w = all_one b.0.rest _ d b.2 in
     let h = sound 100 7 i.0 g.0 i.2 in
@@ -291,8 +291,8 @@ pub no_declaration : (ts : List Tok) → read_declared ts ≡ None → (d : Decl
 no_declaration ts e d h = cc (sym e ∙ declared_complete ts d h)
 
 -- tokens that are left behind a function
-pub function_over : (source x : List ℕ) (ps : List Parameter) (ts us vs : List Tok) (k : Typed) (t : Tree) (deep : ℕ) (left : List TokenAt)
-    → Some us ≡ behind M.Colon ts → read_type us ≡ Some k → Some vs ≡ behind M.Is k.next → (read 100 7 vs >>= closed M.EndFunction) ≡ Some (got t deep (toks source left)) → 0 < length left
+pub function_over : (source x : List ℕ) (ps : List Parameter) (ts us vs : List Tok) (k : TypeRead) (t : Tree) (deep : ℕ) (left : List TokenAt)
+    → Some us ≡ behind M.Colon ts → read_type us ≡ Some k → Some vs ≡ behind M.Is k.next → (read_tree 100 7 vs >>= closed_by_mark M.EndFunction) ≡ Some (got t deep (toks source left)) → 0 < length left
     → body_behind x ps ts ≡ None
 function_over source x ps ts us vs k t deep [] a b c d lt = absurd (omega arith)
 function_over source x ps ts us vs k t deep (y ∷ ys) a b c d lt = rw (← a, b, ← c, d) refl

@@ -7,7 +7,7 @@ use Rattle.rpl_parse.specs.Scan.{Scanned, all, bad_at, tokens}
 use Rattle.rpl_parse.specs.Depth.{declared_depth}
 use Rattle.rpl_parse.specs.Statements.{IsDeclaration}
 use Rattle.rpl_parse.specs.Declarations.{Piece, pieces, begins_rule, begins_function, one_more_if, is_full, Due, IsDue, IsDueOf, IsRuleset}
-use Rattle.rpl_parse.specs.Bounds.{rule_count, function_count, AreWithin, AreBounded}
+use Rattle.rpl_parse.specs.Bounds.{rule_count, function_count, AreWithin, AreLimited}
 use Rattle.rpl_parse.proofs.NodeFacts.{nodes_within, tokens_few, ArePieces, pieces_within}
 
 -- one more at the end
@@ -47,10 +47,10 @@ listed (Ok ds) = ds
 listed (Err why) = []
 
 bounded : (k r f : ℕ) (before : List Declared) (ps : List Piece) (ds : List Declared) → IsDue k r f before ps (Ok ds)
-    → (most : ℕ) → most ≤ 16777216 → ArePieces most ps → AreWithin declared_depth 100 before → AreWithin nodes_of 16777216 before → rule_count before ≡ r → function_count before ≡ f → r ≤ 200 → f ≤ 200 → AreBounded ds
+    → (most : ℕ) → most ≤ 16777216 → ArePieces most ps → AreWithin declared_depth 100 before → AreWithin nodes_of 16777216 before → rule_count before ≡ r → function_count before ≡ f → r ≤ 200 → f ≤ 200 → AreLimited ds
 unfolding listed
 bounded k r f before [] ds due most few small deep nodes er ef lr lf =
-    subst AreBounded (sym (ap listed due)) (record { depth = deep; nodes = nodes; rules = omega (arith, er); functions = omega (arith, ef) })
+    subst AreLimited (sym (ap listed due)) (record { depth = deep; nodes = nodes; rules = omega (arith, er); functions = omega (arith, ef) })
 bounded k r f before (p ∷ ps) ds (inl h) most few small deep nodes er ef lr lf = absurd (cc h.1)
 bounded k r f before (p ∷ ps) ds (inr (inl h)) most few small deep nodes er ef lr lf = absurd (cc h.2)
 bounded k r f before (p ∷ ps) ds (inr (inr h)) most few small deep nodes er ef lr lf =
@@ -67,9 +67,9 @@ bounded k r f before (p ∷ ps) ds (inr (inr h)) most few small deep nodes er ef
     (within_end declared_depth 100 before d deep (let a = h.1.1 in a.1))
     (within_end nodes_of 16777216 before d nodes (let a = nodes_within p.toks d h.1.1 in let l = small.0 in omega arith)) (omega (arith, nr, er, br)) (omega (arith, nf, ef, bf)) (omega (arith, br, lr2)) (omega (arith, bf, lf2))
 
-of_scanned : (s : Scanned) (ds : List Declared) → IsDueOf s (Ok ds) → ((ts : List Lined) → s ≡ all ts → length ts ≤ 16777216) → AreBounded ds
+of_scanned : (s : Scanned) (ds : List Declared) → IsDueOf s (Ok ds) → ((ts : List Lined) → s ≡ all ts → length ts ≤ 16777216) → AreLimited ds
 of_scanned (all ts) ds h few = bounded 1 0 0 [] (pieces ts) ds h (length ts) (few ts refl) (pieces_within ts) tt tt refl refl (omega arith) (omega arith)
 of_scanned (bad_at line) ds h few = absurd (cc h)
 
-pub bounds_hold : (rules : ParsedRules) → IsRuleset rules → AreBounded (rules_of rules)
+pub bounds_hold : (rules : ParsedRules) → IsRuleset rules → AreLimited (rules_of rules)
 bounds_hold rules h = of_scanned (tokens h.0) (rules_of rules) h.2 (λ ts e. let a = tokens_few h.0 ts e in let b = h.1 in omega arith)

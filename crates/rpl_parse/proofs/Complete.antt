@@ -12,8 +12,8 @@ use Rattle.rpl_tree.specs.declared.words.ConvertWord.TheVariants as C
 use Rattle.rpl_parse.specs.Tokens.{Tok, mark, word, digits, text, same}
 use Rattle.rpl_tree.specs.Tree.{Tree, Trees, literal, truth, now, slot, name, call, brackets, list, choice, bind, each, mapped, one, two, convert, at, no_trees, tree}
 use Rattle.rpl_parse.specs.Depth.{depth, depths}
-use Rattle.rpl_parse.specs.Grammar.{Part, ◌⨾◌, sign, token, form, at_most, Spells, SpellsList, SpellsMore, looseness, looseness_of, looseness_of_one, left_of, mark_of, mark_of_one, mark_of_truth, mark_of_convert, is_prefix, is_operator}
-use Rattle.rpl_parse.specs.Reading.{Read, got, Many, many, ◌>>=◌, behind, behind_name, name_before, up_to, items, some_items, word_of_one, word_of_two, converts, opened, prim, steps, turn, if_loose, operator, chain, prefix_of, level, read, turns_of, trees_of}
+use Rattle.rpl_parse.specs.Grammar.{Part, ◌⨾◌, sign, token, form, at_most, Spells, SpellsList, SpellsMore, looseness, looseness_of, looseness_of_one, looseness_on_left, mark_of, mark_of_one, mark_of_truth, mark_of_convert, is_prefix, is_operator}
+use Rattle.rpl_parse.specs.Reading.{Read, got, Many, many, ◌>>=◌, behind, behind_name, name_before, up_to, items, some_items, word_of_one, word_of_two, converts, opened, prim, steps, turn, if_loose, operator, chain, prefix_of, level, read_tree, turns_of, trees_of}
 use Rattle.rpl_parse.proofs.Marks.{same_self, same_mark}
 use Rattle.rpl_parse.proofs.Sound.{max_three, prefix_sound}
 use Rattle.rpl_parse.proofs.Turns.{items_stops, items_turn, steps_stops, steps_turn, chain_stops, chain_turn}
@@ -59,7 +59,7 @@ mutual
   shrinks (one w t) = form_shrinks (is_prefix w) _ _ (mark_then (mark (mark_of_one w)) _ (λ ts rest h. shrinks t ts rest h.1))
       (mark_then (mark (mark_of_one w)) _ (mark_then (mark M.LeftParen) _ (ends_paren_shrinks (Spells t) (shrinks t))))
   shrinks (two w l r) = form_shrinks (is_operator w) _ _
-      (shrinks_then (at_most (left_of w) l (Spells l)) _ (λ ts rest h. shrinks l ts rest h.1) (mark_then (mark (mark_of w)) _ (λ ts rest h. shrinks r ts rest h.1)))
+      (shrinks_then (at_most (looseness_on_left w) l (Spells l)) _ (λ ts rest h. shrinks l ts rest h.1) (mark_then (mark (mark_of w)) _ (λ ts rest h. shrinks r ts rest h.1)))
       (mark_then (mark (mark_of w)) _ (mark_then (mark M.LeftParen) _ (shrinks_then (Spells l) _ (shrinks l) (mark_then (mark M.Comma) _ (ends_paren_shrinks (Spells r) (shrinks r))))))
   shrinks (convert w o t) = mark_then (mark (mark_of_convert w)) _ (mark_then (mark M.LeftParen) _ (mark_then (word o) _ (mark_then (mark M.Comma) _ (ends_paren_shrinks (Spells t) (shrinks t)))))
   shrinks (at s d) = shrinks_then (at_most 0 s (Spells s)) _ (λ ts rest h. shrinks s ts rest h.1) (mark_then (mark M.LeftBracket) _ (shrinks_then (Spells d) _ (shrinks d) (one_shrinks (mark M.RightBracket))))
@@ -156,7 +156,7 @@ two_begins T.Append e = refl
 two_begins T.Item e = refl
 two_begins w e = absurd (cc e)
 
-left_within : (w : TwoWord) → left_of w ≤ looseness_of w
+left_within : (w : TwoWord) → looseness_on_left w ≤ looseness_of w
 left_within T.Or = omega arith
 left_within w = omega arith
 
@@ -173,7 +173,7 @@ module _ (m : Mark) (e : begins m ≡ false) where
 
   not_first_two : (w : TwoWord) (l r : Tree) (b : Bool) → is_operator w ≡ b → (ts rest : List Tok) → Unlike m (looseness_of w)
       → ((us vs : List Tok) → Unlike m (looseness l) → Spells l us vs → behind m us ≡ None)
-      → form b (at_most (left_of w) l (Spells l) ⨾ sign (mark_of w) ⨾ at_most (looseness_of w - 1) r (Spells r)) (sign (mark_of w) ⨾ sign M.LeftParen ⨾ Spells l ⨾ sign M.Comma ⨾ Spells r ⨾ sign M.RightParen) ts rest
+      → form b (at_most (looseness_on_left w) l (Spells l) ⨾ sign (mark_of w) ⨾ at_most (looseness_of w - 1) r (Spells r)) (sign (mark_of w) ⨾ sign M.LeftParen ⨾ Spells l ⨾ sign M.Comma ⨾ Spells r ⨾ sign M.RightParen) ts rest
       → behind m ts ≡ None
   not_first_two w l r true g ts rest f go h = let p = h.1.0 in let q = left_within w in go ts h.0 (λ v i le. f v i (omega arith)) h.1.1
   not_first_two w l r false g ts rest f go h = not_here m (mark_of w) ts h.0 (apart m (mark_of w) e (two_begins w g)) h.1
@@ -329,7 +329,7 @@ loose_all (two w l r) = loose_two w
 loose_all t = omega arith
 
 -- a comparison isn't in a chain
-left_four : (w : TwoWord) → looseness_of w ≡ 4 → left_of w ≡ 3
+left_four : (w : TwoWord) → looseness_of w ≡ 4 → looseness_on_left w ≡ 3
 left_four T.Equal e = refl
 left_four T.Unequal e = refl
 left_four T.Less e = refl
@@ -368,7 +368,7 @@ second_of_form true p q ts rest e h = absurd (cc e)
 second_of_form false p q ts rest e h = h
 
 abbrev Between : TwoWord → Tree → Tree → Part
-Between w l r = at_most (left_of w) l (Spells l) ⨾ sign (mark_of w) ⨾ at_most (looseness_of w - 1) r (Spells r)
+Between w l r = at_most (looseness_on_left w) l (Spells l) ⨾ sign (mark_of w) ⨾ at_most (looseness_of w - 1) r (Spells r)
 
 between : (w : TwoWord) (l r : Tree) (ts rest : List Tok) → is_operator w ≡ true → Spells (two w l r) ts rest → Between w l r ts rest
 between w l r ts rest e h = first_of_form (is_operator w) _ _ ts rest e h
@@ -722,7 +722,7 @@ module _ (inner : ℕ → List Tok → Read) (d : ℕ) (ih : Reads inner d) wher
   level_reads zero = level_zero
   level_reads (suc j) = level_by j (prefix_of (suc j)) refl (level_reads j)
 
-pub complete : (d : ℕ) → Reads (read d) d
-unfolding Reads read AtLevel
+pub complete : (d : ℕ) → Reads (read_tree d) d
+unfolding Reads read_tree AtLevel
 complete zero = λ k t ts rest lo le h s. let p = depth_pos t in absurd (omega arith)
-complete (suc d) = λ k t ts rest lo le h s. level_reads (read d) d (complete d) k t ts rest lo le h s
+complete (suc d) = λ k t ts rest lo le h s. level_reads (read_tree d) d (complete d) k t ts rest lo le h s

@@ -8,8 +8,8 @@ use Rattle.rpl_parse.specs.Tokens.{Tok, mark, word, digits, same}
 use Rattle.rpl_parse.specs.Depth.{depth, act_depth, acts_depth}
 use Rattle.rpl_parse.specs.Grammar.{Part, ◌⨾◌, sign, token, Spells}
 use Rattle.rpl_parse.specs.Statements.{SpellsAct, SpellsActs, if_none, if_zero, ◌or◌}
-use Rattle.rpl_parse.specs.Reading.{got, ◌>>=◌, behind, behind_name, closed, read}
-use Rattle.rpl_parse.specs.ReadingActs.{Done, done, step, behind_number, ahead_of, dated, acts_of, with_act, assigns, others, branches, withs, one_act, no_room, more_acts, read_acts}
+use Rattle.rpl_parse.specs.Reading.{got, ◌>>=◌, behind, behind_name, closed_by_mark, read_tree}
+use Rattle.rpl_parse.specs.ReadingActs.{Done, done, read_step, behind_number, ahead_of, dated, acts_of, with_act, assigns, others, branches, withs, one_act, no_room, more_acts, read_acts}
 use Rattle.rpl_parse.proofs.Sound.{max_three}
 use Rattle.rpl_parse.proofs.Complete.{Shrinks, one_shrinks, shrinks_then, mark_then, shrinks, behind_here, name_here, name_here_before, not_here, Stops, Closes, closing, complete, Reads, loose_all, ends_then, ends_do}
 use Rattle.rpl_parse.proofs.TurnsActs.{acts_stop, acts_turn}
@@ -107,7 +107,7 @@ ends_semicolon = record { paren = refl; bracket = refl; dot = refl; no_operator 
 unfoldable pub ActsRead : ℕ → Type 0
 ActsRead d = (xs : Acts) (ts rest : List Tok) → acts_depth xs ≤ d → SpellsActs xs ts rest → Ends rest → read_acts d ts ≡ Some (done (list_acts xs) (acts_depth xs) rest)
 
-pub value_reads : (d : ℕ) (m : Mark) (t : Tree) (ts mid rest : List Tok) → depth t ≤ d → Spells t ts mid → mid ≡ mark m ∷ rest → Closes m → (read d 7 ts >>= closed m) ≡ Some (got t (depth t) rest)
+pub value_reads : (d : ℕ) (m : Mark) (t : Tree) (ts mid rest : List Tok) → depth t ≤ d → Spells t ts mid → mid ≡ mark m ∷ rest → Closes m → (read_tree d 7 ts >>= closed_by_mark m) ≡ Some (got t (depth t) rest)
 unfolding Reads
 value_reads d m t ts mid rest le h e c =
     let s : Stops 7 mid = subst (λ l. Stops 7 l) (sym e) (closing m rest 7 c) in
@@ -136,7 +136,7 @@ dated_reads s z ts rest h =
 
 module _ (d : ℕ) (ih : ActsRead d) where
   others_read : (n : Acts) (ts mid rest : List Tok) → acts_depth n ≤ d → (if_none n or (sign M.Else ⨾ SpellsActs n)) ts mid → mid ≡ mark M.EndIf ∷ rest
-      → others (read d 7) (read_acts d) ts ≡ Some (done (list_acts n) (acts_depth n) mid)
+      → others (read_tree d 7) (read_acts d) ts ≡ Some (done (list_acts n) (acts_depth n) mid)
   unfolding ActsRead list_acts
   others_read no_acts ts mid rest le (inl h) e =
       let f : ts ≡ mark M.EndIf ∷ rest = h ∙ e in
@@ -152,7 +152,7 @@ module _ (d : ℕ) (ih : ActsRead d) where
   then_ends n ts mid rest (inr h) e = mark_ends M.Else ts h.0 refl refl (λ us. refl) h.1
 
   assign_reads : (o s : List ℕ) (z : ℤ) (e : Tree) (ts rest : List Tok) → depth e ≤ d → AssignedTo s z e ts rest
-      → assigns (read d 7) (read_acts d) o ts ≡ Some (step (assign o s z e) (depth e + 1) rest)
+      → assigns (read_tree d 7) (read_acts d) o ts ≡ Some (read_step (assign o s z e) (depth e + 1) rest)
   assign_reads o s z e ts rest le h =
       let k = h.2.2 in
       let l = k.2.2 in
@@ -166,7 +166,7 @@ module _ (d : ℕ) (ih : ActsRead d) where
       ) refl
 
   branch_reads : (c : Tree) (y n : Acts) (ts rest : List Tok) → act_depth (branch c y n) ≤ suc d → (k : (Spells c ⨾ sign M.Then ⨾ SpellsActs y ⨾ (if_none n or (sign M.Else ⨾ SpellsActs n)) ⨾ sign M.EndIf) ts rest)
-      → branches (read d 7) (read_acts d) ts ≡ Some (step (branch c y n) (act_depth (branch c y n)) rest)
+      → branches (read_tree d 7) (read_acts d) ts ≡ Some (read_step (branch c y n) (act_depth (branch c y n)) rest)
   unfolding ActsRead
   branch_reads c y n ts rest le k =
       let l = k.2.2 in
@@ -181,7 +181,7 @@ module _ (d : ℕ) (ih : ActsRead d) where
       ) refl
 
   with_reads : (x : List ℕ) (e : Tree) (body : Acts) (ts rest : List Tok) → act_depth (with_name x e body) ≤ suc d → (h : (token (word x) ⨾ sign M.Assign ⨾ Spells e ⨾ sign M.Do ⨾ SpellsActs body ⨾ sign M.EndWith) ts rest)
-      → withs (read d 7) (read_acts d) ts ≡ Some (step (with_name x e body) (act_depth (with_name x e body)) rest)
+      → withs (read_tree d 7) (read_acts d) ts ≡ Some (read_step (with_name x e body) (act_depth (with_name x e body)) rest)
   unfolding ActsRead
   with_reads x e body ts rest le h =
       let k = h.2.2 in
@@ -194,7 +194,7 @@ module _ (d : ℕ) (ih : ActsRead d) where
         acts_back body,
       ) refl
 
-  one_reads : (a : Act) (ts rest : List Tok) → act_depth a ≤ suc d → SpellsAct a ts rest → one_act (read d 7) (read_acts d) ts ≡ Some (Some (step a (act_depth a) rest))
+  one_reads : (a : Act) (ts rest : List Tok) → act_depth a ≤ suc d → SpellsAct a ts rest → one_act (read_tree d 7) (read_acts d) ts ≡ Some (Some (read_step a (act_depth a) rest))
   one_reads (assign o s z e) ts rest le h = rw (name_here o ts h.0 h.1, assign_reads o s z e h.0 rest (omega arith) h.2) refl
   one_reads (branch c y n) ts rest le h =
       let x : behind_name ts ≡ None = rw h.1 refl in
@@ -204,19 +204,19 @@ module _ (d : ℕ) (ih : ActsRead d) where
       let z : behind M.If ts ≡ None = not_here M.If M.With ts h.0 refl h.1 in
       rw (y, z, behind_here M.With ts h.0 h.1, with_reads x e body h.0 rest le h.2) refl
 
-  none_reads : (rest : List Tok) → Ends rest → one_act (read d 7) (read_acts d) rest ≡ Some None
+  none_reads : (rest : List Tok) → Ends rest → one_act (read_tree d 7) (read_acts d) rest ≡ Some None
   none_reads rest e = rw (e.no_name, e.no_if, e.no_with) refl
 
   more_read : (xs : Acts) (n : ℕ) (a : Done) (rest : List Tok) → acts_depth xs ≤ suc d → SpellsActs xs a.left rest → count_acts xs ≤ n → Ends rest
-      → more_acts (one_act (read d 7) (read_acts d)) n a ≡ Some (done (a.acts ++ list_acts xs) (max a.most (acts_depth xs)) rest)
+      → more_acts (one_act (read_tree d 7) (read_acts d)) n a ≡ Some (done (a.acts ++ list_acts xs) (max a.most (acts_depth xs)) rest)
   unfolding list_acts count_acts
   more_read no_acts n a rest le h lc s =
       let y : max a.most 0 ≡ a.most = omega arith in
-      acts_stop (one_act (read d 7) (read_acts d)) n a (none_reads a.left (subst Ends (sym h) s)) ∙ rw (append-nil a.acts, y, ← h) refl
+      acts_stop (one_act (read_tree d 7) (read_acts d)) n a (none_reads a.left (subst Ends (sym h) s)) ∙ rw (append-nil a.acts, y, ← h) refl
   more_read (act x more) zero a rest le h lc s = absurd (omega arith)
   more_read (act x more) (suc n) a rest le h lc s =
-      let new = step x (act_depth x) h.0 in
-      acts_turn (one_act (read d 7) (read_acts d)) n a new (one_reads x a.left h.0 (omega arith) h.1)
+      let new = read_step x (act_depth x) h.0 in
+      acts_turn (one_act (read_tree d 7) (read_acts d)) n a new (one_reads x a.left h.0 (omega arith) h.1)
       ∙ more_read more n (with_act a new) rest (omega arith) h.2 (omega arith) s
       ∙ rw (append_assoc a.acts (x ∷ []) (list_acts more), max_three a.most (act_depth x) (acts_depth more)) refl
 

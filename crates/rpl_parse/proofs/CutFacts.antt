@@ -2,9 +2,9 @@
 use Rattle.rw_base.proofs.Common.{◌≡◌, ◌<◌, ◌+◌, ◌∙◌, ◌++◌, ℕ, suc, Bool, true, false, List, [], ◌∷◌, length, map, take, drop, slice_index_or, Option, Some, None, Ok, Err, refl, sym, ap, subst, arith, if◌then◌else◌, inl, inr}
 use Rattle.rpl_tree.specs.Tree.{Declared}
 use Rattle.rpl_parse.specs.declared.token.TokenAt.{TokenAt}
-use Rattle.rpl_parse.specs.Tokens.{Tok, Lined, seen, lined_of, toks}
+use Rattle.rpl_parse.specs.Tokens.{Tok, Lined, token_seen, lined_of, toks}
 use Rattle.rpl_parse.specs.Scan.{Scanned, all, bad_at, tokens}
-use Rattle.rpl_parse.specs.Declarations.{Piece, piece, is_end, joined, pieces, begins_rule, begins_function, one_more_if, is_full, Due, bad_token, bad_declaration, too_many, IsDue, IsDueOf, some_reading, one_reading}
+use Rattle.rpl_parse.specs.Declarations.{Piece, piece, is_end, token_joined, pieces, begins_rule, begins_function, one_more_if, is_full, Due, bad_token, bad_declaration, too_many, IsDue, IsDueOf, some_reading, one_reading}
 use Rattle.rpl_parse.specs.Cut.{size}
 use Rattle.rpl_parse.specs.ReadingDeclared.{read_declared}
 use Rattle.rpl_parse.proofs.Both.{one_declaration, no_declaration, declared_sound}
@@ -17,17 +17,17 @@ abbrev Cut : List ℕ → TokenAt → List TokenAt → ℕ → List Piece
 Cut source x more n = piece (toks source (take n (x ∷ more))) x.line ∷ pieces (lineds source (drop n (x ∷ more)))
 
 pub first_piece : (source : List ℕ) (x : TokenAt) (more : List TokenAt) → pieces (lineds source (x ∷ more)) ≡ Cut source x more (size (toks source (x ∷ more)))
-first_piece source x [] = alone (is_end (seen source x.token))
+first_piece source x [] = alone (is_end (token_seen source x.token))
   where
-    alone : (b : Bool) → (if b then piece (seen source x.token ∷ []) x.line ∷ [] else joined (lined_of source x) []) ≡ Cut source x [] (if b then 1 else suc 0)
+    alone : (b : Bool) → (if b then piece (token_seen source x.token ∷ []) x.line ∷ [] else token_joined (lined_of source x) []) ≡ Cut source x [] (if b then 1 else suc 0)
     alone true = refl
     alone false = refl
-first_piece source x (y ∷ ys) = by_end (is_end (seen source x.token)) (first_piece source y ys)
+first_piece source x (y ∷ ys) = by_end (is_end (token_seen source x.token)) (first_piece source y ys)
   where
     by_end : (b : Bool) → pieces (lineds source (y ∷ ys)) ≡ Cut source y ys (size (toks source (y ∷ ys)))
-        → (if b then piece (seen source x.token ∷ []) x.line ∷ pieces (lineds source (y ∷ ys)) else joined (lined_of source x) (pieces (lineds source (y ∷ ys)))) ≡ Cut source x (y ∷ ys) (if b then 1 else suc (size (toks source (y ∷ ys))))
+        → (if b then piece (token_seen source x.token ∷ []) x.line ∷ pieces (lineds source (y ∷ ys)) else token_joined (lined_of source x) (pieces (lineds source (y ∷ ys)))) ≡ Cut source x (y ∷ ys) (if b then 1 else suc (size (toks source (y ∷ ys))))
     by_end true h = refl
-    by_end false h = ap (joined (lined_of source x)) h
+    by_end false h = ap (token_joined (lined_of source x)) h
 
 -- What is due at the first declaration, which has these tokens.
 module _ (source : List ℕ) (k r f : ℕ) (before : List Declared) where

@@ -4,9 +4,9 @@ use Rattle.rpl_tree.proofs.Common.{Tree, Trees, literal, truth, now, slot, name,
 use Rattle.rpl_parse.specs.declared.token.Mark.TheVariants as M
 use Rattle.rpl_parse.specs.Tokens.{Tok, mark, word, digits, text, Lined, lined}
 use Rattle.rpl_parse.specs.Scan.{Front, gap, token as found, bad, front, Scanned, all, bad_at, led_by, by_front, line_behind, scan, tokens}
-use Rattle.rpl_parse.specs.Grammar.{Part, ◌⨾◌, sign, token, form, at_most, Spells, SpellsList, SpellsMore, looseness_of, looseness_of_one, left_of, mark_of, mark_of_one, mark_of_truth, mark_of_convert, is_prefix, is_operator}
+use Rattle.rpl_parse.specs.Grammar.{Part, ◌⨾◌, sign, token, form, at_most, Spells, SpellsList, SpellsMore, looseness_of, looseness_of_one, looseness_on_left, mark_of, mark_of_one, mark_of_truth, mark_of_convert, is_prefix, is_operator}
 use Rattle.rpl_parse.specs.Statements.{SpellsAct, SpellsActs, SpellsParameters, SpellsType, if_none, ◌or◌, IsDeclaration}
-use Rattle.rpl_parse.specs.Declarations.{Piece, piece, is_end, joined, pieces}
+use Rattle.rpl_parse.specs.Declarations.{Piece, piece, is_end, token_joined, pieces}
 use Rattle.rpl_parse.proofs.Complete.{Shrinks, one_shrinks}
 use Rattle.rpl_parse.proofs.CompleteActs.{Ahead, ahead_shrinks}
 use Rattle.rpl_parse.proofs.Both.{type_shrinks, parameters_shrink}
@@ -72,7 +72,7 @@ mutual
   uses (one w t) = by_form (is_prefix w) (suc (node_count t)) _ _ (own (mark (mark_of_one w)) (node_count t) _ (tight (looseness_of_one w) t (node_count t) (uses t)))
       (own (mark (mark_of_one w)) (node_count t) _ (skip (mark M.LeftParen) (node_count t) _ (last (node_count t) (Spells t) _ (uses t))))
   uses (two w l r) = by_form (is_operator w) (suc (node_count l + node_count r)) _ _
-      (fewer (node_count l + suc (node_count r)) (suc (node_count l + node_count r)) _ (omega arith) (child (node_count l) (suc (node_count r)) _ _ (tight (left_of w) l (node_count l) (uses l))
+      (fewer (node_count l + suc (node_count r)) (suc (node_count l + node_count r)) _ (omega arith) (child (node_count l) (suc (node_count r)) _ _ (tight (looseness_on_left w) l (node_count l) (uses l))
       (own (mark (mark_of w)) (node_count r) _ (tight (looseness_of w - 1) r (node_count r) (uses r)))))
       (own (mark (mark_of w)) (node_count l + node_count r) _ (skip (mark M.LeftParen) (node_count l + node_count r) _ (child (node_count l) (node_count r) (Spells l) _ (uses l) (skip (mark M.Comma) (node_count r) _ (last (node_count r) (Spells r) _ (uses r))))))
   uses (convert w o t) = own (mark (mark_of_convert w)) (node_count t) _ (skip (mark M.LeftParen) (node_count t) _ (skip (word o) (node_count t) _ (skip (mark M.Comma) (node_count t) _ (last (node_count t) (Spells t) _ (uses t)))))
@@ -151,7 +151,7 @@ one_more : (most : ℕ) (ps : List Piece) → ArePieces most ps → ArePieces (s
 one_more most [] h = tt
 one_more most (p ∷ ps) h = (let a = h.0 in omega arith, one_more most ps h.1)
 
-joined_within : (t : Lined) (most : ℕ) (ps : List Piece) → ArePieces most ps → ArePieces (suc most) (joined t ps)
+joined_within : (t : Lined) (most : ℕ) (ps : List Piece) → ArePieces most ps → ArePieces (suc most) (token_joined t ps)
 joined_within t most [] h = (omega arith, tt)
 joined_within t most (p ∷ ps) h = (let a = h.0 in omega arith, one_more most ps h.1)
 
@@ -159,6 +159,6 @@ pub pieces_within : (ts : List Lined) → ArePieces (length ts) (pieces ts)
 pieces_within [] = tt
 pieces_within (t ∷ ts) = by_end (is_end t.tok) (pieces_within ts)
   where
-    by_end : (b : Bool) → ArePieces (length ts) (pieces ts) → ArePieces (suc (length ts)) (if b then piece (t.tok ∷ []) t.line ∷ pieces ts else joined t (pieces ts))
+    by_end : (b : Bool) → ArePieces (length ts) (pieces ts) → ArePieces (suc (length ts)) (if b then piece (t.tok ∷ []) t.line ∷ pieces ts else token_joined t (pieces ts))
     by_end true h = (omega arith, one_more (length ts) (pieces ts) h)
     by_end false h = joined_within t (length ts) (pieces ts) h

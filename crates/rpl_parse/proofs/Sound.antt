@@ -12,8 +12,8 @@ use Rattle.rpl_tree.specs.declared.words.ConvertWord.TheVariants as C
 use Rattle.rpl_parse.specs.Tokens.{Tok, mark, word, digits, text, same}
 use Rattle.rpl_tree.specs.Tree.{Tree, literal, truth, now, slot, name, call, list, no_trees}
 use Rattle.rpl_parse.specs.Depth.{depth, depths}
-use Rattle.rpl_parse.specs.Grammar.{Part, ◌⨾◌, sign, form, Spells, SpellsMore, looseness, looseness_of, looseness_of_one, left_of, mark_of, mark_of_one, mark_of_convert, is_prefix, is_operator}
-use Rattle.rpl_parse.specs.Reading.{Read, Got, got, Many, many, Named, Turn, ◌>>=◌, behind, behind_name, name_before, kept, closed, up_to, items, some_items, args, named, braces, loops, maps, word_of_one, word_of_two, converts, opened, prim, steps, turn, if_word, if_loose, operator, chain, guarded, if_found, prefix_of, level, read, turns_of, trees_of}
+use Rattle.rpl_parse.specs.Grammar.{Part, ◌⨾◌, sign, form, Spells, SpellsMore, looseness, looseness_of, looseness_of_one, looseness_on_left, mark_of, mark_of_one, mark_of_convert, is_prefix, is_operator}
+use Rattle.rpl_parse.specs.Reading.{Read, Got, got, Many, many, Named, Turn, ◌>>=◌, behind, behind_name, name_before, kept, closed_by_mark, up_to, items, some_items, args, named, braces, loops, maps, word_of_one, word_of_two, converts, opened, prim, steps, turn, if_word, if_loose, operator, chain, guarded, if_found, prefix_of, level, read_tree, turns_of, trees_of}
 use Rattle.rpl_parse.proofs.Marks.{same_mark}
 
 pub some_one : {A : Type 0} (x y : A) → Some x ≡ Some y → x ≡ y
@@ -134,7 +134,7 @@ two_deep e f = rw (e, f) refl
 pub three_deep : {a b c x y z : ℕ} → a ≡ x → b ≡ y → c ≡ z → max (max a b) c + 1 ≡ max (max x y) z + 1
 three_deep e f g = rw (e, f, g) refl
 
-left_at : (w : TwoWord) (k : ℕ) (n : ℕ) (l : ℕ) → looseness_of w ≡ k → l ≤ k → (k ≡ 4 → 4 * suc n + l ≤ 7) → l ≤ left_of w
+left_at : (w : TwoWord) (k : ℕ) (n : ℕ) (l : ℕ) → looseness_of w ≡ k → l ≤ k → (k ≡ 4 → 4 * suc n + l ≤ 7) → l ≤ looseness_on_left w
 left_at T.Equal k n l e le f = let g = f (sym e) in omega arith
 left_at T.Unequal k n l e le f = let g = f (sym e) in omega arith
 left_at T.Less k n l e le f = let g = f (sym e) in omega arith
@@ -176,7 +176,7 @@ prefix_sound k w e = prefix_is (k == 1) (k == 5) k w (λ f. grind (arith, f)) (�
 module _ (inner : ℕ → List Tok → Read) (d : ℕ) (ih : (k : ℕ) (ts : List Tok) (g : Got) → inner k ts ≡ Some g → Is d k ts g) where
   up_to_sound : (m : Mark) (ts : List Tok) (g : Got) → up_to inner d m ts ≡ Some g → IsUpTo d m ts g
   up_to_sound m ts g e =
-      let p = and_then (inner 7 ts) (closed m) g e in
+      let p = and_then (inner 7 ts) (closed_by_mark m) g e in
       let q = and_then (behind m p.0.rest) (λ us. Some (got p.0.tree p.0.deep us)) g p.2 in
       let h = ih 7 ts p.0 p.1 in
       subst (IsUpTo d m ts) (some_one _ g q.2) (record { spells = (p.0.rest, h.spells, behind_sound m p.0.rest q.0 q.1); deep = h.deep; within = h.within })
@@ -508,7 +508,7 @@ module _ (inner : ℕ → List Tok → Read) (d : ℕ) (ih : (k : ℕ) (ts : Lis
         within = omega arith;
       }) p.2))
 
-pub sound : (d k : ℕ) (ts : List Tok) (g : Got) → read d k ts ≡ Some g → Is d k ts g
-unfolding read
+pub sound : (d k : ℕ) (ts : List Tok) (g : Got) → read_tree d k ts ≡ Some g → Is d k ts g
+unfolding read_tree
 sound zero k ts g e = absurd (cc e)
-sound (suc d) k ts g e = level_sound (read d) d (sound d) k ts g e
+sound (suc d) k ts g e = level_sound (read_tree d) d (sound d) k ts g e

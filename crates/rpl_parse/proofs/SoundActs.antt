@@ -8,8 +8,8 @@ use Rattle.rpl_parse.specs.Tokens.{Tok, mark, word, digits, text}
 use Rattle.rpl_parse.specs.Depth.{depth, act_depth, acts_depth}
 use Rattle.rpl_parse.specs.Grammar.{◌⨾◌, sign, token, Spells}
 use Rattle.rpl_parse.specs.Statements.{SpellsAct, SpellsActs, if_none, if_zero, ◌or◌}
-use Rattle.rpl_parse.specs.Reading.{Read, Got, ◌>>=◌, behind, behind_name, name_before, closed, if_found, read}
-use Rattle.rpl_parse.specs.ReadingActs.{Done, done, Step, step, Numbered, behind_number, ahead_of, Target, dated, target, acts_of, with_act, assigns, ended, others, branches, withs, one_act, no_room, begins_act, more_acts, read_acts}
+use Rattle.rpl_parse.specs.Reading.{Read, Got, ◌>>=◌, behind, behind_name, name_before, closed_by_mark, if_found, read_tree}
+use Rattle.rpl_parse.specs.ReadingActs.{Done, done, Step, read_step, Numbered, behind_number, ahead_of, Target, dated, target_read, acts_of, with_act, assigns, ended, others, branches, withs, one_act, no_room, begins_act, more_acts, read_acts}
 use Rattle.rpl_parse.proofs.Sound.{some_one, and_then, found, behind_sound, name_sound, name_before_sound, sound, max_three, two_deep, three_deep}
 
 record IsValue (d : ℕ) (m : Mark) (ts : List Tok) (g : Got) : Type 0 where
@@ -57,7 +57,7 @@ dated_sound s ts t e =
     (some_one (record { slot = s; ahead = n.0.value; next = u.0 }) t u.2)
     (refl, (l.0, behind_sound M.LeftBracket ts l.0 l.1, (m.0, behind_sound M.Now l.0 m.0 l.2, (n.0.next, ahead_sound m.0 n.0 m.2, (r.0, behind_sound M.RightBracket n.0.next r.0 r.1, behind_sound M.Assign r.0 u.0 r.2)))))
 
-target_sound : (ts : List Tok) (t : Target) → target ts ≡ Some t → IsTarget ts t
+target_sound : (ts : List Tok) (t : Target) → target_read ts ≡ Some t → IsTarget ts t
 target_sound ts t e =
     let s = and_then (behind M.Dot ts >>= behind_name) _ t e in
     let p = and_then (behind M.Dot ts) behind_name s.0 s.1 in
@@ -69,7 +69,7 @@ no_more : (d : ℕ) (a b : Done) → Some a ≡ Some b → IsActs d a b
 no_more d a b e = subst (IsActs d a) (some_one a b e) (record { more = []; acts = sym (append-nil a.acts); spells = refl; most = omega arith; within = λ w. w })
 
 module _ (d : ℕ) (value : List Tok → Read) (inner : List Tok → Option Done)
-    (vih : (m : Mark) (ts : List Tok) (g : Got) → (value ts >>= closed m) ≡ Some g → IsValue d m ts g)
+    (vih : (m : Mark) (ts : List Tok) (g : Got) → (value ts >>= closed_by_mark m) ≡ Some g → IsValue d m ts g)
     (ih : (ts : List Tok) (b : Done) → inner ts ≡ Some b → IsActs d (done [] 0 ts) b) where
   -- statements from the first on
   record IsBody (ts : List Tok) (b : Done) : Type 0 where
@@ -89,14 +89,14 @@ module _ (d : ℕ) (value : List Tok → Read) (inner : List Tok → Option Done
 
   assigns_sound : (o : List ℕ) (ts : List Tok) (x : Step) → assigns value inner o ts ≡ Some x → IsStep (suc d) (word o ∷ ts) x
   assigns_sound o ts x e =
-      let t = and_then (target ts) _ x e in
-      let q = and_then (value t.0.next >>= closed M.Semicolon) _ x t.2 in
+      let t = and_then (target_read ts) _ x e in
+      let q = and_then (value t.0.next >>= closed_by_mark M.Semicolon) _ x t.2 in
       let g = target_sound ts t.0 t.1 in
       let h = vih M.Semicolon t.0.next q.0 q.1 in
       let w = h.within in
       let k = g.2.2.2 in
       let l = k.2.2 in
-      subst (IsStep (suc d) (word o ∷ ts)) (some_one (step (assign o t.0.slot t.0.ahead q.0.tree) (q.0.deep + 1) q.0.rest) x q.2) (record {
+      subst (IsStep (suc d) (word o ∷ ts)) (some_one (read_step (assign o t.0.slot t.0.ahead q.0.tree) (q.0.deep + 1) q.0.rest) x q.2) (record {
         spells = (ts, refl, (g.0, g.1, (g.2.0, g.2.1, (g.2.2.0, g.2.2.1, (k.0, k.1, (k.2.0, k.2.1, (l.0, l.1, (t.0.next, l.2, h.spells))))))));
         deep = ap (λ n. n + 1) h.deep;
         within = omega arith;
@@ -124,7 +124,7 @@ module _ (d : ℕ) (value : List Tok → Read) (inner : List Tok → Option Done
 
   branches_sound : (ts : List Tok) (x : Step) → branches value inner ts ≡ Some x → IsStep (suc d) (mark M.If ∷ ts) x
   branches_sound ts x e =
-      let p = and_then (value ts >>= closed M.Then) _ x e in
+      let p = and_then (value ts >>= closed_by_mark M.Then) _ x e in
       let q = and_then (inner p.0.rest) _ x p.2 in
       let s = and_then (others value inner q.0.left >>= ended value inner M.EndIf) _ x q.2 in
       let r = and_then (others value inner q.0.left) (ended value inner M.EndIf) s.0 s.1 in
@@ -135,17 +135,17 @@ module _ (d : ℕ) (value : List Tok → Read) (inner : List Tok → Option Done
       let wp = hp.within in
       let wq = hq.within in
       let wr = hr.within in
-      let whole : IsStep (suc d) (mark M.If ∷ ts) (step (branch p.0.tree (acts_of q.0.acts) (acts_of r.0.acts)) (max (max p.0.deep q.0.most) r.0.most + 1) s.0.left) = record {
+      let whole : IsStep (suc d) (mark M.If ∷ ts) (read_step (branch p.0.tree (acts_of q.0.acts) (acts_of r.0.acts)) (max (max p.0.deep q.0.most) r.0.most + 1) s.0.left) = record {
         spells = (ts, refl, (hp.spells.0, hp.spells.1, (p.0.rest, hp.spells.2, (q.0.left, hq.spells, (r.0.left, hr.spells, hs.0)))));
         deep = three_deep hp.deep hq.most hr.most;
         within = omega arith;
       } in
-      subst (IsStep (suc d) (mark M.If ∷ ts)) (ap (λ (z : Done). step (branch p.0.tree (acts_of q.0.acts) (acts_of z.acts)) (max (max p.0.deep q.0.most) z.most + 1) z.left) (sym hs.1) ∙ some_one _ x s.2) whole
+      subst (IsStep (suc d) (mark M.If ∷ ts)) (ap (λ (z : Done). read_step (branch p.0.tree (acts_of q.0.acts) (acts_of z.acts)) (max (max p.0.deep q.0.most) z.most + 1) z.left) (sym hs.1) ∙ some_one _ x s.2) whole
 
   withs_sound : (ts : List Tok) (x : Step) → withs value inner ts ≡ Some x → IsStep (suc d) (mark M.With ∷ ts) x
   withs_sound ts x e =
       let n = and_then (name_before M.Assign ts) _ x e in
-      let p = and_then (value n.0.next >>= closed M.Do) _ x n.2 in
+      let p = and_then (value n.0.next >>= closed_by_mark M.Do) _ x n.2 in
       let s = and_then (inner p.0.rest >>= ended value inner M.EndWith) _ x p.2 in
       let q = and_then (inner p.0.rest) (ended value inner M.EndWith) s.0 s.1 in
       let hn = name_before_sound M.Assign ts n.0 n.1 in
@@ -154,12 +154,12 @@ module _ (d : ℕ) (value : List Tok → Read) (inner : List Tok → Option Done
       let hs = ended_sound M.EndWith q.0 s.0 q.2 in
       let wp = hp.within in
       let wq = hq.within in
-      let whole : IsStep (suc d) (mark M.With ∷ ts) (step (with_name n.0.called p.0.tree (acts_of q.0.acts)) (max p.0.deep q.0.most + 1) s.0.left) = record {
+      let whole : IsStep (suc d) (mark M.With ∷ ts) (read_step (with_name n.0.called p.0.tree (acts_of q.0.acts)) (max p.0.deep q.0.most + 1) s.0.left) = record {
         spells = (ts, refl, (hn.0, hn.1, (n.0.next, hn.2, (hp.spells.0, hp.spells.1, (p.0.rest, hp.spells.2, (q.0.left, hq.spells, hs.0))))));
         deep = two_deep hp.deep hq.most;
         within = omega arith;
       } in
-      subst (IsStep (suc d) (mark M.With ∷ ts)) (ap (λ (z : Done). step (with_name n.0.called p.0.tree (acts_of z.acts)) (max p.0.deep z.most + 1) z.left) (sym hs.1) ∙ some_one _ x s.2) whole
+      subst (IsStep (suc d) (mark M.With ∷ ts)) (ap (λ (z : Done). read_step (with_name n.0.called p.0.tree (acts_of z.acts)) (max p.0.deep z.most + 1) z.left) (sym hs.1) ∙ some_one _ x s.2) whole
 
   two_somes : (o : Option Step) (x : Step) → (o >>= (λ y. Some (Some y))) ≡ Some (Some x) → o ≡ Some x
   two_somes None x e = absurd (cc e)
@@ -196,9 +196,9 @@ module _ (d : ℕ) (one : List Tok → Option (Option Step)) (ih : (ts : List To
       by_one None is go next = no_more d a b go
       by_one (Some x) is go next = joined a x b (ih a.left x is) (next (with_act a x) go)
 
-value_sound : (d : ℕ) (m : Mark) (ts : List Tok) (g : Got) → (read d 7 ts >>= closed m) ≡ Some g → IsValue d m ts g
+value_sound : (d : ℕ) (m : Mark) (ts : List Tok) (g : Got) → (read_tree d 7 ts >>= closed_by_mark m) ≡ Some g → IsValue d m ts g
 value_sound d m ts g e =
-    let p = and_then (read d 7 ts) (closed m) g e in
+    let p = and_then (read_tree d 7 ts) (closed_by_mark m) g e in
     let q = and_then (behind m p.0.rest) _ g p.2 in
     let h = sound d 7 ts p.0 p.1 in
     subst (IsValue d m ts) (some_one _ g q.2) (record { spells = (p.0.rest, h.spells, behind_sound m p.0.rest q.0 q.1); deep = h.deep; within = h.within })
@@ -213,4 +213,4 @@ nothing_there ts x e = by_test (begins_act ts) e
 pub acts_sound : (d : ℕ) (ts : List Tok) (b : Done) → read_acts d ts ≡ Some b → IsActs d (done [] 0 ts) b
 unfolding read_acts
 acts_sound zero ts b e = more_sound 0 no_room nothing_there (length ts) (done [] 0 ts) b e
-acts_sound (suc d) ts b e = more_sound (suc d) (one_act (read d 7) (read_acts d)) (one_sound d (read d 7) (read_acts d) (value_sound d) (acts_sound d)) (length ts) (done [] 0 ts) b e
+acts_sound (suc d) ts b e = more_sound (suc d) (one_act (read_tree d 7) (read_acts d)) (one_sound d (read_tree d 7) (read_acts d) (value_sound d) (acts_sound d)) (length ts) (done [] 0 ts) b e

@@ -19,7 +19,7 @@ abbrev pub AreWithin : (Declared → ℕ) → ℕ → List Declared → Type 0
 AreWithin much most [] = Unit {0}
 AreWithin much most (d ∷ ds) = (much d ≤ most) × AreWithin much most ds
 
-pub record AreBounded (ds : List Declared) : Type 0 where
+pub record AreLimited (ds : List Declared) : Type 0 where
   pub depth : AreWithin declared_depth 100 ds
   pub nodes : AreWithin nodes_of 16777216 ds
   pub rules : rule_count ds ≤ 200

@@ -22,14 +22,14 @@ is_end (mark M.EndFunction) = true
 is_end _ = false
 
 -- a token before the pieces that follow belongs to the first of them
-abbrev pub joined : Lined → List Piece → List Piece
-joined t [] = piece (t.tok ∷ []) t.line ∷ []
-joined t (p ∷ ps) = piece (t.tok ∷ p.toks) t.line ∷ ps
+abbrev pub token_joined : Lined → List Piece → List Piece
+token_joined t [] = piece (t.tok ∷ []) t.line ∷ []
+token_joined t (p ∷ ps) = piece (t.tok ∷ p.toks) t.line ∷ ps
 
 -- the tokens are cut behind each ENDRULE and ENDFUNCTION
 abbrev pub pieces : List Lined → List Piece
 pieces [] = []
-pieces (t ∷ ts) = if is_end t.tok then piece (t.tok ∷ []) t.line ∷ pieces ts else joined t (pieces ts)
+pieces (t ∷ ts) = if is_end t.tok then piece (t.tok ∷ []) t.line ∷ pieces ts else token_joined t (pieces ts)
 
 -- what a declaration begins as
 abbrev pub begins_rule : List Tok → Bool

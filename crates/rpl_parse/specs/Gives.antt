@@ -16,9 +16,9 @@ abbrev pub Fails : {A : Type 0} → Stop → Option A → Type 0
 Fails S.NoMemory read = Unit {0}
 Fails S.Bad read = read ≡ None
 
-abbrev pub Gives : List ℕ → ℕ → Result (Expr × ℕ × Bor (List TokenAt)) Stop → Read → Type 0
-Gives source d (Ok x) read = (read ≡ Some (got (tree_of x.0) x.1 (toks source x.2.now))) × (x.1 ≤ d)
-Gives source d (Err f) read = Fails f read
+abbrev pub GivesExpression : List ℕ → ℕ → Result (Expr × ℕ × Bor (List TokenAt)) Stop → Read → Type 0
+GivesExpression source d (Ok x) read = (read ≡ Some (got (tree_of x.0) x.1 (toks source x.2.now))) × (x.1 ≤ d)
+GivesExpression source d (Err f) read = Fails f read
 
 abbrev pub GivesMany : List ℕ → ℕ → Result (Vec Expr Global × ℕ × Bor (List TokenAt)) Stop → Option Many → Type 0
 GivesMany source d (Ok x) read = (read ≡ Some (many (map tree_of x.0.items) x.1 (toks source x.2.now))) × (x.1 ≤ d)

@@ -13,13 +13,13 @@ use Rattle.rpl_parse.specs.declared.stop.Stop.{Stop}
 use Rattle.rpl_parse.specs.Tokens.{toks}
 use Rattle.rpl_parse.specs.Gives.{Fails}
 use Rattle.rpl_parse.specs.Reading.{Named}
-use Rattle.rpl_parse.specs.ReadingDeclared.{Typed, typed, Given, Takes, takes}
+use Rattle.rpl_parse.specs.ReadingDeclared.{TypeRead, typed, Given, ParametersRead, params_read}
 
 abbrev pub GivesUnit : List ℕ → Result (Vec ℕ Global × Bor (List TokenAt)) Stop → Option Named → Type 0
 GivesUnit source (Ok x) read = read ≡ Some (record { called = x.0.items; next = toks source x.1.now })
 GivesUnit source (Err f) read = Fails f read
 
-abbrev pub GivesType : List ℕ → Result (TypeText × Bor (List TokenAt)) Stop → Option Typed → Type 0
+abbrev pub GivesType : List ℕ → Result (TypeText × Bor (List TokenAt)) Stop → Option TypeRead → Type 0
 GivesType source (Ok x) read = read ≡ Some (typed (type_of x.0) (toks source x.1.now))
 GivesType source (Err f) read = Fails f read
 
@@ -27,8 +27,8 @@ abbrev pub GivesParameter : List ℕ → Result (Param × Bor (List TokenAt)) St
 GivesParameter source (Ok x) read = read ≡ Some (record { it = parameter_of x.0; next = toks source x.1.now })
 GivesParameter source (Err f) read = Fails f read
 
-abbrev pub GivesParameters : List ℕ → Result (Vec Param Global × Bor (List TokenAt)) Stop → Option Takes → Type 0
-GivesParameters source (Ok x) read = read ≡ Some (takes (map parameter_of x.0.items) (toks source x.1.now))
+abbrev pub GivesParameters : List ℕ → Result (Vec Param Global × Bor (List TokenAt)) Stop → Option ParametersRead → Type 0
+GivesParameters source (Ok x) read = read ≡ Some (params_read (map parameter_of x.0.items) (toks source x.1.now))
 GivesParameters source (Err f) read = Fails f read
 
 abbrev pub GivesDeclared : Result Declaration Stop → Option Declared → Type 0

@@ -108,14 +108,14 @@ mark_of_convert C.StorageToElevation = M.StorageToElevation
 mark_of_convert C.ElevationToStorage = M.ElevationToStorage
 
 -- How loose the left side may be: as loose as the whole, since chains associate to the left, but a comparison isn't repeated.
-abbrev pub left_of : TwoWord → ℕ
-left_of T.Equal = 3
-left_of T.Unequal = 3
-left_of T.Less = 3
-left_of T.LessEqual = 3
-left_of T.Greater = 3
-left_of T.GreaterEqual = 3
-left_of w = looseness_of w
+abbrev pub looseness_on_left : TwoWord → ℕ
+looseness_on_left T.Equal = 3
+looseness_on_left T.Unequal = 3
+looseness_on_left T.Less = 3
+looseness_on_left T.LessEqual = 3
+looseness_on_left T.Greater = 3
+looseness_on_left T.GreaterEqual = 3
+looseness_on_left w = looseness_of w
 
 -- a part that spells a tree which is at most so loose
 abbrev pub at_most : ℕ → Tree → Part → Part
@@ -141,7 +141,7 @@ abbrev mutual
   Spells (one_of w t) = form (is_prefix w) (sign (mark_of_one w) ⨾ at_most (looseness_of_one w) t (Spells t))
       (sign (mark_of_one w) ⨾ sign M.LeftParen ⨾ Spells t ⨾ sign M.RightParen)
   Spells (two w l r) = form (is_operator w)
-      (at_most (left_of w) l (Spells l) ⨾ sign (mark_of w) ⨾ at_most (looseness_of w - 1) r (Spells r))
+      (at_most (looseness_on_left w) l (Spells l) ⨾ sign (mark_of w) ⨾ at_most (looseness_of w - 1) r (Spells r))
       (sign (mark_of w) ⨾ sign M.LeftParen ⨾ Spells l ⨾ sign M.Comma ⨾ Spells r ⨾ sign M.RightParen)
   Spells (convert w o t) = sign (mark_of_convert w) ⨾ sign M.LeftParen ⨾ token (word o) ⨾ sign M.Comma ⨾ Spells t ⨾ sign M.RightParen
   Spells (at s d) = at_most 0 s (Spells s) ⨾ sign M.LeftBracket ⨾ Spells d ⨾ sign M.RightBracket

@@ -9,7 +9,7 @@ use Rattle.rpl_parse.specs.declared.scan.ScanStop.{ScanStop}
 use Rattle.rpl_parse.specs.declared.scan.ScanStop.TheVariants as S
 use Rattle.rpl_parse.specs.declared.scan.Found.{Found}
 use Rattle.rpl_parse.specs.declared.scan.Found.TheVariants as F
-use Rattle.rpl_parse.specs.Tokens.{mark, word, digits, text, seen, lined_of}
+use Rattle.rpl_parse.specs.Tokens.{mark, word, digits, text, token_seen, lined_of}
 use Rattle.rpl_parse.specs.Scan.{greatest, Front, gap, token, bad, Scanned, all, bad_at}
 
 -- what stands at the front of some bytes
@@ -22,13 +22,13 @@ piece_seen bs (P.Text n) = token (text (take n (drop 1 bs))) (n + 2)
 piece_seen bs P.Bad = bad
 
 -- it is at least one byte, and no more than there are
-abbrev pub fits : ℕ → Piece → Type 0
-fits most (P.Gap n) = (0 < n) × (n ≤ most)
-fits most (P.Mark m n) = (0 < n) × (n ≤ most)
-fits most (P.Name n) = (0 < n) × (n ≤ most)
-fits most (P.Number v n) = (v ≤ greatest) × (0 < n) × (n ≤ most)
-fits most (P.Text n) = n + 2 ≤ most
-fits most P.Bad = Unit {0}
+abbrev pub fits_piece : ℕ → Piece → Type 0
+fits_piece most (P.Gap n) = (0 < n) × (n ≤ most)
+fits_piece most (P.Mark m n) = (0 < n) × (n ≤ most)
+fits_piece most (P.Name n) = (0 < n) × (n ≤ most)
+fits_piece most (P.Number v n) = (v ≤ greatest) × (0 < n) × (n ≤ most)
+fits_piece most (P.Text n) = n + 2 ≤ most
+fits_piece most P.Bad = Unit {0}
 
 abbrev pub Scans : List ℕ → Result (Vec TokenAt Global) ScanStop → Scanned → Type 0
 Scans source (Ok ts) s = s ≡ all (map (lined_of source) ts.items)
@@ -38,5 +38,5 @@ Scans source (Err S.NoMemory) s = Unit {0}
 -- what is found at a place of a text: as the bytes from there on say, and within the text
 abbrev pub IsFound : List ℕ → ℕ → Found → Front → Type 0
 IsFound source at (F.Gap n) f = (f ≡ gap n) × (0 < n) × (at + n ≤ length source)
-IsFound source at (F.Token t n) f = (f ≡ token (seen source t) n) × (0 < n) × (at + n ≤ length source)
+IsFound source at (F.Token t n) f = (f ≡ token (token_seen source t) n) × (0 < n) × (at + n ≤ length source)
 IsFound source at F.Bad f = f ≡ bad

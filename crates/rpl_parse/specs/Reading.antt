@@ -71,8 +71,8 @@ name_after m ts = behind m ts >>= behind_name
 abbrev pub name_before : Mark → List Tok → Option Named
 name_before m ts = behind_name ts >>= (λ x. behind m x.next >>= (λ us. Some (record { called = x.called; next = us })))
 
-abbrev pub closed : Mark → Got → Read
-closed m g = behind m g.rest >>= (λ ts. Some (got g.tree g.deep ts))
+abbrev pub closed_by_mark : Mark → Got → Read
+closed_by_mark m g = behind m g.rest >>= (λ ts. Some (got g.tree g.deep ts))
 
 -- the word of an operator
 abbrev pub operator : Mark → Option TwoWord
@@ -120,9 +120,9 @@ abbrev pub turns_of : ℕ → ℕ → ℕ
 turns_of k d = if k == 4 then 1 else d
 
 -- behind a number: its unit, if there is one
-abbrev pub numbers : ℤ → List Tok → Read
-numbers z (text u ∷ ts) = Some (got (literal z (Some u)) 1 ts)
-numbers z ts = Some (got (literal z None) 1 ts)
+abbrev pub number_with_unit : ℤ → List Tok → Read
+number_with_unit z (text u ∷ ts) = Some (got (literal z (Some u)) 1 ts)
+number_with_unit z ts = Some (got (literal z None) 1 ts)
 
 -- inner reads what lies one deeper, where trees are at most d deep, at a level
 module _ (inner : ℕ → List Tok → Read) (d : ℕ) where
@@ -148,7 +148,7 @@ module _ (inner : ℕ → List Tok → Read) (d : ℕ) where
 
   -- an expression, and a mark behind it
   abbrev pub up_to : Mark → List Tok → Read
-  up_to m ts = inner 7 ts >>= closed m
+  up_to m ts = inner 7 ts >>= closed_by_mark m
 
   abbrev pub in_brackets : List Tok → Read
   in_brackets ts = up_to M.RightParen ts >>= (λ g. Some (got (brackets g.tree) (g.deep + 1) g.rest))
@@ -198,7 +198,7 @@ module _ (inner : ℕ → List Tok → Read) (d : ℕ) where
   opened _ ts = None
 
   abbrev pub prim : List Tok → Read
-  prim (digits z ∷ ts) = numbers z ts
+  prim (digits z ∷ ts) = number_with_unit z ts
   prim (word n ∷ ts) = named n ts
   prim (mark m ∷ ts) = opened m ts
   prim _ = None
@@ -223,6 +223,6 @@ module _ (inner : ℕ → List Tok → Read) (d : ℕ) where
       (λ w. if_found (behind (mark_of_one w) ts) (level j ts) (λ us. prefixed (suc j) w us))
 
 -- an expression of a level that is at most so deep
-unfoldable pub read : ℕ → ℕ → List Tok → Read
-read zero k ts = None
-read (suc d) k ts = level (read d) d k ts
+unfoldable pub read_tree : ℕ → ℕ → List Tok → Read
+read_tree zero k ts = None
+read_tree (suc d) k ts = level (read_tree d) d k ts

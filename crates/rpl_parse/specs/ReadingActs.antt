@@ -4,7 +4,7 @@ use Rattle.rpl_tree.specs.Tree.{Act, Acts, assign, branch, with_name, no_acts, a
 use Rattle.rpl_parse.specs.declared.token.Mark.{Mark}
 use Rattle.rpl_parse.specs.declared.token.Mark.TheVariants as M
 use Rattle.rpl_parse.specs.Tokens.{Tok, mark, word, digits}
-use Rattle.rpl_parse.specs.Reading.{◌>>=◌, Read, read, behind, behind_name, name_before, closed, if_found}
+use Rattle.rpl_parse.specs.Reading.{◌>>=◌, Read, read_tree, behind, behind_name, name_before, closed_by_mark, if_found}
 
 abbrev pub acts_of : List Act → Acts
 acts_of [] = no_acts
@@ -25,8 +25,8 @@ pub record Step : Type 0 where
   pub deep : ℕ
   pub rest : List Tok
 
-abbrev pub step : Act → ℕ → List Tok → Step
-step a d ts = record { new = a; deep = d; rest = ts }
+abbrev pub read_step : Act → ℕ → List Tok → Step
+read_step a d ts = record { new = a; deep = d; rest = ts }
 
 -- a number, and the tokens behind it
 pub record Numbered : Type 0 where
@@ -49,8 +49,8 @@ pub record Target : Type 0 where
 abbrev pub dated : List ℕ → List Tok → Option Target
 dated s ts = behind M.LeftBracket ts >>= behind M.Now >>= ahead_of >>= (λ n. behind M.RightBracket n.next >>= behind M.Assign >>= (λ us. Some (record { slot = s; ahead = n.value; next = us })))
 
-abbrev pub target : List Tok → Option Target
-target ts = behind M.Dot ts >>= behind_name >>= (λ s. dated s.called s.next)
+abbrev pub target_read : List Tok → Option Target
+target_read ts = behind M.Dot ts >>= behind_name >>= (λ s. dated s.called s.next)
 
 -- whether a statement begins
 abbrev pub begins_act : List Tok → Bool
@@ -62,7 +62,7 @@ begins_act _ = false
 -- value reads the values in a statement, and inner the statements
 module _ (value : List Tok → Read) (inner : List Tok → Option Done) where
   abbrev pub assigns : List ℕ → List Tok → Option Step
-  assigns o ts = target ts >>= (λ t. value t.next >>= closed M.Semicolon >>= (λ e. Some (step (assign o t.slot t.ahead e.tree) (e.deep + 1) e.rest)))
+  assigns o ts = target_read ts >>= (λ t. value t.next >>= closed_by_mark M.Semicolon >>= (λ e. Some (read_step (assign o t.slot t.ahead e.tree) (e.deep + 1) e.rest)))
 
   abbrev pub ended : Mark → Done → Option Done
   ended m a = behind m a.left >>= (λ us. Some (done a.acts a.most us))
@@ -71,12 +71,12 @@ module _ (value : List Tok → Read) (inner : List Tok → Option Done) where
   others ts = if_found (behind M.Else ts) (Some (done [] 0 ts)) inner
 
   abbrev pub branches : List Tok → Option Step
-  branches ts = value ts >>= closed M.Then >>= (λ c. inner c.rest >>= (λ y. others y.left >>= ended M.EndIf >>= (λ n.
-      Some (step (branch c.tree (acts_of y.acts) (acts_of n.acts)) (max (max c.deep y.most) n.most + 1) n.left))))
+  branches ts = value ts >>= closed_by_mark M.Then >>= (λ c. inner c.rest >>= (λ y. others y.left >>= ended M.EndIf >>= (λ n.
+      Some (read_step (branch c.tree (acts_of y.acts) (acts_of n.acts)) (max (max c.deep y.most) n.most + 1) n.left))))
 
   abbrev pub withs : List Tok → Option Step
-  withs ts = name_before M.Assign ts >>= (λ x. value x.next >>= closed M.Do >>= (λ e. inner e.rest >>= ended M.EndWith >>= (λ b.
-      Some (step (with_name x.called e.tree (acts_of b.acts)) (max e.deep b.most + 1) b.left))))
+  withs ts = name_before M.Assign ts >>= (λ x. value x.next >>= closed_by_mark M.Do >>= (λ e. inner e.rest >>= ended M.EndWith >>= (λ b.
+      Some (read_step (with_name x.called e.tree (acts_of b.acts)) (max e.deep b.most + 1) b.left))))
 
   -- one statement: none begins, or it isn't read, or it is
   abbrev pub one_act : List Tok → Option (Option Step)
@@ -101,9 +101,9 @@ module _ (one : List Tok → Option (Option Step)) where
 -- statements that are at most so deep
 unfoldable pub read_acts : ℕ → List Tok → Option Done
 read_acts zero ts = more_acts no_room (length ts) (done [] 0 ts)
-read_acts (suc d) ts = more_acts (one_act (read d 7) (read_acts d)) (length ts) (done [] 0 ts)
+read_acts (suc d) ts = more_acts (one_act (read_tree d 7) (read_acts d)) (length ts) (done [] 0 ts)
 
 -- one statement that is at most so deep
 abbrev pub act_at : ℕ → List Tok → Option (Option Step)
 act_at zero ts = no_room ts
-act_at (suc d) ts = one_act (read d 7) (read_acts d) ts
+act_at (suc d) ts = one_act (read_tree d 7) (read_acts d) ts

@@ -7,14 +7,14 @@ use Rattle.rpl_parse.specs.declared.class.Class.{Class}
 use Rattle.rpl_parse.specs.declared.class.Class.TheVariants as C
 use Rattle.rpl_parse.specs.Tokens.{Tok, mark, word, digits, text, Lined, lined}
 
-abbrev pub between : ℕ → ℕ → ℕ → Bool
-between a b c = leb a c && leb c b
+abbrev pub byte_between : ℕ → ℕ → ℕ → Bool
+byte_between a b c = leb a c && leb c b
 
 abbrev pub is_digit : ℕ → Bool
-is_digit b = between 48 57 b
+is_digit b = byte_between 48 57 b
 
 abbrev pub is_letter : ℕ → Bool
-is_letter b = between 65 90 b || between 97 122 b || b == 95
+is_letter b = byte_between 65 90 b || byte_between 97 122 b || b == 95
 
 abbrev pub is_blank : ℕ → Bool
 is_blank b = b == 32 || b == 9 || b == 13 || b == 10
@@ -45,20 +45,20 @@ declaration_words = (codes "RULE", M.Rule) ∷ (codes "ENDRULE", M.EndRule) ∷ 
 abbrev pub block_words : List (List ℕ × Mark)
 block_words = (codes "IF", M.If) ∷ (codes "THEN", M.Then) ∷ (codes "ELSE", M.Else) ∷ (codes "ENDIF", M.EndIf) ∷ (codes "WITH", M.With) ∷ (codes "DO", M.Do) ∷ (codes "ENDWITH", M.EndWith) ∷ (codes "LET", M.Let) ∷ (codes "IN", M.In) ∷ (codes "ENDLET", M.EndLet) ∷ (codes "FOR", M.For) ∷ (codes "ENDFOR", M.EndFor) ∷ (codes "MAP", M.Map) ∷ (codes "ENDMAP", M.EndMap) ∷ []
 
-abbrev pub value_words : List (List ℕ × Mark)
-value_words = (codes "AND", M.And) ∷ (codes "OR", M.Or) ∷ (codes "NOT", M.Not) ∷ (codes "TRUE", M.True) ∷ (codes "FALSE", M.False) ∷ (codes "KNOWN", M.Known) ∷ (codes "APPEND", M.Append) ∷ (codes "ITEM", M.Item) ∷ (codes "LENGTH", M.Length) ∷ (codes "MONTH", M.Month) ∷ (codes "DAY", M.Day) ∷ (codes "YEAR", M.Year) ∷ (codes "StorageToElevation", M.StorageToElevation) ∷ (codes "ElevationToStorage", M.ElevationToStorage) ∷ []
+abbrev pub words_of_values : List (List ℕ × Mark)
+words_of_values = (codes "AND", M.And) ∷ (codes "OR", M.Or) ∷ (codes "NOT", M.Not) ∷ (codes "TRUE", M.True) ∷ (codes "FALSE", M.False) ∷ (codes "KNOWN", M.Known) ∷ (codes "APPEND", M.Append) ∷ (codes "ITEM", M.Item) ∷ (codes "LENGTH", M.Length) ∷ (codes "MONTH", M.Month) ∷ (codes "DAY", M.Day) ∷ (codes "YEAR", M.Year) ∷ (codes "StorageToElevation", M.StorageToElevation) ∷ (codes "ElevationToStorage", M.ElevationToStorage) ∷ []
 
 abbrev pub look_up : List (List ℕ × Mark) → List ℕ → Option Mark
 look_up [] w = None
 look_up (entry ∷ more) w = if pointwise nat_eq w entry.0 then Some entry.1 else look_up more w
 
-abbrev pub or_else : Option Mark → Option Mark → Option Mark
-or_else None other = other
-or_else (Some m) other = Some m
+abbrev pub mark_or_else : Option Mark → Option Mark → Option Mark
+mark_or_else None other = other
+mark_or_else (Some m) other = Some m
 
 -- the mark of a reserved word
 abbrev pub reserved : List ℕ → Option Mark
-reserved w = or_else (look_up declaration_words w) (or_else (look_up block_words w) (look_up value_words w))
+reserved w = mark_or_else (look_up declaration_words w) (mark_or_else (look_up block_words w) (look_up words_of_values w))
 
 -- what stands at the front: what parts tokens, of so many bytes, or a token, or neither
 pub data Front : Type 0 where
@@ -107,14 +107,14 @@ abbrev pub or_bad : Option Mark → Front
 or_bad None = bad
 or_bad (Some m) = token (mark m) 1
 
-abbrev pub one_or_two : Mark → Mark → Bool → Front
-one_or_two short long true = token (mark long) 2
-one_or_two short long false = token (mark short) 1
+abbrev pub short_or_long : Mark → Mark → Bool → Front
+short_or_long short long true = token (mark long) 2
+short_or_long short long false = token (mark short) 1
 
 abbrev pub mark_front : ℕ → List ℕ → Front
-mark_front b bs = if b == 58 then one_or_two M.Colon M.Assign (head_is 61 bs) else
-    if b == 60 then (if head_is 62 bs then token (mark M.Unequal) 2 else one_or_two M.Less M.LessEqual (head_is 61 bs)) else
-    if b == 62 then one_or_two M.Greater M.GreaterEqual (head_is 61 bs) else or_bad (single b)
+mark_front b bs = if b == 58 then short_or_long M.Colon M.Assign (head_is 61 bs) else
+    if b == 60 then (if head_is 62 bs then token (mark M.Unequal) 2 else short_or_long M.Less M.LessEqual (head_is 61 bs)) else
+    if b == 62 then short_or_long M.Greater M.GreaterEqual (head_is 61 bs) else or_bad (single b)
 
 abbrev pub front : List ℕ → Front
 front [] = bad

@@ -27,17 +27,17 @@ abbrev pub bytes_in : List ℕ → Span → List ℕ
 bytes_in source s = take (s.end - s.start) (drop s.start source)
 
 -- what the code's tokens stand for
-abbrev pub seen : List ℕ → Token → Tok
-seen source (Token.Mark m) = mark m
-seen source (Token.Name s) = word (bytes_in source s)
-seen source (Token.Number z) = digits z
-seen source (Token.Text s) = text (bytes_in source s)
+abbrev pub token_seen : List ℕ → Token → Tok
+token_seen source (Token.Mark m) = mark m
+token_seen source (Token.Name s) = word (bytes_in source s)
+token_seen source (Token.Number z) = digits z
+token_seen source (Token.Text s) = text (bytes_in source s)
 
 abbrev pub lined_of : List ℕ → TokenAt → Lined
-lined_of source t = lined (seen source t.token) t.line
+lined_of source t = lined (token_seen source t.token) t.line
 
 abbrev pub toks : List ℕ → List TokenAt → List Tok
-toks source ts = map (λ (t : TokenAt). seen source t.token) ts
+toks source ts = map (λ (t : TokenAt). token_seen source t.token) ts
 
 -- `==` on marks
 abbrev pub same : Mark → Mark → Bool

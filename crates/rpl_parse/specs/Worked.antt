@@ -8,11 +8,11 @@ use Rattle.rpl_parse.specs.declared.token.Mark.TheVariants as M
 use Rattle.rpl_parse.specs.Tokens.{Tok, mark, word, digits, text, lined}
 use Rattle.rpl_parse.specs.Scan.{Scanned, all}
 
-abbrev pub number : ℕ → Tok
-number n = digits (pos n)
+abbrev pub number_token : ℕ → Tok
+number_token n = digits (pos n)
 
-abbrev pub whole : ℕ → Tree
-whole n = literal (pos n) None
+abbrev pub whole_number : ℕ → Tree
+whole_number n = literal (pos n) None
 
 -- ---- tokens
 
@@ -44,10 +44,10 @@ sign_marks = M.Assign ∷ M.Colon ∷ M.Semicolon ∷ M.Comma ∷ M.Dot ∷ M.Le
 
 -- `1 - 2 - 3`, and what it spells
 abbrev pub differences : List Tok
-differences = number 1 ∷ mark M.Minus ∷ number 2 ∷ mark M.Minus ∷ number 3 ∷ []
+differences = number_token 1 ∷ mark M.Minus ∷ number_token 2 ∷ mark M.Minus ∷ number_token 3 ∷ []
 
 abbrev pub from_the_left : Tree
-from_the_left = two T.Minus (two T.Minus (whole 1) (whole 2)) (whole 3)
+from_the_left = two T.Minus (two T.Minus (whole_number 1) (whole_number 2)) (whole_number 3)
 
 -- `NOT a AND b OR c`
 abbrev pub logical : List Tok
@@ -66,8 +66,8 @@ tighter_right = two T.Or (name (codes "a")) (one O.Not (two T.Less (name (codes 
     (two T.Plus (name (codes "c")) (two T.Times (name (codes "d")) (one O.Minus (at (name (codes "e")) now))))))
 
 -- `- a[t] * b + c < d AND e OR f`, and on its left
-abbrev pub turned : List Tok
-turned = mark M.Minus ∷ word (codes "a") ∷ mark M.LeftBracket ∷ mark M.Now ∷ mark M.RightBracket ∷ mark M.Times ∷ word (codes "b") ∷ mark M.Plus
+abbrev pub chain_tokens : List Tok
+chain_tokens = mark M.Minus ∷ word (codes "a") ∷ mark M.LeftBracket ∷ mark M.Now ∷ mark M.RightBracket ∷ mark M.Times ∷ word (codes "b") ∷ mark M.Plus
     ∷ word (codes "c") ∷ mark M.Less ∷ word (codes "d") ∷ mark M.And ∷ word (codes "e") ∷ mark M.Or ∷ word (codes "f") ∷ []
 
 abbrev pub tighter_left : Tree
@@ -84,4 +84,4 @@ set_to value = rule (codes "a") (act (assign (codes "D") (codes "X") (pos 0) val
 
 -- `1 < 2 < 3`
 abbrev pub comparisons : List Tok
-comparisons = number 1 ∷ mark M.Less ∷ number 2 ∷ mark M.Less ∷ number 3 ∷ []
+comparisons = number_token 1 ∷ mark M.Less ∷ number_token 2 ∷ mark M.Less ∷ number_token 3 ∷ []

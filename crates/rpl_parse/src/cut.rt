@@ -2,12 +2,12 @@
 ghost use Rattle.std.specs.Prelude.{◌≡◌, ◌≤◌, ◌<◌, length};
 ghost use Rattle.rpl_parse.specs.Declarations.{is_end, begins_rule, begins_function};
 ghost use Rattle.rpl_parse.specs.Cut.{size};
-ghost use Rattle.rpl_parse.specs.Tokens.{seen, toks};
+ghost use Rattle.rpl_parse.specs.Tokens.{token_seen, toks};
 
 use crate::token::{Mark, Token, TokenAt};
 
 fn is_end(_text: &[u8], token: Token) -> bool
-    ensures { result ≡ is_end (seen _text.now token) }
+    ensures { result ≡ is_end (token_seen _text.now token) }
 {
     match token {
         Token::Mark(Mark::EndRule) => true,

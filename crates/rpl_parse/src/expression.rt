@@ -1,8 +1,8 @@
 // Expressions, from the front of some tokens. Each function answers the tree, its depth and the tokens behind it.
 ghost use Rattle.std.specs.Prelude.{◌≡◌, ◌≤◌, ◌<◌, ◌+◌, ◌-◌, ◌++◌, ◌∷◌, [], IfOk, IfErr, OnOk, length, map, option_map, option_and_then, max};
 ghost use Rattle.rpl_tree.specs.Seen.{tree_of};
-ghost use Rattle.rpl_parse.specs.Reading.{read, level, prim, numbers, opened, named, args, slots, braces, in_brackets, choices, loops, maps, word_of_one, word_of_two, converts, steps, chain, behind, name_before, turns_of, up_to, binds, got, many, items, some_items};
-ghost use Rattle.rpl_parse.specs.Gives.{Gives, GivesMany};
+ghost use Rattle.rpl_parse.specs.Reading.{read_tree, level, prim, number_with_unit, opened, named, args, slots, braces, in_brackets, choices, loops, maps, word_of_one, word_of_two, converts, steps, chain, behind, name_before, turns_of, up_to, binds, got, many, items, some_items};
+ghost use Rattle.rpl_parse.specs.Gives.{GivesExpression, GivesMany};
 ghost use Rattle.rpl_parse.specs.Tokens.{toks, bytes_in};
 
 use crate::build::{
@@ -18,7 +18,7 @@ use std::alloc::Global;
 
 /// An expression of a level, at most so deep.
 #[cycle(parse)]
-#[tactic(auto, unfolding(crate::specs::Reading::read))]
+#[tactic(auto, unfolding(crate::specs::Reading::read_tree))]
 pub fn expression<'a>(
     alloc: Global,
     text: &[u8],
@@ -27,7 +27,8 @@ pub fn expression<'a>(
     k: u8,
 ) -> Result<(Expr, u8, &'a [TokenAt]), Stop>
     requires { limit ≤ 100 }
-    ensures { Gives text.now limit result (read limit k (toks text.now tokens.entry.now)) }
+    ensures { GivesExpression text.now limit result
+        (read_tree limit k (toks text.now tokens.entry.now)) }
 {
     if limit == 0 {
         return Err(Stop::Bad);
@@ -45,7 +46,7 @@ fn level<'a>(
     k: u8,
 ) -> Result<(Expr, u8, &'a [TokenAt]), Stop>
     requires { depth < 100 }
-    ensures { Gives text.now (depth + 1) result (level (read depth) depth k
+    ensures { GivesExpression text.now (depth + 1) result (level (read_tree depth) depth k
         (toks text.now tokens.entry.now)) }
 {
     if k == 0 {
@@ -72,7 +73,7 @@ fn primary<'a>(
     depth: u8,
 ) -> Result<(Expr, u8, &'a [TokenAt]), Stop>
     requires { depth < 100 }
-    ensures { Gives text.now (depth + 1) result (prim (read depth) depth
+    ensures { GivesExpression text.now (depth + 1) result (prim (read_tree depth) depth
         (toks text.now tokens.entry.now)) }
 {
     let [first, rest @ ..] = tokens else {
@@ -93,7 +94,8 @@ fn number<'a>(
     value: i64,
     tokens: &'a [TokenAt],
 ) -> Result<(Expr, u8, &'a [TokenAt]), Stop>
-    ensures { Gives text.now 1 result (numbers value (toks text.now tokens.entry.now)) }
+    ensures { GivesExpression text.now 1 result
+        (number_with_unit value (toks text.now tokens.entry.now)) }
 {
     if let [first, rest @ ..] = tokens {
         if let Token::Text(unit) = first.token {
@@ -113,7 +115,7 @@ fn opened<'a>(
     depth: u8,
 ) -> Result<(Expr, u8, &'a [TokenAt]), Stop>
     requires { depth < 100 }
-    ensures { Gives text.now (depth + 1) result (opened (read depth) depth mark
+    ensures { GivesExpression text.now (depth + 1) result (opened (read_tree depth) depth mark
         (toks text.now tokens.entry.now)) }
 {
     match mark {
@@ -151,7 +153,7 @@ fn in_brackets<'a>(
     depth: u8,
 ) -> Result<(Expr, u8, &'a [TokenAt]), Stop>
     requires { depth < 100 }
-    ensures { Gives text.now (depth + 1) result (in_brackets (read depth) depth
+    ensures { GivesExpression text.now (depth + 1) result (in_brackets (read_tree depth) depth
         (toks text.now tokens.entry.now)) }
 {
     let (inside, deep, rest) = up_to(alloc, text, Mark::RightParen, tokens, depth)?;
@@ -167,7 +169,7 @@ fn choices<'a>(
     depth: u8,
 ) -> Result<(Expr, u8, &'a [TokenAt]), Stop>
     requires { depth < 100 }
-    ensures { Gives text.now (depth + 1) result (choices (read depth) depth
+    ensures { GivesExpression text.now (depth + 1) result (choices (read_tree depth) depth
         (toks text.now tokens.entry.now)) }
 {
     let (condition, a, rest) = up_to(alloc, text, Mark::Then, tokens, depth)?;
@@ -185,7 +187,7 @@ fn binds<'a>(
     depth: u8,
 ) -> Result<(Expr, u8, &'a [TokenAt]), Stop>
     requires { depth < 100 }
-    ensures { Gives text.now (depth + 1) result (binds (read depth) depth
+    ensures { GivesExpression text.now (depth + 1) result (binds (read_tree depth) depth
         (toks text.now tokens.entry.now)) }
 {
     let Some((name, rest)) = name_before(text, Mark::Assign, tokens) else {
@@ -205,7 +207,7 @@ fn loops<'a>(
     depth: u8,
 ) -> Result<(Expr, u8, &'a [TokenAt]), Stop>
     requires { depth < 100 }
-    ensures { Gives text.now (depth + 1) result (loops (read depth) depth
+    ensures { GivesExpression text.now (depth + 1) result (loops (read_tree depth) depth
         (toks text.now tokens.entry.now)) }
 {
     let Some((name, rest)) = name_before(text, Mark::In, tokens) else {
@@ -229,7 +231,7 @@ fn maps<'a>(
     depth: u8,
 ) -> Result<(Expr, u8, &'a [TokenAt]), Stop>
     requires { depth < 100 }
-    ensures { Gives text.now (depth + 1) result (maps (read depth) depth
+    ensures { GivesExpression text.now (depth + 1) result (maps (read_tree depth) depth
         (toks text.now tokens.entry.now)) }
 {
     let Some((name, rest)) = name_before(text, Mark::In, tokens) else {
@@ -251,7 +253,7 @@ fn of_one<'a>(
     depth: u8,
 ) -> Result<(Expr, u8, &'a [TokenAt]), Stop>
     requires { depth < 100 }
-    ensures { Gives text.now (depth + 1) result (word_of_one (read depth) depth word
+    ensures { GivesExpression text.now (depth + 1) result (word_of_one (read_tree depth) depth word
         (toks text.now tokens.entry.now)) }
 {
     let Some(rest) = behind(text, Mark::LeftParen, tokens) else {
@@ -272,7 +274,7 @@ fn of_two<'a>(
     depth: u8,
 ) -> Result<(Expr, u8, &'a [TokenAt]), Stop>
     requires { depth < 100 }
-    ensures { Gives text.now (depth + 1) result (word_of_two (read depth) depth word
+    ensures { GivesExpression text.now (depth + 1) result (word_of_two (read_tree depth) depth word
         (toks text.now tokens.entry.now)) }
 {
     let Some(rest) = behind(text, Mark::LeftParen, tokens) else {
@@ -293,7 +295,7 @@ fn converts<'a>(
     depth: u8,
 ) -> Result<(Expr, u8, &'a [TokenAt]), Stop>
     requires { depth < 100 }
-    ensures { Gives text.now (depth + 1) result (converts (read depth) depth word
+    ensures { GivesExpression text.now (depth + 1) result (converts (read_tree depth) depth word
         (toks text.now tokens.entry.now)) }
 {
     let Some(rest) = behind(text, Mark::LeftParen, tokens) else {
@@ -317,7 +319,7 @@ fn up_to<'a>(
     depth: u8,
 ) -> Result<(Expr, u8, &'a [TokenAt]), Stop>
     requires { depth < 100 }
-    ensures { Gives text.now depth result (up_to (read depth) depth mark
+    ensures { GivesExpression text.now depth result (up_to (read_tree depth) depth mark
         (toks text.now tokens.entry.now)) }
 {
     let (e, deep, rest) = expression(alloc, text, tokens, depth, 7)?;
@@ -336,7 +338,8 @@ fn named<'a>(
     depth: u8,
 ) -> Result<(Expr, u8, &'a [TokenAt]), Stop>
     requires { depth < 100 }
-    ensures { Gives text.now (depth + 1) result (named (read depth) depth (bytes_in text.now name)
+    ensures { GivesExpression text.now (depth + 1) result
+        (named (read_tree depth) depth (bytes_in text.now name)
         (toks text.now tokens.entry.now)) }
 {
     if let Some(rest) = behind(text, Mark::LeftParen, tokens) {
@@ -362,7 +365,8 @@ fn arguments<'a>(
     depth: u8,
 ) -> Result<(Expr, u8, &'a [TokenAt]), Stop>
     requires { depth < 100 }
-    ensures { Gives text.now (depth + 1) result (args (read depth) depth (bytes_in text.now name)
+    ensures { GivesExpression text.now (depth + 1) result
+        (args (read_tree depth) depth (bytes_in text.now name)
         (toks text.now tokens.entry.now)) }
 {
     if let Some(rest) = behind(text, Mark::RightParen, tokens) {
@@ -385,7 +389,7 @@ fn braces<'a>(
     depth: u8,
 ) -> Result<(Expr, u8, &'a [TokenAt]), Stop>
     requires { depth < 100 }
-    ensures { Gives text.now (depth + 1) result (braces (read depth) depth
+    ensures { GivesExpression text.now (depth + 1) result (braces (read_tree depth) depth
         (toks text.now tokens.entry.now)) }
 {
     let (items, most, rest) = items(alloc, text, tokens, depth)?;
@@ -404,7 +408,7 @@ fn items<'a>(
     depth: u8,
 ) -> Result<(Vec<Expr>, u8, &'a [TokenAt]), Stop>
     requires { depth < 100 }
-    ensures { GivesMany text.now depth result (some_items (read depth) depth
+    ensures { GivesMany text.now depth result (some_items (read_tree depth) depth
         (toks text.now tokens.entry.now)) }
 {
     let (first, deep, rest) = expression(alloc, text, tokens, depth, 7)?;
@@ -425,7 +429,8 @@ fn more<'a>(
 ) -> Result<(Vec<Expr>, u8, &'a [TokenAt]), Stop>
     requires limit { depth < 100 }
     requires within { deep ≤ depth }
-    ensures { GivesMany text.now depth result (items (read depth) depth (length tokens.entry.now)
+    ensures { GivesMany text.now depth result
+        (items (read_tree depth) depth (length tokens.entry.now)
         (many (map tree_of first.items) deep (toks text.now tokens.entry.now))) }
 {
     let mut items = first;
@@ -456,7 +461,7 @@ fn steps<'a>(
 ) -> Result<(Expr, u8, &'a [TokenAt]), Stop>
     requires limit { depth < 100 }
     requires within { first_deep ≤ depth + 1 }
-    ensures { Gives text.now (depth + 1) result (steps (read depth) depth depth (got
+    ensures { GivesExpression text.now (depth + 1) result (steps (read_tree depth) depth depth (got
         (tree_of first) first_deep (toks text.now tokens.entry.now))) }
 {
     let mut slot = first;
@@ -492,7 +497,8 @@ fn chain<'a>(
     requires limit { depth < 100 }
     requires within { first_deep ≤ depth + 1 }
     requires level { 0 < k }
-    ensures { Gives text.now (depth + 1) result (chain (read depth) depth k (turns_of k depth)
+    ensures { GivesExpression text.now (depth + 1) result
+        (chain (read_tree depth) depth k (turns_of k depth)
         (got (tree_of first) first_deep (toks text.now tokens.entry.now))) }
 {
     let mut left = first;
@@ -524,7 +530,8 @@ fn operand<'a>(
 ) -> Result<(Expr, u8, &'a [TokenAt]), Stop>
     requires limit { depth < 100 }
     requires level { 0 < k }
-    ensures { Gives text.now depth result (read depth (k - 1) (toks text.now tokens.entry.now)) }
+    ensures { GivesExpression text.now depth result
+        (read_tree depth (k - 1) (toks text.now tokens.entry.now)) }
 {
     expression(alloc, text, tokens, depth, k - 1)
 }

@@ -1,6 +1,6 @@
 ghost use Rattle.std.specs.Prelude.{◌≡◌, ◌≤◌, ◌<◌, ◌+◌, ◌∷◌, length, ℕ, take, MatchOption};
-ghost use Rattle.rpl_parse.specs.Scan.{number_of, head_is, greatest, number_front, quoted_front, word_front, single, one_or_two, mark_front, front};
-ghost use Rattle.rpl_parse.specs.Pieces.{piece_seen, fits};
+ghost use Rattle.rpl_parse.specs.Scan.{number_of, head_is, greatest, number_front, quoted_front, word_front, single, short_or_long, mark_front, front};
+ghost use Rattle.rpl_parse.specs.Pieces.{piece_seen, fits_piece};
 
 use crate::class::{Class, head_is, is_blank, is_digit, is_letter, run};
 use crate::reserved::reserved;
@@ -41,7 +41,7 @@ fn number_of(digits: &[u8]) -> Option<u64>
 fn number_front(n: usize, bytes: &[u8]) -> Piece
     requires { n ≤ length bytes.now }
     ensures value { piece_seen bytes.now result ≡ number_front n bytes.now }
-    ensures within { 0 < n → fits (length bytes.now) result }
+    ensures within { 0 < n → fits_piece (length bytes.now) result }
 {
     if n > 18 {
         return Piece::Bad;
@@ -55,7 +55,7 @@ fn number_front(n: usize, bytes: &[u8]) -> Piece
 fn word_front(n: usize, bytes: &[u8]) -> Piece
     requires { n ≤ length bytes.now }
     ensures value { piece_seen bytes.now result ≡ word_front n bytes.now }
-    ensures within { 0 < n → fits (length bytes.now) result }
+    ensures within { 0 < n → fits_piece (length bytes.now) result }
 {
     match reserved(&bytes[..n]) {
         Some(mark) => Piece::Mark(mark, n),
@@ -86,9 +86,9 @@ fn single(b: u8) -> Option<Mark>
 }
 
 fn one_or_two(short: Mark, long: Mark, bytes: &[u8]) -> Piece
-    ensures value { (b : ℕ) → piece_seen (b ∷ bytes.now) result ≡ one_or_two short long
+    ensures value { (b : ℕ) → piece_seen (b ∷ bytes.now) result ≡ short_or_long short long
         (head_is 61 bytes.now) }
-    ensures within { fits (length bytes.now + 1) result }
+    ensures within { fits_piece (length bytes.now + 1) result }
 {
     if head_is(61, bytes) {
         Piece::Mark(long, 2)
@@ -99,7 +99,7 @@ fn one_or_two(short: Mark, long: Mark, bytes: &[u8]) -> Piece
 
 fn mark_front(b: u8, bytes: &[u8]) -> Piece
     ensures value { piece_seen (b ∷ bytes.now) result ≡ mark_front b bytes.now }
-    ensures within { fits (length bytes.now + 1) result }
+    ensures within { fits_piece (length bytes.now + 1) result }
 {
     if b == 58 {
         one_or_two(Mark::Colon, Mark::Assign, bytes)
@@ -122,7 +122,7 @@ fn mark_front(b: u8, bytes: &[u8]) -> Piece
 /// What stands at the front.
 pub fn front(bytes: &[u8]) -> Piece
     ensures value { piece_seen bytes.now result ≡ front bytes.now }
-    ensures within { fits (length bytes.now) result }
+    ensures within { fits_piece (length bytes.now) result }
 {
     let [first, rest @ ..] = bytes else {
         return Piece::Bad;

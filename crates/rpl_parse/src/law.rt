@@ -4,7 +4,7 @@ ghost use Rattle.rw_base.specs.Quantity.{quantity_max};
 ghost use Rattle.rpl_tree.specs.Tree.{Declared, brackets};
 ghost use Rattle.rpl_tree.specs.declared.rules.ParsedRules.{ParsedRules};
 ghost use Rattle.rpl_tree.specs.Seen.{rules_of};
-ghost use Rattle.rpl_parse.specs.Bounds.{AreBounded};
+ghost use Rattle.rpl_parse.specs.Bounds.{AreLimited};
 ghost use Rattle.rpl_parse.specs.declared.token.Mark.TheVariants as Mark;
 ghost use Rattle.rpl_parse.specs.Tokens.{Tok, mark, word, digits, text, lined};
 ghost use Rattle.rpl_parse.specs.Scan.{tokens, all, bad_at, greatest};
@@ -12,7 +12,7 @@ ghost use Rattle.rpl_parse.specs.Depth.{depth};
 ghost use Rattle.rpl_parse.specs.Grammar.{Spells};
 ghost use Rattle.rpl_parse.specs.Statements.{IsDeclaration};
 ghost use Rattle.rpl_parse.specs.Declarations.{pieces, piece, IsReading, bad_token, some_reading, one_reading, IsRuleset};
-ghost use Rattle.rpl_parse.specs.Worked.{number, whole, marked, every_word, word_marks, every_sign, sign_marks, differences, from_the_left, logical, or_last, levels, tighter_right, turned, tighter_left, setting, set_to, comparisons};
+ghost use Rattle.rpl_parse.specs.Worked.{number_token, whole_number, marked, every_word, word_marks, every_sign, sign_marks, differences, from_the_left, logical, or_last, levels, tighter_right, chain_tokens, tighter_left, setting, set_to, comparisons};
 
 /// A text is read as one ruleset, or refused for one reason.
 pub fn one_reading()
@@ -23,7 +23,7 @@ pub fn one_reading()
 /// In a ruleset each declaration is at most 100 deep and has no more nodes than a text has bytes, and there are at most 200
 /// rules and 200 functions.
 pub fn bounds()
-    ensures all { (rules : ParsedRules) → IsRuleset rules → AreBounded (rules_of rules) }
+    ensures all { (rules : ParsedRules) → IsRuleset rules → AreLimited (rules_of rules) }
 {}
 
 /// Tokens are the longest; a word that begins as a reserved word is a name; comments and blanks part tokens.
@@ -35,8 +35,9 @@ pub fn worked_tokens()
     ensures reserved { tokens (codes "ENDIF") ≡ all (lined (mark Mark.EndIf) 1 ∷ []) }
     ensures line { tokens (codes "# a\n\nt") ≡ all (lined (mark Mark.Now) 3 ∷ []) }
     ensures string { tokens (codes "\"a#\"") ≡ all (lined (text (codes "a#")) 1 ∷ []) }
-    ensures zeros { tokens (codes "000000000000000012") ≡ all (lined (number 12) 1 ∷ []) }
-    ensures most { tokens (codes "100000000000000000") ≡ all (lined (number greatest) 1 ∷ []) }
+    ensures zeros { tokens (codes "000000000000000012") ≡ all (lined (number_token 12) 1 ∷ []) }
+    ensures most { tokens (codes "100000000000000000")
+        ≡ all (lined (number_token greatest) 1 ∷ []) }
 {}
 
 /// Each reserved word and each mark is the token that it spells.
@@ -63,8 +64,8 @@ pub fn worked_expressions()
     ensures chain { Spells from_the_left differences [] }
     ensures logic { Spells or_last logical [] }
     ensures right { Spells tighter_right levels [] }
-    ensures left { Spells tighter_left turned [] }
-    ensures node { depth (brackets (whole 1)) ≡ 2 }
+    ensures left { Spells tighter_left chain_tokens [] }
+    ensures node { depth (brackets (whole_number 1)) ≡ 2 }
 {}
 
 /// A rule that sets a slot, and one that compares twice.

@@ -1,6 +1,6 @@
 ghost use Rattle.std.specs.Prelude.{◌≡◌, nat_eq};
 ghost use Rattle.std.specs.Cmp.Lexicographic.{pointwise};
-ghost use Rattle.rpl_parse.specs.Scan.{look_up, declaration_words, block_words, value_words, reserved};
+ghost use Rattle.rpl_parse.specs.Scan.{look_up, declaration_words, block_words, words_of_values, reserved};
 
 use crate::token::Mark;
 
@@ -92,7 +92,7 @@ fn block_words(word: &[u8]) -> Option<Mark>
 }
 
 fn value_words(word: &[u8]) -> Option<Mark>
-    ensures { result ≡ look_up value_words word.now }
+    ensures { result ≡ look_up words_of_values word.now }
 {
     if is_word(word, b"AND") {
         Some(Mark::And)

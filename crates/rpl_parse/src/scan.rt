@@ -1,7 +1,7 @@
 ghost use Rattle.std.specs.Prelude.{◌≡◌, ◌≤◌, ◌<◌, ◌+◌, ◌-◌, ◌^◌, ◌++◌, ◌∷◌, [], IfOk, IfErr, OnOk, length, drop, MatchOption};
 ghost use Rattle.rpl_parse.specs.Scan.{front, gap, token, bad, tokens, line_behind};
 ghost use Rattle.rpl_parse.specs.Pieces.{piece_seen, Scans, IsFound};
-ghost use Rattle.rpl_parse.specs.Tokens.{seen};
+ghost use Rattle.rpl_parse.specs.Tokens.{token_seen};
 
 use crate::class::head_is;
 use crate::front::{Piece, front};

@@ -2,9 +2,9 @@
 ghost use Rattle.std.specs.Prelude.{◌≡◌, ◌≤◌, ◌<◌, ◌+◌, ◌-◌, ◌++◌, ◌∷◌, [], IfOk, IfErr, OnOk, map, option_map, option_and_then};
 ghost use Rattle.rpl_tree.specs.Tree.{assign, branch, with_name};
 ghost use Rattle.rpl_tree.specs.Seen.{tree_of, act_of};
-ghost use Rattle.rpl_parse.specs.Reading.{read, closed};
-ghost use Rattle.rpl_parse.specs.ReadingActs.{read_acts, act_at, acts_of, others, assigns, branches, withs, target, ahead_of, behind_number, dated, begins_act, ended};
-ghost use Rattle.rpl_parse.specs.Gives.{Gives};
+ghost use Rattle.rpl_parse.specs.Reading.{read_tree, closed_by_mark};
+ghost use Rattle.rpl_parse.specs.ReadingActs.{read_acts, act_at, acts_of, others, assigns, branches, withs, target_read, ahead_of, behind_number, dated, begins_act, ended};
+ghost use Rattle.rpl_parse.specs.Gives.{GivesExpression};
 ghost use Rattle.rpl_parse.specs.GivesActs.{GivesActs, GivesOne, GivesStep};
 ghost use Rattle.rpl_parse.specs.Tokens.{toks, bytes_in};
 
@@ -108,7 +108,7 @@ fn assigns<'a>(
     depth: u8,
 ) -> Result<(Statement, u8, &'a [TokenAt]), Stop>
     requires { depth < 100 }
-    ensures { GivesStep text.now (depth + 1) result (assigns (read depth 7) (read_acts depth)
+    ensures { GivesStep text.now (depth + 1) result (assigns (read_tree depth 7) (read_acts depth)
         (bytes_in text.now object) (toks text.now tokens.entry.now)) }
 {
     let Some((found, rest)) = behind_target(text, tokens) else {
@@ -145,7 +145,7 @@ fn behind_target<'a>(text: &[u8], tokens: &'a [TokenAt]) -> Option<(Target, &'a 
       slot = bytes_in text.now r.0.slot;
       ahead = r.0.ahead;
       next = toks text.now r.1.now;
-    }) result ≡ target (toks text.now tokens.entry.now) }
+    }) result ≡ target_read (toks text.now tokens.entry.now) }
 {
     let rest = behind(text, Mark::Dot, tokens)?;
     let (slot, rest) = behind_name(text, rest)?;
@@ -189,7 +189,7 @@ fn branches<'a>(
     depth: u8,
 ) -> Result<(Statement, u8, &'a [TokenAt]), Stop>
     requires { depth < 100 }
-    ensures { GivesStep text.now (depth + 1) result (branches (read depth 7) (read_acts depth)
+    ensures { GivesStep text.now (depth + 1) result (branches (read_tree depth 7) (read_acts depth)
         (toks text.now tokens.entry.now)) }
 {
     let (condition, a, rest) = value_to(alloc, text, Mark::Then, tokens, depth)?;
@@ -218,7 +218,7 @@ fn otherwise<'a>(
     depth: u8,
 ) -> Result<(Vec<Statement>, u8, &'a [TokenAt]), Stop>
     requires { depth < 100 }
-    ensures { GivesActs text.now depth result (others (read depth 7) (read_acts depth)
+    ensures { GivesActs text.now depth result (others (read_tree depth 7) (read_acts depth)
         (toks text.now tokens.entry.now)) }
 {
     match behind(text, Mark::Else, tokens) {
@@ -235,7 +235,7 @@ fn withs<'a>(
     depth: u8,
 ) -> Result<(Statement, u8, &'a [TokenAt]), Stop>
     requires { depth < 100 }
-    ensures { GivesStep text.now (depth + 1) result (withs (read depth 7) (read_acts depth)
+    ensures { GivesStep text.now (depth + 1) result (withs (read_tree depth 7) (read_acts depth)
         (toks text.now tokens.entry.now)) }
 {
     let Some((name, rest)) = name_before(text, Mark::Assign, tokens) else {
@@ -274,7 +274,8 @@ pub fn value_to<'a>(
     limit: u8,
 ) -> Result<(Expr, u8, &'a [TokenAt]), Stop>
     requires { limit ≤ 100 }
-    ensures { Gives text.now limit result (option_and_then (closed mark) (read limit 7
+    ensures { GivesExpression text.now limit result
+        (option_and_then (closed_by_mark mark) (read_tree limit 7
         (toks text.now tokens.entry.now))) }
 {
     let (e, deep, rest) = expression(alloc, text, tokens, limit, 7)?;

@@ -1,7 +1,7 @@
 // Types and parameters, from the front of some tokens.
 ghost use Rattle.std.specs.Prelude.{◌≡◌, ◌++◌, ◌∷◌, [], IfErr, OnOk, map, length};
 ghost use Rattle.rpl_tree.specs.Seen.{parameter_of};
-ghost use Rattle.rpl_parse.specs.ReadingDeclared.{behind_text, read_type, type_by, list_type, read_parameter, parameters, some_parameters, more_parameters, takes};
+ghost use Rattle.rpl_parse.specs.ReadingDeclared.{behind_text, read_type, type_by, list_type_read, read_parameter, parameters, some_parameters, more_parameters, params_read};
 ghost use Rattle.rpl_parse.specs.GivesDeclared.{GivesUnit, GivesType, GivesParameter, GivesParameters};
 ghost use Rattle.rpl_parse.specs.Tokens.{toks};
 
@@ -77,7 +77,7 @@ fn list_type<'a>(
     text: &[u8],
     tokens: &'a [TokenAt],
 ) -> Result<(TypeText, &'a [TokenAt]), Stop>
-    ensures { GivesType text.now result (list_type (toks text.now tokens.entry.now)) }
+    ensures { GivesType text.now result (list_type_read (toks text.now tokens.entry.now)) }
 {
     let Some((most, rest)) = behind_number(text, tokens) else {
         return Err(Stop::Bad);
@@ -149,7 +149,8 @@ fn more_parameters<'a>(
     first: Vec<Param>,
     tokens: &'a [TokenAt],
 ) -> Result<(Vec<Param>, &'a [TokenAt]), Stop>
-    ensures { GivesParameters text.now result (more_parameters (length tokens.entry.now) (takes
+    ensures { GivesParameters text.now result
+        (more_parameters (length tokens.entry.now) (params_read
         (map parameter_of first.items) (toks text.now tokens.entry.now))) }
 {
     let mut params = first;

@@ -17,8 +17,8 @@ use Rattle.rpl_tree.proofs.PutsAhead.{is_near}
 use Rattle.rpl_tree.specs.Operators.{elements_of}
 use Rattle.rpl_tree.proofs.FramedTrees.{puts_in}
 use Rattle.rpl_verify.specs.Fits.{end_kinds, locals_of}
-use Rattle.rpl_verify.specs.Kinds.{are_same_kinds, element_of, is_kind}
-use Rattle.rpl_verify.specs.Machine.{Frame, Running, State, act, at_place, branched, entered, fire_of_code, fired, first_frame, handed_back, in_loop, invoked, loaded, most_steps, onward, operated, put, returned, row_in, run, step, step_at, step_by, step_in, stored, turned, with_made, yielded}
+use Rattle.rpl_verify.specs.Kinds.{are_same_kinds, element_kind, is_that_kind}
+use Rattle.rpl_verify.specs.Machine.{Frame, Running, State, act, at_place, branched, entered, fire_of_code, fired, first_frame, handed_back, in_loop, invoked, loaded, most_steps, onward, operated, put_by_frame, returned, row_in, run, step, step_at, step_by, step_in, stored, turned, with_made, yielded}
 use Rattle.rpl_verify.specs.Operations.{kind_of, kinds_of, operation}
 use Rattle.rpl_verify.specs.Places.{Loop, is_same_loop, mapping, visiting}
 use Rattle.rpl_verify.specs.Table.{operand_count, operands_behind}
@@ -122,7 +122,7 @@ module _ (basin : Draft) where
     entered_asks : (x : Block) (loop : Loop) (n : ℕ) (vs : List Value) (f : Frame) → Asks (entered x loop n vs f)
     entered_asks x loop n [] f = All-nil (CanAsk basin)
     entered_asks x loop n (v ∷ vs) f =
-        by_test (is_kind (slice_get (locals_of x) n) (element_of (kind_of v))) _ is_stuck
+        by_test (is_that_kind (slice_get (locals_of x) n) (element_kind (kind_of v))) _ is_stuck
         (elements_ask (elements_of v) _ (λ elements. All-nil (CanAsk basin))) (All-nil (CanAsk basin))
 
     in_loop_asks : (loop : Loop) (running : List Running) (go : Running → List Running → Outcome Frame) → ((r : Running) (rs : List Running) → Asks (go r rs)) → Asks (in_loop loop running go)
@@ -139,7 +139,7 @@ module _ (basin : Draft) where
     yielded_asks (slots m ss ∷ vs) f = All-nil (CanAsk basin)
     yielded_asks [] f = All-nil (CanAsk basin)
 
-    did_put : (slot : Option ℕ) (ahead : ℕ) (vs : List Value) (f : Frame) → Asks (put basin slot ahead vs f)
+    did_put : (slot : Option ℕ) (ahead : ℕ) (vs : List Value) (f : Frame) → Asks (put_by_frame basin slot ahead vs f)
     did_put slot ahead [] f = All-nil (CanAsk basin)
     did_put slot ahead (v ∷ vs) f = bind (put_of basin slot (pos ahead) v) (λ done. gives (onward vs f) 0) (put_asks slot (pos ahead) v) (λ done. All-nil (CanAsk basin))
 

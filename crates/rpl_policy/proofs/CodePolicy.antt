@@ -6,7 +6,7 @@ use Rattle.rw_series.specs.Fire.{Fire}
 use Rattle.rw_run.specs.Frame.{AreAlike}
 use Rattle.rw_run.specs.Policy.{IsPolicyOf, IsRule}
 use Rattle.rpl_tree.specs.Budget.{Budget}
-use Rattle.rpl_tree.specs.Frame.{AreAlike as AreAlikeThere}
+use Rattle.rpl_tree.specs.Frame.{AgreeAt as AreAlikeThere}
 use Rattle.rpl_code.specs.declared.block.Block.{Block}
 use Rattle.rpl_code.specs.declared.block.BlockHead.TheVariants.{Rule}
 use Rattle.rpl_verify.specs.Fits.{count_alike}

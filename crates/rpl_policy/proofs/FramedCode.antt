@@ -9,7 +9,7 @@ use Rattle.rpl_code.specs.declared.block.Block.{Block}
 use Rattle.rpl_code.specs.declared.instruction.Instruction.{Instruction}
 use Rattle.rpl_code.specs.declared.instruction.Instruction.TheVariants as I
 use Rattle.rpl_tree.proofs.Common.{Outcome, Value, World, fire_of, gives, is_stuck, known_of, read_of}
-use Rattle.rpl_tree.specs.Frame.{AreAlike}
+use Rattle.rpl_tree.specs.Frame.{AgreeAt}
 use Rattle.rpl_tree.proofs.Framed.{Same, same_bind, same_itself, same_known, same_read, same_then, world}
 use Rattle.rpl_tree.proofs.FramedTrees.{asks_nothing, looked_of}
 use Rattle.rpl_verify.specs.Machine.{Frame, State, act, fire_of_code, fired, first_frame, most_steps, onward, operated, row_in, run, step, step_at, step_by, step_in}
@@ -78,16 +78,16 @@ module _ (one other : Cell → Option ℤ) (basin : Draft) (now : ℕ) (code : L
   same_run (suc n) (f ∷ callers) =
       same_bind one other (step code w1 f callers) (step code w2 f callers) (run code w1 n) (run code w2 n) (same_in (numbered code f.block) f callers) (same_run n)
 
-  same_fired : (o : Option Frame) (fire : Fire) → fired code w1 o ≡ Some fire → AreAlike one other fire.looked → fired code w2 o ≡ Some fire
+  same_fired : (o : Option Frame) (fire : Fire) → fired code w1 o ≡ Some fire → AgreeAt one other fire.looked → fired code w2 o ≡ Some fire
   same_fired None fire is alike = absurd (none-some fire is)
   same_fired (Some f) fire is alike =
       let r : Outcome (Unit {0}) = run code w1 most_steps (f ∷ []) in
       let s : Outcome (Unit {0}) = run code w2 most_steps (f ∷ []) in
-      let same : r ≡ s = same_run most_steps (f ∷ []) (subst (λ cells. AreAlike one other cells) (sym (looked_of r.answer r.trail fire is)) alike) in
+      let same : r ≡ s = same_run most_steps (f ∷ []) (subst (λ cells. AgreeAt one other cells) (sym (looked_of r.answer r.trail fire is)) alike) in
       subst (λ (z : Outcome (Unit {0})). fire_of z.answer z.trail ≡ Some fire) same is
 
 pub code_framed : (code : List Block) (basin : Draft) (rule step : ℕ) (one other : Cell → Option ℤ) (fire : Fire)
-    → fire_of_code code basin rule step one ≡ Some fire → AreAlike one other fire.looked → fire_of_code code basin rule step other ≡ Some fire
+    → fire_of_code code basin rule step one ≡ Some fire → AgreeAt one other fire.looked → fire_of_code code basin rule step other ≡ Some fire
 code_framed code basin rule step one other fire is alike = same_fired one other basin step code (first_frame code rule) fire is alike
 
 -- a firing that isn't done asks for nothing

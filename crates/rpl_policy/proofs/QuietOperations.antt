@@ -12,7 +12,7 @@ use Rattle.rpl_code.specs.declared.instruction.Instruction.TheVariants as I
 use Rattle.rpl_tree.specs.declared.words.ConvertWord.{ConvertWord}
 use Rattle.rpl_tree.specs.declared.words.ConvertWord.TheVariants.{ElevationToStorage, StorageToElevation}
 use Rattle.rpl_tree.specs.Operators.{compared}
-use Rattle.rpl_tree.proofs.Common.{Function, Outcome, Value, World, a_date, a_number, a_slot, a_truth, all_numbers, all_slots, append_of, at_most_of, convert_of, converted, date_part, difference_of, ends, equal_of, exactly, gives, in_place, is_quantity, is_step, is_stuck, item_of, item_or_end, known_of, length_of, less_of, list_of, negative_of, not_of, numbers, predefined_answer, predefined_functions, product_of, quotient_of, read_of, said_or_end, slot_or_stuck, slots, sum_of, table_named}
+use Rattle.rpl_tree.proofs.Common.{Function, Outcome, Value, World, a_date, a_number, a_slot, a_truth, all_numbers, all_slot_values, append_of, at_most_of, convert_of, converted, date_part, difference_of, ends, equal_of, exactly, gives, in_place, is_quantity, is_step, is_stuck, item_of, item_or_end, known_of, length_of, less_of, list_of, negative_of, not_of, numbers, predefined_answer, predefined_functions, product_of, quotient_of, read_of, said_or_end, slot_or_stuck, slots, sum_of, table_named}
 use Rattle.rpl_verify.specs.Operations.{of_function, of_one, of_two, operation, widen_of}
 use Rattle.rpl_verify.specs.Table.{function_named}
 
@@ -77,7 +77,7 @@ numbers_quiet m zs [] = refl
 numbers_quiet m zs (a_number z ∷ vs) = numbers_quiet m (zs ++ z ∷ []) vs
 numbers_quiet m zs (_ ∷ vs) = refl
 
-slots_quiet : (m : ℕ) (ss : List ℕ) (vs : List Value) → Quiet (all_slots m ss vs)
+slots_quiet : (m : ℕ) (ss : List ℕ) (vs : List Value) → Quiet (all_slot_values m ss vs)
 slots_quiet m ss [] = refl
 slots_quiet m ss (a_slot s ∷ vs) = slots_quiet m (ss ++ s ∷ []) vs
 slots_quiet m ss (_ ∷ vs) = refl

@@ -12,12 +12,12 @@ use Rattle.rpl_verify.specs.Machine.{rule_from}
 use Rattle.rpl_verify.specs.Safety.{IsSafe}
 
 -- a rule at a timestep
-pub record Turn : Type 0 where
+pub record RuleTurn : Type 0 where
   pub rule : ℕ
   pub step : ℕ
 
 -- which rule fired in an event, if one did: to its end, up to an unknown value, or into a fault
-abbrev pub turn_in : Event → Option Turn
+abbrev pub turn_in : Event → Option RuleTurn
 turn_in (fired firing) = Some (record { rule = firing.rule; step = firing.step })
 turn_in (fault (ZeroDivisor rule step)) = Some (record { rule = rule.0; step = step.0 })
 turn_in (fault (RuleOutOfRange rule step value)) = Some (record { rule = rule.0; step = step.0 })
@@ -25,7 +25,7 @@ turn_in event = None
 
 -- the rule's block has a budget, its firing by the machine, for what the cells hold after the log, is safe by that, and the event is that
 -- firing
-pub record IsVerified (basin : Draft) (code : List Block) (budgets : List Budget) (log : Log) (event : Event) (turn : Turn) : Type 0 where
+pub record IsVerified (basin : Draft) (code : List Block) (budgets : List Budget) (log : Log) (event : Event) (turn : RuleTurn) : Type 0 where
   pub block : ℕ
   pub stands : rule_from 1 code turn.rule ≡ Some block
   pub budget : Budget

@@ -15,11 +15,11 @@ ghost use Rattle.rpl_parse.specs.Bounds.{function_count, rule_count};
 ghost use Rattle.rpl_types.specs.HasType.{IsTyped};
 ghost use Rattle.rpl_verify.specs.Budget.{AreAccepted};
 ghost use Rattle.rpl_verify.specs.Worked.{cap_and_base_code, hundredth_code, raise_and_reset_code};
-ghost use Rattle.rpl_compile.specs.Budgets.{budgets_of};
+ghost use Rattle.rpl_compile.specs.Budgets.{code_budgets_of};
 ghost use Rattle.rpl_compile.specs.Translate.{translate};
 ghost use Rattle.rpl_policy.specs.Firings.{AreVerified};
 ghost use Rattle.rpl_policy.specs.Policy.{policy_of_code, policy_of_rules};
-ghost use Rattle.rpl_policy.specs.Worked.{dam_basin, dam_run, dam_trace, divided_run, five_and_none, inflow, numbers_for, raised_run, thirds_run, three};
+ghost use Rattle.rpl_policy.specs.Worked.{dam_basin, dam_run, dam_trace, divided_policy_run, five_and_none, dam_inflow, basin_of_numbers, raised_policy_run, thirds_run, three_given};
 
 use rpl_compile::accepted::compiled_budgets;
 use rpl_compile::meaning::rules_fire_alike;
@@ -86,7 +86,7 @@ pub fn firings_of_rules_are_verified()
     ensures { (basin : Draft) (rules : List Declared) (inputs : List (Cell × ℤ)) (log : Log)
         → IsTyped basin rules → rule_count rules ≤ 200 → function_count rules ≤ 200
         → IsRun basin (policy_of_rules basin rules) inputs log
-        → AreVerified basin (translate rules) (budgets_of rules) log }
+        → AreVerified basin (translate rules) (code_budgets_of rules) log }
 {
     compiled_budgets();
     policies_have_runs();
@@ -96,20 +96,23 @@ pub fn firings_of_rules_are_verified()
 /// A dam on one day, into which 100 flow. Rule 2 lets 50 out, and the dam comes to hold 1050; rule 1 holds it at 1020, and the dam
 /// lets 80 out. The code, and the ruleset that it is of, have this run and this trace.
 pub fn a_dam()
-    ensures code { IsRun dam_basin (policy_of_code dam_basin cap_and_base_code) inflow
-        (log_after dam_run (placed [] inflow)) }
-    ensures rules { IsRun dam_basin (policy_of_rules dam_basin cap_and_base) inflow
-        (log_after dam_run (placed [] inflow)) }
-    ensures trace { trace_of (log_after dam_run (placed [] inflow)) ≡ dam_trace }
+    ensures code { IsRun dam_basin (policy_of_code dam_basin cap_and_base_code) dam_inflow
+        (log_after dam_run (placed [] dam_inflow)) }
+    ensures rules { IsRun dam_basin (policy_of_rules dam_basin cap_and_base) dam_inflow
+        (log_after dam_run (placed [] dam_inflow)) }
+    ensures trace { trace_of (log_after dam_run (placed [] dam_inflow)) ≡ dam_trace }
 {}
 
 /// Rules over plain numbers: one that fires again on what another set and on its own put, one that meets an unknown value, and
 /// one that divides by 0.
 pub fn numbers()
-    ensures raised { IsRun (numbers_for 1) (policy_of_code (numbers_for 1) raise_and_reset_code) []
-        (log_after raised_run []) }
-    ensures thirds { IsRun (numbers_for 2) (policy_of_code (numbers_for 2) hundredth_code) three
-        (log_after thirds_run (placed [] three)) }
-    ensures divided { IsRun (numbers_for 2) (policy_of_code (numbers_for 2) hundredth_code)
-        five_and_none (log_after divided_run (placed [] five_and_none)) }
+    ensures raised { IsRun (basin_of_numbers 1)
+        (policy_of_code (basin_of_numbers 1) raise_and_reset_code) []
+        (log_after raised_policy_run []) }
+    ensures thirds { IsRun (basin_of_numbers 2)
+        (policy_of_code (basin_of_numbers 2) hundredth_code) three_given
+        (log_after thirds_run (placed [] three_given)) }
+    ensures divided { IsRun (basin_of_numbers 2)
+        (policy_of_code (basin_of_numbers 2) hundredth_code)
+        five_and_none (log_after divided_policy_run (placed [] five_and_none)) }
 {}

@@ -8,14 +8,14 @@ abbrev pub IsRow : ℕ → Type 0
 IsRow k = (1 ≤ k) × (k ≤ 7)
 
 -- whatever is answered on quantities is what row k of the table says
-abbrev pub Computes : ℕ → (ℤ → ℤ → ℤ → ℤ → Type 0) → Type 0
-Computes k IsAnswer = (a b c r : ℤ) → IsQuantity a → IsQuantity b → IsQuantity c → IsAnswer a b c r → r ≡ predefined_of k a b c
+abbrev pub ComputesRow : ℕ → (ℤ → ℤ → ℤ → ℤ → Type 0) → Type 0
+ComputesRow k IsAnswer = (a b c r : ℤ) → IsQuantity a → IsQuantity b → IsQuantity c → IsAnswer a b c r → r ≡ predefined_of k a b c
 
 -- the first place, counted from n, that has not its own number
-abbrev pub first_wrong : ℕ → List ℕ → Option ℕ
-first_wrong n [] = None
-first_wrong n (k ∷ ks) = if k == n then first_wrong (n + 1) ks else Some n
+abbrev pub first_wrong_row : ℕ → List ℕ → Option ℕ
+first_wrong_row n [] = None
+first_wrong_row n (k ∷ ks) = if k == n then first_wrong_row (n + 1) ks else Some n
 
 -- each place, counted from 1, has its own number
-abbrev pub AreInOrder : List ℕ → Type 0
-AreInOrder ks = first_wrong 1 ks ≡ None
+abbrev pub AreRowsInOrder : List ℕ → Type 0
+AreRowsInOrder ks = first_wrong_row 1 ks ≡ None

@@ -1,6 +1,6 @@
 ghost use Rattle.std.specs.Prelude.{◌≡◌};
 ghost use Rattle.rw_base.specs.Predefined.{predefined_of};
-ghost use Rattle.rpl_predef.specs.Rows.{IsRow, Computes};
+ghost use Rattle.rpl_predef.specs.Rows.{IsRow, ComputesRow};
 
 use rw_base::Qty;
 
@@ -13,7 +13,7 @@ pub struct Predef {
     pub function: fn(Qty, Qty, Qty) -> Qty,
     ghost is_row: { IsRow row },
     ghost callable: { IsAlwaysCallable function },
-    ghost answers: { Computes row (λ a b c r. post function a b c r) },
+    ghost answers: { ComputesRow row (λ a b c r. post function a b c r) },
 }
 
 impl Predef {
@@ -22,7 +22,7 @@ impl Predef {
     pub fn of(k: u8, f: fn(Qty, Qty, Qty) -> Qty) -> Predef
         requires row { IsRow k }
         requires callable { IsAlwaysCallable f }
-        requires answers { Computes k (λ a b c r. post f a b c r) }
+        requires answers { ComputesRow k (λ a b c r. post f a b c r) }
         ensures row { result.row ≡ k }
         ensures kept { result.function ≡ f }
     {

@@ -1,7 +1,7 @@
 ghost use Rattle.std.specs.Prelude.{◌≡◌, ◌≢◌, ◌↔◌, ◌≤◌, ℕ, map, length, IfOk, IsOk, Err, Some};
 ghost use Rattle.rpl_predef.specs.declared.predefs.PredefsFault.TheVariants as PredefsFault;
 ghost use Rattle.rw_base.specs.Predefined.{predefined_of};
-ghost use Rattle.rpl_predef.specs.Rows.{IsRow, first_wrong, AreInOrder};
+ghost use Rattle.rpl_predef.specs.Rows.{IsRow, first_wrong_row, AreRowsInOrder};
 
 use crate::Predef;
 use rw_base::Qty;
@@ -24,13 +24,13 @@ pub struct Predefs {
     /// The functions, in that order.
     pub rows: Vec<Predef>,
     ghost whole: { length rows.items ≡ 7 },
-    ghost ordered: { AreInOrder (map (λ p. p.row) rows.items) },
+    ghost ordered: { AreRowsInOrder (map (λ p. p.row) rows.items) },
 }
 
 // The first place, counted from 1, with a function of another row.
 fn first_wrong(rows: &[Predef]) -> Option<u8>
     requires { length rows.now ≤ 7 }
-    ensures { result ≡ first_wrong 1 (map (λ p. p.row) rows.now) }
+    ensures { result ≡ first_wrong_row 1 (map (λ p. p.row) rows.now) }
 {
     let mut place = 1u8;
     for predef in rows {
@@ -48,12 +48,13 @@ impl Predefs {
     /// Their count is judged first. `WrongPlace` names the first function of another row.
     pub fn of(rows: Vec<Predef>) -> Result<Predefs, PredefsFault>
         ensures accepted { IsOk result
-            ↔ ((length rows.items ≡ 7) × AreInOrder (map (λ p. p.row) rows.items)) }
+            ↔ ((length rows.items ≡ 7) × AreRowsInOrder (map (λ p. p.row) rows.items)) }
         ensures rows { IfOk result (λ predefs. predefs.rows ≡ rows) }
         ensures count { (found : ℕ) → result ≡ Err (PredefsFault.WrongCount found)
             → (found ≡ length rows.items) × (found ≢ 7) }
         ensures place { (place : ℕ) → result ≡ Err (PredefsFault.WrongPlace place)
-            → (length rows.items ≡ 7) × (first_wrong 1 (map (λ p. p.row) rows.items) ≡ Some place) }
+            → (length rows.items ≡ 7)
+            × (first_wrong_row 1 (map (λ p. p.row) rows.items) ≡ Some place) }
     {
         if rows.len() != ROWS {
             return Err(PredefsFault::WrongCount(rows.len()));

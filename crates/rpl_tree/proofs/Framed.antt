@@ -7,20 +7,20 @@ use Rattle.rpl_tree.specs.Outcome.{Answer, Outcome, Trail, after, ended, gives, 
 use Rattle.rpl_tree.specs.Operators.{chosen}
 use Rattle.rpl_tree.specs.World.{World, cell_of, is_step, known_of, known_or_end, read_of}
 use Rattle.rpl_tree.specs.Mean.{both, numbers_for, turns, with_elements, with_number}
-use Rattle.rpl_tree.specs.Frame.{AreAlike}
+use Rattle.rpl_tree.specs.Frame.{AgreeAt}
 
-alike_left : {A : Type 0} (one other : Cell → A) (xs ys : List Cell) → AreAlike one other (xs ++ ys) → AreAlike one other xs
+alike_left : {A : Type 0} (one other : Cell → A) (xs ys : List Cell) → AgreeAt one other (xs ++ ys) → AgreeAt one other xs
 alike_left one other [] ys all = tt
 alike_left one other (x ∷ xs) ys all = (all.0, alike_left one other xs ys all.1)
 
-alike_right : {A : Type 0} (one other : Cell → A) (xs ys : List Cell) → AreAlike one other (xs ++ ys) → AreAlike one other ys
+alike_right : {A : Type 0} (one other : Cell → A) (xs ys : List Cell) → AgreeAt one other (xs ++ ys) → AgreeAt one other ys
 alike_right one other [] ys all = all
 alike_right one other (x ∷ xs) ys all = alike_right one other xs ys all.1
 
 module _ (one other : Cell → Option ℤ) where
   -- they are the same where the cells are alike at which the first looks
   abbrev pub Same : {A : Type 0} → Outcome A → Outcome A → Type 0
-  Same r s = AreAlike one other r.trail.looked → r ≡ s
+  Same r s = AgreeAt one other r.trail.looked → r ≡ s
 
   pub same_itself : {A : Type 0} (r : Outcome A) → Same r r
   same_itself r alike = refl

@@ -11,14 +11,14 @@ use Rattle.rpl_tree.specs.declared.words.OneWord.{OneWord}
 use Rattle.rpl_tree.specs.declared.words.OneWord.TheVariants.{Not, Minus, Known, Length, Month, Day, Year}
 use Rattle.rpl_tree.specs.declared.words.TwoWord.{TwoWord}
 use Rattle.rpl_tree.specs.declared.words.TwoWord.TheVariants.{Or, And, Equal, Unequal, Less, LessEqual, Greater, GreaterEqual, Plus, Minus as Less_by, Times, Divide, Append, Item}
-use Rattle.rpl_tree.specs.Value.{Kind, truth_kind, Value, a_truth, kind_of, numbers, room_of, weight, weights}
+use Rattle.rpl_tree.specs.Value.{Kind, truth_kind, Value, a_truth, kind_of_value, numbers, room_of, weight, weights}
 use Rattle.rpl_tree.specs.Outcome.{Answer, Outcome, Trail, after, ended, gives, is_stuck, spent, stuck, value, ◌>>=◌}
 use Rattle.rpl_tree.specs.Operators.{append_of, at_most_of, chosen, difference_of, elements_of, equal_of, item_of, length_of, less_of, list_of, negative_of, not_of, product_of, quotient_of, sum_of, widened}
 use Rattle.rpl_tree.specs.World.{convert_of, date_part, known_of, put_of, read_of, slot_value, table_named}
 use Rattle.rpl_tree.specs.Tree.{Tree, Trees, literal, truth, now, slot, name, call, brackets, list, choice, bind, each, mapped, one, two, convert, at, no_trees, tree, Act, Acts, assign, branch, with_name, no_acts, act, Parameter, Declared, rule, function}
 use Rattle.rpl_tree.specs.Kinds.{Head, kind_of_type, tree_kind}
-use Rattle.rpl_tree.specs.Mean.{Env, Function, acts_done, act_done, arguments_of, both, called, fire_of, function_of, heads_of, kind_in, known_in, literal_value, mean, named, names_in, numbers_for, one_value, param_kinds, predefined_functions, rule_done, turns, two_value, value_of, values_of, with_arguments, with_elements}
-use Rattle.rpl_tree.specs.Frame.{AreAlike}
+use Rattle.rpl_tree.specs.Mean.{Env, Function, acts_done, act_done, arguments_of, both, called, fire_of, function_of, function_heads, kind_in, known_in, literal_value, mean, named, names_of_env, numbers_for, one_value, param_kinds, predefined_functions, rule_done, turns, two_value, value_of, values_of, with_arguments, with_elements}
+use Rattle.rpl_tree.specs.Frame.{AgreeAt}
 use Rattle.rpl_tree.proofs.Framed.{Same, same_after, same_bind, same_both, same_chosen, same_elements, same_itself, same_known, same_numbers, same_read, same_then, same_turns, world}
 
 -- a function, and what it does with the values of either
@@ -38,7 +38,7 @@ abbrev others : List Twin → List Function
 others [] = []
 others (t ∷ ts) = record { head = t.head; does = t.does_other } ∷ others ts
 
-same_heads : (ts : List Twin) → heads_of (ones ts) ≡ heads_of (others ts)
+same_heads : (ts : List Twin) → function_heads (ones ts) ≡ function_heads (others ts)
 same_heads [] = refl
 same_heads (t ∷ ts) = ap (λ hs. t.head ∷ hs) (same_heads ts)
 
@@ -115,7 +115,7 @@ module _ (one_of other_of : Cell → Option ℤ) where
     v2 env t = value_of (world one_of other_of basin step other_of) (others ts) env t
 
     kinds_same : (env : Env) (t : Tree) → kind_in (world one_of other_of basin step one_of) (ones ts) env t ≡ kind_in (world one_of other_of basin step other_of) (others ts) env t
-    kinds_same env t = ap (λ hs. tree_kind hs (names_in env) t) (same_heads ts)
+    kinds_same env t = ap (λ hs. tree_kind hs (names_of_env env) t) (same_heads ts)
 
     abbrev Claim : Tree → Type 0
     Claim t = (env : Env) → Like (v1 env t) (v2 env t)
@@ -132,35 +132,35 @@ module _ (one_of other_of : Cell → Option ℤ) where
     on_bind : (x : List ℕ) (e b : Tree) → Claim e → Claim b → Claim (bind x e b)
     on_bind x e b pe pb env =
         same_bind one_of other_of (v1 env e) (v2 env e)
-        (λ v. after (spent (weight (kind_of v))) (v1 ((x, v) ∷ env) b)) (λ v. after (spent (weight (kind_of v))) (v2 ((x, v) ∷ env) b)) (pe env)
-        (λ v. same_after one_of other_of (spent (weight (kind_of v))) (v1 ((x, v) ∷ env) b) (v2 ((x, v) ∷ env) b) (pb ((x, v) ∷ env)))
+        (λ v. after (spent (weight (kind_of_value v))) (v1 ((x, v) ∷ env) b)) (λ v. after (spent (weight (kind_of_value v))) (v2 ((x, v) ∷ env) b)) (pe env)
+        (λ v. same_after one_of other_of (spent (weight (kind_of_value v))) (v1 ((x, v) ∷ env) b) (v2 ((x, v) ∷ env) b) (pb ((x, v) ∷ env)))
 
     abbrev body1 : Env → List ℕ → List ℕ → Tree → Value → Value → Value → Outcome Value
-    body1 env x a b first v total = v1 ((a, total) ∷ (x, v) ∷ env) b >>= widened (kind_of first)
+    body1 env x a b first v total = v1 ((a, total) ∷ (x, v) ∷ env) b >>= widened (kind_of_value first)
 
     abbrev body2 : Env → List ℕ → List ℕ → Tree → Value → Value → Value → Outcome Value
-    body2 env x a b first v total = v2 ((a, total) ∷ (x, v) ∷ env) b >>= widened (kind_of first)
+    body2 env x a b first v total = v2 ((a, total) ∷ (x, v) ∷ env) b >>= widened (kind_of_value first)
 
     abbrev loop1 : Env → List ℕ → List ℕ → Tree → Value → Value → Outcome Value
     loop1 env x a b all first =
-        let words : ℕ = weight (kind_of first) in
+        let words : ℕ = weight (kind_of_value first) in
         after (spent (words + 1)) (with_elements (elements_of all) (turns words (body1 env x a b first) first) >>= (λ last. gives last words))
 
     abbrev loop2 : Env → List ℕ → List ℕ → Tree → Value → Value → Outcome Value
     loop2 env x a b all first =
-        let words : ℕ = weight (kind_of first) in
+        let words : ℕ = weight (kind_of_value first) in
         after (spent (words + 1)) (with_elements (elements_of all) (turns words (body2 env x a b first) first) >>= (λ last. gives last words))
 
     on_loop : (env : Env) (x a : List ℕ) (b : Tree) → Claim b → (all first : Value) → Like (loop1 env x a b all first) (loop2 env x a b all first)
     on_loop env x a b pb all first =
-        let words : ℕ = weight (kind_of first) in
+        let words : ℕ = weight (kind_of_value first) in
         same_after one_of other_of (spent (words + 1))
         (with_elements (elements_of all) (turns words (body1 env x a b first) first) >>= (λ last. gives last words))
         (with_elements (elements_of all) (turns words (body2 env x a b first) first) >>= (λ last. gives last words))
         (same_then one_of other_of (with_elements (elements_of all) (turns words (body1 env x a b first) first)) (with_elements (elements_of all) (turns words (body2 env x a b first) first)) (λ last. gives last words)
         (same_elements one_of other_of (elements_of all) (turns words (body1 env x a b first) first) (turns words (body2 env x a b first) first)
         (same_turns one_of other_of words (body1 env x a b first) (body2 env x a b first)
-        (λ v total. same_then one_of other_of (v1 ((a, total) ∷ (x, v) ∷ env) b) (v2 ((a, total) ∷ (x, v) ∷ env) b) (widened (kind_of first)) (pb ((a, total) ∷ (x, v) ∷ env))) first)))
+        (λ v total. same_then one_of other_of (v1 ((a, total) ∷ (x, v) ∷ env) b) (v2 ((a, total) ∷ (x, v) ∷ env) b) (widened (kind_of_value first)) (pb ((a, total) ∷ (x, v) ∷ env))) first)))
 
     on_each : (x : List ℕ) (l : Tree) (a : List ℕ) (f b : Tree) → Claim l → Claim f → Claim b → Claim (each x l a f b)
     on_each x l a f b pl pf pb env =
@@ -170,7 +170,7 @@ module _ (one_of other_of : Cell → Option ℤ) where
         (λ first. on_loop env x a b pb all first))
 
     abbrev kept : Value → Outcome (List ℤ) → Outcome Value
-    kept all r = r >>= (λ zs. gives (numbers (room_of (kind_of all)) zs) 0)
+    kept all r = r >>= (λ zs. gives (numbers (room_of (kind_of_value all)) zs) 0)
 
     on_mapped : (x : List ℕ) (l b : Tree) → Claim l → Claim b → Claim (mapped x l b)
     on_mapped x l b pl pb env =
@@ -178,7 +178,7 @@ module _ (one_of other_of : Cell → Option ℤ) where
         (λ all. after (spent 1) (kept all (with_elements (elements_of all) (numbers_for (λ v. v1 ((x, v) ∷ env) b)))))
         (λ all. after (spent 1) (kept all (with_elements (elements_of all) (numbers_for (λ v. v2 ((x, v) ∷ env) b))))) (pl env)
         (λ all. same_after one_of other_of (spent 1) (kept all (with_elements (elements_of all) (numbers_for (λ v. v1 ((x, v) ∷ env) b)))) (kept all (with_elements (elements_of all) (numbers_for (λ v. v2 ((x, v) ∷ env) b))))
-        (same_then one_of other_of (with_elements (elements_of all) (numbers_for (λ v. v1 ((x, v) ∷ env) b))) (with_elements (elements_of all) (numbers_for (λ v. v2 ((x, v) ∷ env) b))) (λ zs. gives (numbers (room_of (kind_of all)) zs) 0)
+        (same_then one_of other_of (with_elements (elements_of all) (numbers_for (λ v. v1 ((x, v) ∷ env) b))) (with_elements (elements_of all) (numbers_for (λ v. v2 ((x, v) ∷ env) b))) (λ zs. gives (numbers (room_of (kind_of_value all)) zs) 0)
         (same_elements one_of other_of (elements_of all) (numbers_for (λ v. v1 ((x, v) ∷ env) b)) (numbers_for (λ v. v2 ((x, v) ∷ env) b))
         (same_numbers one_of other_of (λ v. v1 ((x, v) ∷ env) b) (λ v. v2 ((x, v) ∷ env) b) (λ v. pb ((x, v) ∷ env))))))
 
@@ -287,8 +287,8 @@ module _ (one_of other_of : Cell → Option ℤ) where
           same_bind one_of other_of (v1 env c) (v2 env c) (λ x. chosen x (d1 env p) (d1 env q)) (λ x. chosen x (d2 env p) (d2 env q)) (same_value c env)
           (λ x. same_chosen one_of other_of x (d1 env p) (d2 env p) (d1 env q) (d2 env q) (same_acts p env) (same_acts q env))
       same_act (with_name x e body) env =
-          same_bind one_of other_of (v1 env e) (v2 env e) (λ v. after (spent (weight (kind_of v))) (d1 ((x, v) ∷ env) body)) (λ v. after (spent (weight (kind_of v))) (d2 ((x, v) ∷ env) body)) (same_value e env)
-          (λ v. same_after one_of other_of (spent (weight (kind_of v))) (d1 ((x, v) ∷ env) body) (d2 ((x, v) ∷ env) body) (same_acts body ((x, v) ∷ env)))
+          same_bind one_of other_of (v1 env e) (v2 env e) (λ v. after (spent (weight (kind_of_value v))) (d1 ((x, v) ∷ env) body)) (λ v. after (spent (weight (kind_of_value v))) (d2 ((x, v) ∷ env) body)) (same_value e env)
+          (λ v. same_after one_of other_of (spent (weight (kind_of_value v))) (d1 ((x, v) ∷ env) body) (d2 ((x, v) ∷ env) body) (same_acts body ((x, v) ∷ env)))
 
       pub same_acts : (body : Acts) (env : Env) → Like (d1 env body) (d2 env body)
       same_acts no_acts env = same_itself one_of other_of (gives tt 0)
@@ -343,12 +343,12 @@ looked_of stuck t fire e = absurd (none-some fire e)
 
 -- a firing depends on the cells alone at which it looks
 pub framed : (rules : List Declared) (basin : Draft) (number step : ℕ) (values other : Cell → Option ℤ) (fire : Fire)
-    → mean rules basin number step values ≡ Some fire → AreAlike values other fire.looked → mean rules basin number step other ≡ Some fire
+    → mean rules basin number step values ≡ Some fire → AgreeAt values other fire.looked → mean rules basin number step other ≡ Some fire
 framed rules basin number step values other fire e alike =
     let r : Outcome (Unit {0}) = rule_done (world values other basin step values) predefined_functions rules number in
     let s : Outcome (Unit {0}) = rule_done (world values other basin step other) predefined_functions rules number in
     let same : r ≡ s = same_rule values other basin step rules predefined_twins (likes_itself values other predefined_functions) number
-    (subst (λ cells. AreAlike values other cells) (sym (looked_of r.answer r.trail fire e)) alike) in
+    (subst (λ cells. AgreeAt values other cells) (sym (looked_of r.answer r.trail fire e)) alike) in
     subst (λ (z : Outcome (Unit {0})). fire_of z.answer z.trail ≡ Some fire) same e
 
 -- ---- a firing that isn't done

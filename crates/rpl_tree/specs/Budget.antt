@@ -2,7 +2,7 @@
 use Rattle.std.specs.Prelude.{ℕ, ◌+◌, ◌-◌, min, List, slice_index}
 use Rattle.rpl_tree.specs.Tree.{Declared}
 use Rattle.rpl_tree.specs.Cost.{costs, price_of_steps, price_of_looks, price_of_puts}
-use Rattle.rpl_tree.specs.Words.{words}
+use Rattle.rpl_tree.specs.Words.{words_of_rules}
 
 -- the most that a firing counts, how often it looks and puts at most, and how many words it keeps at most
 pub record Budget : Type 0 where
@@ -22,11 +22,11 @@ limits = budget 1000000 20000 2000 1000000
 abbrev pub capped : ℕ → ℕ → ℕ
 capped limit n = min n (limit + 1)
 
--- of the declaration of this number, counted from 1: `costs` and `words`, where they are within the limits
+-- of the declaration of this number, counted from 1: `costs` and `words_of_rules`, where they are within the limits
 abbrev pub budget_of : List Declared → ℕ → Budget
 budget_of rules number =
     budget
     (capped limits.count (slice_index (costs price_of_steps rules) (number - 1)))
     (capped limits.looks (slice_index (costs price_of_looks rules) (number - 1)))
     (capped limits.puts (slice_index (costs price_of_puts rules) (number - 1)))
-    (capped limits.words (slice_index (words rules) (number - 1)))
+    (capped limits.words (slice_index (words_of_rules rules) (number - 1)))

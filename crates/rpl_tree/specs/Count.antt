@@ -70,6 +70,6 @@ abbrev mutual
   acts_locals (act a rest) = act_locals a + acts_locals rest
 
 -- those of a declaration, beside its parameters
-abbrev pub locals_of : Declared → ℕ
-locals_of (rule called_so body) = acts_locals body
-locals_of (function called_so params result body) = local_count body
+abbrev pub declared_locals : Declared → ℕ
+declared_locals (rule called_so body) = acts_locals body
+declared_locals (function called_so params result body) = local_count body

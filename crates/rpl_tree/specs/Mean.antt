@@ -13,7 +13,7 @@ use Rattle.rpl_tree.specs.declared.words.OneWord.{OneWord}
 use Rattle.rpl_tree.specs.declared.words.OneWord.TheVariants.{Not, Minus, Known, Length, Month, Day, Year}
 use Rattle.rpl_tree.specs.declared.words.TwoWord.{TwoWord}
 use Rattle.rpl_tree.specs.declared.words.TwoWord.TheVariants.{Or, And, Equal, Unequal, Less, LessEqual, Greater, GreaterEqual, Plus, Minus as Less_by, Times, Divide, Append, Item}
-use Rattle.rpl_tree.specs.Value.{Kind, number_kind, truth_kind, Value, a_number, a_truth, a_date, numbers, kind_of, room_of, weight, weights}
+use Rattle.rpl_tree.specs.Value.{Kind, number_kind, truth_kind, Value, a_number, a_truth, a_date, numbers, kind_of_value, room_of, weight, weights}
 use Rattle.rpl_tree.specs.Outcome.{Answer, Outcome, Trail, after, ended, gives, is_stuck, spent, stuck, value, ◌>>=◌}
 use Rattle.rpl_tree.specs.Operators.{append_of, at_most_of, chosen, difference_of, elements_of, equal_of, is_quantity, item_of, length_of, less_of, list_of, negative_of, not_of, product_of, quotient_of, sum_of, widened}
 use Rattle.rpl_tree.specs.World.{World, convert_of, date_part, known_of, put_of, read_of, slot_value, table_named}
@@ -26,13 +26,13 @@ use Rattle.rpl_tree.specs.Kinds.{Head, Names, kind_of_type, tree_kind}
 abbrev pub Env : Type 0
 Env = List (List ℕ × Value)
 
-abbrev pub names_in : Env → Names
-names_in [] = []
-names_in (entry ∷ env) = (entry.0, kind_of entry.1) ∷ names_in env
+abbrev pub names_of_env : Env → Names
+names_of_env [] = []
+names_of_env (entry ∷ env) = (entry.0, kind_of_value entry.1) ∷ names_of_env env
 
 abbrev pub named : Env → List ℕ → Outcome Value
 named [] x = is_stuck
-named (entry ∷ env) x = if bytes_eq entry.0 x then gives entry.1 (weight (kind_of entry.1)) else named env x
+named (entry ∷ env) x = if bytes_eq entry.0 x then gives entry.1 (weight (kind_of_value entry.1)) else named env x
 
 -- ---- functions
 
@@ -41,8 +41,8 @@ pub record Function : Type 0 where
   pub head : Head
   pub does : List Value → Outcome Value
 
-abbrev pub heads_of : List Function → List Head
-heads_of functions = map (λ (f : Function). f.head) functions
+abbrev pub function_heads : List Function → List Head
+function_heads functions = map (λ (f : Function). f.head) functions
 
 -- goes on with the function that is called so
 abbrev pub called : List Function → List ℕ → (Function → Outcome Value) → Outcome Value
@@ -136,7 +136,7 @@ two_value Item l r = both l r item_of
 module _ (world : World) (functions : List Function) where
   -- the kind that an expression has among these names
   abbrev pub kind_in : Env → Tree → Kind
-  kind_in env t = tree_kind (heads_of functions) (names_in env) t
+  kind_in env t = tree_kind (function_heads functions) (names_of_env env) t
 
   abbrev mutual
     pub value_of : Env → Tree → Outcome Value
@@ -151,15 +151,15 @@ module _ (world : World) (functions : List Function) where
     value_of env (choice c y n) =
         let kind = kind_in env (choice c y n) in
         value_of env c >>= (λ x. chosen x (value_of env y >>= widened kind) (value_of env n >>= widened kind))
-    value_of env (bind x e b) = value_of env e >>= (λ v. after (spent (weight (kind_of v))) (value_of ((x, v) ∷ env) b))
+    value_of env (bind x e b) = value_of env e >>= (λ v. after (spent (weight (kind_of_value v))) (value_of ((x, v) ∷ env) b))
     value_of env (each x l a f b) =
         value_of env l >>= (λ all. value_of env f >>= (λ first.
-        let words : ℕ = weight (kind_of first) in
-        let body : Value → Value → Outcome Value = λ v total. value_of ((a, total) ∷ (x, v) ∷ env) b >>= widened (kind_of first) in
+        let words : ℕ = weight (kind_of_value first) in
+        let body : Value → Value → Outcome Value = λ v total. value_of ((a, total) ∷ (x, v) ∷ env) b >>= widened (kind_of_value first) in
         after (spent (words + 1)) (with_elements (elements_of all) (turns words body first) >>= (λ last. gives last words))))
     value_of env (mapped x l b) =
         value_of env l >>= (λ all. after (spent 1) (with_elements (elements_of all) (numbers_for (λ v. value_of ((x, v) ∷ env) b))
-        >>= (λ zs. gives (numbers (room_of (kind_of all)) zs) 0)))
+        >>= (λ zs. gives (numbers (room_of (kind_of_value all)) zs) 0)))
     value_of env (one word e) = one_value world.basin word (value_of env e) (known_in env e)
     value_of env (two word l r) = two_value word (value_of env l) (value_of env r)
     value_of env (convert word o e) = value_of env e >>= convert_of word (table_named world.basin o)
@@ -187,7 +187,7 @@ module _ (world : World) (functions : List Function) where
     pub act_done : Env → Act → Outcome (Unit {0})
     act_done env (assign o s ahead e) = value_of env e >>= put_of world.basin (slot_named world.basin.objects o s) ahead
     act_done env (branch c first second) = value_of env c >>= (λ x. chosen x (acts_done env first) (acts_done env second))
-    act_done env (with_name x e body) = value_of env e >>= (λ v. after (spent (weight (kind_of v))) (acts_done ((x, v) ∷ env) body))
+    act_done env (with_name x e body) = value_of env e >>= (λ v. after (spent (weight (kind_of_value v))) (acts_done ((x, v) ∷ env) body))
 
     pub acts_done : Env → Acts → Outcome (Unit {0})
     acts_done env no_acts = gives tt 0

@@ -5,7 +5,7 @@ use Rattle.rw_base.specs.Quantity.{quantity_max}
 use Rattle.rw_base.specs.Quotient.{floor_div}
 use Rattle.rw_model.specs.Objects.{numbered}
 use Rattle.rw_series.specs.declared.fire.FireEnd.TheVariants.{ZeroDivisor, OutOfRange}
-use Rattle.rpl_tree.specs.Value.{Kind, numbers_kind, slots_kind, Value, a_number, a_truth, a_date, a_slot, numbers, slots, kind_of, is_same_kind}
+use Rattle.rpl_tree.specs.Value.{Kind, numbers_kind, slots_kind, Value, a_number, a_truth, a_date, a_slot, numbers, slots, kind_of_value, is_same_kind}
 use Rattle.rpl_tree.specs.Outcome.{Outcome, after, ends, gives, is_stuck, spent, ◌>>=◌}
 
 -- a whole number from -Q to Q
@@ -80,16 +80,16 @@ all_numbers m zs (a_number z ∷ vs) = all_numbers m (zs ++ z ∷ []) vs
 all_numbers m zs (_ ∷ vs) = is_stuck
 
 -- the values as a list of slots
-abbrev pub all_slots : ℕ → List ℕ → List Value → Outcome Value
-all_slots m ss [] = gives (slots m ss) (m + 1)
-all_slots m ss (a_slot s ∷ vs) = all_slots m (ss ++ s ∷ []) vs
-all_slots m ss (_ ∷ vs) = is_stuck
+abbrev pub all_slot_values : ℕ → List ℕ → List Value → Outcome Value
+all_slot_values m ss [] = gives (slots m ss) (m + 1)
+all_slot_values m ss (a_slot s ∷ vs) = all_slot_values m (ss ++ s ∷ []) vs
+all_slot_values m ss (_ ∷ vs) = is_stuck
 
 -- the list of the values, at least one, with room for just them
 abbrev pub list_of : List Value → Outcome Value
 list_of [] = is_stuck
 list_of (a_number z ∷ vs) = all_numbers (length vs + 1) (z ∷ []) vs
-list_of (a_slot s ∷ vs) = all_slots (length vs + 1) (s ∷ []) vs
+list_of (a_slot s ∷ vs) = all_slot_values (length vs + 1) (s ∷ []) vs
 list_of (_ ∷ vs) = is_stuck
 
 -- the list with one element more, and room for one more
@@ -134,4 +134,4 @@ roomier _ _ = is_stuck
 
 -- a value in a place of a kind: as it is where it is of that kind, and a list with less room is given more
 abbrev pub widened : Kind → Value → Outcome Value
-widened kind v = if is_same_kind kind (kind_of v) then gives v 0 else roomier kind v
+widened kind v = if is_same_kind kind (kind_of_value v) then gives v 0 else roomier kind v

@@ -19,13 +19,13 @@ pub data Value : Type 0 where
   numbers : ℕ → List ℤ → Value
   slots : ℕ → List ℕ → Value
 
-abbrev pub kind_of : Value → Kind
-kind_of (a_number z) = number_kind
-kind_of (a_truth b) = truth_kind
-kind_of (a_date d) = date_kind
-kind_of (a_slot s) = slot_kind
-kind_of (numbers room zs) = numbers_kind room
-kind_of (slots room ss) = slots_kind room
+abbrev pub kind_of_value : Value → Kind
+kind_of_value (a_number z) = number_kind
+kind_of_value (a_truth b) = truth_kind
+kind_of_value (a_date d) = date_kind
+kind_of_value (a_slot s) = slot_kind
+kind_of_value (numbers room zs) = numbers_kind room
+kind_of_value (slots room ss) = slots_kind room
 
 abbrev pub is_same_kind : Kind → Kind → Bool
 is_same_kind number_kind number_kind = true

@@ -79,5 +79,5 @@ words_from functions (function called_so params result body ∷ rest) =
     let known : Costed = record { head = record { name = called_so; takes = takes; result = kind }; most = inside } in
     inside ∷ words_from (known ∷ functions) rest
 
-abbrev pub words : List Declared → List ℕ
-words rules = words_from (predefined_costs 0) rules
+abbrev pub words_of_rules : List Declared → List ℕ
+words_of_rules rules = words_from (predefined_costs 0) rules

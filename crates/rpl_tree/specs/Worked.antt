@@ -2,7 +2,7 @@
 use Rattle.std.specs.Prelude.{ℕ, ◌==◌, ℤ, pos, codes, false, List, [], ◌∷◌, map, Option, Some, None, if◌then◌else◌}
 use Rattle.rw_base.specs.Unit.{plain_number}
 use Rattle.rw_base.specs.declared.number.Cell.{Cell}
-use Rattle.rw_calendar.specs.Moment.{on}
+use Rattle.rw_calendar.specs.Moment.{moment_on}
 use Rattle.rw_calendar.specs.declared.step_length.StepLength.TheVariants.{Hours}
 use Rattle.rw_model.specs.Draft.{Draft}
 use Rattle.rw_model.specs.Objects.{Object}
@@ -22,10 +22,10 @@ use Rattle.rpl_tree.specs.Mean.{mean}
 -- ---- basins
 
 -- these objects over so many days from the 1st of January 2020 on
-abbrev pub basin_of : ℕ → List Object → Draft
-basin_of days objects = record {
+abbrev pub basin_over_days : ℕ → List Object → Draft
+basin_over_days days objects = record {
   control = record {
-    stamps = record { start = on 2020 1 1 0; step_length = Hours 24; count = days };
+    stamps = record { start = moment_on 2020 1 1 0; step_length = Hours 24; count = days };
     agenda = HighFirst;
     object_limit = 50;
     rule_limit = 20;
@@ -105,9 +105,9 @@ storage_before = at (slot (codes "Pool") (codes "Storage")) (two Less_by now (wh
 abbrev pub storage_after : Tree
 storage_after = at (slot (codes "Pool") (codes "Storage")) (two Plus now (whole (pos 1)))
 
-abbrev pub trees_of : List Tree → Trees
-trees_of [] = no_trees
-trees_of (t ∷ ts) = tree t (trees_of ts)
+abbrev pub trees_from : List Tree → Trees
+trees_from [] = no_trees
+trees_from (t ∷ ts) = tree t (trees_from ts)
 
 -- `n`, `s` and `l`
 abbrev pub n_name : Tree
@@ -120,8 +120,8 @@ abbrev pub l_name : Tree
 l_name = name (codes "l")
 
 -- `IF c THEN 1 ELSE 2 ENDIF`
-abbrev pub one_or_two : Tree → Tree
-one_or_two c = choice c (whole (pos 1)) (whole (pos 2))
+abbrev pub one_else_two : Tree → Tree
+one_else_two c = choice c (whole (pos 1)) (whole (pos 2))
 
 -- `1 / n`
 abbrev pub part_of_n : Tree
@@ -129,15 +129,15 @@ part_of_n = two Divide (whole (pos 1)) n_name
 
 -- `{a, b}`
 abbrev pub pair : ℤ → ℤ → Tree
-pair a b = list (trees_of (whole a ∷ whole b ∷ []))
+pair a b = list (trees_from (whole a ∷ whole b ∷ []))
 
 -- `APPEND({7, 8}, 9)`
-abbrev pub three : Tree
-three = two Append (pair (pos 7) (pos 8)) (whole (pos 9))
+abbrev pub three_numbers : Tree
+three_numbers = two Append (pair (pos 7) (pos 8)) (whole (pos 9))
 
 -- `FOR n IN l WITH s := 0 DO e ENDFOR`
-abbrev pub over : Tree → Tree → Tree
-over l e = each (codes "n") l (codes "s") (whole (pos 0)) e
+abbrev pub loop_over : Tree → Tree → Tree
+loop_over l e = each (codes "n") l (codes "s") (whole (pos 0)) e
 
 -- `MAP n IN l DO n * 2 ENDMAP`
 abbrev pub twice_each : Tree → Tree
@@ -158,11 +158,11 @@ turns_of_one_name l = each (codes "n") l (codes "n") (whole (pos 0)) one_more
 -- `FOR n IN {D.X, D.Y} WITH s := 0 DO s + n[t] ENDFOR`
 abbrev pub sum_of_slots : Tree
 sum_of_slots =
-    over (list (trees_of (slot (codes "D") (codes "X") ∷ slot (codes "D") (codes "Y") ∷ []))) (two Plus s_name (at n_name now))
+    loop_over (list (trees_from (slot (codes "D") (codes "X") ∷ slot (codes "D") (codes "Y") ∷ []))) (two Plus s_name (at n_name now))
 
 -- a call with these numbers
-abbrev pub call_of : List ℕ → List ℤ → Tree
-call_of f zs = call f (trees_of (map whole zs))
+abbrev pub call_with_numbers : List ℕ → List ℤ → Tree
+call_with_numbers f zs = call f (trees_from (map whole zs))
 
 -- ---- rules
 
@@ -170,13 +170,13 @@ call_of f zs = call f (trees_of (map whole zs))
 abbrev pub puts_at : List ℕ → List ℕ → Tree → Act
 puts_at o s e = assign o s (pos 0) e
 
-abbrev pub acts_of : List Act → Acts
-acts_of [] = no_acts
-acts_of (a ∷ rest) = act a (acts_of rest)
+abbrev pub acts_from : List Act → Acts
+acts_from [] = no_acts
+acts_from (a ∷ rest) = act a (acts_from rest)
 
 -- a rule of these statements
 abbrev pub rule_of : List Act → Declared
-rule_of statements = rule (codes "rule") (acts_of statements)
+rule_of statements = rule (codes "rule") (acts_from statements)
 
 -- `D.X[t] := e;` and `D.Y[t] := e;`
 abbrev pub x_put : Tree → Act
@@ -187,11 +187,11 @@ y_put e = puts_at (codes "D") (codes "Y") e
 
 -- `D.X[t] := 1;` alone
 abbrev pub one_to_x : Acts
-one_to_x = acts_of (x_put (whole (pos 1)) ∷ [])
+one_to_x = acts_from (x_put (whole (pos 1)) ∷ [])
 
 -- `D.X[t] := n;` alone
 abbrev pub n_to_x : Acts
-n_to_x = acts_of (x_put n_name ∷ [])
+n_to_x = acts_from (x_put n_name ∷ [])
 
 -- `D.X[t] := e;` as the one rule
 abbrev pub x_rule : Tree → List Declared
@@ -215,14 +215,14 @@ seepage_set = rule_of (puts_at (codes "Canal") (codes "Seepage") (whole (pos 1))
 abbrev pub cap_and_base : List Declared
 cap_and_base =
     rule_of (puts_at (codes "Dam") (codes "Storage")
-    (call (codes "Min") (trees_of (at_now (codes "Dam") (codes "Storage") ∷ of_unit (pos 1020) (codes "m3") ∷ []))) ∷ []) ∷
+    (call (codes "Min") (trees_from (at_now (codes "Dam") (codes "Storage") ∷ of_unit (pos 1020) (codes "m3") ∷ []))) ∷ []) ∷
     rule_of (puts_at (codes "Dam") (codes "Outflow") (of_unit (pos 50) (codes "m3/step")) ∷ []) ∷
     []
 
 -- `D.X[t] := Max(D.X[t], 10);` and `D.X[t] := 0;`
 abbrev pub raise_and_reset : List Declared
 raise_and_reset =
-    rule_of (x_put (call (codes "Max") (trees_of (x_now ∷ whole (pos 10) ∷ []))) ∷ []) ∷
+    rule_of (x_put (call (codes "Max") (trees_from (x_now ∷ whole (pos 10) ∷ []))) ∷ []) ∷
     rule_of (x_put (whole (pos 0)) ∷ []) ∷
     []
 
@@ -240,14 +240,14 @@ ahead = function (codes "Ahead") (record { name = codes "n"; of_type = numeric (
 
 -- `{0 "step", 1 "step"}`
 abbrev pub step_pair : Tree
-step_pair = list (trees_of (of_unit (pos 0) (codes "step") ∷ of_unit (pos 1) (codes "step") ∷ []))
+step_pair = list (trees_from (of_unit (pos 0) (codes "step") ∷ of_unit (pos 1) (codes "step") ∷ []))
 
 -- `Ahead(n)` and `s + Ahead(n)`
-abbrev pub ahead_of : Tree
-ahead_of = call (codes "Ahead") (trees_of (n_name ∷ []))
+abbrev pub call_of_ahead : Tree
+call_of_ahead = call (codes "Ahead") (trees_from (n_name ∷ []))
 
 abbrev pub ahead_now : Tree
-ahead_now = two Plus s_name ahead_of
+ahead_now = two Plus s_name call_of_ahead
 
 -- `FOR n IN {0 "step", 1 "step"} WITH s := 0 "m3/step" DO s + Ahead(n) ENDFOR`
 abbrev pub sum_loop : Tree
@@ -280,7 +280,7 @@ with_functions e = count_function ∷ both_function ∷ rule_of (x_put e ∷ [])
 
 -- `Count({7, 8}, e)`
 abbrev pub count_call : Tree → Tree
-count_call e = call (codes "Count") (trees_of (pair (pos 7) (pos 8) ∷ e ∷ []))
+count_call e = call (codes "Count") (trees_from (pair (pos 7) (pos 8) ∷ e ∷ []))
 
 -- `LENGTH(Both())`
 abbrev pub both_call : Tree
@@ -296,16 +296,16 @@ abbrev pub done_by : List Cell → ℕ → ℤ → ℕ → Option Fire
 done_by looked s z count = fire Done looked (put_to s z ∷ []) count
 
 -- a rule that ended before
-abbrev pub ended_by : FireEnd → List Cell → ℕ → Option Fire
-ended_by end looked count = fire end looked [] count
+abbrev pub ended_early : FireEnd → List Cell → ℕ → Option Fire
+ended_early end looked count = fire end looked [] count
 
 -- what the first rule does at the first of two days of the data object with plain numbers
 abbrev pub rules_do : List Declared → (Cell → Option ℤ) → Option Fire
-rules_do rules values = mean rules (basin_of 2 (numbers_object ∷ [])) 1 1 values
+rules_do rules values = mean rules (basin_over_days 2 (numbers_object ∷ [])) 1 1 values
 
 -- what the rule `D.X[t + n] := 7;` does there, where rules put up to so many days ahead
 abbrev pub x_ahead_by : ℕ → ℤ → Option Fire
-x_ahead_by most n = mean (x_ahead_rule n (whole (pos 7))) (putting_ahead most (basin_of 2 (numbers_object ∷ []))) 1 1 unknown_cells
+x_ahead_by most n = mean (x_ahead_rule n (whole (pos 7))) (putting_ahead most (basin_over_days 2 (numbers_object ∷ []))) 1 1 unknown_cells
 
 -- what the rule `D.X[t] := e;` does there, where nothing is known
 abbrev pub x_by : Tree → Option Fire
@@ -324,12 +324,12 @@ x_is z count = done_by [] 1 z count
 
 -- it ended, and nothing was looked at
 abbrev pub x_ends : FireEnd → ℕ → Option Fire
-x_ends end count = ended_by end [] count
+x_ends end count = ended_early end [] count
 
 -- it ended at the look at Y
 abbrev pub x_wants_y : ℕ → Option Fire
-x_wants_y count = ended_by Unknown (cell_of 2 1 ∷ []) count
+x_wants_y count = ended_early Unknown (cell_of 2 1 ∷ []) count
 
 -- what the rule does at a timestep of 40 days of the data object and the pool, where nothing is known
 abbrev pub pool_by : ℕ → Tree → Option Fire
-pool_by step e = mean (x_rule e) (basin_of 40 (numbers_object ∷ pool ∷ [])) 1 step unknown_cells
+pool_by step e = mean (x_rule e) (basin_over_days 40 (numbers_object ∷ pool ∷ [])) 1 step unknown_cells

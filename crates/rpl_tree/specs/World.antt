@@ -41,8 +41,8 @@ abbrev pub cells_at : Draft → ℕ → ℤ → List Cell
 cells_at basin slot date = if is_step basin date then cell_of slot (unsigned_abs date) ∷ [] else []
 
 -- the value that is found there: in the run that of the cell, before it the one that the basin was given, if there is one
-abbrev pub value_at : World → ℕ → ℤ → Option ℤ
-value_at world slot date =
+abbrev pub value_found : World → ℕ → ℤ → Option ℤ
+value_found world slot date =
     if is_step world.basin date then world.values (cell_of slot (unsigned_abs date)) else before_of world.basin.objects slot date
 
 -- a value, or the end where it is unknown
@@ -52,13 +52,13 @@ known_or_end (Some z) = value (a_number z)
 
 abbrev pub read_of : World → Value → Value → Outcome Value
 read_of world (a_slot s) (a_date d) =
-    record { answer = known_or_end (value_at world s d); trail = looking (cells_at world.basin s d) }
+    record { answer = known_or_end (value_found world s d); trail = looking (cells_at world.basin s d) }
 read_of world _ _ = is_stuck
 
 -- whether there is a value
 abbrev pub known_of : World → Value → Value → Outcome Value
 known_of world (a_slot s) (a_date d) =
-    record { answer = value (a_truth (is_some (value_at world s d))); trail = looking (cells_at world.basin s d) }
+    record { answer = value (a_truth (is_some (value_found world s d))); trail = looking (cells_at world.basin s d) }
 known_of world _ _ = is_stuck
 
 -- the slot that is called so

@@ -3,7 +3,7 @@ ghost use Rattle.std.specs.Prelude.{◌≡◌, [], ◌∷◌, pos, IfOk, codes};
 ghost use Rattle.rpl_tree.specs.declared.words.TwoWord.TheVariants as TwoWord;
 ghost use Rattle.rpl_tree.specs.Tree.{call, name, two};
 ghost use Rattle.rpl_tree.specs.Seen.{act_of, declared_of, rules_of, tree_of};
-ghost use Rattle.rpl_tree.specs.Worked.{ahead, ahead_now, ahead_of, ahead_of_n, at_now, hundredth, n_name, of_unit, s_name, step_pair, sum, sum_ahead, sum_loop, whole, x_put, y_now};
+ghost use Rattle.rpl_tree.specs.Worked.{ahead, ahead_now, call_of_ahead, ahead_of_n, at_now, hundredth, n_name, of_unit, s_name, step_pair, sum, sum_ahead, sum_loop, whole, x_put, y_now};
 
 use crate::{Declaration, Expr, Param, ParsedRules, SlotText, Statement, TwoWord, TypeText};
 use rw_base::NoMemory;
@@ -146,7 +146,7 @@ fn steps(alloc: Global) -> Result<Expr, NoMemory>
 
 // `Ahead(n)`.
 fn ahead_call(alloc: Global) -> Result<Expr, NoMemory>
-    ensures { IfOk result (λ e. tree_of e ≡ ahead_of) }
+    ensures { IfOk result (λ e. tree_of e ≡ call_of_ahead) }
 {
     let name = bytes_of(alloc, "Ahead")?;
     let mut args = Vec::new(alloc);

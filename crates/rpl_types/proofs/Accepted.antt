@@ -9,12 +9,12 @@ use Rattle.rpl_tree.specs.declared.words.ConvertWord.{ConvertWord}
 use Rattle.rpl_tree.specs.declared.rpl_type.RplType.{RplType}
 use Rattle.rpl_tree.specs.declared.rpl_type.RplType.TheVariants.{Numeric, Boolean, Datetime, Slot, NumericList, SlotList}
 use Rattle.rpl_types.specs.declared.type_kind.TypeKind.{TypeKind}
-use Rattle.rpl_types.specs.Fits.{Typed, joined, misfit}
-use Rattle.rpl_types.specs.Forms.{Scope, choice_type, condition_misfit, element_type, target_misfit, total_type}
+use Rattle.rpl_types.specs.Fits.{Typed, joined_type, misfit}
+use Rattle.rpl_types.specs.Forms.{TypeScope, choice_type, condition_misfit, element_type, target_misfit, total_type}
 use Rattle.rpl_types.specs.Functions.{Callable, Signature, param_scope, type_here}
 use Rattle.rpl_types.specs.HasType.{AllStand, AreDeclared, HasType, HaveTypes, IsDeclared, IsTyped, Stands}
-use Rattle.rpl_types.specs.Judged.{Refusal, and_function, and_then, before_others, cost_refusal, declared_types, function_names, head_refusal, judged, judged_from, refused_as_whole, with_budget}
-use Rattle.rpl_types.specs.Nodes.{Expression, Judged, Row, Types, at_node, behind, expression, nodes, statement, types_of, types_of_act, types_of_acts, types_of_all, ◌>>=◌}
+use Rattle.rpl_types.specs.Judged.{TypeRefusal, and_function, and_then, before_others, cost_refusal, declared_types, function_names, head_refusal, rules_judged, judged_from, refused_as_whole, with_budget}
+use Rattle.rpl_types.specs.Nodes.{Expression, Judged, RowTypes, Types, at_node, node_behind, expression, nodes, statement, types_of, types_of_act, types_of_acts, types_of_all, ◌>>=◌}
 
 -- ---- what was answered before
 
@@ -46,7 +46,7 @@ unrefused : (found : Option TypeKind) (x t : RplType) → unless_refused found x
 unrefused None x t h = (refl, ap (λ (r : Typed). value_or t r) h)
 unrefused (Some kind) x t h = absurd (false≢true (ap is_ok h))
 
-tested : (c y n t : RplType) → choice_type c y n ≡ Ok t → (c ≡ Boolean) × (joined y n ≡ Ok t)
+tested : (c y n t : RplType) → choice_type c y n ≡ Ok t → (c ≡ Boolean) × (joined_type y n ≡ Ok t)
 tested Boolean y n t h = (refl, h)
 tested (Numeric d) y n t h = absurd (false≢true (ap is_ok h))
 tested Datetime y n t h = absurd (false≢true (ap is_ok h))
@@ -66,21 +66,21 @@ as_a_whole : {A : Type 0} (found : Option TypeKind) (x y : A) → refused_as_who
 as_a_whole None x y h = (refl, ap (λ (j : Judged _). value_or y j) h)
 as_a_whole (Some kind) x y h = absurd (false≢true (ap is_ok h))
 
-behind_it : {A : Type 0} (k : ℕ) (j : Judged A) (f : A → Result (List A) Refusal) (all : List A) → and_then k j f ≡ Ok all
+behind_it : {A : Type 0} (k : ℕ) (j : Judged A) (f : A → Result (List A) TypeRefusal) (all : List A) → and_then k j f ≡ Ok all
     → (x : A) × (j ≡ Ok x) × (f x ≡ Ok all)
 behind_it k (Ok x) f all h = (x, refl, h)
 behind_it k (Err r) f all h = absurd (false≢true (ap is_ok h))
 
-others : {A : Type 0} (x : A) (r : Result (List A) Refusal) (all : List A) → before_others x r ≡ Ok all → (rest : List A) × (r ≡ Ok rest)
+others : {A : Type 0} (x : A) (r : Result (List A) TypeRefusal) (all : List A) → before_others x r ≡ Ok all → (rest : List A) × (r ≡ Ok rest)
 others x (Ok rest) all h = (rest, refl)
 others x (Err r) all h = absurd (false≢true (ap is_ok h))
 
 module _ (basin : Draft) (callable : Callable) where
   abbrev Claim : Tree → Type 0
-  Claim t = (scope : Scope) (n : ℕ) (e : Expression) → types_of basin callable scope n t ≡ Ok e → HasType basin callable scope t e.own
+  Claim t = (scope : TypeScope) (n : ℕ) (e : Expression) → types_of basin callable scope n t ≡ Ok e → HasType basin callable scope t e.own
 
   abbrev ClaimAll : Trees → Type 0
-  ClaimAll ts = (scope : Scope) (n : ℕ) (row : Row) → types_of_all basin callable scope n ts ≡ Ok row → HaveTypes basin callable scope ts row.types
+  ClaimAll ts = (scope : TypeScope) (n : ℕ) (row : RowTypes) → types_of_all basin callable scope n ts ≡ Ok row → HaveTypes basin callable scope ts row.types
 
   on_call : (f : List ℕ) (ts : Trees) → ClaimAll ts → Claim (call f ts)
   on_call f ts all scope n e h =
@@ -111,20 +111,20 @@ module _ (basin : Draft) (callable : Callable) where
   on_two : (word : TwoWord) (l r : Tree) → Claim l → Claim r → Claim (two word l r)
   on_two word l r left right scope n e h =
       let a = bound (types_of basin callable scope (n + 1) l) _ e h in
-      let b = bound (types_of basin callable scope (behind (n + 1) (nodes a.0)) r) _ e a.2 in
+      let b = bound (types_of basin callable scope (node_behind (n + 1) (nodes a.0)) r) _ e a.2 in
       (a.0.own, b.0.own, left scope _ a.0 a.1, right scope _ b.0 b.1, own_is n (nodes a.0 ++ nodes b.0) _ e b.2)
 
   on_at : (s d : Tree) → Claim s → Claim d → Claim (at s d)
   on_at s d place date scope n e h =
       let a = bound (types_of basin callable scope (n + 1) s) _ e h in
-      let b = bound (types_of basin callable scope (behind (n + 1) (nodes a.0)) d) _ e a.2 in
+      let b = bound (types_of basin callable scope (node_behind (n + 1) (nodes a.0)) d) _ e a.2 in
       (a.0.own, b.0.own, place scope _ a.0 a.1, date scope _ b.0 b.1, own_is n (nodes a.0 ++ nodes b.0) _ e b.2)
 
   on_choice : (c y d : Tree) → Claim c → Claim y → Claim d → Claim (choice c y d)
   on_choice c y d test first second scope n e h =
       let a = bound (types_of basin callable scope (n + 1) c) _ e h in
-      let b = bound (types_of basin callable scope (behind (n + 1) (nodes a.0)) y) _ e a.2 in
-      let z = bound (types_of basin callable scope (behind (n + 1) (nodes a.0 ++ nodes b.0)) d) _ e b.2 in
+      let b = bound (types_of basin callable scope (node_behind (n + 1) (nodes a.0)) y) _ e a.2 in
+      let z = bound (types_of basin callable scope (node_behind (n + 1) (nodes a.0 ++ nodes b.0)) d) _ e b.2 in
       let found = tested a.0.own b.0.own z.0.own e.own (own_is n (nodes a.0 ++ nodes b.0 ++ nodes z.0) _ e z.2) in (
         subst (HasType basin callable scope c) found.0 (test scope _ a.0 a.1),
         b.0.own,
@@ -137,7 +137,7 @@ module _ (basin : Draft) (callable : Callable) where
   on_bind : (x : List ℕ) (v b : Tree) → Claim v → Claim b → Claim (bind x v b)
   on_bind x v b value body scope n e h =
       let a = bound (types_of basin callable scope (n + 1) v) _ e h in
-      let z = bound (types_of basin callable ((x, a.0.own) ∷ scope) (behind (n + 1) (nodes a.0)) b) _ e a.2 in
+      let z = bound (types_of basin callable ((x, a.0.own) ∷ scope) (node_behind (n + 1) (nodes a.0)) b) _ e a.2 in
       let own : z.0.own ≡ e.own = ap (λ (r : Typed). value_or e.own r) (own_is n (nodes a.0 ++ nodes z.0) (Ok z.0.own) e z.2) in
       (a.0.own, value scope _ a.0 a.1, subst (HasType basin callable ((x, a.0.own) ∷ scope) b) own (body _ _ z.0 z.1))
 
@@ -145,7 +145,7 @@ module _ (basin : Draft) (callable : Callable) where
   on_mapped x l b items body scope n e h =
       let a = bound (types_of basin callable scope (n + 1) l) _ e h in
       let item = bound (at_node n (element_type a.0.own)) _ e a.2 in
-      let z = bound (types_of basin callable ((x, item.0) ∷ scope) (behind (n + 1) (nodes a.0)) b) _ e item.2 in (
+      let z = bound (types_of basin callable ((x, item.0) ∷ scope) (node_behind (n + 1) (nodes a.0)) b) _ e item.2 in (
         a.0.own,
         item.0,
         z.0.own,
@@ -158,9 +158,9 @@ module _ (basin : Draft) (callable : Callable) where
   on_each : (x : List ℕ) (l : Tree) (y : List ℕ) (f b : Tree) → Claim l → Claim f → Claim b → Claim (each x l y f b)
   on_each x l y f b items first body scope n e h =
       let a = bound (types_of basin callable scope (n + 1) l) _ e h in
-      let total = bound (types_of basin callable scope (behind (n + 1) (nodes a.0)) f) _ e a.2 in
+      let total = bound (types_of basin callable scope (node_behind (n + 1) (nodes a.0)) f) _ e a.2 in
       let item = bound (at_node n (element_type a.0.own)) _ e total.2 in
-      let z = bound (types_of basin callable ((y, total.0.own) ∷ (x, item.0) ∷ scope) (behind (n + 1) (nodes a.0 ++ nodes total.0)) b) _ e item.2 in
+      let z = bound (types_of basin callable ((y, total.0.own) ∷ (x, item.0) ∷ scope) (node_behind (n + 1) (nodes a.0 ++ nodes total.0)) b) _ e item.2 in
       let found = unrefused (misfit z.0.own total.0.own) total.0.own e.own (own_is n (nodes a.0 ++ nodes total.0 ++ nodes z.0) (total_type total.0.own z.0.own) e z.2) in
       subst (HasType basin callable scope (each x l y f b)) found.1 (
         a.0.own,
@@ -176,8 +176,8 @@ module _ (basin : Draft) (callable : Callable) where
   on_tree : (t : Tree) (ts : Trees) → Claim t → ClaimAll ts → ClaimAll (tree t ts)
   on_tree t ts first rest scope n row h =
       let a = bound (types_of basin callable scope n t) _ row h in
-      let z = bound (types_of_all basin callable scope (behind n (nodes a.0)) ts) _ row a.2 in
-      (a.0.own, z.0.types, sym (ap (λ (j : Judged Row). (value_or row j).types) z.2), first scope n a.0 a.1, rest scope _ z.0 z.1)
+      let z = bound (types_of_all basin callable scope (node_behind n (nodes a.0)) ts) _ row a.2 in
+      (a.0.own, z.0.types, sym (ap (λ (j : Judged RowTypes). (value_or row j).types) z.2), first scope n a.0 a.1, rest scope _ z.0 z.1)
 
   mutual
     has_type : (t : Tree) → Claim t
@@ -199,16 +199,16 @@ module _ (basin : Draft) (callable : Callable) where
     has_type (at s d) = on_at s d (has_type s) (has_type d)
 
     have_types : (ts : Trees) → ClaimAll ts
-    have_types no_trees = λ scope n row h. sym (ap (λ (j : Judged Row). (value_or row j).types) h)
+    have_types no_trees = λ scope n row h. sym (ap (λ (j : Judged RowTypes). (value_or row j).types) h)
     have_types (tree t ts) = on_tree t ts (has_type t) (have_types ts)
 
   -- ---- statements
 
   abbrev ClaimAct : Act → Type 0
-  ClaimAct a = (scope : Scope) (n : ℕ) (all : Types) → types_of_act basin callable scope n a ≡ Ok all → Stands basin callable scope a
+  ClaimAct a = (scope : TypeScope) (n : ℕ) (all : Types) → types_of_act basin callable scope n a ≡ Ok all → Stands basin callable scope a
 
   abbrev ClaimActs : Acts → Type 0
-  ClaimActs ss = (scope : Scope) (n : ℕ) (all : Types) → types_of_acts basin callable scope n ss ≡ Ok all → AllStand basin callable scope ss
+  ClaimActs ss = (scope : TypeScope) (n : ℕ) (all : Types) → types_of_acts basin callable scope n ss ≡ Ok all → AllStand basin callable scope ss
 
   on_assign : (o s : List ℕ) (ahead : ℤ) (v : Tree) → ClaimAct (assign o s ahead v)
   on_assign o s ahead v scope n all h =
@@ -218,21 +218,21 @@ module _ (basin : Draft) (callable : Callable) where
   on_branch : (c : Tree) (ys ns : Acts) → ClaimActs ys → ClaimActs ns → ClaimAct (branch c ys ns)
   on_branch c ys ns first second scope n all h =
       let a = bound (types_of basin callable scope (n + 1) c) _ all h in
-      let b = bound (types_of_acts basin callable scope (behind (n + 1) (nodes a.0)) ys) _ all a.2 in
-      let z = bound (types_of_acts basin callable scope (behind (n + 1) (nodes a.0 ++ b.0)) ns) _ all b.2 in
+      let b = bound (types_of_acts basin callable scope (node_behind (n + 1) (nodes a.0)) ys) _ all a.2 in
+      let z = bound (types_of_acts basin callable scope (node_behind (n + 1) (nodes a.0 ++ b.0)) ns) _ all b.2 in
       let same = condition a.0.own (stood n (nodes a.0 ++ b.0 ++ z.0) all (condition_misfit a.0.own) z.2) in
       (subst (HasType basin callable scope c) same (has_type c scope _ a.0 a.1), first scope _ b.0 b.1, second scope _ z.0 z.1)
 
   on_with : (x : List ℕ) (v : Tree) (body : Acts) → ClaimActs body → ClaimAct (with_name x v body)
   on_with x v body inside scope n all h =
       let a = bound (types_of basin callable scope (n + 1) v) _ all h in
-      let b = bound (types_of_acts basin callable ((x, a.0.own) ∷ scope) (behind (n + 1) (nodes a.0)) body) _ all a.2 in
+      let b = bound (types_of_acts basin callable ((x, a.0.own) ∷ scope) (node_behind (n + 1) (nodes a.0)) body) _ all a.2 in
       (a.0.own, has_type v scope _ a.0 a.1, inside _ _ b.0 b.1)
 
   on_act : (a : Act) (rest : Acts) → ClaimAct a → ClaimActs rest → ClaimActs (act a rest)
   on_act a rest first more scope n all h =
       let x = bound (types_of_act basin callable scope n a) _ all h in
-      let z = bound (types_of_acts basin callable scope (behind n x.0) rest) _ all x.2 in
+      let z = bound (types_of_acts basin callable scope (node_behind n x.0) rest) _ all x.2 in
       (first scope n x.0 x.1, more scope _ z.0 z.1)
 
   mutual
@@ -268,5 +268,5 @@ are_declared basin rules k earlier (d ∷ ds) all h =
     let rest = others own.0 (judged_from basin rules (k + 1) (and_function d earlier) ds) all own.2 in
     (is_declared basin callable d types.0 types.1, cheap.0, are_declared basin rules (k + 1) (and_function d earlier) ds rest.0 rest.1)
 
-pub accepted : (basin : Draft) (rules : List Declared) (all : List Types) → judged basin rules ≡ Ok all → IsTyped basin rules
+pub accepted : (basin : Draft) (rules : List Declared) (all : List Types) → rules_judged basin rules ≡ Ok all → IsTyped basin rules
 accepted basin rules all h = are_declared basin rules 1 [] rules all h

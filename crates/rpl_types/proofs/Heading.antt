@@ -6,7 +6,7 @@ use Rattle.rpl_tree.specs.declared.rpl_type.RplType.{RplType}
 use Rattle.rpl_types.specs.declared.type_kind.TypeKind.{TypeKind}
 use Rattle.rpl_types.specs.declared.type_kind.TypeKind.TheVariants.{UnknownName}
 use Rattle.rpl_types.specs.Fits.{Typed, sooner}
-use Rattle.rpl_types.specs.Forms.{Scope, name_type}
+use Rattle.rpl_types.specs.Forms.{TypeScope, name_type}
 use Rattle.rpl_types.specs.Functions.{Signature, head_misfit, is_named_as, param_scope, repeats_name, refusal_in, type_here, written_type}
 use Rattle.rpl_types.proofs.Sooner.{sooner_by_threes}
 
@@ -23,7 +23,7 @@ head_last whole found answers all e h = rw e at h
 abbrev pub signature_with : List ℕ → List RplType → RplType → Signature
 signature_with name takes result = record { name = name; takes = takes; result = result }
 
-pub one_before : (scope new : Scope) (t : RplType) (p : Parameter) (ps all : List Parameter) → new ≡ (p.name, t) ∷ scope → all ≡ p ∷ ps
+pub one_before : (scope new : TypeScope) (t : RplType) (p : Parameter) (ps all : List Parameter) → new ≡ (p.name, t) ∷ scope → all ≡ p ∷ ps
     → t ≡ type_here p.of_type → scope ≡ param_scope ps → new ≡ param_scope all
 one_before scope new t p ps all is e of_type h =
     is ∙ ap (λ u. (p.name, u) ∷ scope) of_type ∙ ap (λ s. (p.name, type_here p.of_type) ∷ s) h ∙ ap param_scope (sym e)
@@ -39,7 +39,7 @@ by_test : (same : Bool) (t : RplType) (rest : Typed) (o : Option RplType) → re
 by_test true t rest o h = refl
 by_test false t rest o h = h
 
-pub found_type : (scope : Scope) (x : List ℕ) → name_type scope x ≡ type_found (first_named scope x)
+pub found_type : (scope : TypeScope) (x : List ℕ) → name_type scope x ≡ type_found (first_named scope x)
 found_type [] x = refl
 found_type (v ∷ scope) x = by_test (bytes_eq v.0 x) v.1 (name_type scope x) (first_named scope x) (found_type scope x)
 

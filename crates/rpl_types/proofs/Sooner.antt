@@ -2,14 +2,14 @@
 use Rattle.rw_base.proofs.Common.{◌≡◌, nat_lt, arith, refl, Bool, true, false, List, [], ◌∷◌, Option, None, Some, ◌∙◌, sym, nat_tests}
 use Rattle.rpl_types.specs.declared.type_kind.TypeKind.{TypeKind}
 use Rattle.rpl_tree.specs.declared.rpl_type.RplType.{RplType}
-use Rattle.rpl_types.specs.Fits.{misfit, misfit_among, misfit_in_places, order, sooner}
+use Rattle.rpl_types.specs.Fits.{misfit, misfit_among, misfit_in_places, refusal_order, sooner}
 
 pub sooner_none : (a : Option TypeKind) → sooner a None ≡ a
 sooner_none None = refl
 sooner_none (Some a) = refl
 
-by_order : (p q r : Bool) (a b c : TypeKind) → nat_lt (order b) (order a) ≡ p → nat_lt (order c) (order b) ≡ q
-    → nat_lt (order c) (order a) ≡ r → sooner (sooner (Some a) (Some b)) (Some c) ≡ sooner (Some a) (sooner (Some b) (Some c))
+by_order : (p q r : Bool) (a b c : TypeKind) → nat_lt (refusal_order b) (refusal_order a) ≡ p → nat_lt (refusal_order c) (refusal_order b) ≡ q
+    → nat_lt (refusal_order c) (refusal_order a) ≡ r → sooner (sooner (Some a) (Some b)) (Some c) ≡ sooner (Some a) (sooner (Some b) (Some c))
 by_order true true true a b c e f g = rw (e, f, g) refl
 by_order true true false a b c e f g = grind (arith, nat_tests)
 by_order true false r a b c e f g = rw (e, f, e) refl

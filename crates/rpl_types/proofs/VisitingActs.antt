@@ -6,10 +6,10 @@ use Rattle.rpl_tree.specs.Tree.{Tree, Act, Acts, assign, branch, with_name, no_a
 use Rattle.rpl_tree.specs.declared.rpl_type.RplType.{RplType}
 use Rattle.rpl_types.specs.declared.type_kind.TypeKind.{TypeKind}
 use Rattle.rpl_types.specs.Bodies.{own_and_nodes}
-use Rattle.rpl_types.specs.Forms.{Scope, condition_misfit, target_misfit}
+use Rattle.rpl_types.specs.Forms.{TypeScope, condition_misfit, target_misfit}
 use Rattle.rpl_types.specs.Functions.{Callable}
-use Rattle.rpl_types.specs.Nodes.{Expression, Judged, Types, behind, nodes, statement, types_of, types_of_act, types_of_acts, ◌>>=◌}
-use Rattle.rpl_types.specs.Visited.{Progress, Visit, next, reserved, stands, visited, visited_act, visited_acts, with_variable, without_variable}
+use Rattle.rpl_types.specs.Nodes.{Expression, Judged, Types, node_behind, nodes, statement, types_of, types_of_act, types_of_acts, ◌>>=◌}
+use Rattle.rpl_types.specs.Visited.{Progress, Visit, next_node, node_reserved, stands, visited, visited_act, visited_acts, with_variable, without_variable}
 use Rattle.rpl_types.proofs.Visiting.{answered, claim, first_number, one_more, part, second_number, seen_then_same, third_number, three_more, two_more}
 
 -- what is known behind statements whose nodes have those types
@@ -20,7 +20,7 @@ same_progress : (p q : Progress) → q.scope ≡ p.scope → q.types ≡ p.types
 same_progress p q scope types i = record { scope = scope i; types = types i }
 
 stood : (p q : Progress) (below : Types) (found : Option TypeKind) → q.scope ≡ p.scope → q.types ≡ p.types ++ None ∷ below
-    → stands (next p) q found ≡ (statement (next p) below found >>= λ all. Ok (with_nodes p all))
+    → stands (next_node p) q found ≡ (statement (next_node p) below found >>= λ all. Ok (with_nodes p all))
 stood p q below None scope types = ap (λ (r : Progress). Ok r) (same_progress (with_nodes p (None ∷ below)) q scope types)
 stood p q below (Some kind) scope types = refl
 
@@ -30,10 +30,10 @@ number_behind all a = simp length-append (omega arith)
 
 module _ (basin : Draft) (callable : Callable) where
   abbrev pub ClaimAct : Act → Type 0
-  ClaimAct a = (p : Progress) → visited_act basin callable p a ≡ (types_of_act basin callable p.scope (next p) a >>= λ below. Ok (with_nodes p below))
+  ClaimAct a = (p : Progress) → visited_act basin callable p a ≡ (types_of_act basin callable p.scope (next_node p) a >>= λ below. Ok (with_nodes p below))
 
   abbrev pub ClaimActs : Acts → Type 0
-  ClaimActs ss = (p : Progress) → visited_acts basin callable p ss ≡ (types_of_acts basin callable p.scope (next p) ss >>= λ below. Ok (with_nodes p below))
+  ClaimActs ss = (p : Progress) → visited_acts basin callable p ss ≡ (types_of_acts basin callable p.scope (next_node p) ss >>= λ below. Ok (with_nodes p below))
 
   list_part : {B C : Type 0} (ss : Acts) → ClaimActs ss → (q : Progress) (n : ℕ) (f : Progress → Judged C) (g : Types → Judged B) (k : B → Judged C)
       → length q.types + 1 ≡ n → ((below : Types) → f (with_nodes q below) ≡ (g below >>= k))
@@ -43,22 +43,22 @@ module _ (basin : Draft) (callable : Callable) where
 
   on_assign : (o s : List ℕ) (ahead : ℤ) (e : Tree) → ClaimAct (assign o s ahead e)
   on_assign o s ahead e p =
-      part basin callable e (claim basin callable e) (reserved p) _ _ _ _ (first_number p.types) (λ a.
-      stood p (answered (reserved p) a).progress (nodes a) (target_misfit basin o s ahead a.own) refl (one_more p.types (nodes a)))
+      part basin callable e (claim basin callable e) (node_reserved p) _ _ _ _ (first_number p.types) (λ a.
+      stood p (answered (node_reserved p) a).progress (nodes a) (target_misfit basin o s ahead a.own) refl (one_more p.types (nodes a)))
 
   on_branch : (c : Tree) (ys ns : Acts) → ClaimActs ys → ClaimActs ns → ClaimAct (branch c ys ns)
   on_branch c ys ns first second p =
-      part basin callable c (claim basin callable c) (reserved p) _ _ _ _ (first_number p.types) (λ a.
-      list_part ys first (answered (reserved p) a).progress _ _ _ _ (second_number p.types (nodes a)) (λ b.
-      list_part ns second (with_nodes (answered (reserved p) a).progress b) _ _ _ _ (third_number p.types (nodes a) b) (λ d.
-      stood p (with_nodes (with_nodes (answered (reserved p) a).progress b) d) (nodes a ++ b ++ d) (condition_misfit a.own) refl
+      part basin callable c (claim basin callable c) (node_reserved p) _ _ _ _ (first_number p.types) (λ a.
+      list_part ys first (answered (node_reserved p) a).progress _ _ _ _ (second_number p.types (nodes a)) (λ b.
+      list_part ns second (with_nodes (answered (node_reserved p) a).progress b) _ _ _ _ (third_number p.types (nodes a) b) (λ d.
+      stood p (with_nodes (with_nodes (answered (node_reserved p) a).progress b) d) (nodes a ++ b ++ d) (condition_misfit a.own) refl
       (three_more p.types (nodes a) b d))))
 
   on_with : (x : List ℕ) (e : Tree) (body : Acts) → ClaimActs body → ClaimAct (with_name x e body)
   on_with x e body inside p =
-      part basin callable e (claim basin callable e) (reserved p) _ _ _ _ (first_number p.types) (λ a.
-      list_part body inside (with_variable x a.own (answered (reserved p) a).progress) _ _ _ _ (second_number p.types (nodes a)) (λ b.
-      let last = without_variable (with_nodes (with_variable x a.own (answered (reserved p) a).progress) b) in
+      part basin callable e (claim basin callable e) (node_reserved p) _ _ _ _ (first_number p.types) (λ a.
+      list_part body inside (with_variable x a.own (answered (node_reserved p) a).progress) _ _ _ _ (second_number p.types (nodes a)) (λ b.
+      let last = without_variable (with_nodes (with_variable x a.own (answered (node_reserved p) a).progress) b) in
       ap (λ (r : Progress). Ok r) (same_progress (with_nodes p (None ∷ (nodes a ++ b))) last refl (two_more p.types (nodes a) b))))
 
   on_no_acts : ClaimActs no_acts
@@ -74,9 +74,9 @@ module _ (basin : Draft) (callable : Callable) where
 
   on_act : (a : Act) (rest : Acts) → ClaimAct a → ClaimActs rest → ClaimActs (act a rest)
   on_act a rest first others p =
-      rw (first p) (seen_then_same (types_of_act basin callable p.scope (next p) a) (with_nodes p) _ _ _ (λ below.
+      rw (first p) (seen_then_same (types_of_act basin callable p.scope (next_node p) a) (with_nodes p) _ _ _ (λ below.
       others (with_nodes p below) ∙ (rw (number_behind p.types below)
-      (seen_acts (types_of_acts basin callable p.scope (behind (next p) below) rest) p below))))
+      (seen_acts (types_of_acts basin callable p.scope (node_behind (next_node p) below) rest) p below))))
 
   mutual
     pub claim_act : (a : Act) → ClaimAct a
@@ -90,7 +90,7 @@ module _ (basin : Draft) (callable : Callable) where
 
 -- ---- a whole body
 
-abbrev begun : Scope → Progress
+abbrev begun : TypeScope → Progress
 begun scope = record { scope = scope; types = [] }
 
 abbrev pub kept : Judged Visit → Judged (RplType × Types)
@@ -101,7 +101,7 @@ abbrev pub kept_types : Judged Progress → Judged Types
 kept_types (Ok p) = Ok p.types
 kept_types (Err refused) = Err refused
 
-kept_nodes : (j : Judged Expression) (scope : Scope) → own_and_nodes j ≡ kept (j >>= λ e. Ok (answered (begun scope) e))
+kept_nodes : (j : Judged Expression) (scope : TypeScope) → own_and_nodes j ≡ kept (j >>= λ e. Ok (answered (begun scope) e))
 kept_nodes (Ok e) scope = refl
 kept_nodes (Err refused) scope = refl
 
@@ -109,7 +109,7 @@ kept_below : (j : Judged Types) → j ≡ kept_types (j >>= λ below. Ok (with_n
 kept_below (Ok below) = refl
 kept_below (Err refused) = refl
 
-pub body_given : (basin : Draft) (callable : Callable) (scope : Scope) (t : Tree)
+pub body_given : (basin : Draft) (callable : Callable) (scope : TypeScope) (t : Tree)
     → own_and_nodes (types_of basin callable scope 1 t) ≡ kept (visited basin callable (record { scope = scope; types = [] }) t)
 body_given basin callable scope t =
     kept_nodes (types_of basin callable scope 1 t) scope ∙ ap kept (sym (claim basin callable t (begun scope)))

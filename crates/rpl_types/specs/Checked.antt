@@ -5,7 +5,7 @@ use Rattle.rpl_tree.specs.Budget.{Budget, budget_of}
 use Rattle.rpl_tree.specs.Seen.{rules_of}
 use Rattle.rpl_tree.specs.Tree.{Declared, rule, function}
 use Rattle.rpl_tree.specs.declared.rules.ParsedRules.{ParsedRules}
-use Rattle.rpl_types.specs.Judged.{Refusal, judged}
+use Rattle.rpl_types.specs.Judged.{TypeRefusal, rules_judged}
 use Rattle.rpl_types.specs.Nodes.{Types}
 
 -- a ruleset, and the types of its nodes
@@ -21,13 +21,13 @@ pub record Known : Type 0 where
 abbrev pub checked_of : Known → Checked
 checked_of known = record { rules = rules_of known.rules; types = known.types }
 
-abbrev pub with_types : List Declared → Result (List Types) Refusal → Result Checked Refusal
+abbrev pub with_types : List Declared → Result (List Types) TypeRefusal → Result Checked TypeRefusal
 with_types rules (Ok types) = Ok (record { rules = rules; types = types })
 with_types rules (Err refused) = Err refused
 
 -- the ruleset with its types, or its first refusal
-abbrev pub checked : Draft → List Declared → Result Checked Refusal
-checked basin rules = with_types rules (judged basin rules)
+abbrev pub checked : Draft → List Declared → Result Checked TypeRefusal
+checked basin rules = with_types rules (rules_judged basin rules)
 
 -- ---- rules, which are numbered from 1 apart from the functions
 

@@ -19,27 +19,27 @@ longest = 4096
 -- ---- which of several refusals is given
 
 -- where a refusal stands in the order of those at one node
-abbrev pub order : TypeKind → ℕ
-order DuplicateName = 0
-order UnknownName = 1
-order NotEarlier = 2
-order UnknownSlot = 3
-order NotSettable = 4
-order TargetStep = 5
-order UnknownUnit = 6
-order LiteralRange = 7
-order NoTable = 8
-order WrongCount = 9
-order WrongType = 10
-order WrongUnit = 11
-order ListTooLong = 12
-order TooCostly = 13
+abbrev pub refusal_order : TypeKind → ℕ
+refusal_order DuplicateName = 0
+refusal_order UnknownName = 1
+refusal_order NotEarlier = 2
+refusal_order UnknownSlot = 3
+refusal_order NotSettable = 4
+refusal_order TargetStep = 5
+refusal_order UnknownUnit = 6
+refusal_order LiteralRange = 7
+refusal_order NoTable = 8
+refusal_order WrongCount = 9
+refusal_order WrongType = 10
+refusal_order WrongUnit = 11
+refusal_order ListTooLong = 12
+refusal_order TooCostly = 13
 
 -- of two that may be due the one that stands first
 abbrev pub sooner : Option TypeKind → Option TypeKind → Option TypeKind
 sooner None b = b
 sooner (Some a) None = Some a
-sooner (Some a) (Some b) = if nat_lt (order b) (order a) then Some b else Some a
+sooner (Some a) (Some b) = if nat_lt (refusal_order b) (refusal_order a) then Some b else Some a
 
 -- ---- one type for another
 
@@ -75,7 +75,7 @@ abbrev pub arguments_misfit : List RplType → List RplType → Option TypeKind
 arguments_misfit ts asked = if length ts == length asked then misfit_in_places ts asked else Some WrongCount
 
 -- the type of what is either the one or the other: of two lists that with more room
-abbrev pub joined : RplType → RplType → Typed
-joined (NumericList n a) (NumericList m b) = unless_refused (unit_misfit a b) (NumericList (max n m) a)
-joined (SlotList n a) (SlotList m b) = unless_refused (unit_misfit a b) (SlotList (max n m) a)
-joined a b = unless_refused (misfit a b) a
+abbrev pub joined_type : RplType → RplType → Typed
+joined_type (NumericList n a) (NumericList m b) = unless_refused (unit_misfit a b) (NumericList (max n m) a)
+joined_type (SlotList n a) (SlotList m b) = unless_refused (unit_misfit a b) (SlotList (max n m) a)
+joined_type a b = unless_refused (misfit a b) a

@@ -20,7 +20,7 @@ use Rattle.rpl_tree.specs.declared.rpl_type.RplType.{RplType}
 use Rattle.rpl_tree.specs.declared.rpl_type.RplType.TheVariants.{Numeric, Boolean, Datetime, Slot, NumericList, SlotList}
 use Rattle.rpl_types.specs.declared.type_kind.TypeKind.{TypeKind}
 use Rattle.rpl_types.specs.declared.type_kind.TypeKind.TheVariants.{UnknownName, UnknownSlot, UnknownUnit, NotSettable, WrongType, WrongUnit, TargetStep, LiteralRange, NoTable}
-use Rattle.rpl_types.specs.Fits.{Typed, longest, sooner, unit_misfit, length_misfit, misfit, misfit_among, joined}
+use Rattle.rpl_types.specs.Fits.{Typed, longest, sooner, unit_misfit, length_misfit, misfit, misfit_among, joined_type}
 
 -- a number that measures nothing
 abbrev pub plain : RplType
@@ -48,12 +48,12 @@ element_type _ = Err WrongType
 -- ---- leaves
 
 -- the number in base units is a quantity
-abbrev pub in_unit : ℤ → Option (Dimension × ℤ) → Typed
-in_unit n None = Err UnknownUnit
-in_unit n (Some unit) = if is_quantity (n *ℤ unit.1) then Ok (Numeric unit.0) else Err LiteralRange
+abbrev pub literal_in_unit : ℤ → Option (Dimension × ℤ) → Typed
+literal_in_unit n None = Err UnknownUnit
+literal_in_unit n (Some unit) = if is_quantity (n *ℤ unit.1) then Ok (Numeric unit.0) else Err LiteralRange
 
 abbrev pub literal_type : ℤ → Option (List ℕ) → Typed
-literal_type n unit = in_unit n (unit_in units (unwrap_or unit []))
+literal_type n unit = literal_in_unit n (unit_in units (unwrap_or unit []))
 
 abbrev pub found_slot_type : Draft → Option ℕ → Typed
 found_slot_type basin None = Err UnknownSlot
@@ -63,10 +63,10 @@ abbrev pub slot_type : Draft → List ℕ → List ℕ → Typed
 slot_type basin o s = found_slot_type basin (slot_named basin.objects o s)
 
 -- the types of the names that can be used, innermost first
-abbrev pub Scope : Type 0
-Scope = List (List ℕ × RplType)
+abbrev pub TypeScope : Type 0
+TypeScope = List (List ℕ × RplType)
 
-abbrev pub name_type : Scope → List ℕ → Typed
+abbrev pub name_type : TypeScope → List ℕ → Typed
 name_type [] x = Err UnknownName
 name_type (variable ∷ scope) x = if bytes_eq variable.0 x then Ok variable.1 else name_type scope x
 
@@ -188,7 +188,7 @@ convert_type word true table t = table_type word table t
 -- ---- several parts
 
 abbrev pub choice_type : RplType → RplType → RplType → Typed
-choice_type Boolean y n = joined y n
+choice_type Boolean y n = joined_type y n
 choice_type _ y n = Err WrongType
 
 -- a list of what stands in braces

@@ -5,14 +5,14 @@ use Rattle.rw_base.specs.Answers.{unless_refused}
 use Rattle.rw_base.specs.Dimension.{Dimension, times_per_of}
 use Rattle.rw_base.specs.Unit.{units, unit_in, plain_number}
 use Rattle.rpl_tree.specs.Kinds.{Head}
-use Rattle.rpl_tree.specs.Mean.{heads_of, predefined_functions}
+use Rattle.rpl_tree.specs.Mean.{function_heads, predefined_functions}
 use Rattle.rpl_tree.specs.Tree.{TypeName, numeric, boolean, datetime, slot_type, numeric_list, slot_list, Parameter}
 use Rattle.rpl_tree.specs.declared.rpl_type.RplType.{RplType}
 use Rattle.rpl_tree.specs.declared.rpl_type.RplType.TheVariants.{Numeric, Boolean, Datetime, Slot, NumericList, SlotList}
 use Rattle.rpl_types.specs.declared.type_kind.TypeKind.{TypeKind}
 use Rattle.rpl_types.specs.declared.type_kind.TypeKind.TheVariants.{ListTooLong, NotEarlier, UnknownName, UnknownUnit, WrongCount, WrongType}
 use Rattle.rpl_types.specs.Fits.{Typed, arguments_misfit, longest, misfit_among, sooner}
-use Rattle.rpl_types.specs.Forms.{Scope, a_dimension, measured_in, plain}
+use Rattle.rpl_types.specs.Forms.{TypeScope, a_dimension, measured_in, plain}
 
 -- ---- calls
 
@@ -33,7 +33,7 @@ count_named (head ∷ heads) f = if bytes_eq head.name f then Some (length head.
 
 -- how many arguments the predefined function of the name takes
 abbrev pub predefined_count : List ℕ → Option ℕ
-predefined_count f = count_named (heads_of predefined_functions) f
+predefined_count f = count_named (function_heads predefined_functions) f
 
 abbrev pub signature_named : List Signature → List ℕ → Option Signature
 signature_named [] f = None
@@ -114,7 +114,7 @@ abbrev pub type_here : TypeName → RplType
 type_here written = type_or_plain (written_type written)
 
 -- the parameters as variables
-abbrev pub param_scope : List Parameter → Scope
+abbrev pub param_scope : List Parameter → TypeScope
 param_scope ps = map (λ (p : Parameter). (p.name, type_here p.of_type)) ps
 
 abbrev pub signature : List ℕ → List Parameter → TypeName → Signature

@@ -8,15 +8,15 @@ use Rattle.rpl_tree.specs.World.{table_named}
 use Rattle.rpl_tree.specs.Tree.{Tree, Trees, literal, truth, now, slot, name, call, brackets, list, choice, bind, each, mapped, one, two, convert, at, no_trees, tree, Act, Acts, assign, branch, with_name, no_acts, act, Declared, rule, function}
 use Rattle.rpl_tree.specs.declared.rpl_type.RplType.{RplType}
 use Rattle.rpl_tree.specs.declared.rpl_type.RplType.TheVariants.{Boolean, Datetime}
-use Rattle.rpl_types.specs.Fits.{joined, misfit}
-use Rattle.rpl_types.specs.Forms.{Scope, convert_type, element_type, is_look, list_type, literal_type, look_type, mapped_type, name_type, one_type, slot_type, target_misfit, two_type}
+use Rattle.rpl_types.specs.Fits.{joined_type, misfit}
+use Rattle.rpl_types.specs.Forms.{TypeScope, convert_type, element_type, is_look, list_type, literal_type, look_type, mapped_type, name_type, one_type, slot_type, target_misfit, two_type}
 use Rattle.rpl_types.specs.Functions.{Callable, Signature, call_type, param_scope, type_here}
 use Rattle.rpl_types.specs.Judged.{and_function, cost_refusal, function_names, head_refusal}
 
 module _ (basin : Draft) (callable : Callable) where
   abbrev mutual
     -- where those names can be used
-    pub HasType : Scope → Tree → RplType → Type 0
+    pub HasType : TypeScope → Tree → RplType → Type 0
     HasType scope (literal z unit) t = literal_type z unit ≡ Ok t
     HasType scope (truth b) t = t ≡ Boolean
     HasType scope now t = t ≡ Datetime
@@ -26,7 +26,7 @@ module _ (basin : Draft) (callable : Callable) where
     HasType scope (brackets e) t = HasType scope e t
     HasType scope (list es) t = (ts : List RplType) × HaveTypes scope es ts × (list_type ts ≡ Ok t)
     HasType scope (choice c y d) t =
-        HasType scope c Boolean × (yes : RplType) × (no : RplType) × HasType scope y yes × HasType scope d no × (joined yes no ≡ Ok t)
+        HasType scope c Boolean × (yes : RplType) × (no : RplType) × HasType scope y yes × HasType scope d no × (joined_type yes no ≡ Ok t)
     HasType scope (bind x e b) t = (value : RplType) × HasType scope e value × HasType ((x, value) ∷ scope) b t
     HasType scope (each x l a f b) t =
         (all : RplType) × (item : RplType) × (turn : RplType) × HasType scope l all × (element_type all ≡ Ok item) × HasType scope f t
@@ -43,19 +43,19 @@ module _ (basin : Draft) (callable : Callable) where
     HasType scope (at s d) t =
         (place : RplType) × (date : RplType) × HasType scope s place × HasType scope d date × (look_type place date ≡ Ok t)
 
-    pub HaveTypes : Scope → Trees → List RplType → Type 0
+    pub HaveTypes : TypeScope → Trees → List RplType → Type 0
     HaveTypes scope no_trees ts = ts ≡ []
     HaveTypes scope (tree e es) ts =
         (first : RplType) × (rest : List RplType) × (ts ≡ first ∷ rest) × HasType scope e first × HaveTypes scope es rest
 
   abbrev mutual
     -- a statement whose expressions have the types that it asks for
-    pub Stands : Scope → Act → Type 0
+    pub Stands : TypeScope → Act → Type 0
     Stands scope (assign o s ahead e) = (value : RplType) × HasType scope e value × (target_misfit basin o s ahead value ≡ None)
     Stands scope (branch c first second) = HasType scope c Boolean × AllStand scope first × AllStand scope second
     Stands scope (with_name x e body) = (value : RplType) × HasType scope e value × AllStand ((x, value) ∷ scope) body
 
-    pub AllStand : Scope → Acts → Type 0
+    pub AllStand : TypeScope → Acts → Type 0
     AllStand scope no_acts = Unit {0}
     AllStand scope (act a rest) = Stands scope a × AllStand scope rest
 

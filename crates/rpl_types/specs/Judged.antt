@@ -43,13 +43,13 @@ with_budget basin callable b d = declared_types basin callable d >>= refused_as_
 -- ---- all declarations
 
 -- what is wrong at which node of which declaration; both count from 1, and node 0 is the declaration as a whole
-pub record Refusal : Type 0 where
+pub record TypeRefusal : Type 0 where
   pub kind : TypeKind
   pub declaration : ℕ
   pub node : ℕ
 
-abbrev pub refusal : TypeKind → ℕ → ℕ → Refusal
-refusal kind declaration node = record { kind = kind; declaration = declaration; node = node }
+abbrev pub type_refusal : TypeKind → ℕ → ℕ → TypeRefusal
+type_refusal kind declaration node = record { kind = kind; declaration = declaration; node = node }
 
 abbrev pub function_names : List Declared → List (List ℕ)
 function_names [] = []
@@ -62,24 +62,24 @@ and_function (rule called_so body) earlier = earlier
 and_function (function f ps result body) earlier = earlier ++ signature f ps result ∷ []
 
 -- the types of a declaration before those of the later ones
-abbrev pub and_then : {A : Type 0} → ℕ → Judged A → (A → Result (List A) Refusal) → Result (List A) Refusal
-and_then k (Err refused) later = Err (refusal refused.kind k refused.node)
+abbrev pub and_then : {A : Type 0} → ℕ → Judged A → (A → Result (List A) TypeRefusal) → Result (List A) TypeRefusal
+and_then k (Err refused) later = Err (type_refusal refused.kind k refused.node)
 and_then k (Ok types) later = later types
 
-abbrev pub before_others : {A : Type 0} → A → Result (List A) Refusal → Result (List A) Refusal
+abbrev pub before_others : {A : Type 0} → A → Result (List A) TypeRefusal → Result (List A) TypeRefusal
 before_others types (Err refused) = Err refused
 before_others types (Ok others) = Ok (types ∷ others)
 
 -- of the declarations from a number on, behind those functions
-abbrev pub judged_from : Draft → List Declared → ℕ → List Signature → List Declared → Result (List Types) Refusal
+abbrev pub judged_from : Draft → List Declared → ℕ → List Signature → List Declared → Result (List Types) TypeRefusal
 judged_from basin rules k earlier [] = Ok []
 judged_from basin rules k earlier (d ∷ ds) =
     and_then k (with_budget basin (record { earlier = earlier; later = function_names (d ∷ ds) }) (budget_of rules k) d)
     (λ types. before_others types (judged_from basin rules (k + 1) (and_function d earlier) ds))
 
 -- the types of the nodes of each declaration, or the first refusal
-abbrev pub judged : Draft → List Declared → Result (List Types) Refusal
-judged basin rules = judged_from basin rules 1 [] rules
+abbrev pub rules_judged : Draft → List Declared → Result (List Types) TypeRefusal
+rules_judged basin rules = judged_from basin rules 1 [] rules
 
 -- ---- types of nodes
 
@@ -91,9 +91,9 @@ abbrev pub type_at : List Types → ℕ → ℕ → Option RplType
 type_at all declaration node = option_and_then (λ types. type_in types node) (numbered all declaration)
 
 -- the types, where the ruleset is accepted
-abbrev pub types_or_none : Result (List Types) Refusal → List Types
+abbrev pub types_or_none : Result (List Types) TypeRefusal → List Types
 types_or_none (Ok all) = all
 types_or_none (Err refused) = []
 
 abbrev pub judged_types : Draft → List Declared → List Types
-judged_types basin rules = types_or_none (judged basin rules)
+judged_types basin rules = types_or_none (rules_judged basin rules)

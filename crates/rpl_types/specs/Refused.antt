@@ -1,9 +1,9 @@
 -- What a fault of `check` tells.
 use Rattle.std.specs.Prelude.{Option, Some, None}
-use Rattle.rpl_types.specs.Judged.{Refusal, refusal}
+use Rattle.rpl_types.specs.Judged.{TypeRefusal, type_refusal}
 use Rattle.rpl_types.specs.declared.fault.TypeFault.{TypeFault}
 use Rattle.rpl_types.specs.declared.fault.TypeFault.TheVariants.{Refused, NoMemory}
 
-abbrev pub refusal_of : TypeFault → Option Refusal
-refusal_of (Refused kind declaration node) = Some (refusal kind declaration node)
+abbrev pub refusal_of : TypeFault → Option TypeRefusal
+refusal_of (Refused kind declaration node) = Some (type_refusal kind declaration node)
 refusal_of NoMemory = None

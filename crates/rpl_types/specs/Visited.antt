@@ -9,28 +9,28 @@ use Rattle.rpl_tree.specs.declared.rpl_type.RplType.{RplType}
 use Rattle.rpl_tree.specs.declared.rpl_type.RplType.TheVariants.{Boolean, Datetime}
 use Rattle.rpl_types.specs.declared.type_kind.TypeKind.{TypeKind}
 use Rattle.rpl_types.specs.Fits.{Typed}
-use Rattle.rpl_types.specs.Forms.{Scope, choice_type, condition_misfit, convert_type, element_type, is_look, list_type, literal_type, look_type, mapped_type, name_type, one_type, slot_type, target_misfit, total_type, two_type}
+use Rattle.rpl_types.specs.Forms.{TypeScope, choice_type, condition_misfit, convert_type, element_type, is_look, list_type, literal_type, look_type, mapped_type, name_type, one_type, slot_type, target_misfit, total_type, two_type}
 use Rattle.rpl_types.specs.Functions.{Callable, call_type}
 use Rattle.rpl_types.specs.Nodes.{Judged, Types, at_node, ◌>>=◌}
 
 -- the names that can be used, innermost first, and the types of the nodes so far
 pub record Progress : Type 0 where
-  pub scope : Scope
+  pub scope : TypeScope
   pub types : Types
 
 -- with a node whose parts come next
-abbrev pub reserved : Progress → Progress
-reserved p = record { scope = p.scope; types = p.types ++ None ∷ [] }
+abbrev pub node_reserved : Progress → Progress
+node_reserved p = record { scope = p.scope; types = p.types ++ None ∷ [] }
 
 abbrev pub with_variable : List ℕ → RplType → Progress → Progress
 with_variable x t p = record { scope = (x, t) ∷ p.scope; types = p.types }
 
-abbrev pub outer : Scope → Scope
-outer [] = []
-outer (variable ∷ scope) = scope
+abbrev pub outer_scope : TypeScope → TypeScope
+outer_scope [] = []
+outer_scope (variable ∷ scope) = scope
 
 abbrev pub without_variable : Progress → Progress
-without_variable p = record { scope = outer p.scope; types = p.types }
+without_variable p = record { scope = outer_scope p.scope; types = p.types }
 
 -- the type of an expression, and what is known behind it
 pub record Visit : Type 0 where
@@ -41,18 +41,18 @@ abbrev pub visit : RplType → Progress → Visit
 visit t p = record { own = t; progress = p }
 
 -- the number of the node that comes next
-abbrev pub next : Progress → ℕ
-next p = length p.types + 1
+abbrev pub next_node : Progress → ℕ
+next_node p = length p.types + 1
 
-abbrev pub filled : ℕ → Progress → RplType → Visit
-filled node p t = visit t (record { scope = p.scope; types = slice_set p.types (node - 1) (Some t) })
+abbrev pub node_filled : ℕ → Progress → RplType → Visit
+node_filled node p t = visit t (record { scope = p.scope; types = slice_set p.types (node - 1) (Some t) })
 
 -- the node has the type, if there is one
-abbrev pub settled : ℕ → Progress → Typed → Judged Visit
-settled node p t = at_node node t >>= λ own. Ok (filled node p own)
+abbrev pub node_settled : ℕ → Progress → Typed → Judged Visit
+node_settled node p t = at_node node t >>= λ own. Ok (node_filled node p own)
 
 abbrev pub leaf : Progress → Typed → Judged Visit
-leaf p t = settled (next p) (reserved p) t
+leaf p t = node_settled (next_node p) (node_reserved p) t
 
 -- the types of expressions in a row, and what is known behind them
 pub record RowVisit : Type 0 where
@@ -71,45 +71,45 @@ module _ (basin : Draft) (callable : Callable) where
     visited p (slot o s) = leaf p (slot_type basin o s)
     visited p (name x) = leaf p (name_type p.scope x)
     visited p (call f ts) =
-        visited_all [] (reserved p) ts >>= λ row. settled (next p) row.progress (call_type callable f row.types)
+        visited_all [] (node_reserved p) ts >>= λ row. node_settled (next_node p) row.progress (call_type callable f row.types)
     visited p (brackets t) =
-        visited (reserved p) t >>= λ inside. settled (next p) inside.progress (Ok inside.own)
+        visited (node_reserved p) t >>= λ inside. node_settled (next_node p) inside.progress (Ok inside.own)
     visited p (list ts) =
-        visited_all [] (reserved p) ts >>= λ row. settled (next p) row.progress (list_type row.types)
+        visited_all [] (node_reserved p) ts >>= λ row. node_settled (next_node p) row.progress (list_type row.types)
     visited p (choice c y d) =
-        visited (reserved p) c >>= λ first.
+        visited (node_reserved p) c >>= λ first.
         visited first.progress y >>= λ second.
         visited second.progress d >>= λ third.
-        settled (next p) third.progress (choice_type first.own second.own third.own)
+        node_settled (next_node p) third.progress (choice_type first.own second.own third.own)
     visited p (bind x e b) =
-        visited (reserved p) e >>= λ value.
+        visited (node_reserved p) e >>= λ value.
         visited (with_variable x value.own value.progress) b >>= λ body.
-        settled (next p) (without_variable body.progress) (Ok body.own)
+        node_settled (next_node p) (without_variable body.progress) (Ok body.own)
     visited p (each x l a f b) =
-        visited (reserved p) l >>= λ all.
+        visited (node_reserved p) l >>= λ all.
         visited all.progress f >>= λ total.
-        at_node (next p) (element_type all.own) >>= λ item.
+        at_node (next_node p) (element_type all.own) >>= λ item.
         visited (with_variable a total.own (with_variable x item total.progress)) b >>= λ body.
-        settled (next p) (without_variable (without_variable body.progress)) (total_type total.own body.own)
+        node_settled (next_node p) (without_variable (without_variable body.progress)) (total_type total.own body.own)
     visited p (mapped x l b) =
-        visited (reserved p) l >>= λ all.
-        at_node (next p) (element_type all.own) >>= λ item.
+        visited (node_reserved p) l >>= λ all.
+        at_node (next_node p) (element_type all.own) >>= λ item.
         visited (with_variable x item all.progress) b >>= λ body.
-        settled (next p) (without_variable body.progress) (mapped_type all.own body.own)
+        node_settled (next_node p) (without_variable body.progress) (mapped_type all.own body.own)
     visited p (one word e) =
-        visited (reserved p) e >>= λ part. settled (next p) part.progress (one_type word (is_look e) part.own)
+        visited (node_reserved p) e >>= λ part. node_settled (next_node p) part.progress (one_type word (is_look e) part.own)
     visited p (two word l r) =
-        visited (reserved p) l >>= λ left.
+        visited (node_reserved p) l >>= λ left.
         visited left.progress r >>= λ right.
-        settled (next p) right.progress (two_type word left.own right.own)
+        node_settled (next_node p) right.progress (two_type word left.own right.own)
     visited p (convert word o e) =
-        visited (reserved p) e >>= λ part.
-        settled (next p) part.progress
+        visited (node_reserved p) e >>= λ part.
+        node_settled (next_node p) part.progress
         (convert_type word (is_some (object_named basin.objects o)) (is_some (table_named basin o)) part.own)
     visited p (at s d) =
-        visited (reserved p) s >>= λ place.
+        visited (node_reserved p) s >>= λ place.
         visited place.progress d >>= λ date.
-        settled (next p) date.progress (look_type place.own date.own)
+        node_settled (next_node p) date.progress (look_type place.own date.own)
 
     -- behind those types that were found before
     pub visited_all : List RplType → Progress → Trees → Judged RowVisit
@@ -126,15 +126,15 @@ module _ (basin : Draft) (callable : Callable) where
   abbrev mutual
     pub visited_act : Progress → Act → Judged Progress
     visited_act p (assign o s ahead e) =
-        visited basin callable (reserved p) e >>= λ value.
-        stands (next p) value.progress (target_misfit basin o s ahead value.own)
+        visited basin callable (node_reserved p) e >>= λ value.
+        stands (next_node p) value.progress (target_misfit basin o s ahead value.own)
     visited_act p (branch c first second) =
-        visited basin callable (reserved p) c >>= λ test.
+        visited basin callable (node_reserved p) c >>= λ test.
         visited_acts test.progress first >>= λ yes.
         visited_acts yes second >>= λ no.
-        stands (next p) no (condition_misfit test.own)
+        stands (next_node p) no (condition_misfit test.own)
     visited_act p (with_name x e body) =
-        visited basin callable (reserved p) e >>= λ value.
+        visited basin callable (node_reserved p) e >>= λ value.
         visited_acts (with_variable x value.own value.progress) body >>= λ inside.
         Ok (without_variable inside)
 

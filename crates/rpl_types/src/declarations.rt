@@ -7,7 +7,7 @@ ghost use Rattle.rpl_budget.specs.Seen.{budget_seen};
 ghost use Rattle.rpl_tree.specs.Seen.{declared_of, parameter_of, type_of, tree_of};
 ghost use Rattle.rpl_tree.specs.Tree.{function};
 ghost use Rattle.rpl_types.specs.Gives.{callable_in};
-ghost use Rattle.rpl_types.specs.Judged.{and_function, cost_refusal, declared_types, is_affordable, judged, refused_as_whole, with_budget};
+ghost use Rattle.rpl_types.specs.Judged.{and_function, cost_refusal, declared_types, is_affordable, rules_judged, refused_as_whole, with_budget};
 ghost use Rattle.rpl_types.specs.Declarations.{node_refusal};
 ghost use Rattle.rpl_types.specs.Refused.{refusal_of};
 ghost use Rattle.rpl_types.specs.Seen.{signatures_of};
@@ -161,7 +161,7 @@ pub fn types_of_all(
 ) -> Result<Vec<NodeTypes>, TypeFault>
     requires costs { map budget_seen costs.now ≡ budgets_of (map declared_of declarations.now) }
     ensures { Answers TypeFault.NoMemory refusal_of (λ all. map (λ types. types.items) all.items)
-        result (judged basin.now (map declared_of declarations.now)) }
+        result (rules_judged basin.now (map declared_of declarations.now)) }
 {
     let mut all = Vec::new(alloc);
     let mut earlier = Vec::new(alloc);

@@ -2,7 +2,7 @@
 ghost use Rattle.std.specs.Prelude.{◌≡◌, max};
 ghost use Rattle.rw_base.specs.Answers.{unless_refused};
 ghost use Rattle.rw_model.specs.Links.{is_same_dim};
-ghost use Rattle.rpl_types.specs.Fits.{order, sooner, unit_misfit, length_misfit, misfit, joined};
+ghost use Rattle.rpl_types.specs.Fits.{refusal_order, sooner, unit_misfit, length_misfit, misfit, joined_type};
 
 use crate::TypeKind;
 use rpl_tree::RplType;
@@ -13,7 +13,7 @@ pub const LONGEST: u16 = 4096;
 
 // Where a refusal stands in the order of those at one node.
 fn order(kind: TypeKind) -> u8
-    ensures { result ≡ order kind }
+    ensures { result ≡ refusal_order kind }
 {
     match kind {
         TypeKind::DuplicateName => 0,
@@ -105,7 +105,7 @@ fn list_misfit(n: u16, a: Dim, m: u16, b: Dim) -> Option<TypeKind>
 
 /// The type of what is either the one or the other.
 pub fn joined(a: &RplType, b: &RplType) -> Result<RplType, TypeKind>
-    ensures { result ≡ joined a.now b.now }
+    ensures { result ≡ joined_type a.now b.now }
 {
     match (a, b) {
         (RplType::NumericList(n, x), RplType::NumericList(m, y)) => match unit_misfit(*x, *y) {

@@ -8,22 +8,22 @@ ghost use Rattle.rpl_tree.specs.declared.words.ConvertWord.TheVariants.{Elevatio
 ghost use Rattle.rpl_tree.specs.declared.words.OneWord.TheVariants.{Known, Length, Minus, Month, Not};
 ghost use Rattle.rpl_tree.specs.declared.words.TwoWord.TheVariants.{Append, Divide, Equal, Item, Less, Minus as Less_by, Or, Plus, Times};
 ghost use Rattle.rpl_tree.specs.Tree.{Declared, at, bind, brackets, branch, call, choice, convert, each, function, list, mapped, name, no_acts, no_trees, now, numeric, numeric_list, one, slot, truth, two, with_name, assign};
-ghost use Rattle.rpl_tree.specs.Worked.{acts_of, at_now, call_of, cap_and_base, l_name, n_name, n_to_x, of_unit, one_or_two, one_to_x, over, pair, puts_at, rule_of, s_name, sum_ahead, sum_too_early, three, trees_of, turns_of_one_name, whole, x_put, x_rule};
+ghost use Rattle.rpl_tree.specs.Worked.{acts_from, at_now, call_with_numbers, cap_and_base, l_name, n_name, n_to_x, of_unit, one_else_two, one_to_x, loop_over, pair, puts_at, rule_of, s_name, sum_ahead, sum_too_early, three_numbers, trees_from, turns_of_one_name, whole, x_put, x_rule};
 ghost use Rattle.rpl_tree.specs.declared.rpl_type.RplType.TheVariants.{Boolean, Datetime, Numeric, NumericList, Slot};
 ghost use Rattle.rpl_types.specs.declared.type_kind.TypeKind.TheVariants.{DuplicateName, ListTooLong, LiteralRange, NoTable, NotEarlier, NotSettable, TargetStep, TooCostly, UnknownName, UnknownSlot, UnknownUnit, WrongCount, WrongType, WrongUnit};
 ghost use Rattle.rpl_types.specs.Forms.{plain};
 ghost use Rattle.rpl_types.specs.HasType.{IsTyped};
 ghost use Rattle.rpl_types.specs.Nodes.{Types};
 ghost use Rattle.rpl_tree.specs.Budget.{budget, limits};
-ghost use Rattle.rpl_types.specs.Judged.{cost_refusal, judged, judged_types, type_at};
-ghost use Rattle.rpl_types.specs.Worked.{a_count, a_flow, a_length, a_step, a_volume, accepted, added_to_storage, cubed, dam_and_flow, function_of_list, inflow_now, inflow_slot, judged_acts, judged_ahead, judged_put, judged_with, judged_x, list_function, look_types, metre, nested_loops, number_function, number_param, numbers, one_step, pool_storage, refused, twice, twice_call, worked_basin, x_slot};
+ghost use Rattle.rpl_types.specs.Judged.{cost_refusal, rules_judged, judged_types, type_at};
+ghost use Rattle.rpl_types.specs.Worked.{a_count, a_flow, a_length, a_step, a_volume, accepted, added_to_storage, cubed, dam_flow_basin, function_of_list, inflow_now, inflow_slot, judged_acts, judged_ahead, judged_put, judged_with, judged_x, list_function, look_types, metre, nested_loops, declared_number_function, number_param, plain_numbers, one_timestep, pool_storage, refused, twice, twice_call, worked_basin, x_slot_tree};
 
 /// What is accepted is typed: each expression has a type by those of its parts, each value fits the slot that it is set to,
 /// each condition is a truth, what a function answers fits what its head says, and each cost is within its limit.
 #[tactic(auto, using(crate::proofs::Accepted::accepted))]
 pub fn accepted()
     ensures { (basin : Draft) (rules : List Declared) (all : List Types)
-        → judged basin rules ≡ Ok all → IsTyped basin rules }
+        → rules_judged basin rules ≡ Ok all → IsTyped basin rules }
 {}
 
 /// A flow can't be added to a storage; what flows in a timestep can.
@@ -41,20 +41,20 @@ pub fn first_mistakes()
     ensures slot { judged_put (codes "Dam") (codes "Level") (whole (pos 1))
         ≡ refused UnknownSlot 1 1 }
     ensures name { judged_put (codes "Dam") (codes "Outflow") twice_call ≡ refused UnknownName 1 2 }
-    ensures none { judged worked_basin [] ≡ Ok [] }
+    ensures none { rules_judged worked_basin [] ≡ Ok [] }
 {}
 
 /// A storage that is capped beside a release, and a sum over the timesteps to come, which calls a function. The function
 /// can't be declared after the rule.
 pub fn accepted_rules()
-    ensures cap_and_base { judged worked_basin cap_and_base
+    ensures cap_and_base { rules_judged worked_basin cap_and_base
         ≡ Ok ((None ∷ a_volume ∷ look_types volume ++ a_volume ∷ []) ∷ (None ∷ a_flow ∷ []) ∷ []) }
-    ensures ahead { type_at (judged_types dam_and_flow sum_ahead) 1 1 ≡ a_flow }
-    ensures pair { type_at (judged_types dam_and_flow sum_ahead) 2 3
+    ensures ahead { type_at (judged_types dam_flow_basin sum_ahead) 1 1 ≡ a_flow }
+    ensures pair { type_at (judged_types dam_flow_basin sum_ahead) 2 3
         ≡ Some (NumericList 2 timestep) }
-    ensures argument { type_at (judged_types dam_and_flow sum_ahead) 2 10 ≡ a_step }
-    ensures statement { type_at (judged_types dam_and_flow sum_ahead) 2 1 ≡ None }
-    ensures too_early { judged dam_and_flow sum_too_early ≡ refused NotEarlier 1 9 }
+    ensures argument { type_at (judged_types dam_flow_basin sum_ahead) 2 10 ≡ a_step }
+    ensures statement { type_at (judged_types dam_flow_basin sum_ahead) 2 1 ≡ None }
+    ensures too_early { rules_judged dam_flow_basin sum_too_early ≡ refused NotEarlier 1 9 }
 {}
 
 /// Names and slots that aren't there.
@@ -142,25 +142,28 @@ pub fn parts_first()
 pub fn lists()
     ensures slots { judged_x
         (two Item
-        (list (trees_of (slot (codes "D") (codes "X") ∷ whole (pos 1) ∷ []))) (whole (pos 1)))
+        (list (trees_from (slot (codes "D") (codes "X") ∷ whole (pos 1) ∷ []))) (whole (pos 1)))
         ≡ refused WrongType 1 3 }
-    ensures units { judged_x (one Length (list (trees_of (whole (pos 1) ∷ metre ∷ []))))
+    ensures units { judged_x (one Length (list (trees_from (whole (pos 1) ∷ metre ∷ []))))
         ≡ refused WrongUnit 1 3 }
-    ensures kind_first { judged_x (one Length (list (trees_of (whole (pos 1) ∷ metre ∷ now ∷ []))))
+    ensures kind_first { judged_x
+        (one Length (list (trees_from (whole (pos 1) ∷ metre ∷ now ∷ []))))
         ≡ refused WrongType 1 3 }
-    ensures dates { judged_x (one Length (list (trees_of (now ∷ now ∷ []))))
+    ensures dates { judged_x (one Length (list (trees_from (now ∷ now ∷ []))))
         ≡ refused WrongType 1 3 }
-    ensures append { judged_x (two Item three (whole (pos 3)))
+    ensures append { judged_x (two Item three_numbers (whole (pos 3)))
         ≡ accepted
-        (None ∷ a_count ∷ numbers 3 ∷ numbers 2 ∷ a_count ∷ a_count ∷ a_count ∷ a_count ∷ []) }
-    ensures too_long { judged (worked_basin)
+        (None ∷ a_count ∷ plain_numbers 3 ∷ plain_numbers 2 ∷ a_count ∷ a_count ∷ a_count
+        ∷ a_count ∷ []) }
+    ensures too_long { rules_judged (worked_basin)
         (list_function (codes "F") (pos 4096) []
         (one Length (two Append l_name (whole (pos 1)))) ∷ [])
         ≡ refused ListTooLong 1 2 }
-    ensures no_loop { judged_x (over (whole (pos 1)) (name (codes "z"))) ≡ refused WrongType 1 2 }
+    ensures no_loop { judged_x (loop_over (whole (pos 1)) (name (codes "z")))
+        ≡ refused WrongType 1 2 }
     ensures loop_first { judged_x (mapped (codes "n") (whole (pos 1)) (name (codes "z")))
         ≡ refused WrongType 1 2 }
-    ensures turn { judged_x (over (pair (pos 1) (pos 2)) (two Equal n_name s_name))
+    ensures turn { judged_x (loop_over (pair (pos 1) (pos 2)) (two Equal n_name s_name))
         ≡ refused WrongType 1 2 }
     ensures accumulator { judged_x
         (each (codes "n") (pair (pos 1) (pos 2)) (codes "n") metre n_name)
@@ -169,60 +172,65 @@ pub fn lists()
 
 /// What else the forms refuse, of kinds and of units, and how long a list in a head may be.
 pub fn further_forms()
-    ensures index { judged_x (two Item (pair (pos 1) (pos 2)) one_step) ≡ refused WrongUnit 1 2 }
+    ensures index { judged_x (two Item (pair (pos 1) (pos 2)) one_timestep)
+        ≡ refused WrongUnit 1 2 }
     ensures other_unit { judged_x (one Length (two Append (pair (pos 1) (pos 2)) metre))
         ≡ refused WrongUnit 1 3 }
     ensures table_unit { judged_x
         (two Divide (convert StorageToElevation (codes "Pool") metre) metre)
         ≡ refused WrongUnit 1 3 }
-    ensures slots { judged_x (one Length (list (trees_of (x_slot ∷ inflow_slot ∷ []))))
+    ensures slots { judged_x (one Length (list (trees_from (x_slot_tree ∷ inflow_slot ∷ []))))
         ≡ refused WrongUnit 1 3 }
-    ensures either_slot { judged_x (at (choice (truth true) x_slot inflow_slot) now)
+    ensures either_slot { judged_x (at (choice (truth true) x_slot_tree inflow_slot) now)
         ≡ refused WrongUnit 1 3 }
     ensures either_list { judged_x (one Length
-        (choice (truth true) (pair (pos 1) (pos 2)) (list (trees_of (metre ∷ [])))))
+        (choice (truth true) (pair (pos 1) (pos 2)) (list (trees_from (metre ∷ [])))))
         ≡ refused WrongUnit 1 3 }
     ensures date_less { judged_x (one Month (two Less_by now metre)) ≡ refused WrongUnit 1 3 }
     ensures low { judged_x (two Divide (two Divide (two Divide (whole (pos 1)) cubed) cubed) metre)
         ≡ refused WrongUnit 1 2 }
-    ensures truths { judged_x (one_or_two (two Equal (truth true) (truth true)))
+    ensures truths { judged_x (one_else_two (two Equal (truth true) (truth true)))
         ≡ refused WrongType 1 3 }
     ensures two_dates { judged_x (one Month (two Plus now now)) ≡ refused WrongType 1 3 }
-    ensures date_last { judged_x (one Month (two Plus one_step now)) ≡ refused WrongType 1 3 }
-    ensures no_date { judged_x (at x_slot (whole (pos 1))) ≡ refused WrongType 1 2 }
+    ensures date_last { judged_x (one Month (two Plus one_timestep now)) ≡ refused WrongType 1 3 }
+    ensures no_date { judged_x (at x_slot_tree (whole (pos 1))) ≡ refused WrongType 1 2 }
     ensures no_slot { judged_x (at (whole (pos 1)) now) ≡ refused WrongType 1 2 }
     ensures items { judged_x (one Length (mapped (codes "n") (pair (pos 1) (pos 2)) (truth true)))
         ≡ refused WrongType 1 3 }
     ensures table_first { judged_x (convert ElevationToStorage (codes "Dam") now)
         ≡ refused NoTable 1 2 }
     ensures arguments { judged_x
-        (call (codes "Clamp") (trees_of (whole (pos 1) ∷ metre ∷ now ∷ [])))
+        (call (codes "Clamp") (trees_from (whole (pos 1) ∷ metre ∷ now ∷ [])))
         ≡ refused WrongType 1 2 }
-    ensures none { judged worked_basin (function_of_list 0 ∷ []) ≡ refused ListTooLong 1 0 }
-    ensures most { judged worked_basin (function_of_list 4096 ∷ []) ≡ accepted (a_count ∷ []) }
-    ensures more { judged worked_basin (function_of_list 4097 ∷ []) ≡ refused ListTooLong 1 0 }
+    ensures none { rules_judged worked_basin (function_of_list 0 ∷ []) ≡ refused ListTooLong 1 0 }
+    ensures most { rules_judged worked_basin (function_of_list 4096 ∷ [])
+        ≡ accepted (a_count ∷ []) }
+    ensures more { rules_judged worked_basin (function_of_list 4097 ∷ [])
+        ≡ refused ListTooLong 1 0 }
 {}
 
 /// Functions and their calls. A function can't call itself, and none that is declared after it.
 pub fn functions()
     ensures call { judged_with (twice ∷ []) twice_call
         ≡ Ok ((a_count ∷ a_count ∷ a_count ∷ []) ∷ (None ∷ a_count ∷ a_count ∷ []) ∷ []) }
-    ensures itself { judged worked_basin
-        (number_function (codes "F") (number_param (codes "n") ∷ [])
-        (call_of (codes "F") (pos 1 ∷ [])) ∷ [])
+    ensures itself { rules_judged worked_basin
+        (declared_number_function (codes "F") (number_param (codes "n") ∷ [])
+        (call_with_numbers (codes "F") (pos 1 ∷ [])) ∷ [])
         ≡ refused NotEarlier 1 1 }
-    ensures after { judged worked_basin (x_rule twice_call ++ twice ∷ []) ≡ refused NotEarlier 1 2 }
-    ensures count { judged_with (twice ∷ []) (call_of (codes "Twice") []) ≡ refused WrongCount 2 2 }
-    ensures count_first { judged_x (call (codes "Max") (trees_of (now ∷ [])))
+    ensures after { rules_judged worked_basin (x_rule twice_call ++ twice ∷ [])
+        ≡ refused NotEarlier 1 2 }
+    ensures count { judged_with (twice ∷ []) (call_with_numbers (codes "Twice") [])
+        ≡ refused WrongCount 2 2 }
+    ensures count_first { judged_x (call (codes "Max") (trees_from (now ∷ [])))
         ≡ refused WrongCount 1 2 }
-    ensures unit { judged_with (twice ∷ []) (call (codes "Twice") (trees_of (metre ∷ [])))
+    ensures unit { judged_with (twice ∷ []) (call (codes "Twice") (trees_from (metre ∷ [])))
         ≡ refused WrongUnit 2 2 }
     ensures long { judged_with (list_function (codes "F") (pos 1) [] (whole (pos 1)) ∷ [])
-        (call (codes "F") (trees_of (pair (pos 1) (pos 2) ∷ [])))
+        (call (codes "F") (trees_from (pair (pos 1) (pos 2) ∷ [])))
         ≡ refused ListTooLong 2 2 }
-    ensures sign { judged_x (call (codes "Sign") (trees_of (metre ∷ [])))
+    ensures sign { judged_x (call (codes "Sign") (trees_from (metre ∷ [])))
         ≡ accepted (None ∷ a_count ∷ a_length ∷ []) }
-    ensures least { judged_x (call (codes "Min") (trees_of (metre ∷ whole (pos 1) ∷ [])))
+    ensures least { judged_x (call (codes "Min") (trees_from (metre ∷ whole (pos 1) ∷ [])))
         ≡ refused WrongUnit 1 2 }
 {}
 
@@ -237,24 +245,26 @@ pub fn costs()
 
 /// What is wrong with a declaration as a whole: first its head, and after its nodes its result and its cost.
 pub fn wholes()
-    ensures predefined { judged worked_basin (number_function (codes "Min") [] n_name ∷ [])
+    ensures predefined { rules_judged worked_basin
+        (declared_number_function (codes "Min") [] n_name ∷ [])
         ≡ refused DuplicateName 1 0 }
     ensures twice { judged_with (twice ∷ twice ∷ []) n_name ≡ refused DuplicateName 2 0 }
-    ensures parameters { judged worked_basin
-        (number_function (codes "F")
+    ensures parameters { rules_judged worked_basin
+        (declared_number_function (codes "F")
         (number_param (codes "n") ∷ number_param (codes "n") ∷ []) n_name ∷ [])
         ≡ refused DuplicateName 1 0 }
-    ensures unit { judged worked_basin
+    ensures unit { rules_judged worked_basin
         (list_function (codes "F") (pos 0) (codes "ounce") n_name ∷ []) ≡ refused UnknownUnit 1 0 }
-    ensures room { judged worked_basin (list_function (codes "F") (pos 5000) [] n_name ∷ [])
+    ensures room { rules_judged worked_basin (list_function (codes "F") (pos 5000) [] n_name ∷ [])
         ≡ refused ListTooLong 1 0 }
-    ensures unit_first { judged worked_basin
+    ensures unit_first { rules_judged worked_basin
         (function (codes "F") (record { name = codes "l"; of_type = numeric_list (pos 0) [] } ∷ [])
         (numeric (codes "ounce")) n_name ∷ [])
         ≡ refused UnknownUnit 1 0 }
-    ensures result { judged worked_basin (number_function (codes "F") [] metre ∷ [])
+    ensures result { rules_judged worked_basin (declared_number_function (codes "F") [] metre ∷ [])
         ≡ refused WrongUnit 1 0 }
-    ensures cost { judged worked_basin (list_function (codes "Big") (pos 1100) [] nested_loops ∷ [])
+    ensures cost { rules_judged worked_basin
+        (list_function (codes "Big") (pos 1100) [] nested_loops ∷ [])
         ≡ refused TooCostly 1 0 }
     ensures variable { judged_x (bind (codes "Min") (whole (pos 1)) (name (codes "Min")))
         ≡ accepted (None ∷ a_count ∷ a_count ∷ a_count ∷ []) }

@@ -6,7 +6,7 @@ ghost use Rattle.rw_model.specs.Draft.{IsObject, IsSlot};
 ghost use Rattle.rw_model.specs.Objects.{object_at, object_named, slot_named};
 ghost use Rattle.rpl_tree.specs.Operators.{is_quantity};
 ghost use Rattle.rpl_tree.specs.World.{table_in, table_named};
-ghost use Rattle.rpl_types.specs.Forms.{answers, asks, convert_type, in_unit, literal_type, slot_type, table_type};
+ghost use Rattle.rpl_types.specs.Forms.{answers, asks, convert_type, literal_in_unit, literal_type, slot_type, table_type};
 
 use crate::TypeKind;
 use crate::calls::is_same_name;
@@ -46,7 +46,7 @@ fn is_quantity_of(number: i64, factor: i64) -> bool
 }
 
 fn in_unit(number: i64, unit: Option<(Dim, i64)>) -> Result<RplType, TypeKind>
-    ensures { result ≡ in_unit number unit }
+    ensures { result ≡ literal_in_unit number unit }
 {
     let Some((dim, factor)) = unit else {
         return Err(TypeKind::UnknownUnit);

@@ -2,7 +2,7 @@
 ghost use Rattle.std.specs.Prelude.{◌≡◌, IfErr, IfOk, OnOk};
 ghost use Rattle.rpl_types.specs.Forms.{name_type};
 ghost use Rattle.rpl_types.specs.Stopped.{progress_of};
-ghost use Rattle.rpl_types.specs.Visited.{filled, next, reserved, visit, with_variable, without_variable};
+ghost use Rattle.rpl_types.specs.Visited.{node_filled, next_node, node_reserved, visit, with_variable, without_variable};
 ghost use Rattle.rpl_types.specs.declared.stop.Stop.TheVariants as Stop;
 
 use crate::TypeKind;
@@ -22,8 +22,8 @@ pub struct Progress<'a> {
 
 /// Keeps a place for the next node, whose number is answered.
 pub fn reserve(progress: &mut Progress) -> Result<usize, Stop>
-    ensures ok { OnOk result (progress_of progress.new ≡ reserved (progress_of progress.old)) }
-    ensures node { IfOk result (λ node. node ≡ next (progress_of progress.old)) }
+    ensures ok { OnOk result (progress_of progress.new ≡ node_reserved (progress_of progress.old)) }
+    ensures node { IfOk result (λ node. node ≡ next_node (progress_of progress.old)) }
     ensures err { IfErr result (λ stop. stop ≡ Stop.NoMemory) }
 {
     match progress.types.push(None) {
@@ -34,7 +34,7 @@ pub fn reserve(progress: &mut Progress) -> Result<usize, Stop>
 
 /// Sets the type of a node.
 pub fn fill(progress: &mut Progress, node: usize, found: &RplType)
-    ensures { filled node (progress_of progress.old) found.now
+    ensures { node_filled node (progress_of progress.old) found.now
         ≡ visit found.now (progress_of progress.new) }
 {
     if let Some(kept) = progress.types.get_mut(node.saturating_sub(1)) {

@@ -4,10 +4,10 @@ ghost use Rattle.rw_base.specs.Answers.{Answers};
 ghost use Rattle.rpl_tree.specs.Seen.{tree_of, trees_in};
 ghost use Rattle.rpl_tree.specs.Tree.{at, bind, brackets, call, choice, convert, each, list, mapped, one, two};
 ghost use Rattle.rpl_types.specs.Forms.{is_look, name_type};
-ghost use Rattle.rpl_types.specs.Gives.{Gives, Visits, VisitsAll};
+ghost use Rattle.rpl_types.specs.Gives.{GivesVisit, Visits, VisitsAll};
 ghost use Rattle.rpl_types.specs.Nodes.{at_node};
 ghost use Rattle.rpl_types.specs.Stopped.{progress_of, stop_refusal};
-ghost use Rattle.rpl_types.specs.Visited.{leaf, settled};
+ghost use Rattle.rpl_types.specs.Visited.{leaf, node_settled};
 ghost use Rattle.rpl_types.specs.declared.stop.Stop.TheVariants as Stop;
 
 use crate::TypeKind;
@@ -37,7 +37,7 @@ fn settle(
     node: usize,
     found: Result<RplType, TypeKind>,
 ) -> Result<RplType, Stop>
-    ensures { Gives progress.new result (settled node (progress_of progress.old) found) }
+    ensures { GivesVisit progress.new result (node_settled node (progress_of progress.old) found) }
 {
     let own = at_node(node, found)?;
     fill(progress, node, &own);
@@ -46,7 +46,7 @@ fn settle(
 
 /// The type of an expression without parts.
 fn leaf(progress: &mut Progress, found: Result<RplType, TypeKind>) -> Result<RplType, Stop>
-    ensures { Gives progress.new result (leaf (progress_of progress.old) found) }
+    ensures { GivesVisit progress.new result (leaf (progress_of progress.old) found) }
 {
     let node = reserve(progress)?;
     settle(progress, node, found)
@@ -86,7 +86,7 @@ pub fn visit<'a>(known: &Known, progress: &mut Progress<'a>, e: &'a Expr) -> Res
 
 /// `name`.
 fn variable<'a>(progress: &mut Progress<'a>, name: &'a [u8]) -> Result<RplType, Stop>
-    ensures { Gives progress.new result
+    ensures { GivesVisit progress.new result
         (leaf (progress_of progress.old) (name_type (progress_of progress.old).scope name.now)) }
 {
     let found = name_type(progress, name);

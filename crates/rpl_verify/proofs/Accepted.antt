@@ -12,7 +12,7 @@ use Rattle.rpl_verify.specs.Names.{Scope}
 use Rattle.rpl_verify.specs.Fits.{Before, Misplaced, at_place, before, befores, block_befores, count_alike, each_block, is_alike, parameters_of, scope_of}
 use Rattle.rpl_verify.specs.Budget.{AreAccepted, IsWithinLimits, at_a_time, block_ruling, budget_by, count_of, looks_of, most, part_of, puts_of, summed, within_limits}
 use Rattle.rpl_verify.specs.Machine.{Frame, begin, fired, first_frame, most_steps, rule_from, run}
-use Rattle.rpl_verify.specs.Safety.{AreSafe, firing_from, looks_in, most_words, puts_from, states}
+use Rattle.rpl_verify.specs.Safety.{AreSafe, firing_from, look_count_in, most_words, puts_from, states}
 use Rattle.rpl_verify.proofs.Rulings.{at_place_ok, in_block_ok, same_budget, then_do_ok, within}
 use Rattle.rpl_verify.proofs.Costs.{C, W}
 use Rattle.rpl_verify.proofs.States.{Covers, Fits, begun, block_or}
@@ -256,7 +256,7 @@ module _ (basin : Draft) (code : List Block) (budgets : List Budget) (accepted :
           fires = ap (fired code (the_world values step)) q ∙ done.is;
           count = omega (arith, done.count, done.ran.count, m1);
           cells = omega (arith, ap (λ (l : List _). length l) done.looked, done.ran.cells, done.ran.looks, m2);
-          looks = subst (λ o. looks_in code (firing_from code (the_world values step) o) ≤ b.looks) (sym q) (omega (arith, done.ran.looks, m2));
+          looks = subst (λ o. look_count_in code (firing_from code (the_world values step) o) ≤ b.looks) (sym q) (omega (arith, done.ran.looks, m2));
           puts = subst (λ o. puts_from code (the_world values step) o ≤ b.puts) (sym q) (omega (arith, done.ran.puts, m3));
           words = subst (λ o. most_words (firing_from code (the_world values step) o) ≤ b.words) (sym q) (omega (arith, done.ran.words, m4));
         },

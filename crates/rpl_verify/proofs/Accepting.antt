@@ -9,7 +9,7 @@ use Rattle.rpl_verify.specs.declared.verify_kind.VerifyKind.{VerifyKind}
 use Rattle.rpl_verify.specs.declared.verify_kind.VerifyKind.TheVariants.{TooCostly, TooManyReads, TooManyPuts, TooDeep, TooMany}
 use Rattle.rpl_verify.specs.Places.{spots}
 use Rattle.rpl_verify.specs.Names.{Scope}
-use Rattle.rpl_verify.specs.Fits.{Before, Misplaced, Refusal, at_place, before, befores, block_befores, count_alike, each_block, fitting, in_block, refusal_in, scope_of, then_do}
+use Rattle.rpl_verify.specs.Fits.{Before, Misplaced, Refusal, at_place, before, befores, block_befores, count_alike, each_block, fitting, in_block, refusal_in_result, scope_of, then_do}
 use Rattle.rpl_verify.specs.Budget.{AreAccepted, IsWithinLimits, block_ruling, budget_by, count_of, looks_of, most, puts_of, summed, within_limits}
 use Rattle.rpl_verify.specs.Ways.{AreAcceptable, AreBudgets, HasBudget, IsBudget, IsMost, sum_on, words_on}
 use Rattle.rpl_verify.proofs.KindFacts.{same_ok}
@@ -132,7 +132,7 @@ module _ (basin : Draft) (code : List Block) (budgets : List Budget) (good : Are
       ∙ ap (λ ds. each_block (block_ruling basin code) (prior ++ x ∷ []) ds xs) (taken_one (length prior) r.0 r.2 ∙ ap (λ k. take k budgets) y)
       ∙ accepted_from (prior ++ x ∷ []) xs (done ++ q.0 ∷ []) all whole q.2
 
-  all_fit : (r : Result (List (List Before)) Refusal) → refusal_in r ≡ None → (l : List (List Before)) × (r ≡ Ok l)
+  all_fit : (r : Result (List (List Before)) Refusal) → refusal_in_result r ≡ None → (l : List (List Before)) × (r ≡ Ok l)
   all_fit (Ok l) h = (l, refl)
   all_fit (Err why) h = absurd (cc h)
 

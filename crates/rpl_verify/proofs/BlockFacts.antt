@@ -7,7 +7,7 @@ use Rattle.rpl_verify.specs.declared.notes.Note.{Note}
 use Rattle.rpl_verify.specs.declared.resolved.Resolved.{Resolved}
 use Rattle.rpl_verify.specs.Places.{Spot}
 use Rattle.rpl_verify.specs.Names.{Scope}
-use Rattle.rpl_verify.specs.Fits.{Before, Misplaced, at_place, before, befores, ended, judged, then_do}
+use Rattle.rpl_verify.specs.Fits.{Before, Misplaced, at_place, before, befores, ended_block, judged_at, then_do}
 use Rattle.rpl_verify.specs.Notes.{notes_of}
 use Rattle.rpl_verify.specs.Resolved.{resolved}
 use Rattle.rpl_verify.specs.Walked.{Walked}
@@ -50,9 +50,9 @@ module _ {A : Type 0} (scope : Scope) (made : ℕ → List Before → List Instr
   joins p b i is x done (Err wrong) m = refl
 
   pub left_on : (p : ℕ) (w w2 : Walked) (done done2 : List A) (x : A) (i : Instruction) (is left : List Instruction) → IsLeft p w done left → left ≡ i ∷ is → done2 ≡ done ++ x ∷ [] → Makes p w.before i is x
-      → judged (at_spots scope w.spots) p w.before i ≡ Ok w2.before → w2.spots ≡ w.spots → IsLeft (p + 1) w2 done2 is
+      → judged_at (at_spots scope w.spots) p w.before i ≡ Ok w2.before → w2.spots ≡ w.spots → IsLeft (p + 1) w2 done2 is
   left_on p w w2 done done2 x i is left h l d m j s =
-      let j2 : judged scope p w.before i ≡ Ok w2.before = subst (λ ss. judged (at_spots scope ss) p w.before i ≡ Ok w2.before) h.placed j in
+      let j2 : judged_at scope p w.before i ≡ Ok w2.before = subst (λ ss. judged_at (at_spots scope ss) p w.before i ≡ Ok w2.before) h.placed j in
       let z : suc p ≡ p + 1 = omega arith in
       record {
         placed = s ∙ h.placed;
@@ -62,7 +62,7 @@ module _ {A : Type 0} (scope : Scope) (made : ℕ → List Before → List Instr
             ∙ ap₂ (λ n ds. left_of n w2.before ds is) z (sym d);
       }
 
-  pub left_ended : (p : ℕ) (w : Walked) (done done2 : List A) (left : List Instruction) → IsLeft p w done left → left ≡ [] → done2 ≡ done ++ made p (w.before ∷ []) [] → ended scope.head w.before w.before.loops ≡ Ok w.before
+  pub left_ended : (p : ℕ) (w : Walked) (done done2 : List A) (left : List Instruction) → IsLeft p w done left → left ≡ [] → done2 ≡ done ++ made p (w.before ∷ []) [] → ended_block scope.head w.before w.before.loops ≡ Ok w.before
       → then_do (befores scope 0 (before [] []) all) (λ bs. Ok (made 0 bs all)) ≡ Ok done2
   left_ended p w done done2 left h l d e =
       h.left ∙ ap (left_of p w.before done) l ∙ ap (λ v. then_do (at_place p v (λ c. Ok (c ∷ []))) (λ bs. Ok (done ++ made p bs []))) e ∙ ap Ok (sym d)

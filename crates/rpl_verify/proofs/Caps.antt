@@ -8,8 +8,8 @@ use Rattle.rpl_verify.specs.declared.notes.Part.TheVariants.{Count, Looks, Puts,
 use Rattle.rpl_verify.specs.Places.{loop_end, rest_of}
 use Rattle.rpl_verify.specs.Names.{Scope}
 use Rattle.rpl_verify.specs.Fits.{Before, room_on_top}
-use Rattle.rpl_verify.specs.Budget.{Going, onward, jumping, branching, entering, turning, first_of, most, most_from, table, going_of}
-use Rattle.rpl_verify.specs.Notes.{end_note, joined, limit_of, measure_of, note_of, noted, notes_of, price_in, repeated, stopping}
+use Rattle.rpl_verify.specs.Budget.{Going, onward, jumping, branching, entering, turning, first_before, most, most_from, table, going_of}
+use Rattle.rpl_verify.specs.Notes.{end_note, part_joined, limit_of, measure_of, note_of, noted, notes_of, price_in, repeated, stopping}
 
 -- a product with a number at least 1 is at least the other
 at_least : (m b : ℕ) → b ≤ suc m * b
@@ -45,7 +45,7 @@ max_capped : (l a b x y : ℕ) → a ≡ capped l x → b ≡ capped l y → max
 max_capped l a b x y h g = omega (arith, h, g)
 
 -- what is joined of numbers that stop
-pub joined_stops : (part : Part) (a b x y : ℕ) → a ≡ capped (limit_of part) x → b ≡ capped (limit_of part) y → capped (limit_of part) (joined part a b) ≡ capped (limit_of part) (joined part x y)
+pub joined_stops : (part : Part) (a b x y : ℕ) → a ≡ capped (limit_of part) x → b ≡ capped (limit_of part) y → capped (limit_of part) (part_joined part a b) ≡ capped (limit_of part) (part_joined part x y)
 joined_stops Count a b x y h g = capped_sum limits.count a b x y h g
 joined_stops Looks a b x y h g = capped_sum limits.looks a b x y h g
 joined_stops Puts a b x y h g = capped_sum limits.puts a b x y h g
@@ -67,7 +67,7 @@ index_capped l (n ∷ ns) (suc k) = index_capped l ns k
 
 module _ (scope : Scope) (budgets : List Budget) where
   -- what the table joins and repeats by
-  measure_joins : (part : Part) (a b : ℕ) → (measure_of scope budgets part).joined a b ≡ joined part a b
+  measure_joins : (part : Part) (a b : ℕ) → (measure_of scope budgets part).joined a b ≡ part_joined part a b
   measure_joins Count a b = refl
   measure_joins Looks a b = refl
   measure_joins Puts a b = refl
@@ -80,7 +80,7 @@ module _ (scope : Scope) (budgets : List Budget) where
   measure_repeats Words room a = refl
 
   module _ (part : Part) where
-    join_stops : (a b x y : ℕ) → a ≡ capped (limit_of part) x → b ≡ capped (limit_of part) y → capped (limit_of part) (joined part a b) ≡ capped (limit_of part) ((measure_of scope budgets part).joined x y)
+    join_stops : (a b x y : ℕ) → a ≡ capped (limit_of part) x → b ≡ capped (limit_of part) y → capped (limit_of part) (part_joined part a b) ≡ capped (limit_of part) ((measure_of scope budgets part).joined x y)
     join_stops a b x y h g = joined_stops part a b x y h g ∙ ap (capped (limit_of part)) (sym (measure_joins part x y))
 
     repeat_stops : (room a x : ℕ) → a ≡ capped (limit_of part) x → capped (limit_of part) (repeated part room a) ≡ capped (limit_of part) ((measure_of scope budgets part).repeated room x)
@@ -111,10 +111,10 @@ module _ (scope : Scope) (budgets : List Budget) where
 
     -- the table by notes is the table of all numbers, each of which stops
     pub noted_is : (place : ℕ) (bs : List Before) (is : List Instruction) → noted part place (notes_of scope budgets bs is) is ≡ map (capped (limit_of part)) (table (measure_of scope budgets part) place bs is)
-    noted_is place bs [] = ap (λ n. n ∷ []) (end_stops part (first_of bs))
+    noted_is place bs [] = ap (λ n. n ∷ []) (end_stops part (first_before bs))
     noted_is place bs (i ∷ is) =
         let m = measure_of scope budgets part in
-        let b = first_of bs in
+        let b = first_before bs in
         let behind = table m (suc place) (rest_of bs) is in
         let e = noted_is (suc place) (rest_of bs) is in
         let stops : (d : ℕ) → slice_index (noted part (suc place) (notes_of scope budgets (rest_of bs) is) is) (d - suc place) ≡ capped (limit_of part) (slice_index behind (d - suc place)) =

@@ -5,7 +5,7 @@ use Rattle.rpl_verify.specs.Places.{loop_end, rest_of}
 use Rattle.rpl_tree.specs.Budget.{Budget}
 use Rattle.rpl_verify.specs.Names.{Scope}
 use Rattle.rpl_verify.specs.Fits.{Before, before_at, room_on_top}
-use Rattle.rpl_verify.specs.Budget.{Measure, Going, onward, jumping, branching, entering, turning, going_of, at_a_time, first_of, most_from, summed, table, words_at, words_before}
+use Rattle.rpl_verify.specs.Budget.{Measure, Going, onward, jumping, branching, entering, turning, going_of, at_a_time, first_before, most_from, summed, table, words_at, words_before}
 use Rattle.rpl_verify.specs.Machine.{Running}
 use Rattle.rpl_verify.proofs.Loops.{drop_at}
 use Rattle.rpl_verify.proofs.Frames.{Flow, to_next, to_other, not_taken, is_taken, goes_in, goes_over, turns_back, goes_out}
@@ -21,7 +21,7 @@ drop_rest zero [] = refl
 drop_rest (suc k) [] = refl
 drop_rest k (b ∷ bs) = refl
 
-first_drop : (k : ℕ) (bs : List Before) → first_of (drop k bs) ≡ before_at bs k
+first_drop : (k : ℕ) (bs : List Before) → first_before (drop k bs) ≡ before_at bs k
 first_drop zero [] = refl
 first_drop (suc k) [] = refl
 first_drop zero (b ∷ bs) = refl

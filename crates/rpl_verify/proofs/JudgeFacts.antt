@@ -9,7 +9,7 @@ use Rattle.rpl_verify.specs.declared.place_fault.PlaceFault.TheVariants.{Misfit,
 use Rattle.rpl_verify.specs.declared.block_fault.BlockFault.{BlockFault}
 use Rattle.rpl_verify.specs.Table.{call_row, takes}
 use Rattle.rpl_verify.specs.Names.{Scope, name_misfit}
-use Rattle.rpl_verify.specs.Fits.{Before, behind, judged, unless_misfit}
+use Rattle.rpl_verify.specs.Fits.{Before, behind_instruction, judged_at, unless_misfit}
 use Rattle.rpl_verify.specs.Walked.{Goes, Walked}
 use Rattle.rpl_verify.specs.Steps.{takes_count}
 use Rattle.rpl_verify.specs.Answered.{GoesAt, placed_at}
@@ -25,5 +25,5 @@ goes_at A B place given old new (Misfit misfit) result e h = subst (λ r. GoesAt
 goes_at A B place given old new NoMemory result e h = subst (λ r. GoesAt {B = B} place given old new (Err r)) (sym e) tt
 
 -- an instruction whose names are there
-pub named : (scope : Scope) (place : ℕ) (b : Before) (i : Instruction) → name_misfit scope i ≡ None → judged scope place b i ≡ behind scope place b i
-named scope place b i h = ap (λ misfit. unless_misfit misfit (behind scope place b i)) h
+pub named : (scope : Scope) (place : ℕ) (b : Before) (i : Instruction) → name_misfit scope i ≡ None → judged_at scope place b i ≡ behind_instruction scope place b i
+named scope place b i h = ap (λ misfit. unless_misfit misfit (behind_instruction scope place b i)) h

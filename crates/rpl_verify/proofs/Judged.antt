@@ -6,11 +6,11 @@ use Rattle.rpl_code.specs.declared.instruction.Instruction.{Instruction}
 use Rattle.rpl_code.specs.declared.instruction.Instruction.TheVariants as I
 use Rattle.rpl_verify.specs.declared.verify_kind.VerifyKind.{VerifyKind}
 use Rattle.rpl_verify.specs.declared.verify_kind.VerifyKind.TheVariants.{MissingOperand}
-use Rattle.rpl_verify.specs.Kinds.{are_same_kinds, is_kind, room_of, element_of}
-use Rattle.rpl_verify.specs.Table.{Row, goes_by, row, left_of, of_list, on_top_of, operand_count, operands_behind, or_wrong}
+use Rattle.rpl_verify.specs.Kinds.{are_same_kinds, is_that_kind, list_room, element_kind}
+use Rattle.rpl_verify.specs.Table.{OperandRow, goes_by, operand_row, left_of, of_list, on_top_of, operand_count, operands_behind, or_wrong}
 use Rattle.rpl_verify.specs.Places.{Loop, visiting, mapping, is_same_loop, Bracket, opening, closing, level, bracket}
 use Rattle.rpl_verify.specs.Names.{Scope, name_misfit}
-use Rattle.rpl_verify.specs.Fits.{Open, Before, Misplaced, at_place, before, before_at, befores, behind, behind_loop, carried, closed, declared_at, element_on_top, end_kinds, ended, found, if_fits, judged, opened, restarted, room_on_top, shut, taken, then_do}
+use Rattle.rpl_verify.specs.Fits.{Open, Before, Misplaced, at_place, before, before_at, befores, behind_instruction, behind_loop, carried, closed, declared_at, element_on_top, end_kinds, ended_block, found, if_fits, judged_at, opened, restarted, room_on_top, shut, taken, then_do}
 use Rattle.rpl_verify.proofs.KindFacts.{and_true, same_kinds_true, is_kind_true, then_do_ok, same_ok, fits_ok, no_misfit}
 
 -- ---- steps of a judgement
@@ -20,13 +20,13 @@ at_place_ok place (Ok x) go y h = (x, refl, h)
 at_place_ok place (Err m) go y h = absurd (cc h)
 
 -- an instruction that takes its operands: how many there are at least, and what is left
-pub record Taken (r : Row) (ks ls : List ValueKind) : Type 0 where
+pub record Taken (r : OperandRow) (ks ls : List ValueKind) : Type 0 where
   pub left : List ValueKind
   pub leaves : left_of r (take (operand_count r) ks) ≡ Ok left
   pub whole : ls ≡ left ++ drop (operand_count r) ks
   pub enough : nat_lt (length ks) (operand_count r) ≡ false
 
-pub taken_ok : (r : Row) (ks ls : List ValueKind) → operands_behind r ks ≡ Ok ls → Taken r ks ls
+pub taken_ok : (r : OperandRow) (ks ls : List ValueKind) → operands_behind r ks ≡ Ok ls → Taken r ks ls
 taken_ok r ks ls h = by (nat_lt (length ks) (operand_count r)) refl h
   where
     on_top : (a : Result (List ValueKind) VerifyKind) → left_of r (take (operand_count r) ks) ≡ a → nat_lt (length ks) (operand_count r) ≡ false → on_top_of (drop (operand_count r) ks) a ≡ Ok ls → Taken r ks ls
@@ -55,9 +55,9 @@ OpenRel p (closing loop) os c = (o : Open) × (os ≡ o ∷ c.loops) × (c.kinds
 OpenRel p level os c = c.loops ≡ os
 
 module _ (scope : Scope) where
-  pub taken_is : (i : Instruction) (b c : Before) → taken scope i b ≡ Ok c → (operands_behind (row scope.heads scope.locals i) b.kinds ≡ Ok c.kinds) × (c.loops ≡ b.loops)
+  pub taken_is : (i : Instruction) (b c : Before) → taken scope i b ≡ Ok c → (operands_behind (operand_row scope.heads scope.locals i) b.kinds ≡ Ok c.kinds) × (c.loops ≡ b.loops)
   taken_is i b c h =
-      let q = then_do_ok (operands_behind (row scope.heads scope.locals i) b.kinds) (λ kinds. Ok (before kinds b.loops)) c h in
+      let q = then_do_ok (operands_behind (operand_row scope.heads scope.locals i) b.kinds) (λ kinds. Ok (before kinds b.loops)) c h in
       let s : before q.0 b.loops ≡ c = same_ok (before q.0 b.loops) c q.2 in
       (q.1 ∙ ap (λ (b : Before). Ok b.kinds) s, ap (λ (b : Before). b.loops) (sym s))
 
@@ -74,9 +74,9 @@ module _ (scope : Scope) where
     pub under : List ValueKind
     pub element : ValueKind
     pub top : b.kinds ≡ list ∷ under
-    pub of_list : element_of list ≡ Some element
+    pub of_list : element_kind list ≡ Some element
     pub local : slice_get scope.locals n ≡ Some element
-    pub news : c ≡ before under (record { start = p; loop = loop; room = room_of list; under = under } ∷ b.loops)
+    pub news : c ≡ before under (record { start = p; loop = loop; room = list_room list; under = under } ∷ b.loops)
 
   list_taken : (ks ls : List ValueKind) → operands_behind (goes_by 1 (of_list [])) ks ≡ Ok ls → (k : ValueKind) × (ks ≡ k ∷ ls)
   list_taken [] ls h = absurd (cc h)
@@ -87,13 +87,13 @@ module _ (scope : Scope) where
       by (K.SList m) left e w = let q : left ≡ [] = cc e in (K.SList m, ap (λ l. K.SList m ∷ l) (sym (w ∙ ap (λ l. l ++ ks) q)))
       by _ left e w = absurd (cc e)
 
-  pub opens_by : (p : ℕ) (loop : Loop) (n : ℕ) (i : Instruction) (b c : Before) → row scope.heads scope.locals i ≡ goes_by 1 (of_list []) → opened scope p loop n i b ≡ Ok c → Opens p loop n b c
+  pub opens_by : (p : ℕ) (loop : Loop) (n : ℕ) (i : Instruction) (b c : Before) → operand_row scope.heads scope.locals i ≡ goes_by 1 (of_list []) → opened scope p loop n i b ≡ Ok c → Opens p loop n b c
   opens_by p loop n i b c r h =
       let q = then_do_ok (taken scope i b) (λ (c : Before).
-      if_fits (is_kind (slice_get scope.locals n) (element_on_top b.kinds)) (before c.kinds (record { start = p; loop = loop; room = room_on_top b.kinds; under = c.kinds } ∷ b.loops))) c h in
+      if_fits (is_that_kind (slice_get scope.locals n) (element_on_top b.kinds)) (before c.kinds (record { start = p; loop = loop; room = room_on_top b.kinds; under = c.kinds } ∷ b.loops))) c h in
       let t = taken_is i b q.0 q.1 in
       let l = list_taken b.kinds q.0.kinds (ap (λ r. operands_behind r b.kinds) (sym r) ∙ t.0) in
-      let f = fits_ok (is_kind (slice_get scope.locals n) (element_on_top b.kinds)) _ c q.2 in
+      let f = fits_ok (is_that_kind (slice_get scope.locals n) (element_on_top b.kinds)) _ c q.2 in
       let k = is_kind_true (slice_get scope.locals n) (element_on_top b.kinds) f.0 in
       record {
         list = l.0;
@@ -107,14 +107,14 @@ module _ (scope : Scope) where
 
   open_rel : (p : ℕ) (loop : Loop) (n : ℕ) (b c : Before) → Opens p loop n b c → OpenRel p (opening loop) b.loops c
   open_rel p loop n b c o =
-      (record { start = p; loop = loop; room = room_of o.list; under = o.under }, ap (λ (b : Before). b.loops) o.news, ap (λ (b : Before). b.kinds) o.news, refl, refl)
+      (record { start = p; loop = loop; room = list_room o.list; under = o.under }, ap (λ (b : Before). b.loops) o.news, ap (λ (b : Before). b.kinds) o.news, refl, refl)
 
   -- a loop that ends
   pub record Closes (loop : Loop) (i : Instruction) (b c : Before) : Type 0 where
     pub last : Open
     pub top : b.loops ≡ last ∷ c.loops
     pub same : last.loop ≡ loop
-    pub rest : operands_behind (row scope.heads scope.locals i) b.kinds ≡ Ok last.under
+    pub rest : operands_behind (operand_row scope.heads scope.locals i) b.kinds ≡ Ok last.under
     pub leaves : c.kinds ≡ behind_loop last.loop last.room last.under
 
   shut_is : (loop : Loop) (kinds : List ValueKind) (os : List Open) (c : Before) → shut loop kinds os ≡ Ok c
@@ -135,10 +135,10 @@ module _ (scope : Scope) where
   close_rel : (p : ℕ) (loop : Loop) (i : Instruction) (b c : Before) → Closes loop i b c → OpenRel p (closing loop) b.loops c
   close_rel p loop i b c s = (s.last, s.top, s.leaves, s.same)
 
-  pub named : (p : ℕ) (b : Before) (i : Instruction) (c : Before) → judged scope p b i ≡ Ok c → (name_misfit scope i ≡ None) × (behind scope p b i ≡ Ok c)
-  named p b i c h = no_misfit (name_misfit scope i) (behind scope p b i) c h
+  pub named : (p : ℕ) (b : Before) (i : Instruction) (c : Before) → judged_at scope p b i ≡ Ok c → (name_misfit scope i ≡ None) × (behind_instruction scope p b i ≡ Ok c)
+  named p b i c h = no_misfit (name_misfit scope i) (behind_instruction scope p b i) c h
 
-  behind_rel : (p : ℕ) (b : Before) (i : Instruction) (c : Before) → behind scope p b i ≡ Ok c → OpenRel p (bracket i) b.loops c
+  behind_rel : (p : ℕ) (b : Before) (i : Instruction) (c : Before) → behind_instruction scope p b i ≡ Ok c → OpenRel p (bracket i) b.loops c
   behind_rel p b (I.Jump to) c h =
       let a = then_do_ok (found scope p to b) _ c h in
       let t = then_do_ok (carried a.0 b) (restarted (declared_at (slice_get scope.spots (suc p)))) c a.2 in
@@ -154,7 +154,7 @@ module _ (scope : Scope) where
   behind_rel p b I.Yield c h = close_rel p mapping I.Yield b c (closes_by mapping I.Yield b c h)
   behind_rel p b i c h = (taken_is i b c h).1
 
-  pub rel_of : (p : ℕ) (b : Before) (i : Instruction) (c : Before) → judged scope p b i ≡ Ok c → OpenRel p (bracket i) b.loops c
+  pub rel_of : (p : ℕ) (b : Before) (i : Instruction) (c : Before) → judged_at scope p b i ≡ Ok c → OpenRel p (bracket i) b.loops c
   rel_of p b i c h = behind_rel p b i c ((named p b i c h).1)
 
 -- ---- places
@@ -163,13 +163,13 @@ module _ (scope : Scope) where
   pub record Parts (place : ℕ) (b : Before) (i : Instruction) (is : List Instruction) (bs : List Before) : Type 0 where
     pub onto : Before
     pub others : List Before
-    pub here : judged scope place b i ≡ Ok onto
+    pub here : judged_at scope place b i ≡ Ok onto
     pub there : befores scope (suc place) onto is ≡ Ok others
     pub whole : b ∷ others ≡ bs
 
   pub parts : (place : ℕ) (b : Before) (i : Instruction) (is : List Instruction) (bs : List Before) → befores scope place b (i ∷ is) ≡ Ok bs → Parts place b i is bs
   parts place b i is bs h =
-      let p = at_place_ok place (judged scope place b i) (λ c. then_do (befores scope (suc place) c is) (λ bs. Ok (b ∷ bs))) bs h in
+      let p = at_place_ok place (judged_at scope place b i) (λ c. then_do (befores scope (suc place) c is) (λ bs. Ok (b ∷ bs))) bs h in
       let q = then_do_ok (befores scope (suc place) p.0 is) (λ bs. Ok (b ∷ bs)) bs p.2 in
       record { onto = p.0; others = q.0; here = p.1; there = q.1; whole = same_ok (b ∷ q.0) bs q.2 }
 
@@ -178,9 +178,9 @@ module _ (scope : Scope) where
     pub known : end_kinds scope.head ≡ b.kinds
     pub shut_all : b.loops ≡ []
 
-  ends_by : (place : ℕ) (b : Before) (os : List Open) (bs : List Before) → os ≡ b.loops → at_place place (ended scope.head b os) (λ c. Ok (c ∷ [])) ≡ Ok bs → Ends b bs
+  ends_by : (place : ℕ) (b : Before) (os : List Open) (bs : List Before) → os ≡ b.loops → at_place place (ended_block scope.head b os) (λ c. Ok (c ∷ [])) ≡ Ok bs → Ends b bs
   ends_by place b [] bs e h =
-      let p = at_place_ok place (ended scope.head b []) (λ c. Ok (c ∷ [])) bs h in
+      let p = at_place_ok place (ended_block scope.head b []) (λ c. Ok (c ∷ [])) bs h in
       let q = carried_is scope (end_kinds scope.head) b p.0 p.1 in
       record { whole = ap (λ c. c ∷ []) q.1 ∙ same_ok (p.0 ∷ []) bs p.2; known = q.0; shut_all = sym e }
   ends_by place b (o ∷ os) bs e h = absurd (cc h)
@@ -190,21 +190,21 @@ module _ (scope : Scope) where
   begins place b (i ∷ is) bs h = ap (λ l. before_at l 0) (sym ((parts place b i is bs h).whole))
 
   pub places_fit : (place : ℕ) (b : Before) (is : List Instruction) (bs : List Before) (k : ℕ) (i : Instruction) → befores scope place b is ≡ Ok bs → slice_get is k ≡ Some i
-      → judged scope (place + k) (before_at bs k) i ≡ Ok (before_at bs (suc k))
+      → judged_at scope (place + k) (before_at bs k) i ≡ Ok (before_at bs (suc k))
   places_fit place b [] bs k i h e = absurd (cc e)
   places_fit place b (j ∷ is) bs zero i h e =
       let p = parts place b j is bs h in
       let o : j ≡ i = cc e in
       let z : place ≡ place + 0 = omega arith in
-      let g : judged scope place b j ≡ Ok (before_at p.others 0) = p.here ∙ ap Ok (sym (begins (suc place) p.onto is p.others p.there)) in
-      subst (λ l. judged scope (place + 0) (before_at l 0) i ≡ Ok (before_at l 1)) p.whole
-      (subst (λ n. judged scope n b i ≡ Ok (before_at p.others 0)) z (subst (λ m. judged scope place b m ≡ Ok (before_at p.others 0)) o g))
+      let g : judged_at scope place b j ≡ Ok (before_at p.others 0) = p.here ∙ ap Ok (sym (begins (suc place) p.onto is p.others p.there)) in
+      subst (λ l. judged_at scope (place + 0) (before_at l 0) i ≡ Ok (before_at l 1)) p.whole
+      (subst (λ n. judged_at scope n b i ≡ Ok (before_at p.others 0)) z (subst (λ m. judged_at scope place b m ≡ Ok (before_at p.others 0)) o g))
   places_fit place b (j ∷ is) bs (suc k) i h e =
       let p = parts place b j is bs h in
       let r = places_fit (suc place) p.onto is p.others k i p.there e in
       let z : suc place + k ≡ place + suc k = omega arith in
-      subst (λ l. judged scope (place + suc k) (before_at l (suc k)) i ≡ Ok (before_at l (suc (suc k)))) p.whole
-      (subst (λ n. judged scope n (before_at p.others k) i ≡ Ok (before_at p.others (suc k))) z r)
+      subst (λ l. judged_at scope (place + suc k) (before_at l (suc k)) i ≡ Ok (before_at l (suc (suc k)))) p.whole
+      (subst (λ n. judged_at scope n (before_at p.others k) i ≡ Ok (before_at p.others (suc k))) z r)
 
   pub end_shut : (place : ℕ) (b : Before) (is : List Instruction) (bs : List Before) (k : ℕ) → befores scope place b is ≡ Ok bs → slice_get is k ≡ None → (before_at bs k).loops ≡ []
   end_shut place b [] bs k h e =

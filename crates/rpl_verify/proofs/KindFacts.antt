@@ -4,7 +4,7 @@ use Rattle.rpl_code.specs.declared.kind.ValueKind.{ValueKind}
 use Rattle.rpl_code.specs.declared.kind.ValueKind.TheVariants as K
 use Rattle.rpl_tree.specs.Value.{Value, a_number, a_truth, a_date, a_slot, numbers, slots}
 use Rattle.rpl_verify.specs.declared.verify_kind.VerifyKind.{VerifyKind}
-use Rattle.rpl_verify.specs.Kinds.{is_same_kind, are_same_kinds, is_kind}
+use Rattle.rpl_verify.specs.Kinds.{is_same_value_kind, are_same_kinds, is_that_kind}
 use Rattle.rpl_verify.specs.Fits.{if_fits, unless_misfit, then_do}
 use Rattle.rpl_verify.specs.Operations.{kind_of, kinds_of, blank}
 
@@ -14,7 +14,7 @@ pub and_true : (a b : Bool) → (a && b) ≡ true → (a ≡ true) × (b ≡ tru
 and_true true b h = (refl, h)
 and_true false b h = absurd (cc h)
 
-pub same_kind_true : (k l : ValueKind) → is_same_kind k l ≡ true → k ≡ l
+pub same_kind_true : (k l : ValueKind) → is_same_value_kind k l ≡ true → k ≡ l
 same_kind_true K.N K.N h = refl
 same_kind_true K.B K.B h = refl
 same_kind_true K.D K.D h = refl
@@ -23,7 +23,7 @@ same_kind_true (K.NList m) (K.NList n) h = let e : m ≡ n = search rules in ap 
 same_kind_true (K.SList m) (K.SList n) h = let e : m ≡ n = search rules in ap K.SList e
 same_kind_true _ _ h = absurd (cc h)
 
-pub same_kind_refl : (k : ValueKind) → is_same_kind k k ≡ true
+pub same_kind_refl : (k : ValueKind) → is_same_value_kind k k ≡ true
 same_kind_refl K.N = refl
 same_kind_refl K.B = refl
 same_kind_refl K.D = refl
@@ -33,18 +33,18 @@ same_kind_refl (K.SList m) = search rules
 
 pub same_kinds_true : (ks ls : List ValueKind) → are_same_kinds ks ls ≡ true → ks ≡ ls
 same_kinds_true [] [] h = refl
-same_kinds_true (k ∷ ks) (l ∷ ls) h = let p = and_true (is_same_kind k l) (are_same_kinds ks ls) h in ap₂ (λ a b. a ∷ b) (same_kind_true k l p.0) (same_kinds_true ks ls p.1)
+same_kinds_true (k ∷ ks) (l ∷ ls) h = let p = and_true (is_same_value_kind k l) (are_same_kinds ks ls) h in ap₂ (λ a b. a ∷ b) (same_kind_true k l p.0) (same_kinds_true ks ls p.1)
 same_kinds_true _ _ h = absurd (cc h)
 
 pub same_kinds_refl : (ks : List ValueKind) → are_same_kinds ks ks ≡ true
 same_kinds_refl [] = refl
 same_kinds_refl (k ∷ ks) = rw (same_kind_refl k, same_kinds_refl ks) refl
 
-pub is_kind_true : (a b : Option ValueKind) → is_kind a b ≡ true → (k : ValueKind) × (a ≡ Some k) × (b ≡ Some k)
+pub is_kind_true : (a b : Option ValueKind) → is_that_kind a b ≡ true → (k : ValueKind) × (a ≡ Some k) × (b ≡ Some k)
 is_kind_true (Some k) (Some l) h = (k, refl, ap Some (sym (same_kind_true k l h)))
 is_kind_true _ _ h = absurd (cc h)
 
-pub is_kind_refl : (k : ValueKind) → is_kind (Some k) (Some k) ≡ true
+pub is_kind_refl : (k : ValueKind) → is_that_kind (Some k) (Some k) ≡ true
 is_kind_refl k = same_kind_refl k
 
 -- ---- results

@@ -7,7 +7,7 @@ use Rattle.rpl_verify.specs.declared.verify_kind.VerifyKind.TheVariants.{Backwar
 use Rattle.rpl_verify.specs.Kinds.{top_of}
 use Rattle.rpl_verify.specs.Places.{Loop, is_same_loop, Bracket, opening, closing, level, bracket, Opener, closed as closed_by, declared_by, ends_before, loop_end, loop_ends, openers_behind, rest_of, start_of, Spot, spots, spots_from}
 use Rattle.rpl_verify.specs.Names.{Scope}
-use Rattle.rpl_verify.specs.Fits.{Open, Before, before, before_at, befores, behind_loop, found, innermost, is_same_place, judged, landing, lands_on}
+use Rattle.rpl_verify.specs.Fits.{Open, Before, before, before_at, befores, behind_loop, found, innermost, is_same_place, judged_at, landing, lands_on}
 use Rattle.rpl_verify.proofs.KindFacts.{same_ok, test_ok}
 use Rattle.rpl_verify.proofs.Judged.{OpenRel, begins, carried_is, end_shut, named, parts, places_fit, rel_of, same_loop_refl}
 
@@ -68,10 +68,10 @@ module _ (scope : Scope) (lines : List Instruction) (bs : List Before) (spotted 
   abbrev pub P : ℕ → List ℕ
   P p = loop_ends p (drop p lines)
 
-  pub spot : (p : ℕ) (i : Instruction) → slice_get lines p ≡ Some i → judged scope p (B p) i ≡ Ok (B (suc p))
+  pub spot : (p : ℕ) (i : Instruction) → slice_get lines p ≡ Some i → judged_at scope p (B p) i ≡ Ok (B (suc p))
   spot p i h =
       let z : 0 + p ≡ p = omega arith in
-      subst (λ n. judged scope n (B p) i ≡ Ok (B (suc p))) z (places_fit scope 0 (before [] []) lines bs p i fits h)
+      subst (λ n. judged_at scope n (B p) i ≡ Ok (B (suc p))) z (places_fit scope 0 (before [] []) lines bs p i fits h)
 
   pub rel : (p : ℕ) (i : Instruction) → slice_get lines p ≡ Some i → OpenRel p (bracket i) ((B p).loops) (B (suc p))
   rel p i h = rel_of scope p (B p) i (B (suc p)) (spot p i h)

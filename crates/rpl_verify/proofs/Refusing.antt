@@ -5,7 +5,7 @@ use Rattle.rpl_code.specs.declared.block.Block.{Block}
 use Rattle.rpl_tree.specs.Budget.{Budget, limits}
 use Rattle.rpl_verify.specs.declared.verify_kind.VerifyKind.{VerifyKind}
 use Rattle.rpl_verify.specs.declared.verify_kind.VerifyKind.TheVariants.{TooCostly, TooManyReads, TooManyPuts, TooDeep}
-use Rattle.rpl_verify.specs.Fits.{AreFit, Before, Misplaced, Refusal, at_place, block_befores, each_block, first_misfit, in_block, refusal, refusal_in, scope_of, then_do}
+use Rattle.rpl_verify.specs.Fits.{AreFit, Before, Misplaced, Refusal, at_place, block_befores, each_block, first_code_refusal, in_block, refusal, refusal_in_result, scope_of, then_do}
 use Rattle.rpl_verify.specs.Budget.{IsOverLimit, block_ruling, budget_by, ruling, within_limits}
 use Rattle.rpl_verify.proofs.Rulings.{then_do_ok}
 
@@ -52,7 +52,7 @@ module _ (basin : Draft) (code : List Block) where
   fit earlier done x = block_befores basin code earlier x
 
   abbrev Told : List Block → List (List Before) → List Block → Refusal → Type 0
-  Told earlier done xs why = (refusal_in (each_block fit earlier done xs) ≡ Some why) ⊎ IsOverLimit why.misfit
+  Told earlier done xs why = (refusal_in_result (each_block fit earlier done xs) ≡ Some why) ⊎ IsOverLimit why.misfit
 
   -- a block and the blocks behind it, where what is told of those is at hand
   told_of : (earlier : List Block) (budgets : List Budget) (done : List (List Before)) (x : Block) (xs : List Block) (why : Refusal)
@@ -61,13 +61,13 @@ module _ (basin : Draft) (code : List Block) where
       → in_block (suc (length earlier)) r (λ b. each_block (block_ruling basin code) (earlier ++ x ∷ []) (budgets ++ b ∷ []) xs) ≡ Err why → Told earlier done (x ∷ xs) why
   told_of earlier budgets done x xs why on (Ok b) e h =
       let q = then_do_ok (block_befores basin code earlier x) _ b e in
-      let s = ap (λ r. refusal_in (in_block (suc (length earlier)) r (λ bs. each_block fit (earlier ++ x ∷ []) (done ++ bs ∷ []) xs))) q.1 in
+      let s = ap (λ r. refusal_in_result (in_block (suc (length earlier)) r (λ bs. each_block fit (earlier ++ x ∷ []) (done ++ bs ∷ []) xs))) q.1 in
       elim (on b q.0 h) [ inl t ↦ inl (s ∙ t) | inr o ↦ inr o ]
   told_of earlier budgets done x xs why on (Err wrong) e h =
       let n : ℕ = suc (length earlier) in
       let y : refusal wrong.misfit n wrong.place ≡ why = cc h in
       elim (blamed (length x.lines) (λ bs. budget_by (scope_of basin code n x) budgets bs x.lines) (block_befores basin code earlier x) wrong e) [
-        | inl f ↦ inl (ap (λ r. refusal_in (in_block n r (λ bs. each_block fit (earlier ++ x ∷ []) (done ++ bs ∷ []) xs))) f ∙ ap Some y)
+        | inl f ↦ inl (ap (λ r. refusal_in_result (in_block n r (λ bs. each_block fit (earlier ++ x ∷ []) (done ++ bs ∷ []) xs))) f ∙ ap Some y)
         | inr o ↦ inr (subst IsOverLimit (ap (λ (w : Refusal). w.misfit) y) o)
       ]
 
@@ -81,7 +81,7 @@ module _ (basin : Draft) (code : List Block) where
   told : (why : Refusal) → ruling basin code ≡ Err why → Told [] [] code why
   told why h = told_from [] [] [] code why h
 
-  pub first_told : (why : Refusal) → ruling basin code ≡ Err why → (IsOverLimit why.misfit → ⊥) → first_misfit basin code ≡ Some why
+  pub first_told : (why : Refusal) → ruling basin code ≡ Err why → (IsOverLimit why.misfit → ⊥) → first_code_refusal basin code ≡ Some why
   first_told why h not = elim (told why h) [ inl t ↦ t | inr o ↦ absurd (not o) ]
 
   pub over_told : (why : Refusal) → ruling basin code ≡ Err why → AreFit basin code → IsOverLimit why.misfit

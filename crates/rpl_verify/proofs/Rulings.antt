@@ -5,7 +5,7 @@ use Rattle.rpl_code.specs.declared.block.Block.{Block}
 use Rattle.rpl_tree.specs.Budget.{Budget, limits}
 use Rattle.rpl_verify.specs.declared.verify_kind.VerifyKind.{VerifyKind}
 use Rattle.rpl_verify.specs.declared.verify_kind.VerifyKind.TheVariants.{TooCostly, TooManyReads, TooManyPuts, TooDeep}
-use Rattle.rpl_verify.specs.Fits.{AreFit, Before, Misplaced, Refusal, at_place, block_befores, each_block, in_block, refusal_in, scope_of, then_do}
+use Rattle.rpl_verify.specs.Fits.{AreFit, Before, Misplaced, Refusal, at_place, block_befores, each_block, in_block, refusal_in_result, scope_of, then_do}
 use Rattle.rpl_verify.specs.Budget.{AreAccepted, IsWithinLimits, block_ruling, budget_by, within_limits}
 
 pub then_do_ok : {A B E : Type 0} (r : Result A E) (go : A → Result B E) (b : B) → then_do r go ≡ Ok b → (a : A) × (r ≡ Ok a) × (go a ≡ Ok b)
@@ -35,7 +35,7 @@ pub accepted_fits : (basin : Draft) (blocks : List Block) (budgets : List Budget
 accepted_fits basin blocks budgets h =
     let q = pass_too (block_ruling basin blocks) (λ earlier done x. block_befores basin blocks earlier x)
     (λ earlier ds es x b k. let q = then_do_ok (block_befores basin blocks earlier x) _ b k in (q.0, q.1)) [] [] [] blocks budgets h in
-    ap refusal_in q.1
+    ap refusal_in_result q.1
 
 -- what each block that passes is judged as has a property, if every judgement that passes has it
 all_pass : {A : Type 0} (P : A → Type 0) (judge : List Block → List A → Block → Result A Misplaced)

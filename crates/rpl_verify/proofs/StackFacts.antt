@@ -4,8 +4,8 @@ use Rattle.rpl_code.specs.declared.kind.ValueKind.{ValueKind}
 use Rattle.rpl_code.specs.declared.kind.ValueKind.TheVariants as K
 use Rattle.rpl_verify.specs.declared.stacks.Node.{Node}
 use Rattle.rpl_tree.specs.Budget.{capped, limits}
-use Rattle.rpl_verify.specs.Kinds.{are_same_kinds, is_same_kind, words_of_all}
-use Rattle.rpl_verify.specs.Stacks.{at, lists_after, lists, code_of, key_of, IsNode, IsKept, IsKnown, Grows, IsPushed, is_next, stands_on}
+use Rattle.rpl_verify.specs.Kinds.{are_same_kinds, is_same_value_kind, words_of_all}
+use Rattle.rpl_verify.specs.Stacks.{at, lists_after, lists, kind_code, key_of, IsNode, IsKept, IsKnown, Grows, IsPushed, is_next, stands_on}
 use Rattle.rpl_verify.proofs.KindFacts.{and_true, same_kind_refl, same_kind_true, same_kinds_true}
 
 pub at-append : (ls ms : List (List ValueKind)) (n : ℕ) → n < length ls → at (ls ++ ms) n ≡ at ls n
@@ -64,7 +64,7 @@ node_kept ns n m k w lt h =
     let b : at (lists (ns ++ n ∷ [])) m.below ≡ at (lists ns) m.below = ap (λ l. at l m.below) e ∙ at-append (lists ns) new m.below (omega (arith, w, lt, h.low)) in
     record { low = h.low; made = a ∙ h.made ∙ ap (λ l. m.kind ∷ l) (sym b); high = h.high ∙ ap (λ l. suc (length l)) (sym b); flat = h.flat; heavy = h.heavy ∙ ap (λ l. capped limits.words (words_of_all (m.kind ∷ l))) (sym b); small = h.small }
 
-node_new : (ns : List Node) (n : Node) → length (lists ns) ≡ suc (length ns) → n.below ≤ length ns → n.height ≡ suc (length (at (lists ns) n.below)) → n.height ≤ suc (length ns) → n.words ≡ capped limits.words (words_of_all (n.kind ∷ at (lists ns) n.below)) → code_of n.kind < 262144 → IsNode (ns ++ n ∷ []) (length ns) n
+node_new : (ns : List Node) (n : Node) → length (lists ns) ≡ suc (length ns) → n.below ≤ length ns → n.height ≡ suc (length (at (lists ns) n.below)) → n.height ≤ suc (length ns) → n.words ≡ capped limits.words (words_of_all (n.kind ∷ at (lists ns) n.below)) → kind_code n.kind < 262144 → IsNode (ns ++ n ∷ []) (length ns) n
 node_new ns n w lt hi fl he sm =
     let e = lists-push ns n in
     let new = n.kind ∷ at (lists ns) n.below in
@@ -92,7 +92,7 @@ pub record IsNew (ns : List Node) (n : Node) : Type 0 where
   pub high : n.height ≡ suc (length (at (lists ns) n.below))
   pub flat : n.height ≤ suc (length ns)
   pub heavy : n.words ≡ capped limits.words (words_of_all (n.kind ∷ at (lists ns) n.below))
-  pub small : code_of n.kind < 262144
+  pub small : kind_code n.kind < 262144
 
 nodes_push : (ns : List Node) (n : Node) (m : BTreeMap ℕ ℕ) → IsKept ns m → IsNew ns n → (k : ℕ) (x : Node) → slice_get (ns ++ n ∷ []) k ≡ Some x → IsNode (ns ++ n ∷ []) k x
 nodes_push ns n m h new k x g = elim (got_push ns n x k g) [
@@ -154,10 +154,10 @@ made_push ns n v w e =
 pub grows_push : (ns : List Node) (n : Node) → Grows (lists ns) (lists (ns ++ n ∷ []))
 grows_push ns n = record { more = (n.kind ∷ at (lists ns) n.below) ∷ []; is = lists-push ns n }
 
-same_key : (a b : ℕ) (j k : ValueKind) → key_of a j ≡ key_of b k → code_of j < 262144 → code_of k < 262144 → (a ≡ b) × (code_of j ≡ code_of k)
+same_key : (a b : ℕ) (j k : ValueKind) → key_of a j ≡ key_of b k → kind_code j < 262144 → kind_code k < 262144 → (a ≡ b) × (kind_code j ≡ kind_code k)
 same_key a b j k h s t = (omega (arith, h, s, t), omega (arith, h, s, t))
 
-code_is : (j k : ValueKind) → code_of j ≡ code_of k → j ≡ k
+code_is : (j k : ValueKind) → kind_code j ≡ kind_code k → j ≡ k
 code_is K.N K.N h = refl
 code_is K.B K.B h = refl
 code_is K.D K.D h = refl
@@ -167,7 +167,7 @@ code_is (K.SList m) (K.SList n) h = ap K.SList (omega (arith, h))
 code_is _ _ h = absurd (omega (arith, h))
 
 -- a list that was looked up
-pub made_known : (ns : List Node) (m : BTreeMap ℕ ℕ) (b v : ℕ) (k : ValueKind) → IsKept ns m → code_of k < 262144 → get nat_cmp m (key_of b k) ≡ Some v → IsPushed (lists ns) (lists ns) k b v
+pub made_known : (ns : List Node) (m : BTreeMap ℕ ℕ) (b v : ℕ) (k : ValueKind) → IsKept ns m → kind_code k < 262144 → get nat_cmp m (key_of b k) ≡ Some v → IsPushed (lists ns) (lists ns) k b v
 made_known ns m b v k h sm g =
     let w = h.known (key_of b k) v g in
     let n = h.nodes w.place w.node w.here in
@@ -186,7 +186,7 @@ made_next ns m b k h t = by (slice_get ns b) refl t
     by : (o : Option Node) → slice_get ns b ≡ o → stands_on b k o ≡ true → IsPushed (lists ns) (lists ns) k b (b + 1)
     by None g e = absurd (cc e)
     by (Some n) g e =
-        let two = and_true (n.below == b) (is_same_kind n.kind k) e in
+        let two = and_true (n.below == b) (is_same_value_kind n.kind k) e in
         let first = two.0 in
         let low : n.below ≡ b = grind (arith, nat_tests) in
         let kd : n.kind ≡ k = same_kind_true n.kind k two.1 in

@@ -10,7 +10,7 @@ use Rattle.rpl_verify.specs.Fits.{Open, before, behind_loop, if_fits, shut}
 use Rattle.rpl_verify.specs.Budget.{words_of_loops}
 use Rattle.rpl_verify.specs.Walked.{Walked, declares, loop_of, with_kinds}
 use Rattle.rpl_verify.specs.Stacks.{at, Grows, IsPushed}
-use Rattle.rpl_verify.specs.Walks.{open_of, opens_of, kinds_at, spot_of, spots_of, walked, IsBelowIt, IsSound, IsRooted, IsDeclared}
+use Rattle.rpl_verify.specs.Walks.{open_of, opens_of, kinds_at, spot_of, spots_of, walked, IsBelowIt, IsSoundWalk, IsRooted, IsDeclared}
 use Rattle.rpl_verify.proofs.KindFacts.{and_true, same_kinds_true}
 use Rattle.rpl_verify.proofs.Judged.{same_loop_true}
 use Rattle.rpl_verify.proofs.StackFacts.{at-append}
@@ -51,7 +51,7 @@ opens_grown : (n m : ℕ) (os : List OpenLoop) → n ≤ m → All (λ (o : Open
 opens_grown n m os h a = λ k d lt. let w = a k d lt in omega (arith, h, w)
 
 -- a kind on top
-pub pushed : (ls ls2 : List (List ValueKind)) (n n2 : ℕ) (os : List OpenLoop) (xs : List Landing) (words : ℕ) (w : Walked) (k : ValueKind) → walked ls n os xs ≡ w → IsSound ls n os xs words → Grows ls ls2 → IsPushed ls ls2 k n n2
+pub pushed : (ls ls2 : List (List ValueKind)) (n n2 : ℕ) (os : List OpenLoop) (xs : List Landing) (words : ℕ) (w : Walked) (k : ValueKind) → walked ls n os xs ≡ w → IsSoundWalk ls n os xs words → Grows ls ls2 → IsPushed ls ls2 k n n2
     → walked ls2 n2 os xs ≡ with_kinds w (k ∷ w.before.kinds)
 pushed ls ls2 n n2 os xs words w k v s g p =
     let made : at ls2 n2 ≡ k ∷ at ls n = p.made in
@@ -60,7 +60,7 @@ pushed ls ls2 n n2 os xs words w k v s g p =
     let made2 : walked ls2 n2 os xs ≡ record { before = before (k ∷ at ls n) (opens_of ls os); spots = spots_of ls xs } = rw (made, o, t) refl in
     made2 ∙ ap (λ (w : Walked). with_kinds w (k ∷ w.before.kinds)) v
 
-pub sound_grown : (ls ls2 : List (List ValueKind)) (n n2 : ℕ) (os : List OpenLoop) (xs : List Landing) (words : ℕ) → IsSound ls n os xs words → Grows ls ls2 → n2 < length ls2 → IsSound ls2 n2 os xs words
+pub sound_grown : (ls ls2 : List (List ValueKind)) (n n2 : ℕ) (os : List OpenLoop) (xs : List Landing) (words : ℕ) → IsSoundWalk ls n os xs words → Grows ls ls2 → n2 < length ls2 → IsSoundWalk ls2 n2 os xs words
 sound_grown ls ls2 n n2 os xs words s g lt =
     let o : opens_of ls2 os ≡ opens_of ls os = ap (λ l. opens_of l os) g.is ∙ opens_kept ls g.more os s.opens_in in
     record {

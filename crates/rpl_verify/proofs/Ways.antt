@@ -9,7 +9,7 @@ use Rattle.rpl_verify.specs.Places.{Loop, visiting, mapping, closing, loop_end, 
 use Rattle.rpl_verify.specs.Names.{Scope}
 use Rattle.rpl_verify.specs.Fits.{Open, Before, before, before_at, befores, carried, declared_at, found, restarted, room_on_top, taken, then_do}
 use Rattle.rpl_verify.specs.Budget.{Measure, onward, jumping, branching, entering, turning, going_of, at_a_time, most, summed, words_at}
-use Rattle.rpl_verify.specs.Ways.{Leads, LeadOn, IsMost, counted, kept, sum_on, turns, words_on}
+use Rattle.rpl_verify.specs.Ways.{LeadsTo, LeadOn, IsMost, counted, words_kept_at, sum_on, turns_in_loops, words_on}
 use Rattle.rpl_verify.proofs.KindFacts.{then_do_ok}
 use Rattle.rpl_verify.proofs.Judged.{OpenRel, Opens, named, opens_by}
 use Rattle.rpl_verify.proofs.Loops.{ends_at, land, linked, past_it, rel, shut_at, spot, Linked, first_is}
@@ -26,9 +26,9 @@ module _ (join : ℕ → ℕ → ℕ) (lines : List Instruction) (here rest : �
 
   -- no place that this one leads to has more, and one has it
   pub record Step (p : ℕ) (i : Instruction) : Type 0 where
-    pub below : (q : ℕ) → Leads i p q → join (here p) (rest q) ≤ rest p
+    pub below : (q : ℕ) → LeadsTo i p q → join (here p) (rest q) ≤ rest p
     pub next : ℕ
-    pub leads : Leads i p next
+    pub leads : LeadsTo i p next
     pub later : p < next
     pub inside : next ≤ length lines
     pub reached : join (here p) (rest next) ≡ rest p
@@ -38,7 +38,7 @@ module _ (join : ℕ → ℕ → ℕ) (lines : List Instruction) (here rest : �
     at_end : (p : ℕ) → p ≡ length lines → join (here p) 0 ≡ rest p
     at_end p h = ap (λ n. join (here n) 0) h ∙ ends ∙ ap rest (sym h)
 
-    further : (p q n : ℕ) (o : Option Instruction) → slice_get lines p ≡ o → IsSomeAnd o (λ i. Leads i p q) → n ≤ rest q → join (here p) n ≤ rest p
+    further : (p q n : ℕ) (o : Option Instruction) → slice_get lines p ≡ o → IsSomeAnd o (λ i. LeadsTo i p q) → n ≤ rest q → join (here p) n ≤ rest p
     further p q n None e l le = absurd l
     further p q n (Some i) e l le = let a = grows (here p) n (rest q) le in let b = (steps p i e).below q l in omega (arith, a, b)
 
@@ -55,7 +55,7 @@ module _ (join : ℕ → ℕ → ℕ) (lines : List Instruction) (here rest : �
     goes left p (Some i) e le far more =
         let s = steps p i e in
         let r = more s.next s.inside (omega (arith, far, s.later)) in
-        (s.next ∷ r.0, (subst (λ o. IsSomeAnd o (λ i. Leads i p s.next)) (sym e) s.leads, r.1), ap (join (here p)) r.2 ∙ s.reached)
+        (s.next ∷ r.0, (subst (λ o. IsSomeAnd o (λ i. LeadsTo i p s.next)) (sym e) s.leads, r.1), ap (join (here p)) r.2 ∙ s.reached)
 
     found_from : (left p : ℕ) → p ≤ length lines → length lines ≤ p + left → Found p
     found_from zero p le far = let z : p ≡ length lines = omega (arith, le, far) in ([], z, at_end p z)
@@ -99,7 +99,7 @@ module _ (scope : Scope) (lines : List Instruction) (bs : List Before) (spotted 
     abbrev Stepped : ℕ → Instruction → Type 0
     Stepped p i = Step join lines here rest p i
 
-    one_next : (p : ℕ) (i : Instruction) → slice_get lines p ≡ Some i → ((q : ℕ) → Leads i p q → q ≡ suc p) → Leads i p (suc p) → join (here p) (rest (suc p)) ≡ rest p → Stepped p i
+    one_next : (p : ℕ) (i : Instruction) → slice_get lines p ≡ Some i → ((q : ℕ) → LeadsTo i p q → q ≡ suc p) → LeadsTo i p (suc p) → join (here p) (rest (suc p)) ≡ rest p → Stepped p i
     one_next p i e one l r =
         record {
           below = λ q h. at q (one q h);
@@ -177,10 +177,10 @@ module _ (scope : Scope) (lines : List Instruction) (bs : List Before) (spotted 
     -- what is behind the loops that are open
     abbrev outer : List Open → ℕ
     outer [] = 0
-    outer (o ∷ os) = turns os * D (past o.start) + outer os
+    outer (o ∷ os) = turns_in_loops os * D (past o.start) + outer os
 
     abbrev rest_in : List Open → ℕ → ℕ
-    rest_in os p = turns os * D p + outer os
+    rest_in os p = turns_in_loops os * D p + outer os
 
     abbrev rest : ℕ → ℕ
     rest p = rest_in ((B p).loops) p
@@ -188,13 +188,13 @@ module _ (scope : Scope) (lines : List Instruction) (bs : List Before) (spotted 
     abbrev here : ℕ → ℕ
     here p = counted price (B p) (slice_get lines p)
 
-    here_is : (p : ℕ) (i : Instruction) → slice_get lines p ≡ Some i → here p ≡ turns (B p).loops * price (B p) i
+    here_is : (p : ℕ) (i : Instruction) → slice_get lines p ≡ Some i → here p ≡ turns_in_loops (B p).loops * price (B p) i
     here_is p i e = ap (counted price (B p)) e
 
-    moved : (p q : ℕ) (i : Instruction) → slice_get lines p ≡ Some i → (B q).loops ≡ (B p).loops → here p + rest q ≡ turns (B p).loops * (price (B p) i + D q) + outer (B p).loops
+    moved : (p q : ℕ) (i : Instruction) → slice_get lines p ≡ Some i → (B q).loops ≡ (B p).loops → here p + rest q ≡ turns_in_loops (B p).loops * (price (B p) i + D q) + outer (B p).loops
     moved p q i e l =
         let a : rest q ≡ rest_in ((B p).loops) q = ap (λ os. rest_in os q) l in
-        omega (arith, here_is p i e, a, mul-add (turns (B p).loops) (price (B p) i) (D q))
+        omega (arith, here_is p i e, a, mul-add (turns_in_loops (B p).loops) (price (B p) i) (D q))
 
     through : (w a r x y o : ℕ) → w * a + ((r * w) * x + (w * y + o)) ≡ w * (a + (r * x + y)) + o
     through w a r x y o =
@@ -215,23 +215,23 @@ module _ (scope : Scope) (lines : List Instruction) (bs : List Before) (spotted 
             omega (arith, ap (λ n. w * n) e, mul-le-mul_left w g)
 
     on_case : (p : ℕ) (i : Instruction) → slice_get lines p ≡ Some i → going_of i ≡ onward → (B (suc p)).loops ≡ (B p).loops → here p + rest (suc p) ≡ rest p
-    on_case p i e w l = moved p (suc p) i e l ∙ ap (λ n. turns (B p).loops * n + outer (B p).loops) (sym (by_next m lines bs p i e w))
+    on_case p i e w l = moved p (suc p) i e l ∙ ap (λ n. turns_in_loops (B p).loops * n + outer (B p).loops) (sym (by_next m lines bs p i e w))
 
     jump_case : (p : ℕ) (i : Instruction) (to : ℕ) → slice_get lines p ≡ Some i → going_of i ≡ jumping to → p < to → (B to).loops ≡ (B p).loops → here p + rest to ≡ rest p
-    jump_case p i to e w far l = moved p to i e l ∙ ap (λ n. turns (B p).loops * n + outer (B p).loops) (sym (by_jump m lines bs p i e to w far))
+    jump_case p i to e w far l = moved p to i e l ∙ ap (λ n. turns_in_loops (B p).loops * n + outer (B p).loops) (sym (by_jump m lines bs p i e to w far))
 
     branch_case : (p : ℕ) (i : Instruction) (to : ℕ) → slice_get lines p ≡ Some i → going_of i ≡ branching to → p < to → (B (suc p)).loops ≡ (B p).loops → (B to).loops ≡ (B p).loops
         → max (here p + rest (suc p)) (here p + rest to) ≡ rest p
     branch_case p i to e w far l k =
         let n : ℕ = price (B p) i in
-        let t : ℕ = turns (B p).loops in
+        let t : ℕ = turns_in_loops (B p).loops in
         let s : max (n + D (suc p)) (n + D to) ≡ D p = omega (arith, by_far_branch m lines bs p i e to w far) in
         omega (arith, moved p (suc p) i e l, moved p to i e k, larger t (n + D (suc p)) (n + D to), ap (λ x. t * x) s)
 
     enter_case : (p : ℕ) (i : Instruction) (o : Open) → slice_get lines p ≡ Some i → going_of i ≡ entering → p < past p → (B (suc p)).loops ≡ o ∷ (B p).loops → o.start ≡ p → o.room ≡ room_on_top (B p).kinds
         → here p + rest (suc p) ≡ rest p
     enter_case p i o e w far l s r =
-        let t : ℕ = turns (B p).loops in
+        let t : ℕ = turns_in_loops (B p).loops in
         let n : ℕ = price (B p) i in
         let a : rest (suc p) ≡ (o.room * t) * D (suc p) + (t * D (past o.start) + outer (B p).loops) = ap (λ os. rest_in os (suc p)) l in
         let b : (o.room * t) * D (suc p) + (t * D (past o.start) + outer (B p).loops) ≡ (o.room * t) * D (suc p) + (t * D (past p) + outer (B p).loops) = ap (λ q. (o.room * t) * D (suc p) + (t * D (past q) + outer (B p).loops)) s in
@@ -240,9 +240,9 @@ module _ (scope : Scope) (lines : List Instruction) (bs : List Before) (spotted 
 
     turn_case : (p : ℕ) (i : Instruction) (o : Open) → slice_get lines p ≡ Some i → going_of i ≡ turning → (B p).loops ≡ o ∷ (B (suc p)).loops → past o.start ≡ suc p → here p + rest (suc p) ≡ rest p
     turn_case p i o e w l s =
-        let t : ℕ = turns (B p).loops in
-        let a : outer (B p).loops ≡ turns (B (suc p)).loops * D (past o.start) + outer (B (suc p)).loops = ap outer l in
-        let b : turns (B (suc p)).loops * D (past o.start) ≡ turns (B (suc p)).loops * D (suc p) = ap (λ q. turns (B (suc p)).loops * D q) s in
+        let t : ℕ = turns_in_loops (B p).loops in
+        let a : outer (B p).loops ≡ turns_in_loops (B (suc p)).loops * D (past o.start) + outer (B (suc p)).loops = ap outer l in
+        let b : turns_in_loops (B (suc p)).loops * D (past o.start) ≡ turns_in_loops (B (suc p)).loops * D (suc p) = ap (λ q. turns_in_loops (B (suc p)).loops * D q) s in
         let d : t * price (B p) i ≡ t * D p = ap (λ n. t * n) (sym (by_turn m lines bs p i e w)) in
         omega (arith, here_is p i e, a, b, d)
 
@@ -286,10 +286,10 @@ module _ (scope : Scope) (lines : List Instruction) (bs : List Before) (spotted 
     words_from p = max (V p) (outer_words (B p).loops)
 
     abbrev words_here : ℕ → ℕ
-    words_here p = kept scope budgets (B p) (slice_get lines p)
+    words_here p = words_kept_at scope budgets (B p) (slice_get lines p)
 
     words_are : (p : ℕ) (i : Instruction) → slice_get lines p ≡ Some i → words_here p ≡ words_at scope budgets (B p) i
-    words_are p i e = ap (kept scope budgets (B p)) e
+    words_are p i e = ap (words_kept_at scope budgets (B p)) e
 
     on_words : (p : ℕ) (i : Instruction) → slice_get lines p ≡ Some i → going_of i ≡ onward → (B (suc p)).loops ≡ (B p).loops → max (words_here p) (words_from (suc p)) ≡ words_from p
     on_words p i e w l = omega (arith, words_are p i e, by_next at_once lines bs p i e w, ap outer_words l)
@@ -314,7 +314,7 @@ module _ (scope : Scope) (lines : List Instruction) (bs : List Before) (spotted 
         let n : ℕ = length lines in
         let z : slice_get lines n ≡ None = slice_get_past lines n (omega arith) in
         let l : (B n).loops ≡ [] = shut_at scope lines bs spotted fits n z in
-        omega (arith, ap (kept scope budgets (B n)) z, ap outer_words l, end_is at_once lines bs)
+        omega (arith, ap (words_kept_at scope budgets (B n)) z, ap outer_words l, end_is at_once lines bs)
 
     same_words : (way : List ℕ) → total max lines words_here words_from way ≡ words_on bs lines scope budgets way
     same_words [] = refl

@@ -44,9 +44,9 @@ pub record Measure : Type 0 where
   pub repeated : ℕ → ℕ → ℕ
 
 -- what is before the first place
-abbrev pub first_of : List Before → Before
-first_of [] = before [] []
-first_of (b ∷ bs) = b
+abbrev pub first_before : List Before → Before
+first_before [] = before [] []
+first_before (b ∷ bs) = b
 
 -- the most that there is from a place on, to the end of its loop or else of the block. `from` says so of the places behind it, `is`
 -- stands there, and the list of a loop that begins here has room for so many
@@ -60,9 +60,9 @@ most_from m place turning price room is from = price
 
 -- the most from each place on, and at the end, where these are before them
 abbrev pub table : Measure → ℕ → List Before → List Instruction → List ℕ
-table m place bs [] = m.at_end (first_of bs) ∷ []
+table m place bs [] = m.at_end (first_before bs) ∷ []
 table m place bs (i ∷ is) =
-    let b : Before = first_of bs in
+    let b : Before = first_before bs in
     let behind : List ℕ = table m (suc place) (rest_of bs) is in
     most_from m place (going_of i) (m.price b i) (room_on_top b.kinds) is (λ to. slice_index behind (to - suc place)) ∷ behind
 

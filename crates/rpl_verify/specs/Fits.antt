@@ -10,8 +10,8 @@ use Rattle.rpl_code.specs.declared.block.BlockHead.TheVariants.{Rule, Function}
 use Rattle.rpl_code.specs.declared.block.Block.{Block}
 use Rattle.rpl_verify.specs.declared.verify_kind.VerifyKind.{VerifyKind}
 use Rattle.rpl_verify.specs.declared.verify_kind.VerifyKind.TheVariants.{TooMany, BackwardJump, JumpOutside, WrongShape}
-use Rattle.rpl_verify.specs.Kinds.{are_same_kinds, is_kind, room_of, element_of}
-use Rattle.rpl_verify.specs.Table.{row, operands_behind}
+use Rattle.rpl_verify.specs.Kinds.{are_same_kinds, is_that_kind, list_room, element_kind}
+use Rattle.rpl_verify.specs.Table.{operand_row, operands_behind}
 use Rattle.rpl_verify.specs.Places.{Loop, visiting, mapping, is_same_loop, Spot, spots}
 use Rattle.rpl_verify.specs.Names.{Scope, name_misfit}
 
@@ -47,7 +47,7 @@ unless_misfit (Some misfit) r = Err misfit
 
 -- the instruction takes its operands, and leaves others in their place
 abbrev pub taken : Scope → Instruction → Before → Result Before VerifyKind
-taken scope i b = then_do (operands_behind (row scope.heads scope.locals i) b.kinds) (λ kinds. Ok (before kinds b.loops))
+taken scope i b = then_do (operands_behind (operand_row scope.heads scope.locals i) b.kinds) (λ kinds. Ok (before kinds b.loops))
 
 -- the operands are those that are declared where they are carried to
 abbrev pub carried : List ValueKind → Before → Result Before VerifyKind
@@ -101,18 +101,18 @@ jumped scope place to b =
 
 abbrev pub element_on_top : List ValueKind → Option ValueKind
 element_on_top [] = None
-element_on_top (k ∷ ks) = element_of k
+element_on_top (k ∷ ks) = element_kind k
 
 abbrev pub room_on_top : List ValueKind → ℕ
 room_on_top [] = 0
-room_on_top (k ∷ ks) = room_of k
+room_on_top (k ∷ ks) = list_room k
 
 -- a loop over the list on top, whose element becomes that of a local of its kind
 abbrev pub opened : Scope → ℕ → Loop → ℕ → Instruction → Before → Result Before VerifyKind
 opened scope place loop local i b =
     then_do (taken scope i b) (λ c.
     let o : Open = record { start = place; loop = loop; room = room_on_top b.kinds; under = c.kinds } in
-    if_fits (is_kind (slice_get scope.locals local) (element_on_top b.kinds)) (before c.kinds (o ∷ b.loops)))
+    if_fits (is_that_kind (slice_get scope.locals local) (element_on_top b.kinds)) (before c.kinds (o ∷ b.loops)))
 
 -- the operands behind a loop: a mapping leaves its list
 abbrev pub behind_loop : Loop → ℕ → List ValueKind → List ValueKind
@@ -131,19 +131,19 @@ closed scope loop i b = then_do (taken scope i b) (λ c. shut loop c.kinds c.loo
 -- ---- a place
 
 -- an instruction whose names are there, at a place
-abbrev pub behind : Scope → ℕ → Before → Instruction → Result Before VerifyKind
-behind scope place b (I.Jump to) = jumped scope place to b
-behind scope place b (I.Branch to) = branched scope place to b
-behind scope place b (I.Target kinds) = carried (reverse kinds) b
-behind scope place b (I.Foreach n) = opened scope place visiting n (I.Foreach n) b
-behind scope place b I.Next = closed scope visiting I.Next b
-behind scope place b (I.Map n) = opened scope place mapping n (I.Map n) b
-behind scope place b I.Yield = closed scope mapping I.Yield b
-behind scope place b i = taken scope i b
+abbrev pub behind_instruction : Scope → ℕ → Before → Instruction → Result Before VerifyKind
+behind_instruction scope place b (I.Jump to) = jumped scope place to b
+behind_instruction scope place b (I.Branch to) = branched scope place to b
+behind_instruction scope place b (I.Target kinds) = carried (reverse kinds) b
+behind_instruction scope place b (I.Foreach n) = opened scope place visiting n (I.Foreach n) b
+behind_instruction scope place b I.Next = closed scope visiting I.Next b
+behind_instruction scope place b (I.Map n) = opened scope place mapping n (I.Map n) b
+behind_instruction scope place b I.Yield = closed scope mapping I.Yield b
+behind_instruction scope place b i = taken scope i b
 
 -- what is before the next place, or the first misfit of this one
-abbrev pub judged : Scope → ℕ → Before → Instruction → Result Before VerifyKind
-judged scope place b i = unless_misfit (name_misfit scope i) (behind scope place b i)
+abbrev pub judged_at : Scope → ℕ → Before → Instruction → Result Before VerifyKind
+judged_at scope place b i = unless_misfit (name_misfit scope i) (behind_instruction scope place b i)
 
 -- no operands, or a function's result
 abbrev pub end_kinds : BlockHead → List ValueKind
@@ -151,9 +151,9 @@ end_kinds Rule = []
 end_kinds (Function result parameters) = result ∷ []
 
 -- no loop is open at the end
-abbrev pub ended : BlockHead → Before → List Open → Result Before VerifyKind
-ended head b [] = carried (end_kinds head) b
-ended head b (o ∷ os) = Err WrongShape
+abbrev pub ended_block : BlockHead → Before → List Open → Result Before VerifyKind
+ended_block head b [] = carried (end_kinds head) b
+ended_block head b (o ∷ os) = Err WrongShape
 
 -- ---- a block
 
@@ -167,9 +167,9 @@ at_place place (Err misfit) go = Err (record { misfit = misfit; place = place })
 
 -- what is before each place from this one on, and at the end; or the first misfit
 abbrev pub befores : Scope → ℕ → Before → List Instruction → Result (List Before) Misplaced
-befores scope place b [] = at_place place (ended scope.head b b.loops) (λ c. Ok (c ∷ []))
+befores scope place b [] = at_place place (ended_block scope.head b b.loops) (λ c. Ok (c ∷ []))
 befores scope place b (i ∷ is) =
-    at_place place (judged scope place b i) (λ c. then_do (befores scope (suc place) c is) (λ bs. Ok (b ∷ bs)))
+    at_place place (judged_at scope place b i) (λ c. then_do (befores scope (suc place) c is) (λ bs. Ok (b ∷ bs)))
 
 -- what is before a place
 abbrev pub before_at : List Before → ℕ → Before
@@ -243,13 +243,13 @@ each_block judge earlier done (block ∷ blocks) =
 abbrev pub fitting : Draft → List Block → Result (List (List Before)) Refusal
 fitting basin blocks = each_block (λ earlier done block. block_befores basin blocks earlier block) [] [] blocks
 
-abbrev pub refusal_in : {A : Type 0} → Result A Refusal → Option Refusal
-refusal_in (Ok x) = None
-refusal_in (Err why) = Some why
+abbrev pub refusal_in_result : {A : Type 0} → Result A Refusal → Option Refusal
+refusal_in_result (Ok x) = None
+refusal_in_result (Err why) = Some why
 
-abbrev pub first_misfit : Draft → List Block → Option Refusal
-first_misfit basin blocks = refusal_in (fitting basin blocks)
+abbrev pub first_code_refusal : Draft → List Block → Option Refusal
+first_code_refusal basin blocks = refusal_in_result (fitting basin blocks)
 
 -- no block has a misfit
 abbrev pub AreFit : Draft → List Block → Type 0
-AreFit basin blocks = first_misfit basin blocks ≡ None
+AreFit basin blocks = first_code_refusal basin blocks ≡ None

@@ -4,24 +4,24 @@ use Rattle.rpl_code.specs.declared.kind.ValueKind.{ValueKind}
 use Rattle.rpl_code.specs.declared.kind.ValueKind.TheVariants as K
 use Rattle.rpl_code.specs.Weight.{words_of}
 
-abbrev pub is_same_kind : ValueKind → ValueKind → Bool
-is_same_kind K.N K.N = true
-is_same_kind K.B K.B = true
-is_same_kind K.D K.D = true
-is_same_kind K.S K.S = true
-is_same_kind (K.NList m) (K.NList n) = m == n
-is_same_kind (K.SList m) (K.SList n) = m == n
-is_same_kind _ _ = false
+abbrev pub is_same_value_kind : ValueKind → ValueKind → Bool
+is_same_value_kind K.N K.N = true
+is_same_value_kind K.B K.B = true
+is_same_value_kind K.D K.D = true
+is_same_value_kind K.S K.S = true
+is_same_value_kind (K.NList m) (K.NList n) = m == n
+is_same_value_kind (K.SList m) (K.SList n) = m == n
+is_same_value_kind _ _ = false
 
 abbrev pub are_same_kinds : List ValueKind → List ValueKind → Bool
 are_same_kinds [] [] = true
-are_same_kinds (k ∷ ks) (l ∷ ls) = is_same_kind k l && are_same_kinds ks ls
+are_same_kinds (k ∷ ks) (l ∷ ls) = is_same_value_kind k l && are_same_kinds ks ls
 are_same_kinds _ _ = false
 
 -- both are there, and the same
-abbrev pub is_kind : Option ValueKind → Option ValueKind → Bool
-is_kind (Some k) (Some l) = is_same_kind k l
-is_kind _ _ = false
+abbrev pub is_that_kind : Option ValueKind → Option ValueKind → Bool
+is_that_kind (Some k) (Some l) = is_same_value_kind k l
+is_that_kind _ _ = false
 
 -- how many words values of these kinds take
 abbrev pub words_of_all : List ValueKind → ℕ
@@ -29,22 +29,22 @@ words_of_all [] = 0
 words_of_all (k ∷ ks) = words_of k + words_of_all ks
 
 -- for how many elements a list of the kind has room
-abbrev pub room_of : ValueKind → ℕ
-room_of (K.NList m) = m
-room_of (K.SList m) = m
-room_of _ = 0
+abbrev pub list_room : ValueKind → ℕ
+list_room (K.NList m) = m
+list_room (K.SList m) = m
+list_room _ = 0
 
 -- the kind of a list's elements
-abbrev pub element_of : ValueKind → Option ValueKind
-element_of (K.NList m) = Some K.N
-element_of (K.SList m) = Some K.S
-element_of _ = None
+abbrev pub element_kind : ValueKind → Option ValueKind
+element_kind (K.NList m) = Some K.N
+element_kind (K.SList m) = Some K.S
+element_kind _ = None
 
 -- the kind of a list with so much room for elements of a kind, if there are such lists
-abbrev pub list_kind : ℕ → ValueKind → Option ValueKind
-list_kind m K.N = Some (K.NList m)
-list_kind m K.S = Some (K.SList m)
-list_kind m _ = None
+abbrev pub list_value_kind : ℕ → ValueKind → Option ValueKind
+list_value_kind m K.N = Some (K.NList m)
+list_value_kind m K.S = Some (K.SList m)
+list_value_kind m _ = None
 
 -- the first of a list
 abbrev pub top_of : {A : Type 0} → List A → Option A

@@ -11,10 +11,10 @@ use Rattle.rpl_verify.specs.Kinds.{words_of_all}
 use Rattle.rpl_verify.specs.Places.{rest_of}
 use Rattle.rpl_verify.specs.Names.{Scope}
 use Rattle.rpl_verify.specs.Fits.{Before, Misplaced, before, befores, room_on_top, then_do}
-use Rattle.rpl_verify.specs.Budget.{Measure, at_a_time, count_of, first_of, looks_of, most_from, puts_of, summed, going_of, words_at, words_before, words_of_loops}
+use Rattle.rpl_verify.specs.Budget.{Measure, at_a_time, count_of, first_before, looks_of, most_from, puts_of, summed, going_of, words_at, words_before, words_of_loops}
 
-abbrev pub budget_seen : Numbers → Budget
-budget_seen b = budget b.instructions b.reads b.puts b.words
+abbrev pub numbers_seen : Numbers → Budget
+numbers_seen b = budget b.instructions b.reads b.puts b.words
 
 -- ---- notes
 
@@ -38,8 +38,8 @@ module _ (scope : Scope) (budgets : List Budget) where
 
   -- of each place, and of the end
   abbrev pub notes_of : List Before → List Instruction → List Note
-  notes_of bs [] = end_note (first_of bs) ∷ []
-  notes_of bs (i ∷ is) = note_of (first_of bs) i ∷ notes_of (rest_of bs) is
+  notes_of bs [] = end_note (first_before bs) ∷ []
+  notes_of bs (i ∷ is) = note_of (first_before bs) i ∷ notes_of (rest_of bs) is
 
   -- what a part of a budget is measured by
   abbrev pub measure_of : Part → Measure
@@ -67,9 +67,9 @@ price_in Looks n = n.looks
 price_in Puts n = n.puts
 price_in Words n = n.words
 
-abbrev pub joined : Part → ℕ → ℕ → ℕ
-joined Words a b = max a b
-joined _ a b = a + b
+abbrev pub part_joined : Part → ℕ → ℕ → ℕ
+part_joined Words a b = max a b
+part_joined _ a b = a + b
 
 abbrev pub repeated : Part → ℕ → ℕ → ℕ
 repeated Words room a = a
@@ -80,7 +80,7 @@ abbrev pub stopping : Part → Measure
 stopping part = record {
   price = λ b i. 0;
   at_end = λ b. 0;
-  joined = λ a b. capped (limit_of part) (joined part a b);
+  joined = λ a b. capped (limit_of part) (part_joined part a b);
   repeated = λ room a. capped (limit_of part) (repeated part room a);
 }
 

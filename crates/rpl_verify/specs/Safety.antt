@@ -13,15 +13,15 @@ use Rattle.rpl_tree.specs.World.{World}
 use Rattle.rpl_verify.specs.Machine.{Frame, State, fire_of_code, first_frame, most_steps, rule_from, run, step, words_in}
 
 -- how often an instruction looks, whether or not there is a cell of the run
-abbrev pub looks_at : Option Instruction → ℕ
-looks_at (Some I.Read) = 1
-looks_at (Some I.Known) = 1
-looks_at _ = 0
+abbrev pub look_count : Option Instruction → ℕ
+look_count (Some I.Read) = 1
+look_count (Some I.Known) = 1
+look_count _ = 0
 
 -- the instruction that is next
-abbrev pub next_of : List Block → State → Option Instruction
-next_of code [] = None
-next_of code (f ∷ callers) = option_and_then (λ (x : Block). slice_get x.lines f.place) (numbered code f.block)
+abbrev pub next_instruction : List Block → State → Option Instruction
+next_instruction code [] = None
+next_instruction code (f ∷ callers) = option_and_then (λ (x : Block). slice_get x.lines f.place) (numbered code f.block)
 
 module _ (code : List Block) (world : World) where
   abbrev pub states_behind : Answer State → (State → List State) → List State
@@ -35,9 +35,9 @@ module _ (code : List Block) (world : World) where
   states zero s = s ∷ []
   states (suc n) (f ∷ callers) = (f ∷ callers) ∷ states_behind (step code world f callers).answer (states n)
 
-abbrev pub looks_in : List Block → List State → ℕ
-looks_in code [] = 0
-looks_in code (s ∷ ss) = looks_at (next_of code s) + looks_in code ss
+abbrev pub look_count_in : List Block → List State → ℕ
+look_count_in code [] = 0
+look_count_in code (s ∷ ss) = look_count (next_instruction code s) + look_count_in code ss
 
 -- the most words that one of the states has
 abbrev pub most_words : List State → ℕ
@@ -61,7 +61,7 @@ pub record IsSafe (code : List Block) (basin : Draft) (rule step : ℕ) (values 
   pub fires : fire_of_code code basin rule step values ≡ Some fire
   pub count : fire.count ≤ b.count
   pub cells : length fire.looked ≤ b.looks
-  pub looks : looks_in code (firing_from code (record { basin = basin; values = values; step = step }) (first_frame code rule)) ≤ b.looks
+  pub looks : look_count_in code (firing_from code (record { basin = basin; values = values; step = step }) (first_frame code rule)) ≤ b.looks
   pub puts : puts_from code (record { basin = basin; values = values; step = step }) (first_frame code rule) ≤ b.puts
   pub words : most_words (firing_from code (record { basin = basin; values = values; step = step }) (first_frame code rule)) ≤ b.words
 

@@ -6,7 +6,7 @@ use Rattle.rpl_code.specs.declared.kind.ValueKind.{ValueKind}
 use Rattle.rpl_code.specs.declared.kind.ValueKind.TheVariants as K
 use Rattle.rpl_tree.specs.Budget.{capped, limits}
 use Rattle.rpl_verify.specs.declared.stacks.Node.{Node}
-use Rattle.rpl_verify.specs.Kinds.{is_same_kind, words_of_all}
+use Rattle.rpl_verify.specs.Kinds.{is_same_value_kind, words_of_all}
 use Rattle.rpl_verify.specs.Places.{rest_of}
 
 -- the list of a number
@@ -33,23 +33,23 @@ pub record IsPushed (old new : List (List ValueKind)) (k : ValueKind) (below n :
   pub made : at new n ≡ k ∷ at old below
 
 -- the number of a list without its top
-pub record IsBelow (ls : List (List ValueKind)) (n m : ℕ) : Type 0 where
+pub record IsListBelow (ls : List (List ValueKind)) (n m : ℕ) : Type 0 where
   pub within : m < length ls
   pub is : at ls m ≡ rest_of (at ls n)
 
 -- ---- how they are held
 
 -- kinds are told apart by these
-abbrev pub code_of : ValueKind → ℕ
-code_of K.N = 0
-code_of K.B = 1
-code_of K.D = 2
-code_of K.S = 3
-code_of (K.NList room) = 4 + 2 * room
-code_of (K.SList room) = 5 + 2 * room
+abbrev pub kind_code : ValueKind → ℕ
+kind_code K.N = 0
+kind_code K.B = 1
+kind_code K.D = 2
+kind_code K.S = 3
+kind_code (K.NList room) = 4 + 2 * room
+kind_code (K.SList room) = 5 + 2 * room
 
 abbrev pub key_of : ℕ → ValueKind → ℕ
-key_of below k = below * 262144 + code_of k
+key_of below k = below * 262144 + kind_code k
 
 -- the node at a place
 pub record IsNode (ns : List Node) (place : ℕ) (n : Node) : Type 0 where
@@ -58,7 +58,7 @@ pub record IsNode (ns : List Node) (place : ℕ) (n : Node) : Type 0 where
   pub high : n.height ≡ suc (length (at (lists ns) n.below))
   pub flat : n.height ≤ suc place
   pub heavy : n.words ≡ capped limits.words (words_of_all (n.kind ∷ at (lists ns) n.below))
-  pub small : code_of n.kind < 262144
+  pub small : kind_code n.kind < 262144
 
 -- a number that is found under a key
 pub record IsKnown (ns : List Node) (key number : ℕ) : Type 0 where
@@ -71,7 +71,7 @@ pub record IsKnown (ns : List Node) (key number : ℕ) : Type 0 where
 -- the list of the next number stands on this one, with this kind on top
 abbrev pub stands_on : ℕ → ValueKind → Option Node → Bool
 stands_on below k None = false
-stands_on below k (Some n) = (n.below == below) && is_same_kind n.kind k
+stands_on below k (Some n) = (n.below == below) && is_same_value_kind n.kind k
 
 abbrev pub is_next : List Node → ℕ → ValueKind → Bool
 is_next ns below k = stands_on below k (slice_get ns below)

@@ -11,8 +11,8 @@ use Rattle.rpl_verify.specs.declared.verify_kind.VerifyKind.{VerifyKind}
 use Rattle.rpl_verify.specs.declared.verify_kind.VerifyKind.TheVariants.{BackwardJump, MissingOperand, WrongOperand, WrongShape}
 use Rattle.rpl_verify.specs.declared.place_fault.PlaceFault.{PlaceFault}
 use Rattle.rpl_verify.specs.declared.place_fault.PlaceFault.TheVariants.{Misfit, NoMemory}
-use Rattle.rpl_verify.specs.Kinds.{is_kind, is_same_kind}
-use Rattle.rpl_verify.specs.Table.{Row, takes, goes_by, of_list, operands_behind}
+use Rattle.rpl_verify.specs.Kinds.{is_that_kind, is_same_value_kind}
+use Rattle.rpl_verify.specs.Table.{OperandRow, takes, goes_by, of_list, operands_behind}
 use Rattle.rpl_verify.specs.Places.{Loop, Spot}
 use Rattle.rpl_verify.specs.Names.{Scope}
 use Rattle.rpl_verify.specs.Fits.{Before, Open, before, carried, element_on_top, heads_of, if_fits, innermost, landing, restarted, room_on_top, shut, then_do}
@@ -28,13 +28,13 @@ abbrev pub takes_count : Predefined → ℕ
 takes_count known = length known.head.takes
 
 -- an instruction of this row takes its operands, and leaves others in their place
-abbrev pub taken_by : Row → Before → Result Before VerifyKind
+abbrev pub taken_by : OperandRow → Before → Result Before VerifyKind
 taken_by r b = then_do (operands_behind r b.kinds) (λ kinds. Ok (before kinds b.loops))
 
 -- so many operands of one kind are taken
 abbrev pub run_taken : ValueKind → ℕ → Before → Result Before VerifyKind
 run_taken kind n b =
-    if list_all (is_same_kind kind) (take n b.kinds) then Ok (before (drop n b.kinds) b.loops) else Err WrongOperand
+    if list_all (is_same_value_kind kind) (take n b.kinds) then Ok (before (drop n b.kinds) b.loops) else Err WrongOperand
 
 -- they become a list, if there are such lists
 abbrev pub gathered_into : Option ValueKind → Before → Result Before VerifyKind
@@ -46,10 +46,10 @@ abbrev pub opened_over : ℕ → Loop → Option ValueKind → Before → Result
 opened_over place loop local b =
     then_do (taken_by (goes_by 1 (of_list [])) b) (λ c.
     let o : Open = record { start = place; loop = loop; room = room_on_top b.kinds; under = c.kinds } in
-    if_fits (is_kind local (element_on_top b.kinds)) (before c.kinds (o ∷ b.loops)))
+    if_fits (is_that_kind local (element_on_top b.kinds)) (before c.kinds (o ∷ b.loops)))
 
 -- the innermost loop ends behind an instruction of this row
-abbrev pub closed_behind : Row → Loop → Before → Result Before VerifyKind
+abbrev pub closed_behind : OperandRow → Loop → Before → Result Before VerifyKind
 closed_behind r loop b = then_do (taken_by r b) (λ c. shut loop c.kinds c.loops)
 
 abbrev pub found_in : List Spot → ℕ → ℕ → Before → Result (List ValueKind) VerifyKind

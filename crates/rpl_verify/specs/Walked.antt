@@ -53,10 +53,10 @@ are_shut (o ∷ os) = false
 -- ---- answers
 
 -- the answer is what is given, seen in the definition's terms, unless memory was wanting
-abbrev pub Gives : {A B : Type 0} → Result A VerifyKind → (B → A) → Result B PlaceFault → Type 0
-Gives given seen (Ok x) = given ≡ Ok (seen x)
-Gives given seen (Err (Misfit misfit)) = given ≡ Err misfit
-Gives given seen (Err NoMemory) = Unit {0}
+abbrev pub GivesSeen : {A B : Type 0} → Result A VerifyKind → (B → A) → Result B PlaceFault → Type 0
+GivesSeen given seen (Ok x) = given ≡ Ok (seen x)
+GivesSeen given seen (Err (Misfit misfit)) = given ≡ Err misfit
+GivesSeen given seen (Err NoMemory) = Unit {0}
 
 -- the walk goes on to what is given to be before the next place
 abbrev pub Goes : {B : Type 0} → Result Before VerifyKind → Walked → Walked → Result B PlaceFault → Type 0

@@ -36,7 +36,7 @@ IsBelowIt n None = Unit {0}
 IsBelowIt n (Some k) = k < n
 
 -- each number is that of a list, and the words are those of the open loops
-pub record IsSound (ls : List (List ValueKind)) (n : ℕ) (os : List OpenLoop) (xs : List Landing) (words : ℕ) : Type 0 where
+pub record IsSoundWalk (ls : List (List ValueKind)) (n : ℕ) (os : List OpenLoop) (xs : List Landing) (words : ℕ) : Type 0 where
   pub now_in : n < length ls
   pub opens_in : All (λ o. o.under < length ls) os
   pub landings_in : All (λ x. IsBelowIt (length ls) x.declares) xs
@@ -47,7 +47,7 @@ pub record IsRooted (ls : List (List ValueKind)) : Type 0 where
   pub within : 0 < length ls
   pub empty : at ls 0 ≡ []
 
-pub record IsNumber (ls : List (List ValueKind)) (n : ℕ) (ks : List ValueKind) : Type 0 where
+pub record IsNumberOf (ls : List (List ValueKind)) (n : ℕ) (ks : List ValueKind) : Type 0 where
   pub within : n < length ls
   pub is : at ls n ≡ ks
 

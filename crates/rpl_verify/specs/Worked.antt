@@ -13,28 +13,28 @@ use Rattle.rpl_code.specs.declared.block.BlockHead.TheVariants.{Rule, Function}
 use Rattle.rpl_code.specs.declared.block.Block.{Block}
 use Rattle.rpl_code.specs.Worked.{plain_rule}
 use Rattle.rpl_tree.specs.Budget.{Budget, budget}
-use Rattle.rpl_tree.specs.Worked.{basin_of, dam, flow_object, numbers_object, pool, putting_ahead, unknown_cells}
+use Rattle.rpl_tree.specs.Worked.{basin_over_days, dam, flow_object, numbers_object, pool, putting_ahead, unknown_cells}
 use Rattle.rpl_verify.specs.declared.resolved.Resolved.{Resolved}
 use Rattle.rpl_verify.specs.declared.verify_kind.VerifyKind.{VerifyKind}
 use Rattle.rpl_verify.specs.Names.{Scope}
-use Rattle.rpl_verify.specs.Fits.{Misplaced, Refusal, before, befores, first_misfit, refusal, scope_of, then_do}
+use Rattle.rpl_verify.specs.Fits.{Misplaced, Refusal, before, befores, first_code_refusal, refusal, scope_of, then_do}
 use Rattle.rpl_verify.specs.Budget.{count_of, looks_of, puts_of, ruling}
 use Rattle.rpl_verify.specs.Ways.{IsWay, sum_on, words_on}
 use Rattle.rpl_tree.specs.World.{World}
 use Rattle.rpl_verify.specs.Machine.{fire_of_code, first_frame}
 use Rattle.rpl_verify.specs.Resolved.{resolved_block}
-use Rattle.rpl_verify.specs.Safety.{firing_from, looks_in, most_words, puts_from}
+use Rattle.rpl_verify.specs.Safety.{firing_from, look_count_in, most_words, puts_from}
 
 -- ---- basins of one day
 
 -- a reservoir that begins with 1000 m3; its slots are Inflow, Outflow and Storage
 abbrev pub one_dam : Draft
-one_dam = basin_of 1 (dam ∷ [])
+one_dam = basin_over_days 1 (dam ∷ [])
 
 -- a reservoir that releases at most 60, whose method derives what it spills
 abbrev pub spilling_dam : Draft
 spilling_dam =
-    basin_of 1 (record { name = codes "Dam"; kind = Reservoir (pos 1000) None false false false false (Some (pos 60)) } ∷ [])
+    basin_over_days 1 (record { name = codes "Dam"; kind = Reservoir (pos 1000) None false false false false (Some (pos 60)) } ∷ [])
 
 -- ---- blocks
 
@@ -74,14 +74,14 @@ pair_then lines = number 4 ∷ number 5 ∷ I.List 2 ∷ lines
 
 -- what the first misfit is in such code, and in a rule with such locals and lines
 abbrev pub misfit_in : List Block → Option Refusal
-misfit_in blocks = first_misfit one_dam blocks
+misfit_in blocks = first_code_refusal one_dam blocks
 
 abbrev pub misfit_of : List ValueKind → List Instruction → Option Refusal
 misfit_of locals lines = misfit_in (rule_with locals lines ∷ [])
 
 -- the same where rules put up to so many days ahead
 abbrev pub misfit_ahead : ℕ → List Instruction → Option Refusal
-misfit_ahead most lines = first_misfit (putting_ahead most one_dam) (rule_with [] lines ∷ [])
+misfit_ahead most lines = first_code_refusal (putting_ahead most one_dam) (rule_with [] lines ∷ [])
 
 -- behind a list of two numbers, in a rule with one local
 abbrev pub over_a_list : ValueKind → List Instruction → Option Refusal
@@ -109,7 +109,7 @@ sum_ahead_code =
 
 -- the basin of that code
 abbrev pub dam_and_flow : Draft
-dam_and_flow = basin_of 3 (dam ∷ flow_object ∷ [])
+dam_and_flow = basin_over_days 3 (dam ∷ flow_object ∷ [])
 
 -- 1 where a branch isn't taken, and 2 where it is
 abbrev pub one_or_two : List Block
@@ -205,7 +205,7 @@ along_rule code way = along one_dam code [] 1 way
 
 -- two days of the data object with plain numbers X and Y
 abbrev pub numbers_basin : Draft
-numbers_basin = basin_of 2 (numbers_object ∷ [])
+numbers_basin = basin_over_days 2 (numbers_object ∷ [])
 
 -- `D.X[t] := Max(D.X[t], 10);` and `D.X[t] := 0;`
 abbrev pub raise_and_reset_code : List Block
@@ -235,7 +235,7 @@ x_by_truth lines =
 -- what is put in X on the first of 40 days of that object and the pool
 abbrev pub x_of_pool : List Instruction → Option Fire
 x_of_pool lines =
-    fire_of_code (plain_rule (lines ++ put_x ∷ [])) (basin_of 40 (numbers_object ∷ pool ∷ [])) 1 1 unknown_cells
+    fire_of_code (plain_rule (lines ++ put_x ∷ [])) (basin_over_days 40 (numbers_object ∷ pool ∷ [])) 1 1 unknown_cells
 
 -- the difference of a function's two parameters, where the first is a timestep
 abbrev pub earlier_code : List Block
@@ -247,14 +247,14 @@ earlier_code =
 abbrev pub second_slot : List Block
 second_slot = plain_rule (x_slot ∷ y_slot ∷ I.List 2 ∷ number 2 ∷ I.Item ∷ I.Now ∷ I.Read ∷ put_x ∷ [])
 
-abbrev pub sum_of_slots : List Block
-sum_of_slots = rule_with (K.S ∷ K.N ∷ [])
+abbrev pub code_of_slot_sum : List Block
+code_of_slot_sum = rule_with (K.S ∷ K.N ∷ [])
     (x_slot ∷ I.List 1 ∷ y_slot ∷ I.Append ∷ I.Widen 5 ∷ I.Foreach 0 ∷ I.Load 1 ∷ I.Load 0 ∷ I.Now ∷ I.Read ∷ I.Add ∷ I.Store 1
     ∷ I.Next ∷ I.Load 1 ∷ put_x ∷ []) ∷ []
 
 -- the instructions resolved of a rule of these locals and lines, in the basin of that object and the pool
 abbrev pub resolved_of : List ValueKind → List Instruction → List Resolved
-resolved_of locals lines = resolved_block (basin_of 40 (numbers_object ∷ pool ∷ [])) [] 1 (rule_with locals lines)
+resolved_of locals lines = resolved_block (basin_over_days 40 (numbers_object ∷ pool ∷ [])) [] 1 (rule_with locals lines)
 
 -- ---- what firings pass
 
@@ -272,7 +272,7 @@ abbrev pub first_day : World
 first_day = record { basin = numbers_basin; values = unknown_cells; step = 1 }
 
 abbrev pub looks_of_firing : List Block → ℕ
-looks_of_firing code = looks_in code (firing_from code first_day (first_frame code 1))
+looks_of_firing code = look_count_in code (firing_from code first_day (first_frame code 1))
 
 abbrev pub puts_of_firing : List Block → ℕ
 puts_of_firing code = puts_from code first_day (first_frame code 1)

@@ -7,8 +7,8 @@ ghost use Rattle.rpl_tree.specs.Mean.{predefined_functions};
 ghost use Rattle.rpl_verify.specs.Kinds.{are_same_kinds};
 ghost use Rattle.rpl_verify.specs.Places.{declared_by, mapping, visiting};
 ghost use Rattle.rpl_verify.specs.Table.{call_row, function_named, invoke_row, load_row, store_row};
-ghost use Rattle.rpl_verify.specs.Fits.{behind, end_kinds, ended, heads_of, judged};
-ghost use Rattle.rpl_verify.specs.Walked.{Gives, Goes, Lands, declares};
+ghost use Rattle.rpl_verify.specs.Fits.{behind_instruction, end_kinds, ended_block, heads_of, judged_at};
+ghost use Rattle.rpl_verify.specs.Walked.{GivesSeen, Goes, Lands, declares};
 ghost use Rattle.rpl_verify.specs.Steps.{branched_in, carried_to, found_in, jumped_in, opened_over, scope_in, taken_by};
 ghost use Rattle.rpl_verify.specs.Answered.{EndsAt, GoesAt};
 
@@ -35,7 +35,7 @@ fn find(walk: &Walk, place: u32, to: u32) -> Result<(), PlaceFault>
 
 // Refuses operands that aren't those that are declared at a place.
 fn carry(walk: &Walk, to: u32) -> Result<(), PlaceFault>
-    ensures { Gives (carried_to (declares walk.now.spots to) walk.now.before)
+    ensures { GivesSeen (carried_to (declares walk.now.spots to) walk.now.before)
         (λ _. walk.now.before) result }
 {
     if walk.carries(to) {
@@ -152,7 +152,7 @@ fn act(
     requires last { place < 4294967295 }
     requires here { declares walk.old.spots place ≡ declared_by instruction.now }
     ensures { (basin : Draft) (number : ℕ) (head : BlockHead) → Goes
-        (behind (scope_in basin blocks.now number head locals.now walk.old.spots)
+        (behind_instruction (scope_in basin blocks.now number head locals.now walk.old.spots)
         place walk.old.before instruction.now)
         walk.old walk.new result }
 {
@@ -205,7 +205,7 @@ fn act(
 
 // The operands and loops at the end of a block with this head.
 fn end(walk: &Walk, head: &BlockHead) -> Result<(), PlaceFault>
-    ensures { Gives (ended head.now walk.now.before walk.now.before.loops)
+    ensures { GivesSeen (ended_block head.now walk.now.before walk.now.before.loops)
         (λ _. walk.now.before) result }
 {
     if !walk.is_shut() {
@@ -241,7 +241,7 @@ fn act_at(
     requires last { place < 4294967295 }
     requires here { declares walk.old.spots place ≡ declared_by instruction.now }
     ensures { (basin : Draft) (number : ℕ) (head : BlockHead) → GoesAt place
-        (behind (scope_in basin blocks.now number head locals.now walk.old.spots)
+        (behind_instruction (scope_in basin blocks.now number head locals.now walk.old.spots)
         place walk.old.before instruction.now)
         walk.old walk.new result }
 {
@@ -265,7 +265,7 @@ pub(crate) fn judge(
     requires last { place < 4294967295 }
     requires here { declares walk.old.spots place ≡ declared_by instruction.now }
     ensures { GoesAt place
-        (judged (scope_in basin.now blocks.now number head.now locals.now walk.old.spots)
+        (judged_at (scope_in basin.now blocks.now number head.now locals.now walk.old.spots)
         place walk.old.before instruction.now)
         walk.old walk.new result }
 {
@@ -277,7 +277,7 @@ pub(crate) fn judge(
 
 /// Judges the end of a block with this head.
 pub(crate) fn judge_end(walk: &Walk, head: &BlockHead, place: u32) -> Result<(), BlockFault>
-    ensures { EndsAt place (ended head.now walk.now.before walk.now.before.loops)
+    ensures { EndsAt place (ended_block head.now walk.now.before walk.now.before.loops)
         walk.now.before result }
 {
     match end(walk, head) {

@@ -1,7 +1,7 @@
 // Which kinds are the same, and what instructions on lists make of kinds.
 ghost use Rattle.std.specs.Prelude.{◌≡◌, [], ◌∷◌, option_map};
-ghost use Rattle.rpl_verify.specs.Kinds.{is_same_kind, is_kind, element_of, list_kind, room_of};
-ghost use Rattle.rpl_verify.specs.Table.{appended, picked, widened};
+ghost use Rattle.rpl_verify.specs.Kinds.{is_same_value_kind, is_that_kind, element_kind, list_value_kind, list_room};
+ghost use Rattle.rpl_verify.specs.Table.{appended, element_picked, widened_list};
 
 use rpl_code::ValueKind;
 
@@ -10,7 +10,7 @@ const ROOM_MAX: u16 = 4096;
 
 /// Whether two kinds are the same.
 pub(crate) fn is_same_kind(a: ValueKind, b: ValueKind) -> bool
-    ensures { result ≡ is_same_kind a b }
+    ensures { result ≡ is_same_value_kind a b }
 {
     match (a, b) {
         (ValueKind::N, ValueKind::N) => true,
@@ -25,7 +25,7 @@ pub(crate) fn is_same_kind(a: ValueKind, b: ValueKind) -> bool
 
 /// Whether both are there, and the same.
 pub(crate) fn is_kind(a: Option<ValueKind>, b: Option<ValueKind>) -> bool
-    ensures { result ≡ is_kind a b }
+    ensures { result ≡ is_that_kind a b }
 {
     match (a, b) {
         (Some(x), Some(y)) => is_same_kind(x, y),
@@ -35,7 +35,7 @@ pub(crate) fn is_kind(a: Option<ValueKind>, b: Option<ValueKind>) -> bool
 
 /// The kind of a list's elements.
 pub(crate) fn element_of(kind: ValueKind) -> Option<ValueKind>
-    ensures { result ≡ element_of kind }
+    ensures { result ≡ element_kind kind }
 {
     match kind {
         ValueKind::NList(_) => Some(ValueKind::N),
@@ -46,7 +46,7 @@ pub(crate) fn element_of(kind: ValueKind) -> Option<ValueKind>
 
 /// For how many elements a list has room.
 pub(crate) fn room_of(kind: ValueKind) -> u16
-    ensures { result ≡ room_of kind }
+    ensures { result ≡ list_room kind }
 {
     match kind {
         ValueKind::NList(room) | ValueKind::SList(room) => room,
@@ -56,7 +56,7 @@ pub(crate) fn room_of(kind: ValueKind) -> u16
 
 /// The kind of a list of so many elements, if there are such lists.
 pub(crate) fn list_kind(room: u16, element: ValueKind) -> Option<ValueKind>
-    ensures { result ≡ list_kind room element }
+    ensures { result ≡ list_value_kind room element }
 {
     match element {
         ValueKind::N => Some(ValueKind::NList(room)),
@@ -82,7 +82,7 @@ pub(crate) fn appended(element: ValueKind, list: ValueKind) -> Option<ValueKind>
 
 /// The list with room for so many, if it has room for no more.
 pub(crate) fn widened(room: u16, list: ValueKind) -> Option<ValueKind>
-    ensures { option_map (λ kind. kind ∷ []) result ≡ widened room (list ∷ []) }
+    ensures { option_map (λ kind. kind ∷ []) result ≡ widened_list room (list ∷ []) }
 {
     match list {
         ValueKind::NList(most) if most <= room => Some(ValueKind::NList(room)),
@@ -93,7 +93,7 @@ pub(crate) fn widened(room: u16, list: ValueKind) -> Option<ValueKind>
 
 /// What is picked from a list by a place.
 pub(crate) fn picked(place: ValueKind, list: ValueKind) -> Option<ValueKind>
-    ensures { option_map (λ kind. kind ∷ []) result ≡ picked (place ∷ list ∷ []) }
+    ensures { option_map (λ kind. kind ∷ []) result ≡ element_picked (place ∷ list ∷ []) }
 {
     match (place, list) {
         (ValueKind::N, ValueKind::NList(_)) => Some(ValueKind::N),

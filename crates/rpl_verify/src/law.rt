@@ -10,7 +10,7 @@ ghost use Rattle.rw_model.specs.Draft.{Draft};
 ghost use Rattle.rw_series.specs.declared.fire.FireEnd.TheVariants.{Done, OutOfRange, Unknown, ZeroDivisor};
 ghost use Rattle.rpl_tree.specs.Budget.{Budget, budget};
 ghost use Rattle.rpl_tree.specs.World.{cell_of, put_to};
-ghost use Rattle.rpl_tree.specs.Worked.{all_cells, done_by, ended_by, fire, only_slot, unknown_cells, x_ends, x_is};
+ghost use Rattle.rpl_tree.specs.Worked.{all_cells, done_by, ended_early, fire, only_slot, unknown_cells, x_ends, x_is};
 ghost use Rattle.rpl_verify.specs.declared.resolved.Resolved.TheVariants as R;
 ghost use Rattle.rpl_verify.specs.declared.verify_kind.VerifyKind.TheVariants.{BackwardJump, JumpOutside, LaterCall, MissingOperand, NoSuchName, NotSettable, PutInFunction, TargetStep, TooCostly, TooDeep, TooMany, TooManyPuts, TooManyReads, WrongOperand, WrongShape};
 ghost use Rattle.rpl_verify.specs.Budget.{AreAccepted, IsOverLimit, IsWithinLimits, at_a_time, most, ruling, summed};
@@ -18,11 +18,11 @@ ghost use Rattle.rpl_verify.specs.Machine.{fire_of_code};
 ghost use Rattle.rpl_verify.specs.Resolved.{resolved_at, resolved_code};
 ghost use Rattle.rpl_verify.specs.Safety.{AreSafe};
 ghost use Rattle.rpl_verify.specs.Verified.{Accepted, verified};
-ghost use Rattle.rpl_verify.specs.Fits.{AreFit, Before, Refusal, before, befores, first_misfit, refusal};
+ghost use Rattle.rpl_verify.specs.Fits.{AreFit, Before, Refusal, before, befores, first_code_refusal, refusal};
 ghost use Rattle.rpl_verify.specs.Names.{Scope};
 ghost use Rattle.rpl_verify.specs.Places.{spots};
 ghost use Rattle.rpl_verify.specs.Ways.{AreAcceptable, IsMost, sum_on, words_on};
-ghost use Rattle.rpl_verify.specs.Worked.{IsWayIn, along, along_rule, put_or_not, cap_and_base_code, code_does, dam_and_flow, doubled_items, earlier_code, endless, hundredth_code, long_locals, many_puts, misfit_ahead, misfit_at, misfit_in, function_with, misfit_of, nested, number, number_function, numbers_basin, looks_of_firing, one_dam, one_or_sum, one_or_two, over_a_list, pair_then, put_before_look, put_outflow, put_spill, puts_of_firing, raise_and_reset_code, rule_with, ruled, second_slot, seen_before, skipped, sum_of_slots, spilling_dam, sum_ahead_code, sum_or_two, three_counted, tower, words_of_firing, x_by_truth, x_of, x_of_pool, x_slot, y_slot, put_x, resolved_of};
+ghost use Rattle.rpl_verify.specs.Worked.{IsWayIn, along, along_rule, put_or_not, cap_and_base_code, code_does, dam_and_flow, doubled_items, earlier_code, endless, hundredth_code, long_locals, many_puts, misfit_ahead, misfit_at, misfit_in, function_with, misfit_of, nested, number, number_function, numbers_basin, looks_of_firing, one_dam, one_or_sum, one_or_two, over_a_list, pair_then, put_before_look, put_outflow, put_spill, puts_of_firing, raise_and_reset_code, rule_with, ruled, second_slot, seen_before, skipped, code_of_slot_sum, spilling_dam, sum_ahead_code, sum_or_two, three_counted, tower, words_of_firing, x_by_truth, x_of, x_of_pool, x_slot, y_slot, put_x, resolved_of};
 
 /// Codes that fit. What a jump leaves out is judged as well, with the operands that the target behind the jump declares.
 pub fn codes_that_fit()
@@ -36,7 +36,7 @@ pub fn codes_that_fit()
     ensures skipped { AreFit one_dam skipped }
     ensures arguments { AreFit numbers_basin earlier_code }
     ensures second_slot { AreFit numbers_basin second_slot }
-    ensures sum_of_slots { AreFit numbers_basin sum_of_slots }
+    ensures sum_of_slots { AreFit numbers_basin code_of_slot_sum }
 {}
 
 /// Names that aren't there, or that can't be used so. Of two misfits at a place the one with the lesser number counts.
@@ -48,14 +48,16 @@ pub fn misfits_of_names()
     ensures function { misfit_of [] (I.Call (codes "Twice") ∷ []) ≡ misfit_at NoSuchName 0 }
     ensures table { misfit_of [] (number 1 ∷ I.ToElevation (codes "Dam") ∷ [])
         ≡ misfit_at NoSuchName 1 }
-    ensures derived { first_misfit spilling_dam (rule_with [] (number 1 ∷ put_spill 0 ∷ []) ∷ [])
+    ensures derived { first_code_refusal spilling_dam
+        (rule_with [] (number 1 ∷ put_spill 0 ∷ []) ∷ [])
         ≡ misfit_at NotSettable 1 }
     ensures in_function { misfit_in (number_function (number 1 ∷ put_outflow 0 ∷ []) ∷ [])
         ≡ misfit_at PutInFunction 1 }
     ensures ahead { misfit_of [] (number 1 ∷ put_outflow 1 ∷ []) ≡ misfit_at TargetStep 1 }
     ensures thirty { misfit_ahead 30 (number 1 ∷ put_outflow 30 ∷ []) ≡ None }
     ensures too_far { misfit_ahead 30 (number 1 ∷ put_outflow 31 ∷ []) ≡ misfit_at TargetStep 1 }
-    ensures derived_first { first_misfit spilling_dam (number_function (put_spill 1 ∷ []) ∷ [])
+    ensures derived_first { first_code_refusal spilling_dam
+        (number_function (put_spill 1 ∷ []) ∷ [])
         ≡ misfit_at NotSettable 0 }
     ensures function_first { misfit_in (number_function (put_outflow 1 ∷ []) ∷ [])
         ≡ misfit_at PutInFunction 0 }
@@ -156,7 +158,7 @@ pub fn budgets()
     ensures skipped { ruled skipped ≡ Ok (budget 2 0 0 0 ∷ []) }
     ensures arguments { AreAccepted numbers_basin earlier_code
         (budget 3 0 0 4 ∷ budget 11 0 1 7 ∷ []) }
-    ensures sum_of_slots { AreAccepted numbers_basin sum_of_slots (budget 51 5 1 13 ∷ []) }
+    ensures sum_of_slots { AreAccepted numbers_basin code_of_slot_sum (budget 51 5 1 13 ∷ []) }
     ensures long_locals { ruled (long_locals 244) ≡ Ok (budget 0 0 0 999668 ∷ []) }
 {}
 
@@ -177,17 +179,17 @@ pub fn firings_of_rules()
         ≡ done_by [] 2 (pos 50) 2 }
     ensures no_rule { fire_of_code cap_and_base_code one_dam 3 1 unknown_cells ≡ None }
     ensures unknown { code_does raise_and_reset_code unknown_cells
-        ≡ ended_by Unknown (cell_of 1 1 ∷ []) 3 }
+        ≡ ended_early Unknown (cell_of 1 1 ∷ []) 3 }
     ensures raised { code_does raise_and_reset_code (all_cells (pos 0))
         ≡ done_by (cell_of 1 1 ∷ []) 1 (pos 10) 6 }
     ensures third { code_does hundredth_code (only_slot 2 (pos 3))
         ≡ done_by (cell_of 2 1 ∷ []) 1 (pos 33) 6 }
     ensures zero { code_does hundredth_code (only_slot 2 (pos 0))
-        ≡ ended_by ZeroDivisor (cell_of 2 1 ∷ []) 5 }
+        ≡ ended_early ZeroDivisor (cell_of 2 1 ∷ []) 5 }
     ensures sum { fire_of_code sum_ahead_code dam_and_flow 1 1 (only_slot 1 (pos 100))
         ≡ done_by (cell_of 1 1 ∷ cell_of 1 2 ∷ []) 4 (pos 200) 34 }
     ensures last { fire_of_code sum_ahead_code dam_and_flow 1 3 (only_slot 1 (pos 100))
-        ≡ ended_by Unknown (cell_of 1 3 ∷ []) 29 }
+        ≡ ended_early Unknown (cell_of 1 3 ∷ []) 29 }
 {}
 
 /// What firings of codes do that are no rule's.
@@ -208,7 +210,7 @@ pub fn firings_of_codes()
 
 /// A code that is refused, and whose firing would never end: as many steps as a firing may have come to nothing.
 pub fn endless_code()
-    ensures refused { first_misfit one_dam endless ≡ Some (refusal BackwardJump 1 1) }
+    ensures refused { first_code_refusal one_dam endless ≡ Some (refusal BackwardJump 1 1) }
     ensures nothing { fire_of_code endless one_dam 1 1 unknown_cells ≡ None }
 {}
 
@@ -251,7 +253,7 @@ pub fn dates()
 pub fn lists()
     ensures slots { code_does second_slot (all_cells (pos 4))
         ≡ done_by (cell_of 2 1 ∷ []) 1 (pos 4) 10 }
-    ensures sum_of_slots { code_does sum_of_slots (all_cells (pos 4))
+    ensures sum_of_slots { code_does code_of_slot_sum (all_cells (pos 4))
         ≡ done_by (cell_of 1 1 ∷ cell_of 2 1 ∷ []) 1 (pos 8) 30 }
     ensures no_item { x_of [] (pair_then (number 3 ∷ I.Item ∷ [])) ≡ x_ends (OutOfRange (pos 3)) 7 }
     ensures as_wide { x_of [] (pair_then (I.Widen 2 ∷ I.Length ∷ [])) ≡ x_is (pos 2) 10 }
@@ -266,7 +268,7 @@ pub fn lists()
         ≡ x_is (pos 0) 5 }
     ensures first_step { x_of (K.D ∷ []) (I.Now ∷ I.Load 0 ∷ I.Between ∷ []) ≡ x_is (pos 1) 4 }
     ensures first_slot { x_of (K.S ∷ []) (I.Load 0 ∷ I.Now ∷ I.Read ∷ [])
-        ≡ ended_by Unknown (cell_of 1 1 ∷ []) 3 }
+        ≡ ended_early Unknown (cell_of 1 1 ∷ []) 3 }
 {}
 
 /// Codes with their instructions resolved. A local is named by its first word, a slot is the word that is its number less 1, and
@@ -283,7 +285,7 @@ pub fn resolved_codes()
         ≡ (R.Push (pos 4) ∷ R.Push (pos 5) ∷ R.List 2 ∷ R.Map 0 2 8 ∷ R.Load 0 1
         ∷ R.Load 0 1 ∷ R.Sum
         ∷ R.Yield ∷ R.Widen 1 3 ∷ R.Push (pos 2) ∷ R.Item 3 ∷ R.Put 2 0 ∷ R.End ∷ []) ∷ [] }
-    ensures sum_of_slots { resolved_code numbers_basin sum_of_slots
+    ensures sum_of_slots { resolved_code numbers_basin code_of_slot_sum
         ≡ (R.Push (pos 0) ∷ R.List 1 ∷ R.Push (pos 1) ∷ R.Append 1 ∷ R.Widen 3 5 ∷ R.Foreach 0 5 13
         ∷ R.Load 1 1 ∷ R.Load 0 1 ∷ R.Now ∷ R.Read ∷ R.Sum ∷ R.Store 1 1 ∷ R.Next ∷ R.Load 1 1
         ∷ R.Put 1 0 ∷ R.End ∷ []) ∷ [] }
@@ -390,7 +392,7 @@ pub fn budgets_of_ways()
 pub fn refused_code()
     ensures misfit { (basin : Draft) (blocks : List Block) (why : Refusal)
         → ruling basin blocks ≡ Err why → (IsOverLimit why.misfit → ⊥)
-        → first_misfit basin blocks ≡ Some why }
+        → first_code_refusal basin blocks ≡ Some why }
     ensures over { (basin : Draft) (blocks : List Block) (why : Refusal)
         → ruling basin blocks ≡ Err why → AreFit basin blocks → IsOverLimit why.misfit }
 {}
@@ -426,10 +428,11 @@ pub fn answered_code_is_safe()
 /// a firing ends at a look; and the words are those of the state that keeps most.
 pub fn passed_by_firings()
     ensures look { looks_of_firing seen_before ≡ 2 }
-    ensures no_cell { code_does seen_before unknown_cells ≡ ended_by Unknown (cell_of 2 1 ∷ []) 10 }
+    ensures no_cell { code_does seen_before unknown_cells
+        ≡ ended_early Unknown (cell_of 2 1 ∷ []) 10 }
     ensures put { puts_of_firing put_before_look ≡ 1 }
     ensures no_put { code_does put_before_look unknown_cells
-        ≡ ended_by Unknown (cell_of 2 1 ∷ []) 5 }
+        ≡ ended_early Unknown (cell_of 2 1 ∷ []) 5 }
     ensures words { words_of_firing earlier_code ≡ 5 }
-    ensures loop_words { words_of_firing sum_of_slots ≡ 13 }
+    ensures loop_words { words_of_firing code_of_slot_sum ≡ 13 }
 {}

@@ -11,7 +11,7 @@ ghost use Rattle.rpl_verify.specs.Places.{Spot};
 ghost use Rattle.rpl_verify.specs.Names.{Scope};
 ghost use Rattle.rpl_verify.specs.Fits.{Before, heads_of};
 ghost use Rattle.rpl_verify.specs.Budget.{count_of, looks_of, part_of, puts_of, words_at, words_of_kind, words_of_parameters};
-ghost use Rattle.rpl_verify.specs.Notes.{budget_seen, end_note, limit_of, note_of, words_kept};
+ghost use Rattle.rpl_verify.specs.Notes.{numbers_seen, end_note, limit_of, note_of, words_kept};
 ghost use Rattle.rpl_verify.specs.Steps.{scope_in};
 
 use crate::Budget;
@@ -91,13 +91,13 @@ fn parameter_words(blocks: &[Block], number: u32) -> u32
 // The budget of the block of a number, and nothing where there is none.
 fn called(budgets: &[Budget], number: u32) -> Budget
     ensures count { result.instructions
-        ≡ part_of (λ (f : Numbers). f.count) (numbered (map budget_seen budgets.now) number) }
+        ≡ part_of (λ (f : Numbers). f.count) (numbered (map numbers_seen budgets.now) number) }
     ensures looks { result.reads
-        ≡ part_of (λ (f : Numbers). f.looks) (numbered (map budget_seen budgets.now) number) }
+        ≡ part_of (λ (f : Numbers). f.looks) (numbered (map numbers_seen budgets.now) number) }
     ensures puts { result.puts
-        ≡ part_of (λ (f : Numbers). f.puts) (numbered (map budget_seen budgets.now) number) }
+        ≡ part_of (λ (f : Numbers). f.puts) (numbered (map numbers_seen budgets.now) number) }
     ensures words { result.words
-        ≡ part_of (λ (f : Numbers). f.words) (numbered (map budget_seen budgets.now) number) }
+        ≡ part_of (λ (f : Numbers). f.words) (numbered (map numbers_seen budgets.now) number) }
 {
     let none = Budget {
         instructions: 0,
@@ -135,7 +135,7 @@ fn count(
     ensures { (basin : Draft) (number : ℕ) (head : BlockHead) (spots : List Spot) → result
         ≡ capped limits.count (count_of
         (scope_in basin blocks.now number head locals.now spots)
-        (map budget_seen budgets.now) walk.now.before instruction.now) }
+        (map numbers_seen budgets.now) walk.now.before instruction.now) }
 {
     match instruction {
         Instruction::Load(n) => local_words(locals, *n).min(cap_of(Part::Count)),
@@ -155,7 +155,7 @@ fn count(
 // How often an instruction looks.
 fn looks(budgets: &[Budget], instruction: &Instruction) -> u32
     ensures { (scope : Scope) (b : Before) → result ≡ capped limits.looks
-        (looks_of scope (map budget_seen budgets.now) b instruction.now) }
+        (looks_of scope (map numbers_seen budgets.now) b instruction.now) }
 {
     match instruction {
         Instruction::Read | Instruction::Known => 1,
@@ -167,7 +167,7 @@ fn looks(budgets: &[Budget], instruction: &Instruction) -> u32
 // How often an instruction puts.
 fn puts(budgets: &[Budget], instruction: &Instruction) -> u32
     ensures { (scope : Scope) (b : Before) → result ≡ capped limits.puts
-        (puts_of scope (map budget_seen budgets.now) b instruction.now) }
+        (puts_of scope (map numbers_seen budgets.now) b instruction.now) }
 {
     match instruction {
         Instruction::Put { .. } => 1,
@@ -188,7 +188,7 @@ fn words_before(locals: u32, walk: &Walk) -> u32
 fn words(locals: u32, budgets: &[Budget], walk: &Walk, instruction: &Instruction) -> u32
     ensures { (scope : Scope) → locals ≡ capped limits.words (words_of_all scope.locals)
         → result ≡ capped limits.words (words_at scope
-        (map budget_seen budgets.now) walk.now.before instruction.now) }
+        (map numbers_seen budgets.now) walk.now.before instruction.now) }
 {
     let before = words_before(locals, walk);
     match instruction {
@@ -209,7 +209,7 @@ pub(crate) fn place_note(
     requires { local_words ≡ capped limits.words (words_of_all locals.now) }
     ensures { (basin : Draft) (number : ℕ) (head : BlockHead) (spots : List Spot) → result
         ≡ note_of (scope_in basin blocks.now number head locals.now spots)
-        (map budget_seen budgets.now) walk.now.before instruction.now }
+        (map numbers_seen budgets.now) walk.now.before instruction.now }
 {
     Note {
         room: walk.room(),

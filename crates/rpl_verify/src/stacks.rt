@@ -3,7 +3,7 @@ ghost use Rattle.std.specs.Prelude.{◌≡◌, ◌<◌, ◌+◌, suc, [], ◌∷
 ghost use Rattle.rpl_code.specs.Weight.{words_of};
 ghost use Rattle.rpl_tree.specs.Budget.{capped, limits};
 ghost use Rattle.rpl_verify.specs.Kinds.{are_same_kinds, top_of, words_of_all};
-ghost use Rattle.rpl_verify.specs.Stacks.{at, key_of, code_of, is_next, Grows, IsPushed, IsBelow};
+ghost use Rattle.rpl_verify.specs.Stacks.{at, key_of, kind_code, is_next, Grows, IsPushed, IsListBelow};
 
 use crate::kinds::is_same_kind;
 use rpl_code::ValueKind;
@@ -48,7 +48,7 @@ impl Model for Stacks {
 // The number by which a list is looked up.
 fn key(below: u32, kind: ValueKind) -> u64
     ensures key { result ≡ key_of below kind }
-    ensures small { code_of kind < 262144 }
+    ensures small { kind_code kind < 262144 }
 {
     let code: u64 = match kind {
         ValueKind::N => 0,
@@ -94,7 +94,7 @@ impl Stacks {
     fn push_newest(&mut self, below: u32, kind: ValueKind) -> Result<u32, NoMemory>
         requires newest { length self.old ≡ suc below }
         requires few { suc below < 4294967296 }
-        requires small { code_of kind < 262144 }
+        requires small { kind_code kind < 262144 }
         ensures grows { Grows self.old self.new }
         ensures made { IfOk result (λ n. IsPushed self.old self.new kind below n) }
     {
@@ -163,7 +163,7 @@ impl Stacks {
     /// A list without its last kind.
     pub(crate) fn below(&self, n: u32) -> u32
         requires { n < length self.now }
-        ensures { IsBelow self.now n result }
+        ensures { IsListBelow self.now n result }
     {
         let _nodes = &self.nodes;
         if n == 0 {

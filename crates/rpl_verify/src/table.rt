@@ -4,7 +4,7 @@ ghost use Rattle.rpl_code.specs.declared.instruction.Instruction.{Instruction};
 ghost use Rattle.rpl_tree.specs.Budget.{capped};
 ghost use Rattle.rpl_verify.specs.Places.{bracket, ends_before, loop_end};
 ghost use Rattle.rpl_verify.specs.Budget.{most_from, going_of};
-ghost use Rattle.rpl_verify.specs.Notes.{joined, limit_of, noted, price_in, repeated, stopping};
+ghost use Rattle.rpl_verify.specs.Notes.{part_joined, limit_of, noted, price_in, repeated, stopping};
 
 use crate::notes::{Note, Part, cap_of};
 use rpl_code::Instruction;
@@ -33,7 +33,7 @@ fn price_in(part: Part, note: &Note) -> u32
 
 // How much one thing and another behind it come to.
 fn join(part: Part, a: u32, b: u32) -> u32
-    ensures { result ≡ capped (limit_of part) (joined part a b) }
+    ensures { result ≡ capped (limit_of part) (part_joined part a b) }
 {
     match part {
         Part::Words => a.max(b).min(cap_of(Part::Words)),

@@ -1,8 +1,8 @@
 // What instructions take from the operands and leave in their place.
 ghost use Rattle.std.specs.Prelude.{◌≡◌, ◌≤◌, [], ◌∷◌, length, reverse};
 ghost use Rattle.rpl_code.specs.declared.kind.ValueKind.TheVariants as K;
-ghost use Rattle.rpl_verify.specs.Kinds.{list_kind};
-ghost use Rattle.rpl_verify.specs.Table.{takes, goes_by, appended, listed, of_list, picked, widened};
+ghost use Rattle.rpl_verify.specs.Kinds.{list_value_kind};
+ghost use Rattle.rpl_verify.specs.Table.{takes, goes_by, appended, listed, of_list, element_picked, widened_list};
 ghost use Rattle.rpl_verify.specs.Fits.{shut};
 ghost use Rattle.rpl_verify.specs.Walked.{Goes, loop_of};
 ghost use Rattle.rpl_verify.specs.Steps.{TakesOne, TakesTwo, closed_behind, gathered_into, opened_over, run_taken, taken_by};
@@ -96,7 +96,8 @@ pub(crate) fn gather(walk: &mut Walk, count: u16) -> Result<(), PlaceFault>
 
 // Leaves the list of so many operands of a kind, if there are such lists.
 fn leave_list(walk: &mut Walk, count: u16, kind: ValueKind) -> Result<(), PlaceFault>
-    ensures { Goes (gathered_into (list_kind count kind) walk.old.before) walk.old walk.new result }
+    ensures { Goes (gathered_into (list_value_kind count kind) walk.old.before) walk.old
+        walk.new result }
 {
     match list_kind(count, kind) {
         None => Err(PlaceFault::Misfit(VerifyKind::WrongOperand)),
@@ -145,7 +146,7 @@ pub(crate) fn append(walk: &mut Walk) -> Result<(), PlaceFault>
 
 /// Picks an element by a place from the list below that.
 pub(crate) fn pick(walk: &mut Walk) -> Result<(), PlaceFault>
-    ensures { Goes (taken_by (goes_by 2 picked) walk.old.before) walk.old walk.new result }
+    ensures { Goes (taken_by (goes_by 2 element_picked) walk.old.before) walk.old walk.new result }
 {
     let (place, list) = take_two(walk)?;
     match picked(place, list) {
@@ -159,7 +160,8 @@ pub(crate) fn pick(walk: &mut Walk) -> Result<(), PlaceFault>
 
 /// Gives the list on top room for so many.
 pub(crate) fn widen(walk: &mut Walk, room: u16) -> Result<(), PlaceFault>
-    ensures { Goes (taken_by (goes_by 1 (widened room)) walk.old.before) walk.old walk.new result }
+    ensures { Goes (taken_by (goes_by 1 (widened_list room)) walk.old.before) walk.old
+        walk.new result }
 {
     let list = take_one(walk)?;
     match widened(room, list) {

@@ -6,7 +6,7 @@ ghost use Rattle.rpl_verify.specs.Places.{Opener, bracket, closed, declared_by, 
 ghost use Rattle.rpl_verify.specs.Fits.{before, innermost, is_same_place, landing, room_on_top};
 ghost use Rattle.rpl_verify.specs.Budget.{words_of_loop, words_of_loops};
 ghost use Rattle.rpl_verify.specs.Stacks.{at, Grows};
-ghost use Rattle.rpl_verify.specs.Walks.{IsRooted, IsNumber, IsDeclared, opener_of, openers_of};
+ghost use Rattle.rpl_verify.specs.Walks.{IsRooted, IsNumberOf, IsDeclared, opener_of, openers_of};
 ghost use Rattle.rpl_verify.specs.Walked.{Closes, Lands, are_shut, declares, is_declared, landed, loop_of, with_kinds, with_loop, without_top};
 
 use crate::VerifyKind;
@@ -55,13 +55,14 @@ pub(crate) struct Walk {
 
 impl Model for Walk {
     ghost use Rattle.rpl_verify.specs.Walked.{Walked};
-    ghost use Rattle.rpl_verify.specs.Walks.{walked, IsSound};
+    ghost use Rattle.rpl_verify.specs.Walks.{walked, IsSoundWalk};
 
     ghost Value = { Walked };
 
     ghost view = { λ w. walked w.stacks w.kinds w.opens.items w.landings.items };
 
-    ghost invariant = { λ w. IsSound w.stacks w.kinds w.opens.items w.landings.items w.loop_words };
+    ghost invariant = { λ w.
+        IsSoundWalk w.stacks w.kinds w.opens.items w.landings.items w.loop_words };
 }
 
 // Whether two loops are the same.
@@ -91,7 +92,7 @@ fn loop_words(maps: bool, room: u16) -> u64
 fn number_of(stacks: &mut Stacks, kinds: &[ValueKind]) -> Result<u32, NoMemory>
     requires { IsRooted stacks.old }
     ensures grows { Grows stacks.old stacks.new }
-    ensures made { IfOk result (λ n. IsNumber stacks.new n (reverse kinds.now)) }
+    ensures made { IfOk result (λ n. IsNumberOf stacks.new n (reverse kinds.now)) }
 {
     let mut number = 0;
     for kind in kinds {

@@ -6,7 +6,7 @@ use Rattle.rw_series.specs.declared.look.Look.{Look}
 use Rattle.rw_run.specs.Index.{IsIndex}
 use Rattle.rw_run.specs.Log.{Cells}
 use Rattle.rw_run.specs.Next.{is_changed}
-use Rattle.rw_agenda.specs.Agenda.{Agenda, Entry, IsIndexed, IsListed, KeepsOtherMarks, after_firing, is_marked, looked_by, room_of, unfired}
+use Rattle.rw_agenda.specs.Agenda.{Agenda, Entry, IsIndexed, IsListed, KeepsOtherMarks, after_firing, is_marked, looked_by, look_room, unfired}
 
 -- what was kept of a rule by the place of its entry, once the rule in a place has fired
 module _ (old new : Agenda) (cells : Cells) (rule : ℕ) (looks : List Look) (indexed : IsIndexed old cells) (known : IsListed old rule)
@@ -17,7 +17,7 @@ module _ (old new : Agenda) (cells : Cells) (rule : ℕ) (looks : List Look) (in
       ap (λ (entries : List Entry). (slice_index_or entries place (unfired 0)).looked) rules
       ∙ ap (λ (e : Entry). e.looked)
       (ap (λ p. get_or (after_firing old rule looks) p (unfired 0)) here
-      ∙ get_or-set_same old.rules (rule - 1) (record { room = room_of old rule; looked = Some looks }) (unfired 0) (omega (arith, known.first, known.last))) in
+      ∙ get_or-set_same old.rules (rule - 1) (record { room = look_room old rule; looked = Some looks }) (unfired 0) (omega (arith, known.first, known.last))) in
       subst (λ (o : Option (List Look)). is_changed cells o ≡ false) (sym there ∙ is) holds
 
   other_place : (place : ℕ) (saw : List Look) → place ≢ rule - 1 → place < length old.rules → is_marked new (place + 1) ≡ false
@@ -25,7 +25,7 @@ module _ (old new : Agenda) (cells : Cells) (rule : ℕ) (looks : List Look) (in
   other_place place saw apart near unmarked is =
       let before : (slice_index_or new.rules place (unfired 0)).looked ≡ (slice_index_or old.rules place (unfired 0)).looked =
       ap (λ (entries : List Entry). (slice_index_or entries place (unfired 0)).looked) rules
-      ∙ ap (λ (e : Entry). e.looked) (get_or-set_other old.rules (rule - 1) place (record { room = room_of old rule; looked = Some looks }) (unfired 0) apart) in
+      ∙ ap (λ (e : Entry). e.looked) (get_or-set_other old.rules (rule - 1) place (record { room = look_room old rule; looked = Some looks }) (unfired 0) apart) in
       let at : place + 1 - 1 ≡ place = omega arith in
       let different : place + 1 ≢ rule = λ same. apart (omega (arith, same)) in
       indexed (place + 1) saw (others (place + 1) (record { first = omega arith; last = omega (arith, near) }) different unmarked)
@@ -34,7 +34,7 @@ module _ (old new : Agenda) (cells : Cells) (rule : ℕ) (looks : List Look) (in
   past : (place : ℕ) (saw : List Look) → length old.rules ≤ place → (slice_index_or new.rules place (unfired 0)).looked ≡ Some saw → is_changed cells (Some saw) ≡ false
   past place saw beyond is =
       let many : length new.rules ≡ length old.rules =
-      ap (λ (entries : List Entry). length entries) rules ∙ length-set old.rules (rule - 1) (record { room = room_of old rule; looked = Some looks }) in
+      ap (λ (entries : List Entry). length entries) rules ∙ length-set old.rules (rule - 1) (record { room = look_room old rule; looked = Some looks }) in
       let none : (slice_index_or new.rules place (unfired 0)).looked ≡ None =
       ap (λ (e : Entry). e.looked) (get_or_past new.rules place (unfired 0) (omega (arith, beyond, many))) in
       absurd (none-some saw (sym none ∙ is))

@@ -21,33 +21,33 @@ use Rattle.rw_run.specs.Dispatch.{cell_at}
 use Rattle.rw_run.specs.Index.{is_touched}
 use Rattle.rw_run.specs.Log.{Cells}
 use Rattle.rw_run.specs.Next.{agenda_of, is_changed}
-use Rattle.rw_agenda.specs.Agenda.{AreMarkedFresh, AreWatching, Entry, IsIndexed, KeepsRules, agenda_of_marks, first_due, forgotten, is_due, unfired}
+use Rattle.rw_agenda.specs.Agenda.{AreMarkedFresh, AreWatching, Entry, IsIndexed, KeepsRules, agenda_of_marks, first_due_in, forgotten, is_due_in, unfired}
 use Rattle.rw_model.specs.Objects.{numbered}
 use Rattle.rw_agenda.specs.CellIndex.{CellIndex, is_met, is_watching}
 use Rattle.rw_agenda.specs.declared.watch.Watch.{Watch}
 use Rattle.rw_agenda.specs.declared.limits.TheConstants.{RULES_MAX}
 use Rattle.rw_agenda.proofs.Watches.{met_last, met_next, or_right}
 use Rattle.rw_agenda.proofs.Order.{high_turn, in_no_turn, low_turn, not_in_turn}
-use Rattle.rw_agenda.specs.Marks.{AreTurns, IsFirst, IsFirstMarked, IsFirstOf, Marks, MarksMore, has_turn, is_flagged, is_marked_in, turn_of}
+use Rattle.rw_agenda.specs.Marks.{AreTurns, IsFirst, IsFirstMarked, IsFirstOf, Marks, MarksMore, has_turn, is_flagged, is_marked_in, agenda_turn}
 
 -- ---- turns
 
-turn_below : (order : AgendaOrder) (rules place : ℕ) → place < rules → turn_of order rules place < rules
+turn_below : (order : AgendaOrder) (rules place : ℕ) → place < rules → agenda_turn order rules place < rules
 turn_below HighFirst rules place near = near
 turn_below LowFirst rules place near = omega (arith, near)
 
-turn_back : (order : AgendaOrder) (rules place : ℕ) → place < rules → turn_of order rules (turn_of order rules place) ≡ place
+turn_back : (order : AgendaOrder) (rules place : ℕ) → place < rules → agenda_turn order rules (agenda_turn order rules place) ≡ place
 turn_back HighFirst rules place near = refl
 turn_back LowFirst rules place near = omega (arith, near)
 
 turn_apart : (order : AgendaOrder) (rules place other : ℕ) → place < rules → other < rules → other ≢ place
-    → (turn_of order rules other == turn_of order rules place) ≡ false
-turn_apart order rules place other near there apart = by (turn_of order rules other == turn_of order rules place) refl
+    → (agenda_turn order rules other == agenda_turn order rules place) ≡ false
+turn_apart order rules place other near there apart = by (agenda_turn order rules other == agenda_turn order rules place) refl
   where
-    by : (same : Bool) → (turn_of order rules other == turn_of order rules place) ≡ same → same ≡ false
+    by : (same : Bool) → (agenda_turn order rules other == agenda_turn order rules place) ≡ same → same ≡ false
     by true same =
-        let is : turn_of order rules other ≡ turn_of order rules place = grind (arith, nat_tests, same) in
-        absurd (apart (sym (turn_back order rules other there) ∙ ap (turn_of order rules) is ∙ turn_back order rules place near))
+        let is : agenda_turn order rules other ≡ agenda_turn order rules place = grind (arith, nat_tests, same) in
+        absurd (apart (sym (turn_back order rules other there) ∙ ap (agenda_turn order rules) is ∙ turn_back order rules place near))
     by false same = refl
 
 own_turn : (turn : ℕ) → (turn == turn) ≡ true
@@ -55,7 +55,7 @@ own_turn turn = grind (arith, nat_tests)
 
 -- the words have a turn more, and the flags a mark more
 pub turns_added : (order : AgendaOrder) (flags : List Bool) (old new : List ℕ) (place : ℕ) → AreTurns order flags old → place < length flags
-    → length new ≡ length old → ((other : ℕ) → has_turn new other ≡ (other == turn_of order (length flags) place || has_turn old other))
+    → length new ≡ length old → ((other : ℕ) → has_turn new other ≡ (other == agenda_turn order (length flags) place || has_turn old other))
     → AreTurns order (set flags place true) new
 turns_added order flags old new place kept near same is = record {
   many = same ∙ kept.many;
@@ -64,24 +64,24 @@ turns_added order flags old new place kept near same is = record {
 }
   where
     by : (other : ℕ) → other < length flags → (here : Bool) → nat_eq other place ≡ here
-        → has_turn new (turn_of order (length (set flags place true)) other) ≡ slice_index_or (set flags place true) other true
+        → has_turn new (agenda_turn order (length (set flags place true)) other) ≡ slice_index_or (set flags place true) other true
     by other there true here =
         let is_place : other ≡ place = grind (arith, nat_tests, here) in
-        ap (λ n. has_turn new (turn_of order n other)) (length-set flags place true)
-        ∙ is (turn_of order (length flags) other)
-        ∙ ap (λ t. t || has_turn old (turn_of order (length flags) other))
-        (ap (λ k. turn_of order (length flags) k == turn_of order (length flags) place) is_place ∙ own_turn (turn_of order (length flags) place))
+        ap (λ n. has_turn new (agenda_turn order n other)) (length-set flags place true)
+        ∙ is (agenda_turn order (length flags) other)
+        ∙ ap (λ t. t || has_turn old (agenda_turn order (length flags) other))
+        (ap (λ k. agenda_turn order (length flags) k == agenda_turn order (length flags) place) is_place ∙ own_turn (agenda_turn order (length flags) place))
         ∙ sym (ap (λ k. get_or (set flags place true) k true) is_place ∙ get_or-set_same flags place true true near)
     by other there false here =
         let apart : other ≢ place = grind (arith, nat_tests, here) in
-        ap (λ n. has_turn new (turn_of order n other)) (length-set flags place true)
-        ∙ is (turn_of order (length flags) other)
-        ∙ ap (λ t. t || has_turn old (turn_of order (length flags) other)) (turn_apart order (length flags) place other near there apart)
+        ap (λ n. has_turn new (agenda_turn order n other)) (length-set flags place true)
+        ∙ is (agenda_turn order (length flags) other)
+        ∙ ap (λ t. t || has_turn old (agenda_turn order (length flags) other)) (turn_apart order (length flags) place other near there apart)
         ∙ kept.each other there
         ∙ sym (get_or-set_other flags place other true true apart)
 
 pub turns_taken : (order : AgendaOrder) (flags : List Bool) (old new : List ℕ) (place : ℕ) → AreTurns order flags old → place < length flags
-    → length new ≡ length old → ((other : ℕ) → has_turn new other ≡ (not (other == turn_of order (length flags) place) && has_turn old other))
+    → length new ≡ length old → ((other : ℕ) → has_turn new other ≡ (not (other == agenda_turn order (length flags) place) && has_turn old other))
     → AreTurns order (set flags place false) new
 turns_taken order flags old new place kept near same is = record {
   many = same ∙ kept.many;
@@ -90,19 +90,19 @@ turns_taken order flags old new place kept near same is = record {
 }
   where
     by : (other : ℕ) → other < length flags → (here : Bool) → nat_eq other place ≡ here
-        → has_turn new (turn_of order (length (set flags place false)) other) ≡ slice_index_or (set flags place false) other true
+        → has_turn new (agenda_turn order (length (set flags place false)) other) ≡ slice_index_or (set flags place false) other true
     by other there true here =
         let is_place : other ≡ place = grind (arith, nat_tests, here) in
-        ap (λ n. has_turn new (turn_of order n other)) (length-set flags place false)
-        ∙ is (turn_of order (length flags) other)
-        ∙ ap (λ t. not t && has_turn old (turn_of order (length flags) other))
-        (ap (λ k. turn_of order (length flags) k == turn_of order (length flags) place) is_place ∙ own_turn (turn_of order (length flags) place))
+        ap (λ n. has_turn new (agenda_turn order n other)) (length-set flags place false)
+        ∙ is (agenda_turn order (length flags) other)
+        ∙ ap (λ t. not t && has_turn old (agenda_turn order (length flags) other))
+        (ap (λ k. agenda_turn order (length flags) k == agenda_turn order (length flags) place) is_place ∙ own_turn (agenda_turn order (length flags) place))
         ∙ sym (ap (λ k. get_or (set flags place false) k true) is_place ∙ get_or-set_same flags place false true near)
     by other there false here =
         let apart : other ≢ place = grind (arith, nat_tests, here) in
-        ap (λ n. has_turn new (turn_of order n other)) (length-set flags place false)
-        ∙ is (turn_of order (length flags) other)
-        ∙ ap (λ t. not t && has_turn old (turn_of order (length flags) other)) (turn_apart order (length flags) place other near there apart)
+        ap (λ n. has_turn new (agenda_turn order n other)) (length-set flags place false)
+        ∙ is (agenda_turn order (length flags) other)
+        ∙ ap (λ t. not t && has_turn old (agenda_turn order (length flags) other)) (turn_apart order (length flags) place other near there apart)
         ∙ kept.each other there
         ∙ sym (get_or-set_other flags place other false true apart)
 
@@ -113,7 +113,7 @@ turn_tells : (order : AgendaOrder) (flags : List Bool) (words : List ℕ) (turn 
     → is_marked_in (record { order = order; flags = flags }) turn ≡ has_turn words turn
 turn_tells order flags words turn kept near =
     sym (ap (has_turn words) (sym (turn_back order (length flags) turn near))
-    ∙ kept.each (turn_of order (length flags) turn) (turn_below order (length flags) turn near))
+    ∙ kept.each (agenda_turn order (length flags) turn) (turn_below order (length flags) turn near))
 
 pub none_marked : (order : AgendaOrder) (flags : List Bool) (words : List ℕ) (from : ℕ) → AreTurns order flags words → IsFirstOf words from None
     → IsFirstMarked (record { order = order; flags = flags }) from None
@@ -202,13 +202,13 @@ marks_those basin c index rules old new watching many marked content place looks
 
 -- ---- which rules are due
 
-rule_at : (order : AgendaOrder) (rules turn : ℕ) → turn < rules → slice_get (agenda_of order rules) turn ≡ Some (turn_of order rules turn + 1)
+rule_at : (order : AgendaOrder) (rules turn : ℕ) → turn < rules → slice_get (agenda_of order rules) turn ≡ Some (agenda_turn order rules turn + 1)
 rule_at HighFirst rules turn near = high_turn HighFirst rules turn refl near
 rule_at LowFirst rules turn near =
     let is : rules - turn ≡ rules - 1 - turn + 1 = omega (arith, near) in low_turn LowFirst rules turn refl near ∙ ap Some is
 
 pub passed_over : (test : ℕ → Bool) (order : AgendaOrder) (rules from count to : ℕ) → to ≡ from + count → to ≤ rules
-    → ((turn : ℕ) → from ≤ turn → turn < to → test (turn_of order rules turn + 1) ≡ false)
+    → ((turn : ℕ) → from ≤ turn → turn < to → test (agenda_turn order rules turn + 1) ≡ false)
     → find test (drop from (agenda_of order rules)) ≡ find test (agenda_of order rules)
     → find test (drop to (agenda_of order rules)) ≡ find test (agenda_of order rules)
 passed_over test order rules from zero to is last none before =
@@ -217,27 +217,27 @@ passed_over test order rules from (suc count) to is last none before =
     let near : from < rules = omega (arith, is, last) in
     passed_over test order rules (from + 1) count to (omega (arith, is)) last
     (λ turn after below. none turn (omega (arith, after)) below)
-    (not_in_turn test order rules from (turn_of order rules from + 1) near (rule_at order rules from near)
+    (not_in_turn test order rules from (agenda_turn order rules from + 1) near (rule_at order rules from near)
     (none from (omega arith) (omega (arith, is))) before)
 
 -- a rule that isn't marked isn't due
 pub not_due : (marks : Marks) (rules : List Entry) (cells : Cells) (turn : ℕ) → AreMarkedFresh rules marks.flags
     → IsIndexed (agenda_of_marks marks rules) cells → length marks.flags ≡ length rules → is_marked_in marks turn ≡ false
-    → is_due (agenda_of_marks marks rules) cells (turn_of marks.order (length rules) turn + 1) ≡ false
+    → is_due_in (agenda_of_marks marks rules) cells (agenda_turn marks.order (length rules) turn + 1) ≡ false
 not_due marks rules cells turn fresh indexed many unmarked =
     by (slice_index_or rules place (unfired 0)).looked refl
   where
     place : ℕ
-    place = turn_of marks.order (length rules) turn
+    place = agenda_turn marks.order (length rules) turn
 
     at : place + 1 - 1 ≡ place
     at = omega arith
 
     here : slice_index_or marks.flags place true ≡ false
-    here = ap (λ n. slice_index_or marks.flags (turn_of marks.order n turn) true) (sym many) ∙ unmarked
+    here = ap (λ n. slice_index_or marks.flags (agenda_turn marks.order n turn) true) (sym many) ∙ unmarked
 
     by : (looked : Option (List Look)) → (slice_index_or rules place (unfired 0)).looked ≡ looked
-        → is_due (agenda_of_marks marks rules) cells (place + 1) ≡ false
+        → is_due_in (agenda_of_marks marks rules) cells (place + 1) ≡ false
     by None is = absurd (false≢true (sym here ∙ fresh place is))
     by (Some looks) is =
         let saw : (slice_index_or rules (place + 1 - 1) (unfired 0)).looked ≡ Some looks =
@@ -253,8 +253,8 @@ turns_all order rules few = record {
   few = let many = length-replicate rules true in omega (arith, many, few);
   each = λ place near.
       let there : place < rules = let many = length-replicate rules true in omega (arith, many, near) in
-      ap (λ n. has_turn (replicate 4 (2 ^ 64 - 1)) (turn_of order n place)) (length-replicate rules true)
-      ∙ has_any (turn_of order rules place) (let below = turn_below order rules place there in omega (arith, below, few))
+      ap (λ n. has_turn (replicate 4 (2 ^ 64 - 1)) (agenda_turn order n place)) (length-replicate rules true)
+      ∙ has_any (agenda_turn order rules place) (let below = turn_below order rules place there in omega (arith, below, few))
       ∙ sym (get_or-replicate rules place true true there);
 }
   where
@@ -291,8 +291,8 @@ none_unfired rooms place = ap (λ (e : Entry). e.looked) (get_or-map unfired roo
 -- the first rule that is due is the first from this turn on
 abbrev pub IsFrom : Marks → List Entry → Cells → ℕ → Type 0
 IsFrom marks rules cells turn =
-    find (is_due (agenda_of_marks marks rules) cells) (drop turn (agenda_of marks.order (length rules)))
-    ≡ first_due (agenda_of_marks marks rules) cells
+    find (is_due_in (agenda_of_marks marks rules) cells) (drop turn (agenda_of marks.order (length rules)))
+    ≡ first_due_in (agenda_of_marks marks rules) cells
 
 -- up to the next marked rule none is due
 pub passes_to : (marks : Marks) (rules : List Entry) (cells : Cells) (from first : ℕ) → AreMarkedFresh rules marks.flags
@@ -301,17 +301,17 @@ pub passes_to : (marks : Marks) (rules : List Entry) (cells : Cells) (from first
 passes_to marks rules cells from first fresh indexed many is before =
     let after = is.from_there in
     let last = is.last in
-    passed_over (is_due (agenda_of_marks marks rules) cells) marks.order (length rules) from (first - from) first
+    passed_over (is_due_in (agenda_of_marks marks rules) cells) marks.order (length rules) from (first - from) first
     (omega (arith, after)) (omega (arith, last, many))
     (λ turn late below. not_due marks rules cells turn fresh indexed many (is.none_before turn late below)) before
 
 -- where no marked rule is left, none is due
 pub none_passes : (marks : Marks) (rules : List Entry) (cells : Cells) (from : ℕ) → AreMarkedFresh rules marks.flags
     → IsIndexed (agenda_of_marks marks rules) cells → length marks.flags ≡ length rules → IsFirstMarked marks from None → from ≤ length rules
-    → IsFrom marks rules cells from → None ≡ first_due (agenda_of_marks marks rules) cells
+    → IsFrom marks rules cells from → None ≡ first_due_in (agenda_of_marks marks rules) cells
 none_passes marks rules cells from fresh indexed many none near before =
-    in_no_turn (is_due (agenda_of_marks marks rules) cells) marks.order (length rules) (length rules) (omega arith)
-    (passed_over (is_due (agenda_of_marks marks rules) cells) marks.order (length rules) from (length rules - from) (length rules)
+    in_no_turn (is_due_in (agenda_of_marks marks rules) cells) marks.order (length rules) (length rules) (omega arith)
+    (passed_over (is_due_in (agenda_of_marks marks rules) cells) marks.order (length rules) from (length rules - from) (length rules)
     (omega (arith, near)) (omega arith)
     (λ turn late below. not_due marks rules cells turn fresh indexed many (none turn late (omega (arith, below, many)))) before)
 

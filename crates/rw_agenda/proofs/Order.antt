@@ -8,7 +8,7 @@ use Rattle.rw_model.specs.declared.control.AgendaOrder.{AgendaOrder}
 use Rattle.rw_model.specs.declared.control.AgendaOrder.TheVariants.{HighFirst, LowFirst}
 use Rattle.rw_run.proofs.Common.{Cells, agenda_of, numbers}
 use Rattle.rw_run.specs.Next.{is_changed}
-use Rattle.rw_agenda.specs.Agenda.{Agenda, Entry, is_due, unfired}
+use Rattle.rw_agenda.specs.Agenda.{Agenda, Entry, is_due_in, unfired}
 
 length_numbers : (n : ℕ) → length (numbers n) ≡ n
 length_numbers zero = refl
@@ -77,7 +77,7 @@ in_no_turn test order n k past before =
 
 -- what is read of a rule's place is its entry
 pub reads_entry : (agenda : Agenda) (cells : Cells) (number rule : ℕ) (entry : Entry) → number ≡ rule → 1 ≤ rule → rule ≤ length agenda.rules
-    → entry ≡ get_or agenda.rules (number - 1) entry → is_due agenda cells rule ≡ is_changed cells entry.looked
+    → entry ≡ get_or agenda.rules (number - 1) entry → is_due_in agenda cells rule ≡ is_changed cells entry.looked
 reads_entry agenda cells number rule entry same first last is =
     ap (λ (e : Entry). is_changed cells e.looked)
     (get_or_default agenda.rules (rule - 1) (unfired 0) entry (omega (arith, first, last))

@@ -7,7 +7,7 @@ use Rattle.rw_base.specs.declared.number.Cell.{Cell}
 use Rattle.rw_model.proofs.Numbered.{numbered-found, numbered-known}
 use Rattle.rw_model.specs.Objects.{numbered}
 use Rattle.rw_series.specs.declared.look.Look.{Look}
-use Rattle.rw_agenda.specs.CellIndex.{CellIndex, before_in, is_met, is_watching, newest_at, position_of}
+use Rattle.rw_agenda.specs.CellIndex.{CellIndex, before_in, is_met, is_watching, newest_at, index_position}
 use Rattle.rw_agenda.specs.declared.watch.Watch.{Watch}
 
 -- what is found of a watch, and of what it leads to
@@ -120,7 +120,7 @@ module _ (slots steps room : ℕ) (newest : List ℕ) (watches : List Watch) (fu
   pub kept_watch : place < length newest → (other : Cell) (earlier : ℕ) → is_watching old other earlier ≡ true → is_watching new other earlier ≡ true
   kept_watch near other earlier is =
       or_either full (is_met watches (length watches) (newest_at old other) earlier) (is_met whole (length whole) (newest_at new other) earlier)
-      (by (position_of slots steps other)) is
+      (by (index_position slots steps other)) is
     where
       by : (at : Option ℕ) → is_met watches (length watches) (unwrap_or (option_map (λ p. slice_index_or newest p 0) at) 0) earlier ≡ true
           → is_met whole (length whole) (unwrap_or (option_map (λ p. slice_index_or (set newest place (length whole)) p 0) at) 0) earlier ≡ true
@@ -141,7 +141,7 @@ module _ (slots steps room : ℕ) (newest : List ℕ) (watches : List Watch) (fu
               ∙ met_more watches _ (length watches) (length whole) (get_or newest p 0) earlier
               (omega (arith, length-append watches (record { rule = rule; place = place; before = before_it } ∷ []))) met
 
-  pub new_watch : place < length newest → (cell : Cell) → position_of slots steps cell ≡ Some place → is_watching new cell rule ≡ true
+  pub new_watch : place < length newest → (cell : Cell) → index_position slots steps cell ≡ Some place → is_watching new cell rule ≡ true
   new_watch near cell is =
       or_right full _
       (ap (λ at. is_met whole (length whole) (unwrap_or (option_map (λ p. slice_index_or (set newest place (length whole)) p 0) at) 0) rule) is
@@ -158,7 +158,7 @@ module _ (slots steps room : ℕ) (newest : List ℕ) (watches : List Watch) (fu
     whole_is : pushed ≡ whole
     whole_is = is ∙ ap (λ n. watches ++ record { rule = rule; place = place; before = before_in watches n } ∷ []) saw
 
-    pub watching_now : place < length newest → (cell : Cell) → position_of slots steps cell ≡ Some place
+    pub watching_now : place < length newest → (cell : Cell) → index_position slots steps cell ≡ Some place
         → is_watching (made pushed count) cell rule ≡ true
     watching_now near cell at =
         subst (λ k. is_watching (made pushed k) cell rule ≡ true) (sym many)

@@ -64,8 +64,8 @@ abbrev pub is_marked : Agenda → ℕ → Bool
 is_marked agenda rule = slice_index_or agenda.marks (rule - 1) true
 
 -- for how many looks of a rule there is room
-abbrev pub room_of : Agenda → ℕ → ℕ
-room_of agenda rule = (entry_of agenda rule).room
+abbrev pub look_room : Agenda → ℕ → ℕ
+look_room agenda rule = (entry_of agenda rule).room
 
 -- at what a rule looked when it last fired, if it fired
 abbrev pub looked_by : Agenda → ℕ → Option (List Look)
@@ -74,7 +74,7 @@ looked_by agenda rule = (entry_of agenda rule).looked
 -- the entries once a rule has fired and looked at this
 abbrev pub after_firing : Agenda → ℕ → List Look → List Entry
 after_firing agenda rule looks =
-    set agenda.rules (rule - 1) (record { room = room_of agenda rule; looked = Some looks })
+    set agenda.rules (rule - 1) (record { room = look_room agenda rule; looked = Some looks })
 
 -- ---- marks
 
@@ -95,12 +95,12 @@ KeepsOtherMarks rule old new =
 -- ---- what is due
 
 -- the rule hasn't fired, or it saw what is no longer held
-abbrev pub is_due : Agenda → Cells → ℕ → Bool
-is_due agenda cells rule = is_changed cells (looked_by agenda rule)
+abbrev pub is_due_in : Agenda → Cells → ℕ → Bool
+is_due_in agenda cells rule = is_changed cells (looked_by agenda rule)
 
 -- the first rule that is due, in the agenda's order
-abbrev pub first_due : Agenda → Cells → Option ℕ
-first_due agenda cells = find (is_due agenda cells) (agenda_of agenda.order (length agenda.rules))
+abbrev pub first_due_in : Agenda → Cells → Option ℕ
+first_due_in agenda cells = find (is_due_in agenda cells) (agenda_of agenda.order (length agenda.rules))
 
 -- the agenda of rules with these marks
 abbrev pub agenda_of_marks : Marks → List Entry → Agenda

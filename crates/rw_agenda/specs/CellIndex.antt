@@ -15,19 +15,19 @@ pub record CellIndex : Type 0 where
   pub is_full : Bool
 
 -- the index has a place for each cell, and room for so many watches
-pub record HasRoom (slots steps : ℕ) (newest : List ℕ) (room kept : ℕ) : Type 0 where
+pub record HasWatchRoom (slots steps : ℕ) (newest : List ℕ) (room kept : ℕ) : Type 0 where
   pub cells : length newest ≡ slots * steps
   pub watches : room ≤ kept
 
 -- the place of a cell in the index
-abbrev pub position_of : ℕ → ℕ → Cell → Option ℕ
-position_of slots steps cell =
+abbrev pub index_position : ℕ → ℕ → Cell → Option ℕ
+index_position slots steps cell =
     if (nat_le 1 cell.slot.0 && nat_le cell.slot.0 slots) && (nat_le 1 cell.step.0 && nat_le cell.step.0 steps)
     then Some ((cell.step.0 - 1) * slots + (cell.slot.0 - 1)) else None
 
 -- there is room for a watch of the cell
 pub record CanWatch (index : CellIndex) (cell : Cell) : Type 0 where
-  pub known : IsSome (position_of index.slots index.steps cell)
+  pub known : IsSome (index_position index.slots index.steps cell)
   pub room : length index.watches < index.room
 
 -- the rule in a place is met, going from the watch of this number so many times to the one before
@@ -39,7 +39,7 @@ is_met watches (suc times) number rule =
 -- the number of a cell's newest watch, 0 where there is none
 abbrev pub newest_at : CellIndex → Cell → ℕ
 newest_at index cell =
-    unwrap_or (option_map (λ place. slice_index_or index.newest place 0) (position_of index.slots index.steps cell)) 0
+    unwrap_or (option_map (λ place. slice_index_or index.newest place 0) (index_position index.slots index.steps cell)) 0
 
 -- the rule in a place watches the cell. Where there was no room for a watch, each rule watches each cell
 abbrev pub is_watching : CellIndex → Cell → ℕ → Bool

@@ -29,13 +29,13 @@ pub record MarksMore (test : ℕ → Bool) (old new : Marks) : Type 0 where
   pub marked : (rule : ℕ) → rule < length old.flags → is_flagged new rule ≡ (is_flagged old rule || test rule)
 
 -- the turn of the rule in a place, of so many rules; and the place of the rule whose turn it is. Both count from 0
-abbrev pub turn_of : AgendaOrder → ℕ → ℕ → ℕ
-turn_of HighFirst rules place = place
-turn_of LowFirst rules place = rules - 1 - place
+abbrev pub agenda_turn : AgendaOrder → ℕ → ℕ → ℕ
+agenda_turn HighFirst rules place = place
+agenda_turn LowFirst rules place = rules - 1 - place
 
 -- the rule whose turn it is is marked
 abbrev pub is_marked_in : Marks → ℕ → Bool
-is_marked_in marks turn = slice_index_or marks.flags (turn_of marks.order (length marks.flags) turn) true
+is_marked_in marks turn = slice_index_or marks.flags (agenda_turn marks.order (length marks.flags) turn) true
 
 -- this is the first turn of a marked rule from a turn on
 pub record IsFirst (marks : Marks) (from turn : ℕ) : Type 0 where
@@ -59,7 +59,7 @@ has_turn words turn = bit_at (slice_index_or words (turn / 64) 0) (turn % 64) ==
 pub record AreTurns (order : AgendaOrder) (flags : List Bool) (words : List ℕ) : Type 0 where
   pub many : length words ≡ TURN_WORDS
   pub few : length flags ≤ RULES_MAX
-  pub each : (place : ℕ) → place < length flags → has_turn words (turn_of order (length flags) place) ≡ slice_index_or flags place true
+  pub each : (place : ℕ) → place < length flags → has_turn words (agenda_turn order (length flags) place) ≡ slice_index_or flags place true
 
 -- this is the first turn from one on that is in the words
 pub record IsFirstTurn (words : List ℕ) (from turn : ℕ) : Type 0 where

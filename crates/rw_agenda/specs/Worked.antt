@@ -12,8 +12,8 @@ abbrev pub all_hold : ℤ → Cells
 all_hold value cell = Some (input_content value)
 
 -- this was seen in one cell, with room for two looks
-abbrev pub saw : Option ℤ → Entry
-saw seen = record {
+abbrev pub saw_one_cell : Option ℤ → Entry
+saw_one_cell seen = record {
   room = 2;
   looked = Some (record { cell = record { slot = record { 0 = 1 }; step = record { 0 = 1 } }; seen = seen } ∷ []);
 }
@@ -26,8 +26,8 @@ none_fired order = agenda_with order (unfired 2 ∷ unfired 2 ∷ [])
 
 -- the second fired, and looked at a cell that was unknown
 abbrev pub after_two : AgendaOrder → Agenda
-after_two order = agenda_with order (unfired 2 ∷ saw None ∷ [])
+after_two order = agenda_with order (unfired 2 ∷ saw_one_cell None ∷ [])
 
 -- both fired, and saw 5
 abbrev pub both_saw_five : AgendaOrder → Agenda
-both_saw_five order = agenda_with order (saw (Some (pos 5)) ∷ saw (Some (pos 5)) ∷ [])
+both_saw_five order = agenda_with order (saw_one_cell (Some (pos 5)) ∷ saw_one_cell (Some (pos 5)) ∷ [])

@@ -2,7 +2,7 @@ ghost use Rattle.std.specs.Prelude.{◌≡◌, ◌≤◌, ◌-◌, ◌^◌, [], 
 ghost use Rattle.std.specs.List.{sum};
 ghost use Rattle.rw_model.specs.Draft.{IsSlot};
 ghost use Rattle.rw_series.specs.Series.{held};
-ghost use Rattle.rw_agenda.specs.Agenda.{AreMarkedFresh, IsIndexed, IsListed, KeepsOtherMarks, MarksThose, after_firing, agenda_of_marks, first_due, forgotten, looked_by, room_of, unfired};
+ghost use Rattle.rw_agenda.specs.Agenda.{AreMarkedFresh, IsIndexed, IsListed, KeepsOtherMarks, MarksThose, after_firing, agenda_of_marks, first_due_in, forgotten, looked_by, look_room, unfired};
 
 use crate::cell_index::CellIndex;
 use crate::last_looks::LastLooks;
@@ -30,9 +30,12 @@ impl Model for Agenda {
 
     ghost Value = { specs.Agenda };
 
-    ghost view = { λ agenda. record { order = agenda.marks.order; rules = agenda.rules.items; marks = agenda.marks.flags } };
+    ghost view = { λ agenda.
+        record
+        { order = agenda.marks.order; rules = agenda.rules.items; marks = agenda.marks.flags } };
 
-    ghost invariant = { λ agenda. specs.KeepsRules agenda.rules.items agenda.marks.flags agenda.index };
+    ghost invariant = { λ agenda.
+        specs.KeepsRules agenda.rules.items agenda.marks.flags agenda.index };
 }
 
 impl Agenda {
@@ -83,7 +86,7 @@ impl Agenda {
     /// `None` exactly where there is none.
     pub fn next(&self, series: &Series) -> Option<RuleNo>
         requires index { IsIndexed self.now (held series.now) }
-        ensures { option_map (λ rule. rule.0) result ≡ first_due self.now (held series.now) }
+        ensures { option_map (λ rule. rule.0) result ≡ first_due_in self.now (held series.now) }
     {
         first_changed(&self.marks, self.rules.as_slice(), series)
     }
@@ -100,7 +103,7 @@ impl Agenda {
     /// of no other rule anything changes.
     pub fn fired(&mut self, r: RuleNo, looked: &[Look])
         requires known { IsListed self.old r.0 }
-        requires few { length looked.now ≤ room_of self.old r.0 }
+        requires few { length looked.now ≤ look_room self.old r.0 }
         ensures order { self.new.order ≡ self.old.order }
         ensures rules { self.new.rules ≡ after_firing self.old r.0 looked.now }
         ensures marked { KeepsOtherMarks r.0 self.old self.new }
@@ -153,7 +156,7 @@ fn first_changed(marks: &Marks, rules: &[LastLooks], series: &Series) -> Option<
     requires fresh { AreMarkedFresh rules.now marks.now.flags }
     requires index { IsIndexed (agenda_of_marks marks.now rules.now) (held series.now) }
     ensures { option_map (λ rule. rule.0) result
-        ≡ first_due (agenda_of_marks marks.now rules.now) (held series.now) }
+        ≡ first_due_in (agenda_of_marks marks.now rules.now) (held series.now) }
 {
     let mut turn = 0;
     while let Some(first) = marks.first_from(turn) {

@@ -5,7 +5,7 @@ ghost use Rattle.rw_model.specs.Kept.{numbers_of};
 ghost use Rattle.rw_model.specs.Objects.{numbered};
 ghost use Rattle.rw_run.specs.Dispatch.{cell_at};
 ghost use Rattle.rw_series.specs.declared.look.Look.{Look};
-ghost use Rattle.rw_agenda.specs.CellIndex.{CanWatch, before_in, is_met, is_watching, newest_at, position_of};
+ghost use Rattle.rw_agenda.specs.CellIndex.{CanWatch, before_in, is_met, is_watching, newest_at, index_position};
 ghost use Rattle.rw_agenda.specs.Marks.{MarksMore};
 ghost use Rattle.rw_agenda.specs.declared.watch.Watch.{Watch};
 
@@ -44,7 +44,9 @@ impl Model for CellIndex {
       is_full = index.full;
     } };
 
-    ghost invariant = { λ index. specs.HasRoom index.slots index.steps index.newest.items index.room index.watches.cap };
+    ghost invariant = { λ index.
+        specs.HasWatchRoom index.slots index.steps index.newest.items index.room
+        index.watches.cap };
 }
 
 impl CellIndex {
@@ -104,7 +106,8 @@ impl CellIndex {
     /// place from `most` on it didn't look before in the timestep, so that those who watch the cell aren't gone through.
     pub(crate) fn watch_all(&mut self, rule: u16, before: &[Look], most: usize, looked: &[Look])
         requires { All (λ (look : Look). is_watching self.old look.cell rule ≡ true) before.now }
-        ensures watching { All (λ (look : Look). is_watching self.new look.cell rule ≡ true) looked.now }
+        ensures watching { All
+            (λ (look : Look). is_watching self.new look.cell rule ≡ true) looked.now }
         ensures kept { (other : Cell) (earlier : ℕ) → is_watching self.old other earlier ≡ true
             → is_watching self.new other earlier ≡ true }
     {
@@ -127,7 +130,8 @@ impl CellIndex {
         cell: Cell,
     )
         requires last { IfSome last (λ seen. is_watching self.old seen rule ≡ true) }
-        requires before { All (λ (look : Look). is_watching self.old look.cell rule ≡ true) before.now }
+        requires before { All
+            (λ (look : Look). is_watching self.old look.cell rule ≡ true) before.now }
         ensures watching { is_watching self.new cell rule ≡ true }
         ensures kept { (other : Cell) (earlier : ℕ) → is_watching self.old other earlier ≡ true
             → is_watching self.new other earlier ≡ true }
@@ -153,7 +157,8 @@ impl CellIndex {
     /// Marks each rule that watches a cell of one of these slots at the timestep, and no other.
     #[inline(always)]
     pub(crate) fn mark(&self, marks: &mut Marks, group: &[SlotNo], step: StepNo)
-        ensures { MarksMore (λ rule. list_any (λ slot. is_watching self.now (cell_at slot step.0) rule)
+        ensures { MarksMore
+            (λ rule. list_any (λ slot. is_watching self.now (cell_at slot step.0) rule)
             (numbers_of group.now)) marks.old marks.new }
     {
         for slot in group {
@@ -164,7 +169,8 @@ impl CellIndex {
     /// Whether it is known that no rule watches a cell.
     #[inline(always)]
     pub(crate) fn is_idle(&self) -> bool
-        ensures { result ≡ true → (cell : Cell) (rule : ℕ) → is_watching self.now cell rule ≡ false }
+        ensures { result ≡ true → (cell : Cell) (rule : ℕ)
+            → is_watching self.now cell rule ≡ false }
     {
         if self.full {
             false
@@ -202,7 +208,7 @@ fn slots_for(basin: &Basin, room: u32) -> u16 {
 
 // The place of a cell.
 fn position_of(slots: u16, steps: u16, cell: Cell) -> Option<usize>
-    ensures is { result ≡ position_of slots steps cell }
+    ensures is { result ≡ index_position slots steps cell }
     ensures within { IfSome result (λ place. place < slots * steps) }
 {
     let (slot, step) = (cell.slot.0, cell.step.0);

@@ -25,7 +25,8 @@ impl Model for LastLooks {
 
     ghost Value = { specs.Entry };
 
-    ghost view = { λ last. record { room = last.room; looked = if last.fired then Some last.looks.items else None } };
+    ghost view = { λ last.
+        record { room = last.room; looked = if last.fired then Some last.looks.items else None } };
 
     ghost invariant = { λ last. last.room ≤ last.looks.cap };
 }

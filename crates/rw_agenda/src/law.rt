@@ -6,26 +6,26 @@ ghost use Rattle.rw_model.specs.declared.control.AgendaOrder.TheVariants.{HighFi
 ghost use Rattle.rw_series.specs.declared.look.Look.{Look};
 ghost use Rattle.rw_run.specs.Log.{Asked, Cells, last_put};
 ghost use Rattle.rw_run.specs.Next.{is_changed};
-ghost use Rattle.rw_agenda.specs.Agenda.{Agenda, IsIndexed, IsListed, KeepsOtherMarks, MarksThose, after_firing, first_due};
+ghost use Rattle.rw_agenda.specs.Agenda.{Agenda, IsIndexed, IsListed, KeepsOtherMarks, MarksThose, after_firing, first_due_in};
 ghost use Rattle.rw_agenda.specs.Worked.{after_two, all_hold, both_saw_five, none_fired, none_known};
 
 use rw_run::law::index;
 
 /// Which of two rules is due, taken from rule 1 on.
 pub fn high_first()
-    ensures fresh { first_due (none_fired HighFirst) none_known ≡ Some 1 }
-    ensures second { first_due (after_two HighFirst) none_known ≡ Some 1 }
-    ensures settled { first_due (both_saw_five HighFirst) (all_hold (pos 5)) ≡ None }
-    ensures changed { first_due (both_saw_five HighFirst) (all_hold (pos 6)) ≡ Some 1 }
-    ensures unknown { first_due (both_saw_five HighFirst) none_known ≡ Some 1 }
+    ensures fresh { first_due_in (none_fired HighFirst) none_known ≡ Some 1 }
+    ensures second { first_due_in (after_two HighFirst) none_known ≡ Some 1 }
+    ensures settled { first_due_in (both_saw_five HighFirst) (all_hold (pos 5)) ≡ None }
+    ensures changed { first_due_in (both_saw_five HighFirst) (all_hold (pos 6)) ≡ Some 1 }
+    ensures unknown { first_due_in (both_saw_five HighFirst) none_known ≡ Some 1 }
 {}
 
 /// And from the last on.
 pub fn low_first()
-    ensures fresh { first_due (none_fired LowFirst) none_known ≡ Some 2 }
-    ensures second { first_due (after_two LowFirst) none_known ≡ Some 1 }
-    ensures settled { first_due (both_saw_five LowFirst) (all_hold (pos 5)) ≡ None }
-    ensures changed { first_due (both_saw_five LowFirst) (all_hold (pos 6)) ≡ Some 2 }
+    ensures fresh { first_due_in (none_fired LowFirst) none_known ≡ Some 2 }
+    ensures second { first_due_in (after_two LowFirst) none_known ≡ Some 1 }
+    ensures settled { first_due_in (both_saw_five LowFirst) (all_hold (pos 5)) ≡ None }
+    ensures changed { first_due_in (both_saw_five LowFirst) (all_hold (pos 6)) ≡ Some 2 }
 {}
 
 /// What `next` asks for stays true. Where a rule fired and its cells hold what it saw, while the others keep their marks, and

@@ -1,7 +1,7 @@
 ghost use Rattle.std.specs.Prelude.{◌≡◌, ◌≤◌, ◌<◌, Some};
 ghost use Rattle.std.specs.List.{slice_get};
 ghost use Rattle.rw_run.specs.Next.{agenda_of};
-ghost use Rattle.rw_agenda.specs.Marks.{turn_of};
+ghost use Rattle.rw_agenda.specs.Marks.{agenda_turn};
 
 use rw_model::AgendaOrder;
 
@@ -21,7 +21,7 @@ pub(crate) fn rule_in_turn(order: AgendaOrder, rules: u16, turn: u16) -> u16
 /// The turn of the rule in a place, of so many rules in the order of an agenda. Both count from 0.
 pub(crate) fn turn_of(order: AgendaOrder, rules: u16, place: u16) -> u16
     requires { place < rules }
-    ensures turn { result ≡ turn_of order rules place }
+    ensures turn { result ≡ agenda_turn order rules place }
     ensures last { result < rules }
 {
     match order {

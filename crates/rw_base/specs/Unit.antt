@@ -35,8 +35,8 @@ units =
     []
 
 -- the words of a table
-abbrev pub words_of : List (List ℕ × Dimension × ℤ) → List (List ℕ)
-words_of rows = map (λ row. row.0) rows
+abbrev pub words_of_units : List (List ℕ × Dimension × ℤ) → List (List ℕ)
+words_of_units rows = map (λ row. row.0) rows
 
 -- the dimension and the factor that stand beside the word in a table
 abbrev pub unit_in : List (List ℕ × Dimension × ℤ) → List ℕ → Option (Dimension × ℤ)

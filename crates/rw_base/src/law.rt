@@ -4,7 +4,7 @@ ghost use Rattle.rw_base.specs.declared.quantity.ArithFault.{ArithFault};
 ghost use Rattle.rw_base.specs.Quantity.{IsQuantity, AnswersExactly, quantity_max};
 ghost use Rattle.rw_base.specs.Quotient.{floor_div, IsFloor};
 ghost use Rattle.rw_base.specs.Dimension.{Dimension, AnswersDimension};
-ghost use Rattle.rw_base.specs.Unit.{units, words_of, unit_in};
+ghost use Rattle.rw_base.specs.Unit.{units, words_of_units, unit_in};
 ghost use Rattle.rw_base.specs.Predefined.{rounded_down, predefined_of, IsFromZeroTo, IsMultipleOf, distance};
 
 /// What is exact has one answer: two calls that answer the same exact value, or the same exponents, answer alike.
@@ -43,7 +43,8 @@ pub fn predefined_answers()
 pub fn unit_table()
     ensures found { map (λ row. unit_in units row.0) units
         ≡ map (λ row. Some (row.1, row.2)) units }
-    ensures none { (word : List ℕ) → unit_in units word ≡ None ↔ ¬ Contains (words_of units) word }
+    ensures none { (word : List ℕ) → unit_in units word ≡ None
+        ↔ ¬ Contains (words_of_units units) word }
 {}
 
 /// Worked values of the predefined functions.

@@ -3,11 +3,11 @@ use Rattle.std.specs.Prelude.{◌≡◌, ◌*◌, pos, ◌≤ℤ◌, unsigned_ab
 use Rattle.jiff.specs.Types.{DateTime}
 use Rattle.jiff.specs.Words.{time_nanos}
 use Rattle.rw_calendar.specs.declared.moment.Moment.{Moment}
-use Rattle.rw_calendar.specs.Moment.{on}
+use Rattle.rw_calendar.specs.Moment.{moment_on}
 
 -- its year, month, day and hour
 abbrev pub moment_at : DateTime → Moment
-moment_at dt = on (unsigned_abs dt.date.year) dt.date.month dt.date.day dt.time.hour
+moment_at dt = moment_on (unsigned_abs dt.date.year) dt.date.month dt.date.day dt.time.hour
 
 -- it is on the hour, and of a year from 1 on
 pub record IsOnTheHour (dt : DateTime) : Type 0 where

@@ -3,8 +3,8 @@ use Rattle.std.specs.Prelude.{ℕ, zero, suc, ◌+◌, ◌%◌, ◌≤◌, ◌<�
 use Rattle.rw_calendar.specs.declared.moment.Moment.{Moment}
 
 -- the moment of this year, month, day and hour
-abbrev pub on : ℕ → ℕ → ℕ → ℕ → Moment
-on y m d h = record { year = y; month = m; day = d; hour = h }
+abbrev pub moment_on : ℕ → ℕ → ℕ → ℕ → Moment
+moment_on y m d h = record { year = y; month = m; day = d; hour = h }
 
 -- every fourth year is a leap year, but of the centuries only every fourth
 abbrev pub is_leap : ℕ → Bool
@@ -31,20 +31,20 @@ pub record IsDated (m : Moment) : Type 0 where
 -- the next month begins on its first at hour 0
 abbrev pub next_month : Moment → Moment
 next_month m =
-    if nat_lt m.month 12 then on m.year (m.month + 1) 1 0
-    else on (m.year + 1) 1 1 0
+    if nat_lt m.month 12 then moment_on m.year (m.month + 1) 1 0
+    else moment_on (m.year + 1) 1 1 0
 
 -- the next day begins at its hour 0, after the last of a month with the next month
 abbrev pub next_day : Moment → Moment
 next_day m =
     if nat_lt m.day (days_in_month m.year m.month)
-    then on m.year m.month (m.day + 1) 0
+    then moment_on m.year m.month (m.day + 1) 0
     else next_month m
 
 -- the next hour, after hour 23 that with which the next day begins
 abbrev pub next_hour : Moment → Moment
 next_hour m =
-    if nat_lt m.hour 23 then on m.year m.month m.day (m.hour + 1)
+    if nat_lt m.hour 23 then moment_on m.year m.month m.day (m.hour + 1)
     else next_day m
 
 -- so many hours later

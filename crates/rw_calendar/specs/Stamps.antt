@@ -22,8 +22,8 @@ abbrev pub begin_of : Timesteps → ℕ → Moment
 begin_of run t = moment_after run.start run.step_length (t - 1)
 
 -- and ends t step lengths after it
-abbrev pub end_of : Timesteps → ℕ → Moment
-end_of run t = moment_after run.start run.step_length t
+abbrev pub end_of_step : Timesteps → ℕ → Moment
+end_of_step run t = moment_after run.start run.step_length t
 
 -- the timesteps that so many steps of one length from a start make
 abbrev pub timesteps_of : Start → StepLength → ℕ → Timesteps
@@ -38,13 +38,13 @@ pub record AreTimesteps (run : Timesteps) : Type 0 where
 
 -- the last step ends past year 9999
 abbrev pub EndsBeyondYears : Timesteps → Type 0
-EndsBeyondYears run = 9999 < (end_of run run.count).year
+EndsBeyondYears run = 9999 < (end_of_step run run.count).year
 
 -- the steps have stamps
 pub record CanBeStamped (start : Start) (length : StepLength) (steps : ℕ) : Type 0 where
   pub valid : IsStart start
   pub begin : CanBegin length (moment_of start)
-  pub within : (end_of (timesteps_of start length steps) steps).year ≤ 9999
+  pub within : (end_of_step (timesteps_of start length steps) steps).year ≤ 9999
 
 -- why steps have no stamps
 pub data CalRefusal : Type 0 where
@@ -64,7 +64,7 @@ abbrev pub stamps_refusal : Start → StepLength → ℕ → Option CalRefusal
 stamps_refusal start length steps =
     if is_start start
     then (if can_begin length (moment_of start)
-    then (if nat_lt 9999 (end_of (timesteps_of start length steps) steps).year then Some beyond_years else None)
+    then (if nat_lt 9999 (end_of_step (timesteps_of start length steps) steps).year then Some beyond_years else None)
     else Some not_first_of_month)
     else Some bad_start
 

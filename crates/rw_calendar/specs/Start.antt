@@ -3,11 +3,11 @@ use Rattle.std.specs.Prelude.{pos, ◌≤ℤ◌, unsigned_abs, Bool, ◌&&◌}
 use Rattle.rw_base.specs.Range.{is_from_to}
 use Rattle.rw_calendar.specs.declared.start.Start.{Start}
 use Rattle.rw_calendar.specs.declared.moment.Moment.{Moment}
-use Rattle.rw_calendar.specs.Moment.{on, days_in_month}
+use Rattle.rw_calendar.specs.Moment.{moment_on, days_in_month}
 
 -- the moment that a start names
 abbrev pub moment_of : Start → Moment
-moment_of s = on (unsigned_abs s.year) (unsigned_abs s.month) (unsigned_abs s.day) (unsigned_abs s.hour)
+moment_of s = moment_on (unsigned_abs s.year) (unsigned_abs s.month) (unsigned_abs s.day) (unsigned_abs s.hour)
 
 -- a start that there is: a date of the years 1 to 9999, and an hour of the day
 pub record IsStart (s : Start) : Type 0 where

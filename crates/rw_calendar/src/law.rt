@@ -5,10 +5,10 @@ ghost use Rattle.jiff.specs.Words.{civil_nanos, epoch_day, add_months};
 ghost use Rattle.rw_calendar.specs.declared.step_length.StepLength.TheVariants.{Hours, Month};
 ghost use Rattle.rw_calendar.specs.Clock.{moment_at, IsOnTheHour, ShowsMoment};
 ghost use Rattle.rw_calendar.specs.declared.moment.Moment.{Moment};
-ghost use Rattle.rw_calendar.specs.Moment.{IsMoment, on, next_month, next_day, next_hour, hours_later, months_later};
+ghost use Rattle.rw_calendar.specs.Moment.{IsMoment, moment_on, next_month, next_day, next_hour, hours_later, months_later};
 ghost use Rattle.rw_calendar.specs.Start.{IsStart, moment_of};
 ghost use Rattle.rw_calendar.specs.StepLength.{CanBegin, moment_after};
-ghost use Rattle.rw_calendar.specs.Stamps.{AreTimesteps, CanBeStamped, EndsBeyondYears, bad_start, not_first_of_month, beyond_years, stamps_refusal, Timesteps, begin_of, end_of, timesteps_of};
+ghost use Rattle.rw_calendar.specs.Stamps.{AreTimesteps, CanBeStamped, EndsBeyondYears, bad_start, not_first_of_month, beyond_years, stamps_refusal, Timesteps, begin_of, end_of_step, timesteps_of};
 ghost use Rattle.rw_calendar.specs.declared.start.Start.{Start};
 ghost use Rattle.rw_calendar.specs.declared.step_length.StepLength.{StepLength};
 
@@ -58,19 +58,20 @@ pub fn refused_timesteps()
 
 /// A step begins where the step before it ends.
 pub fn steps_meet()
-    ensures { (run : Timesteps) (t : ℕ) → begin_of run (t + 1) ≡ end_of run t }
+    ensures { (run : Timesteps) (t : ℕ) → begin_of run (t + 1) ≡ end_of_step run t }
 {}
 
 /// The calendar at its corners: leap years, the ends of months and years, and the hours of a day.
 #[tactic(auto, unfolding(crate::specs::Moment::hours_later, crate::specs::Moment::months_later))]
 pub fn corners()
-    ensures leap { next_day (on 2020 2 28 0) ≡ on 2020 2 29 0 }
-    ensures after_leap_day { next_day (on 2020 2 29 0) ≡ on 2020 3 1 0 }
-    ensures common { next_day (on 2021 2 28 0) ≡ on 2021 3 1 0 }
-    ensures century { next_day (on 1900 2 28 0) ≡ on 1900 3 1 0 }
-    ensures fourth_century { next_day (on 2000 2 28 0) ≡ on 2000 2 29 0 }
-    ensures year_end { next_hour (on 2020 12 31 23) ≡ on 2021 1 1 0 }
-    ensures six_hours { moment_after (on 2020 1 31 18) (Hours 6) 1 ≡ on 2020 2 1 0 }
-    ensures twelve_months { moment_after (on 2020 1 1 0) Month 12 ≡ on 2021 1 1 0 }
-    ensures past_the_years { moment_after (on 9999 12 31 0) (Hours 24) 1 ≡ on 10000 1 1 0 }
+    ensures leap { next_day (moment_on 2020 2 28 0) ≡ moment_on 2020 2 29 0 }
+    ensures after_leap_day { next_day (moment_on 2020 2 29 0) ≡ moment_on 2020 3 1 0 }
+    ensures common { next_day (moment_on 2021 2 28 0) ≡ moment_on 2021 3 1 0 }
+    ensures century { next_day (moment_on 1900 2 28 0) ≡ moment_on 1900 3 1 0 }
+    ensures fourth_century { next_day (moment_on 2000 2 28 0) ≡ moment_on 2000 2 29 0 }
+    ensures year_end { next_hour (moment_on 2020 12 31 23) ≡ moment_on 2021 1 1 0 }
+    ensures six_hours { moment_after (moment_on 2020 1 31 18) (Hours 6) 1 ≡ moment_on 2020 2 1 0 }
+    ensures twelve_months { moment_after (moment_on 2020 1 1 0) Month 12 ≡ moment_on 2021 1 1 0 }
+    ensures past_the_years { moment_after (moment_on 9999 12 31 0) (Hours 24) 1
+        ≡ moment_on 10000 1 1 0 }
 {}

@@ -6,7 +6,7 @@ ghost use Rattle.rw_calendar.specs.declared.fault.CalFault.TheVariants as CalFau
 ghost use Rattle.rw_calendar.specs.Clock.{moment_at, IsOnTheHour};
 ghost use Rattle.rw_calendar.specs.Start.{IsStart, moment_of};
 ghost use Rattle.rw_calendar.specs.StepLength.{IsStepLength, CanBegin, moment_after};
-ghost use Rattle.rw_calendar.specs.Stamps.{AreTimesteps, Timesteps, EndsBeyondYears, CanBeStamped, IsMomentAfter, HasMoments, refusal_of, stamps_of, timesteps_of, begin_of, end_of, stamp_text};
+ghost use Rattle.rw_calendar.specs.Stamps.{AreTimesteps, Timesteps, EndsBeyondYears, CanBeStamped, IsMomentAfter, HasMoments, refusal_of, stamps_of, timesteps_of, begin_of, end_of_step, stamp_text};
 
 use crate::later::{after, can_begin, first_moment, moment_shown};
 use crate::{CalFault, Moment, Start, StepLength};
@@ -157,7 +157,7 @@ impl Stamps {
     pub fn text(&self, alloc: Global, t: u16) -> Result<String, NoMemory>
         requires first { 1 ≤ t }
         requires last { t ≤ self.now.count }
-        ensures { IfOk result (λ text. string_bytes text ≡ stamp_text (end_of self.now t)) }
+        ensures { IfOk result (λ text. string_bytes text ≡ stamp_text (end_of_step self.now t)) }
     {
         let Moment {
             year,

@@ -7,7 +7,7 @@ use Rattle.rw_series.specs.declared.look.Look.{Look}
 use Rattle.rw_run.specs.Dispatch.{answered, asked_for, denied_by, dispatch_of, end_in, judged, or_fault}
 use Rattle.rw_run.specs.Frame.{IsFault}
 use Rattle.rw_run.specs.Log.{Asked, Cells, Event, asked_in, looks_in}
-use Rattle.rw_dispatch.specs.Answer.{asked_in as puts_in}
+use Rattle.rw_dispatch.specs.Answer.{asked_by_solution as puts_in}
 
 calm_one : (values : Option (ℤ × ℤ)) (object : ℕ) (put : Asked) (rest : Event) → (¬ IsFault (or_fault values object put rest)) → or_fault values object put rest ≡ rest
 calm_one None object put rest calm = refl

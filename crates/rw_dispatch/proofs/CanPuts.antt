@@ -1,8 +1,8 @@
 -- What an object puts, it can put.
-use Rattle.rw_dispatch.proofs.Common.{ArePuts, CanPut, IsSome, Kind, List, None, Option, Put, Some, View, and_parts, ap, arith, bounds_at, int_le, ints, is_between, known, option_map, refl, slice_index_or, sym, true, unwrap_or, ℕ, ℤ, ◌&&◌, ◌<◌, ◌∙◌, ◌≡◌}
+use Rattle.rw_dispatch.proofs.Common.{ArePuts, CanPut, IsSome, Kind, List, None, Option, Put, Some, View, and_parts, ap, arith, bounds_in_view, int_le, ints, is_between, known, option_map, refl, slice_index_or, sym, true, unwrap_or, ℕ, ℤ, ◌&&◌, ◌<◌, ◌∙◌, ◌≡◌}
 use Rattle.rw_model.proofs.Common.{IsKind, Bounds, all_quantities, slot_in, slot_in_place, Object, object_at, Draft, IsObject, IsBetween}
 use Rattle.rw_base.proofs.Common.{All-nil}
-use Rattle.rw_dispatch.specs.Answer.{asked_in}
+use Rattle.rw_dispatch.specs.Answer.{asked_by_solution}
 use Rattle.rw_method.specs.declared.solved.Solved.{Solved}
 use Rattle.rw_method.specs.declared.solved.Solved.TheVariants.{Idle, Puts}
 use Rattle.rw_method.specs.Puts.{is_bounded}
@@ -36,7 +36,7 @@ CanPut-fitting basin cells object step kind put own is fitting =
     record {
       few = fitting.near;
       slot = rw at.1 refl;
-      between = between (bounds_at (view_of basin cells object step) put.place) (bounds_in_place basin object put.place) put.value
+      between = between (bounds_in_view (view_of basin cells object step) put.place) (bounds_in_place basin object put.place) put.value
           (bounds_at-view basin cells object step put.place fitting.near) fitting.bounded;
     }
 
@@ -52,7 +52,7 @@ are_puts basin cells object step kind seen puts own is sound same solved =
     }
 
 asked_puts : (basin : Draft) (object : ℕ) (solved : Solved) → ((puts : List Put) → solved ≡ Puts puts → ArePuts basin object puts)
-    → ArePuts basin object (asked_in solved)
+    → ArePuts basin object (asked_by_solution solved)
 asked_puts basin object (Puts puts) each = each puts refl
 asked_puts basin object solved each = record { few = omega arith; can = All-nil (CanPut basin object) }
 
@@ -73,7 +73,7 @@ module _ (basin : Draft) (cells : Cells) (object step : ℕ) (kind : Kind) (seen
   pub solved-seen : solved ≡ solved_by basin cells object step
   solved-seen = answers ∙ solved-is basin cells object step kind seen is same
 
-  pub puts-seen : IsObject basin.objects object → IsKind kind → ArePuts basin object (asked_in solved)
+  pub puts-seen : IsObject basin.objects object → IsKind kind → ArePuts basin object (asked_by_solution solved)
   puts-seen own sound =
       asked_puts basin object solved (λ puts asks. are_puts basin cells object step kind seen puts own is sound same (sym answers ∙ asks))
 

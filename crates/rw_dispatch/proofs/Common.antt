@@ -3,11 +3,11 @@ pub use Rattle.rw_base.proofs.Common.{All, All-push, Any-from_list_any, Bool, If
 pub use Rattle.rw_base.specs.declared.number.Cell.{Cell}
 pub use Rattle.rw_base.specs.declared.number.ObjectNo.{ObjectNo}
 pub use Rattle.rw_base.specs.declared.number.SlotNo.{SlotNo}
-pub use Rattle.rw_dispatch.specs.Owners.{HasReached, has_mark}
+pub use Rattle.rw_dispatch.specs.Owners.{HasReached, has_object_mark}
 pub use Rattle.rw_dispatch.specs.Putting.{ArePuts, CanPut, IsPassed}
-pub use Rattle.rw_dispatch.specs.Queue.{KeepsQueue, Queue, is_marked, unmarked}
+pub use Rattle.rw_dispatch.specs.Queue.{KeepsQueue, Queue, is_object_marked, unmarked}
 pub use Rattle.rw_dispatch.specs.Stage.{AreBounded, IsHeldIn}
-pub use Rattle.rw_method.specs.View.{IsBounded, IsViewOf, bounds_at, is_between, known, known_value}
+pub use Rattle.rw_method.specs.View.{IsBounded, IsViewOf, bounds_in_view, is_between, known, known_value}
 pub use Rattle.rw_method.specs.declared.put.Put.{Put}
 pub use Rattle.rw_method.specs.declared.view.View.{View}
 pub use Rattle.rw_model.specs.declared.content.Content.{Content}

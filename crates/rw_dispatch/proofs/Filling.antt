@@ -5,7 +5,7 @@ use Rattle.rw_base.specs.declared.number.SlotNo.{SlotNo}
 use Rattle.rw_model.specs.Draft.{IsSlot}
 use Rattle.rw_model.proofs.Common.{Object, known_in_place, slot_in_place}
 use Rattle.rw_run.specs.Log.{Cells}
-use Rattle.rw_dispatch.specs.Seeing.{content_of}
+use Rattle.rw_dispatch.specs.Seeing.{content_at_slot}
 
 -- the first places are filled, the others are as before
 abbrev pub filled : {X : Type 0} → (ℕ → X) → List X → ℕ → List X
@@ -46,6 +46,6 @@ number_known objects object place (Some number) is = known_in_place objects obje
 -- what slots hold at a timestep of one series and at one of another, where that is the same
 pub content_there : (one other : Cells) (at there : ℕ) (number : Option ℕ)
     → ((slot : SlotNo) → one (record { slot = slot; step = record { 0 = at } }) ≡ other (record { slot = slot; step = record { 0 = there } }))
-    → content_of one at number ≡ content_of other there number
+    → content_at_slot one at number ≡ content_at_slot other there number
 content_there one other at there None same = refl
 content_there one other at there (Some number) same = same (record { 0 = number })

@@ -1,5 +1,5 @@
 -- A queue with one object more or less.
-use Rattle.rw_dispatch.proofs.Common.{Bool, KeepsQueue, List, Option, [], add-one, ap, append-nil, append_assoc, ap₂, arith, cond, false, filter, filter-append, get_or, is_marked, length, list_any, nat_eq, nat_lt, nat_tests, not, refl, set, subst, suc, sym, true, unmarked, zero, ℕ, ◌&&◌, ◌++◌, ◌+◌, ◌-◌, ◌<◌, ◌==◌, ◌∙◌, ◌∷◌, ◌≡◌, ◌≤◌, ObjectNo, drop, slice_index_or, take}
+use Rattle.rw_dispatch.proofs.Common.{Bool, KeepsQueue, List, Option, [], add-one, ap, append-nil, append_assoc, ap₂, arith, cond, false, filter, filter-append, get_or, is_object_marked, length, list_any, nat_eq, nat_lt, nat_tests, not, refl, set, subst, suc, sym, true, unmarked, zero, ℕ, ◌&&◌, ◌++◌, ◌+◌, ◌-◌, ◌<◌, ◌==◌, ◌∙◌, ◌∷◌, ◌≡◌, ◌≤◌, ObjectNo, drop, slice_index_or, take}
 use Rattle.std.proofs.Math.ListN.{length-replicate, replicate, length-append, length-set}
 use Rattle.std.proofs.Math.Seq.{drop-cons}
 use Rattle.std.proofs.lemmas.List.{length-map, length-take-le, map-append, take-append-drop}
@@ -46,7 +46,7 @@ in_range [] k e = absurd (grind arith)
 in_range (b ∷ bits) zero e = omega arith
 in_range (b ∷ bits) (suc k) e = let h = in_range bits k e in omega arith
 
-set_within : (waits : List Bool) (a n : ℕ) → 1 + n ≡ cond (is_marked waits a) 1 0 → (1 ≤ a) × (get_or waits (a - 1) false ≡ true)
+set_within : (waits : List Bool) (a n : ℕ) → 1 + n ≡ cond (is_object_marked waits a) 1 0 → (1 ≤ a) × (get_or waits (a - 1) false ≡ true)
 set_within waits a n e = (grind (arith, nat_tests), grind (arith, nat_tests))
 
 taken_inside : (before behind : List ℕ) (n m room a : ℕ) (waits : List Bool) → KeepsQueue (before ++ a ∷ behind) n room waits → m + 1 ≡ n
@@ -54,7 +54,7 @@ taken_inside : (before behind : List ℕ) (n m room a : ℕ) (waits : List Bool)
 taken_inside before behind n m room a waits q e =
     let whole = times-append a before (a ∷ behind) in
     let rest = times-append a before behind in
-    let own : 1 + times a (before ++ behind) ≡ cond (is_marked waits a) 1 0 = let h = q.marked a in grind (arith, nat_tests) in
+    let own : 1 + times a (before ++ behind) ≡ cond (is_object_marked waits a) 1 0 = let h = q.marked a in grind (arith, nat_tests) in
     let w = set_within waits a (times a (before ++ behind)) own in
     let k : a - 1 < length waits = in_range waits (a - 1) w.1 in
     let f = unmarked-set waits (a - 1) false k in
@@ -84,7 +84,7 @@ pub taken_known : (place : ℕ) (all items : List ℕ) (n room a : ℕ) (waits :
     → (1 ≤ a) × (a ≤ length waits)
 taken_known place all items n room a waits is q =
     let whole = times-append a is.before (a ∷ is.behind) in
-    let own : 1 + (times a is.before + times a is.behind) ≡ cond (is_marked waits a) 1 0 =
+    let own : 1 + (times a is.before + times a is.behind) ≡ cond (is_object_marked waits a) 1 0 =
     let h = q.marked a in let e = ap (times a) is.old_is in grind (arith, nat_tests) in
     let w = set_within waits a _ own in
     let first = w.0 in
@@ -108,9 +108,9 @@ removed old new place object value is below = record {
 
 pub waits_is : (items : List ℕ) (n room a : ℕ) (waits : List Bool) → KeepsQueue items n room waits → 1 ≤ a → get_or waits (a - 1) false ≡ list_any (λ x. a == x) items
 waits_is items n room a waits q l =
-    let m : times a items ≡ cond (is_marked waits a) 1 0 = q.marked a in
-    let e : is_marked waits a ≡ get_or waits (a - 1) false = grind (arith, nat_tests) in
-    sym e ∙ sym (any-times a items ∙ ap (nat_lt 0) m ∙ bit (is_marked waits a))
+    let m : times a items ≡ cond (is_object_marked waits a) 1 0 = q.marked a in
+    let e : is_object_marked waits a ≡ get_or waits (a - 1) false = grind (arith, nat_tests) in
+    sym e ∙ sym (any-times a items ∙ ap (nat_lt 0) m ∙ bit (is_object_marked waits a))
   where
     bit : (b : Bool) → nat_lt 0 (cond b 1 0) ≡ b
     bit true = refl

@@ -1,5 +1,5 @@
 -- What an object sees is a view of its kind.
-use Rattle.rw_dispatch.proofs.Common.{AreBounded, Bool, Content, IsBounded, IsViewOf, Kind, List, None, Option, Some, View, [], and_parts, ap, arith, bounds_at, eqb-true, false, get_or-map-range_with_len, if◌then◌else◌, known, known_value, length, map, nat_tests, option_and_then, option_map, pos, refl, slice_get, slice_index_or, subst, suc, sym, take, true, unwrap_or, zero, ℕ, ℤ, ◌&&◌, ◌+◌, ◌-◌, ◌<◌, ◌==◌, ◌∙◌, ◌∷◌, ◌≡◌, ◌≤ℤ◌, ◌≤◌}
+use Rattle.rw_dispatch.proofs.Common.{AreBounded, Bool, Content, IsBounded, IsViewOf, Kind, List, None, Option, Some, View, [], and_parts, ap, arith, bounds_in_view, eqb-true, false, get_or-map-range_with_len, if◌then◌else◌, known, known_value, length, map, nat_tests, option_and_then, option_map, pos, refl, slice_get, slice_index_or, subst, suc, sym, take, true, unwrap_or, zero, ℕ, ℤ, ◌&&◌, ◌+◌, ◌-◌, ◌<◌, ◌==◌, ◌∙◌, ◌∷◌, ◌≡◌, ◌≤ℤ◌, ◌≤◌}
 use Rattle.rw_model.proofs.Common.{place_of, IsKind, Slot, Bounds, IsInside, slots_of, slot_in, Object, Placed, placed_from, slots_from, all_slots, object_at, slot_at, slot_in_place, first_from, is_in_place, Draft, IsObject, IsBetween, bounds_in, IsBasin, numbered-known, StandsAt-stored, first_from-all_slots, IsOfOwner-is_in_place, known_in_place, bounds_in-within}
 use Rattle.rw_run.proofs.Common.{Cells, cell_at, content_in, bounds_in_place, past_value, places, view_of}
 
@@ -85,7 +85,7 @@ known-view basin cells object step place near =
     let at : 0 + place ≡ place = omega arith in
     get_or-map-range_with_len (content_in basin cells object step) 0 12 place place None near at
 
-pub bounds_at-view : (basin : Draft) (cells : Cells) (object step place : ℕ) → place < 12 → bounds_at (view_of basin cells object step) place ≡ bounds_in_place basin object place
+pub bounds_at-view : (basin : Draft) (cells : Cells) (object step place : ℕ) → place < 12 → bounds_in_view (view_of basin cells object step) place ≡ bounds_in_place basin object place
 bounds_at-view basin cells object step place near =
     let at : 0 + place ≡ place = omega arith in
     get_or-map-range_with_len (bounds_in_place basin object) 0 12 place place (pos 0, pos 0) near at
@@ -125,7 +125,7 @@ IsViewOf-view basin cells object step kind valid own is sound first last bounded
       let same : stands.placed.slot ≡ slot = let there = stands.slot in cc in
       let known_slot = known_in_place basin.objects object place at.0 at.1 in
       let bounds = bounds_in basin.objects basin.links basin.bounds at.0 in
-      bounded_by (bounds_at (view_of basin cells object step) place) bounds slot (known_value (view_of basin cells object step) place)
+      bounded_by (bounds_in_view (view_of basin cells object step) place) bounds slot (known_value (view_of basin cells object step) place)
       (option_map (λ (content : Content). content.value) (cells (cell_at at.0 step)))
       (bounds_at-view basin cells object step place near ∙ bounds-slot basin object place at.0 at.1)
       (ap (option_map (λ (content : Content). content.value))

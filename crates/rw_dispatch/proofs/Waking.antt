@@ -9,7 +9,7 @@ use Rattle.rw_dispatch.specs.Answer.{Tells, answer_of, event_of, written_in}
 use Rattle.rw_dispatch.specs.declared.dispatch_end.DispatchEnd.{DispatchEnd}
 use Rattle.rw_dispatch.specs.declared.dispatched.Dispatched.{Dispatched}
 use Rattle.rw_dispatch.specs.declared.dispatched.Dispatched.TheVariants.{Solved}
-use Rattle.rw_dispatch.specs.Stage.{Leaves, Stage}
+use Rattle.rw_dispatch.specs.Stage.{Leaves, RunStage}
 use Rattle.rw_dispatch.specs.Writes.{AreWrites}
 use Rattle.rw_model.specs.Turn.{IsTurn}
 use Rattle.rw_dispatch.proofs.Makes.{all_write}
@@ -51,7 +51,7 @@ queue_after basin looked object step (Solved asked written) queue = refl
 queue_after basin looked object step answer queue = none_woken basin (Some object) queue
 
 -- what an answer's event writes is made, and wakes those that it reaches
-pub leaves_written : (basin : Draft) (looked : List Look) (object step : ℕ) (event : Event) (answer : Dispatched) (writes : List Asked) (old new : Stage)
+pub leaves_written : (basin : Draft) (looked : List Look) (object step : ℕ) (event : Event) (answer : Dispatched) (writes : List Asked) (old new : RunStage)
     → event ≡ event_of basin looked object step answer → writes ≡ written_by event
     → ((cell : Cell) → held new.series cell ≡ option_or (last_put basin writes cell) (held old.series cell))
     → new.queue.waiting ≡ old.queue.waiting ++ woken basin (Some object) old.queue.waiting (slots_at step writes) → Leaves basin event old new

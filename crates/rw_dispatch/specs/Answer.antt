@@ -42,9 +42,9 @@ pub record Tells (basin : Draft) (looked : List Look) (object step : ℕ) (event
 -- ---- by how a dispatch ended
 
 -- the puts that a method asks for
-abbrev pub asked_in : Solution → List Put
-asked_in (Puts asked) = asked
-asked_in solution = []
+abbrev pub asked_by_solution : Solution → List Put
+asked_by_solution (Puts asked) = asked
+asked_by_solution solution = []
 
 -- the answer of one that ended so
 abbrev pub answer_of : DispatchEnd → List Put → List Put → Dispatched

@@ -13,9 +13,9 @@ turn_of None = 0
 turn_of (Some object) = 1
 
 -- how many dispatches there were
-abbrev pub turns : Log → ℕ
-turns [] = 0
-turns (event ∷ log) = turn_of (dispatched_in event) + turns log
+abbrev pub turn_count : Log → ℕ
+turn_count [] = 0
+turn_count (event ∷ log) = turn_of (dispatched_in event) + turn_count log
 
 -- the place of the object that is taken, by how many dispatches there were and by those that wait
 abbrev pub Picking : Type 0
@@ -37,7 +37,7 @@ abbrev pub picked_at : Picking → ℕ → List ℕ → Option ℕ
 picked_at rule turn waits = slice_get waits (rule turn waits)
 
 abbrev pub picked : Picking → Log → List ℕ → Option ℕ
-picked rule log waits = picked_at rule (turns log) waits
+picked rule log waits = picked_at rule (turn_count log) waits
 
 -- the event that follows where the rule picks
 abbrev pub follows_picked : Draft → Policy → Picking → Log → Option Event

@@ -27,8 +27,8 @@ pub record IsTaken (place : ℕ) (old : List ℕ) (object : ℕ) (new : List ℕ
   pub new_is : new ≡ before ++ behind
 
 -- an object is marked
-abbrev pub is_marked : List Bool → ℕ → Bool
-is_marked marks object = nat_lt 0 object && slice_index_or marks (object - 1) false
+abbrev pub is_object_marked : List Bool → ℕ → Bool
+is_object_marked marks object = nat_lt 0 object && slice_index_or marks (object - 1) false
 
 abbrev pub unmarked : List Bool → ℕ
 unmarked [] = 0
@@ -36,7 +36,7 @@ unmarked (mark ∷ marks) = cond mark 0 1 + unmarked marks
 
 -- exactly the marked objects wait, each of them once, and there is room for all
 pub record KeepsQueue (items : List ℕ) (filled room : ℕ) (waits : List Bool) : Type 0 where
-  pub marked : (object : ℕ) → times object items ≡ cond (is_marked waits object) 1 0
+  pub marked : (object : ℕ) → times object items ≡ cond (is_object_marked waits object) 1 0
   pub count : filled ≡ length items
   pub left : length items + unmarked waits ≡ length waits
   pub fits : length waits ≤ room

@@ -8,8 +8,8 @@ use Rattle.rw_run.specs.Dispatch.{cell_at}
 use Rattle.rw_run.specs.Log.{Cells}
 
 -- what it holds at a timestep, if there is one
-abbrev pub content_of : Cells → ℕ → Option ℕ → Option Content
-content_of cells step number = option_and_then cells (option_map (λ slot. cell_at slot step) number)
+abbrev pub content_at_slot : Cells → ℕ → Option ℕ → Option Content
+content_at_slot cells step number = option_and_then cells (option_map (λ slot. cell_at slot step) number)
 
 -- its bounds, 0 and 0 where there is none
 abbrev pub bounds_of_slot : Draft → Option ℕ → Bounds

@@ -9,11 +9,11 @@ use Rattle.rw_run.specs.Log.{Cells, Event, held_after}
 use Rattle.rw_run.specs.Waiting.{queued_after}
 use Rattle.rw_dispatch.specs.Queue.{Queue, IsQueueOf}
 
-pub record Stage : Type 0 where
+pub record RunStage : Type 0 where
   pub series : Series
   pub queue : Queue
 
-abbrev pub stage : Series → Queue → Stage
+abbrev pub stage : Series → Queue → RunStage
 stage series queue = record { series = series; queue = queue }
 
 -- what a cell holds is within the bounds of its slot
@@ -27,11 +27,11 @@ pub record IsHeldIn (basin : Draft) (series : Series) : Type 0 where
   pub bounded : AreBounded basin (held series)
 
 -- both are made for the basin
-pub record IsStageOf (basin : Draft) (stage : Stage) : Type 0 where
+pub record IsStageOf (basin : Draft) (stage : RunStage) : Type 0 where
   pub series : IsHeldIn basin stage.series
   pub queue : IsQueueOf basin stage.queue
 
 -- an event leaves the cells and the queue so
-pub record Leaves (basin : Draft) (event : Event) (old new : Stage) : Type 0 where
+pub record Leaves (basin : Draft) (event : Event) (old new : RunStage) : Type 0 where
   pub cells : (cell : Cell) → held new.series cell ≡ held_after basin event (held old.series) cell
   pub queue : new.queue.waiting ≡ queued_after basin event old.queue.waiting

@@ -5,7 +5,7 @@ ghost use Rattle.rw_model.specs.Kept.{numbers_of};
 ghost use Rattle.rw_model.specs.Turn.{is_data};
 ghost use Rattle.rw_run.specs.Waiting.{is_at, is_but, is_owner, slots_at};
 ghost use Rattle.rw_dispatch.specs.Writes.{AreWrites, CanWrite};
-ghost use Rattle.rw_dispatch.specs.Owners.{HasReached, has_bit, has_mark};
+ghost use Rattle.rw_dispatch.specs.Owners.{HasReached, has_bit, has_object_mark};
 
 use rw_base::{ObjectNo, SlotNo, StepNo};
 use rw_model::Basin;
@@ -44,7 +44,7 @@ impl Reached {
 pub(crate) fn has_mark(reached: &Reached, object: u16) -> bool
     requires first { 1 ≤ object }
     requires last { object ≤ 500 }
-    ensures { result ≡ has_mark reached.now.marks object }
+    ensures { result ≡ has_object_mark reached.now.marks object }
 {
     let place = object - 1;
     (reached.marks[usize::from(place / 64)] >> (place % 64)) % 2 == 1

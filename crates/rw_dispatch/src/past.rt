@@ -14,7 +14,8 @@ use rw_series::Series;
 // The slot whose earlier value an object looks at, and how many timesteps ago.
 fn past_of(basin: &Basin, object: ObjectNo) -> Option<(SlotNo, u16)>
     requires { IsObject basin.now.objects object.0 }
-    ensures past { option_map (λ (past : SlotNo × ℕ). past_seen past) result ≡ past_of basin.now object.0 }
+    ensures past { option_map (λ (past : SlotNo × ℕ). past_seen past) result
+        ≡ past_of basin.now object.0 }
     ensures known { IfSome result (λ past. IsSlot basin.now.objects past.0.0) }
 {
     let Some((place, ago)) = past_in(basin.kind(object)) else {

@@ -31,9 +31,11 @@ impl Model for Queue {
 
     ghost Value = { specs.Queue };
 
-    ghost view = { λ q. record { objects = length q.waits.items; waiting = specs.objects_of q.items.items } };
+    ghost view = { λ q.
+        record { objects = length q.waits.items; waiting = specs.objects_of q.items.items } };
 
-    ghost invariant = { λ q. specs.KeepsQueue (specs.objects_of q.items.items) q.items.len q.items.cap q.waits.items };
+    ghost invariant = { λ q.
+        specs.KeepsQueue (specs.objects_of q.items.items) q.items.len q.items.cap q.waits.items };
 }
 
 impl Queue {
@@ -200,7 +202,8 @@ impl Queue {
     fn is_free(&self, basin: &Basin, but: Option<ObjectNo>, object: u16) -> bool
         requires made { IsQueueOf basin.now self.now }
         requires known { IsObject basin.now.objects object }
-        ensures woken { (slots : List ℕ) → is_owner basin.now slots object ≡ true → result ≡ is_woken
+        ensures woken { (slots : List ℕ) → is_owner basin.now slots object ≡ true
+            → result ≡ is_woken
             basin.now (option_map (λ other. other.0) but) self.now.waiting slots object }
         ensures free { result ≡ true → times object self.now.waiting ≡ 0 }
     {
@@ -220,7 +223,8 @@ impl Queue {
         requires few { object ≤ 500 }
         ensures woken { (slots : List ℕ) → HasReached (option_map (λ other. other.0) but)
             (is_owner basin.now slots) reached.now
-            → result ≡ is_woken basin.now (option_map (λ other. other.0) but) self.now.waiting slots object }
+            → result
+            ≡ is_woken basin.now (option_map (λ other. other.0) but) self.now.waiting slots object }
         ensures free { result ≡ true → times object self.now.waiting ≡ 0 }
     {
         if has_mark(reached, object) {

@@ -8,7 +8,7 @@ ghost use Rattle.rw_dispatch.specs.Judged.{HasJudged};
 ghost use Rattle.rw_series.specs.declared.look.Look.{Look};
 ghost use Rattle.rw_series.specs.Series.{held};
 ghost use Rattle.rw_run.specs.Dispatch.{answered, asked_for, dispatched, looks_of, put_by, view_of};
-ghost use Rattle.rw_dispatch.specs.Answer.{Ends, Tells, answer_of, asked_in, written_in};
+ghost use Rattle.rw_dispatch.specs.Answer.{Ends, Tells, answer_of, asked_by_solution, written_in};
 ghost use Rattle.rw_dispatch.specs.Putting.{ArePuts};
 ghost use Rattle.rw_dispatch.specs.Stage.{AreBounded, IsStageOf, Leaves, stage};
 ghost use Rattle.rw_model.specs.Turn.{IsTurn};
@@ -97,13 +97,14 @@ fn answer(
     writes: &mut WriteList,
 ) -> DispatchEnd
     requires turn { IsTurn basin.now object.0 step.0 }
-    requires puts { ArePuts basin.now object.0 (asked_in solved.now) }
+    requires puts { ArePuts basin.now object.0 (asked_by_solution solved.now) }
     ensures answer { (cells : Cells) (looked : List Look)
         → view.entry.now ≡ view_of basin.now cells object.0 step.0
         → Tells basin.now looked object.0 step.0
         (answered basin.now cells looked object.0 step.0 solved.now)
-        (answer_of result (asked_in solved.now) written.new) }
-    ensures left { written_in (answer_of result (asked_in solved.now) written.new) ≡ written.new }
+        (answer_of result (asked_by_solution solved.now) written.new) }
+    ensures left { written_in
+        (answer_of result (asked_by_solution solved.now) written.new) ≡ written.new }
     ensures writes { writes.new ≡ asked_for basin.now object.0 step.0 written.new }
 {
     written.clear();
@@ -143,8 +144,8 @@ fn ask_all(kept: &mut WriteList, basin: &Basin, object: ObjectNo, step: StepNo, 
 #[inline(never)]
 fn ask(kept: &mut WriteList, basin: &Basin, object: ObjectNo, step: StepNo, solved: &Solved)
     requires turn { IsTurn basin.now object.0 step.0 }
-    requires puts { ArePuts basin.now object.0 (asked_in solved.now) }
-    ensures { kept.new ≡ asked_for basin.now object.0 step.0 (asked_in solved.now) }
+    requires puts { ArePuts basin.now object.0 (asked_by_solution solved.now) }
+    ensures { kept.new ≡ asked_for basin.now object.0 step.0 (asked_by_solution solved.now) }
 {
     match solved {
         Solved::Puts(puts) => ask_all(kept, basin, object, step, puts),
@@ -163,8 +164,9 @@ fn keep_asked(
     solved: &Solved,
 )
     requires turn { IsTurn basin.now object.0 step.0 }
-    requires puts { ArePuts basin.now object.0 (asked_in solved.now) }
-    ensures { IsTrue keeps → kept.new ≡ asked_for basin.now object.0 step.0 (asked_in solved.now) }
+    requires puts { ArePuts basin.now object.0 (asked_by_solution solved.now) }
+    ensures { IsTrue keeps
+        → kept.new ≡ asked_for basin.now object.0 step.0 (asked_by_solution solved.now) }
 {
     if keeps {
         ask(kept, basin, object, step, solved);
@@ -173,7 +175,7 @@ fn keep_asked(
 
 // The puts that a method asks for.
 fn asked_in(solved: Solved) -> PutList
-    ensures { result ≡ asked_in solved }
+    ensures { result ≡ asked_by_solution solved }
 {
     match solved {
         Solved::Puts(asked) => asked,
@@ -183,7 +185,7 @@ fn asked_in(solved: Solved) -> PutList
 
 // The answer of a dispatch that ended so.
 fn answer_of(end: DispatchEnd, solved: Solved, written: PutList) -> Dispatched
-    ensures { result ≡ answer_of end (asked_in solved) written }
+    ensures { result ≡ answer_of end (asked_by_solution solved) written }
 {
     match end {
         DispatchEnd::Idle => Dispatched::Idle,

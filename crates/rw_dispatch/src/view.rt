@@ -3,7 +3,7 @@ ghost use Rattle.rw_model.specs.Draft.{IsObject, IsSlot};
 ghost use Rattle.rw_series.specs.Series.{held};
 ghost use Rattle.rw_run.specs.Dispatch.{slot_or_none, content_in, bounds_in_place, places};
 ghost use Rattle.rw_model.specs.Turn.{IsTurn};
-ghost use Rattle.rw_dispatch.specs.Seeing.{content_of, bounds_of_slot};
+ghost use Rattle.rw_dispatch.specs.Seeing.{content_at_slot, bounds_of_slot};
 
 use rw_base::{ObjectNo, SlotNo, StepNo};
 use rw_method::View;
@@ -42,7 +42,7 @@ fn see_slot(
 )
     requires place { place < 12 }
     requires known { IfSome number (IsSlot basin.now.objects) }
-    ensures content { now.new ≡ set now.old place (content_of (held cells.now) 1 number) }
+    ensures content { now.new ≡ set now.old place (content_at_slot (held cells.now) 1 number) }
     ensures bounds { bounds.new ≡ set bounds.old place (bounds_of_slot basin.now number) }
 {
     match number {
@@ -72,7 +72,8 @@ pub(crate) fn see_slots(
     step: StepNo,
 )
     requires turn { IsTurn basin.now object.0 step.0 }
-    ensures contents { now.new ≡ map (content_in basin.now (held series.now) object.0 step.0) places }
+    ensures contents { now.new
+        ≡ map (content_in basin.now (held series.now) object.0 step.0) places }
     ensures bounds { bounds.new ≡ map (bounds_in_place basin.now object.0) places }
 {
     let numbers = basin.row(object);

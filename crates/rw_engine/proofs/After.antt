@@ -1,5 +1,5 @@
 -- The state after an event.
-use Rattle.rw_engine.proofs.Common.{AreReady, Draft, TraceGrows, HasCount, IsObject, IsOnTheWay, IsSome, IsStageOf, IsWithinStep, KeepsWithin, Leaves, List, None, Ok, Option, RunFault, Some, State, ap, arith, count_of, ended_by, held, left, length, length-set, queued_after-ready, raised, room, stage, subst, sym, ℕ, ◌-◌, ◌<◌, ◌∙◌, ◌≡◌, ◌≤◌}
+use Rattle.rw_engine.proofs.Common.{AreReady, Draft, TraceGrows, HasCount, IsObject, IsOnTheWay, IsSome, IsStageOf, IsWithinStep, KeepsWithin, Leaves, List, None, Ok, Option, RunFault, Some, State, ap, arith, count_of_number, ended_by, held, left, length, length-set, queued_after-ready, raised, room, stage, subst, sym, ℕ, ◌-◌, ◌<◌, ◌∙◌, ◌≡◌, ◌≤◌}
 use Rattle.rw_engine.proofs.Raises.{room_falls}
 use Rattle.rpl_verify.specs.Verified.{Accepted}
 use Rattle.rw_agenda.specs.Agenda.{IsIndexed, unfired}
@@ -187,7 +187,7 @@ rules_on basin policy before after old new on made = record {
 
 -- ---- what is left to do
 
-less_objects : (basin : Draft) (old new : State) (object : ℕ) → HasCount old.counts object → count_of old.counts object < basin.control.object_limit
+less_objects : (basin : Draft) (old new : State) (object : ℕ) → HasCount old.counts object → count_of_number old.counts object < basin.control.object_limit
     → new.counts ≡ raised old.counts object → new.firings ≡ old.firings → left basin new < left basin old
 less_objects basin old new object known below counts firings =
     let less = room_falls basin.control.object_limit old.counts object known below in
@@ -195,7 +195,7 @@ less_objects basin old new object known below counts firings =
     let others : room basin.control.rule_limit new.firings ≡ room basin.control.rule_limit old.firings = ap (room basin.control.rule_limit) firings in
     omega (arith, less, own, others)
 
-less_rules : (basin : Draft) (old new : State) (rule : ℕ) → HasCount old.firings rule → count_of old.firings rule < basin.control.rule_limit
+less_rules : (basin : Draft) (old new : State) (rule : ℕ) → HasCount old.firings rule → count_of_number old.firings rule < basin.control.rule_limit
     → new.firings ≡ raised old.firings rule → new.counts ≡ old.counts → left basin new < left basin old
 less_rules basin old new rule known below firings counts =
     let less = room_falls basin.control.rule_limit old.firings rule known below in
@@ -210,13 +210,13 @@ on_the_way basin step old new None less closed end = (record { closed_steps = cl
 on_the_way basin step old new (Some why) less closed end = closed
 
 pub on_the_way_object : (basin : Draft) (step : ℕ) (old new : State) (why : Option RunFault) (object : ℕ) → HasCount old.counts object
-    → count_of old.counts object < basin.control.object_limit → new.counts ≡ raised old.counts object → new.firings ≡ old.firings → new.run.closed ≡ old.run.closed → new.run.end ≡ old.run.end
+    → count_of_number old.counts object < basin.control.object_limit → new.counts ≡ raised old.counts object → new.firings ≡ old.firings → new.run.closed ≡ old.run.closed → new.run.end ≡ old.run.end
     → IsOnTheWay basin step (seen_end (ended_by why new) (Ok (is_some why))) old (ended_by why new)
 on_the_way_object basin step old new why object known below counts firings closed end =
     on_the_way basin step old new why (less_objects basin old new object known below counts firings) closed end
 
 pub on_the_way_rule : (basin : Draft) (step : ℕ) (old new : State) (why : Option RunFault) (rule : ℕ) → HasCount old.firings rule
-    → count_of old.firings rule < basin.control.rule_limit → new.firings ≡ raised old.firings rule → new.counts ≡ old.counts → new.run.closed ≡ old.run.closed → new.run.end ≡ old.run.end
+    → count_of_number old.firings rule < basin.control.rule_limit → new.firings ≡ raised old.firings rule → new.counts ≡ old.counts → new.run.closed ≡ old.run.closed → new.run.end ≡ old.run.end
     → IsOnTheWay basin step (seen_end (ended_by why new) (Ok (is_some why))) old (ended_by why new)
 on_the_way_rule basin step old new why rule known below firings counts closed end =
     on_the_way basin step old new why (less_rules basin old new rule known below firings counts) closed end

@@ -6,7 +6,7 @@ pub use Rattle.rw_dispatch.specs.Answer.{Tells, event_of, written_in}
 pub use Rattle.rw_dispatch.specs.Stage.{AreBounded, IsHeldIn, IsStageOf, Leaves, stage}
 pub use Rattle.rw_model.specs.Turn.{IsStep}
 pub use Rattle.rw_dispatch.specs.declared.dispatch_end.DispatchEnd.{DispatchEnd}
-pub use Rattle.rw_engine.specs.Counts.{HasCount, count_of, raised, room}
+pub use Rattle.rw_engine.specs.Counts.{HasCount, count_of_number, raised, room}
 pub use Rattle.rw_engine.specs.Engine.{Engine}
 pub use Rattle.rw_inputs.specs.Givens.{givens, givens_of, givens_to, if_given}
 pub use Rattle.rw_engine.specs.Held.{HoldsAll}

@@ -1,6 +1,6 @@
 -- One event of the engine, over the log that its state holds.
 use Rattle.std.specs.Prelude.{is_some}
-use Rattle.rw_engine.proofs.Common.{Bool, Cell, Cells, DispatchEnd, Draft, Engine, Event, Fault, GoesToState, HoldsWithin, HasCount, List, Log, Look, None, Option, Policy, Put, RunFault, Settled, Shows, Some, State, [], ap, arith, asked_for, cells_of, count_if, count_of, dispatched, dispatches, end_of, ended_by, ending, event_of, false, fault, fault_by, held, held_after, idles, if◌then◌else◌, inside, last_closed, last_put, lines, lines_by, nat_le, nat_tests, next_of, none-some, option_or, queued_after, raised, refl, same_Some, seen, slice_index_or, solves, standing, subst, sym, trace_of, true, waiting, written_by, ℕ, ◌++◌, ◌-◌, ◌<◌, ◌==◌, ◌∙◌, ◌∷◌, ◌≡◌}
+use Rattle.rw_engine.proofs.Common.{Bool, Cell, Cells, DispatchEnd, Draft, Engine, Event, Fault, GoesToState, HoldsWithin, HasCount, List, Log, Look, None, Option, Policy, Put, RunFault, Settled, Shows, Some, State, [], ap, arith, asked_for, cells_of, count_if, count_of_number, dispatched, dispatches, end_of, ended_by, ending, event_of, false, fault, fault_by, held, held_after, idles, if◌then◌else◌, inside, last_closed, last_put, lines, lines_by, nat_le, nat_tests, next_of, none-some, option_or, queued_after, raised, refl, same_Some, seen, slice_index_or, solves, standing, subst, sym, trace_of, true, waiting, written_by, ℕ, ◌++◌, ◌-◌, ◌<◌, ◌==◌, ◌∙◌, ◌∷◌, ◌≡◌}
 use Rattle.rw_run.specs.declared.fault.RunFault.TheVariants.{ObjectLimit}
 use Rattle.rw_dispatch.specs.Answer.{Ends, answer_of}
 use Rattle.rw_dispatch.specs.declared.dispatch_end.DispatchEnd.TheVariants.{Idle as IsIdle, Solved as IsSolved, Conflict as IsConflict, OutOfRange as IsOutOfRange}
@@ -132,12 +132,12 @@ goes_to basin policy old new looked step object place waits rest log event ended
           (end ∙ holds.shows.end ∙ settled_inside log step holds.open_step ∙ sym calm.0);
       queue = went.queue ∙ ap (queued_after basin event) taken.new_is ∙ sym (calm.2 (sym holds.queue ∙ taken.old_is));
       counts = λ other known.
-          ap (λ counts. count_of counts other) went.counts
+          ap (λ counts. count_of_number counts other) went.counts
           ∙ raised_at old.counts object other went.counted known.first
           ∙ ap (count_if (object == other)) (holds.counts other known) ∙ sym (calm.3 other);
       looks = λ rule first last.
           ap (λ (entries : List Entry). (slice_index_or entries (rule - 1) (unfired 0)).looked) went.rules ∙ holds.looks rule first last ∙ sym (tells.looks rule);
-      firings = λ rule first. ap (λ counts. count_of counts rule) went.firings ∙ holds.firings rule first ∙ sym (tells.fires rule);
+      firings = λ rule first. ap (λ counts. count_of_number counts rule) went.firings ∙ holds.firings rule first ∙ sym (tells.fires rule);
     }
 goes_to basin policy old new looked step object place waits rest log event ended taken holds went end (Some why) is =
     let faulted = (says basin looked step object taken.before taken.behind log event ended went.told.is).faulted why is in (

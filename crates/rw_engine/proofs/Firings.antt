@@ -1,6 +1,6 @@
 -- What follows where no object waits, and the firing of a rule, over the log that the state holds.
 use Rattle.std.specs.Prelude.{is_some}
-use Rattle.rw_engine.proofs.Common.{Asked, Bool, Cell, Cells, Draft, Fault, GoesToState, HoldsWithin, HasCount, List, Log, None, Option, Policy, RunFault, Shows, Some, State, [], ap, arith, cells_of, count_if, count_of, dispatches, ended_by, ending, false, fault, fault_of_rule, held, if◌then◌else◌, last_put, line_of, lines, lines_of_rule, map, nat_le, nat_tests, next_of, option_or, raised, refl, seen, slice_index_or, subst, sym, trace_of, true, waiting, written_by, ℕ, ◌++◌, ◌-◌, ◌<◌, ◌==◌, ◌∙◌, ◌∷◌, ◌≡◌, ◌≤◌}
+use Rattle.rw_engine.proofs.Common.{Asked, Bool, Cell, Cells, Draft, Fault, GoesToState, HoldsWithin, HasCount, List, Log, None, Option, Policy, RunFault, Shows, Some, State, [], ap, arith, cells_of, count_if, count_of_number, dispatches, ended_by, ending, false, fault, fault_of_rule, held, if◌then◌else◌, last_put, line_of, lines, lines_of_rule, map, nat_le, nat_tests, next_of, option_or, raised, refl, seen, slice_index_or, subst, sym, trace_of, true, waiting, written_by, ℕ, ◌++◌, ◌-◌, ◌<◌, ◌==◌, ◌∙◌, ◌∷◌, ◌≡◌, ◌≤◌}
 use Rattle.rpl_verify.specs.Verified.{Accepted}
 use Rattle.rw_run.proofs.Waits.{fires}
 use Rattle.rw_run.specs.Dispatch.{dispatched, looks_at}
@@ -109,10 +109,10 @@ module _ (basin : Draft) (policy : Accepted) (old new : State) (rule step : ℕ)
           end = end ∙ holds.shows.end ∙ settled_inside log step holds.open_step;
         };
         queue = made.queue ∙ ap (λ queue. queue ++ woken basin None queue (slots_at step written)) holds.queue ∙ sym (fires basin log firing);
-        counts = λ object known. ap (λ counts. count_of counts object) made.counts ∙ holds.counts object known;
+        counts = λ object known. ap (λ counts. count_of_number counts object) made.counts ∙ holds.counts object known;
         looks = made.looks firing refl refl;
         firings = λ other first.
-            ap (λ counts. count_of counts other) made.firings
+            ap (λ counts. count_of_number counts other) made.firings
             ∙ raised_at old.firings rule other made.counted first
             ∙ ap (count_if (rule == other)) (holds.firings other first);
       }

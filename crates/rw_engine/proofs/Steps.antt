@@ -1,5 +1,5 @@
 -- A timestep of the engine, over the log that it shows.
-use Rattle.rw_engine.proofs.Common.{Bool, Cell, Cells, Draft, Engine, Event, GoesByEvent, TraceGrows, HoldsWithin, IsBefore, IsSome, IsStill, List, Log, None, Option, Policy, Reached, Series, Settled, Shows, Some, State, [], all_waiting, ap, append-nil, append_assoc, ap₂, arith, cells_of, closed, count_of, fault, false, given, held, held_after, if◌then◌else◌, inside, last_put, length, lines, nat_lt, nat_tests, opened, opens, option_or, refl, seen, standing, subst, sym, trace_of, true, written_by, ℕ, ◌++◌, ◌+◌, ◌∙◌, ◌∷◌, ◌≡◌, ◌≤◌}
+use Rattle.rw_engine.proofs.Common.{Bool, Cell, Cells, Draft, Engine, Event, GoesByEvent, TraceGrows, HoldsWithin, IsBefore, IsSome, IsStill, List, Log, None, Option, Policy, Reached, Series, Settled, Shows, Some, State, [], all_waiting, ap, append-nil, append_assoc, ap₂, arith, cells_of, closed, count_of_number, fault, false, given, held, held_after, if◌then◌else◌, inside, last_put, length, lines, nat_lt, nat_tests, opened, opens, option_or, refl, seen, standing, subst, sym, trace_of, true, written_by, ℕ, ◌++◌, ◌+◌, ◌∙◌, ◌∷◌, ◌≡◌, ◌≤◌}
 use Rattle.std.specs.Prelude.{Err, IfSome, IsErrAnd, Ok, Result, is_some}
 use Rattle.std.specs.List.{flat_map}
 use Rattle.rw_base.proofs.Common.{All-push}
@@ -68,7 +68,7 @@ follows_inside basin policy rule state step turn log holds is =
     ∙ ap₂ (λ t waits. next_of basin (policy_in basin policy) (cells_of basin log) log step (picked_at rule t waits)) (sym is) (sym holds.queue)
 
 pub opens_step : (basin : Draft) (policy : Accepted) (old new : State) (step : ℕ) (log : Log) → Shows basin (seen old) log → new.run.series ≡ old.run.series
-    → new.queue.waiting ≡ all_waiting basin → ((object : ℕ) → count_of new.counts object ≡ 0) → ((rule : ℕ) → count_of new.firings rule ≡ 0)
+    → new.queue.waiting ≡ all_waiting basin → ((object : ℕ) → count_of_number new.counts object ≡ 0) → ((rule : ℕ) → count_of_number new.firings rule ≡ 0)
     → ShowsLooks policy new.rules (opened step ∷ log) → new.run.trace ≡ told old.run.trace (lines (opened step))
     → new.run.closed ≡ old.run.closed → new.run.end ≡ Settled → HoldsWithin basin policy new step new.queue.waiting (opened step ∷ log)
 opens_step basin policy old new step log shows series queue counts firings looks trace last end = record {

@@ -4,9 +4,9 @@ use Rattle.std.proofs.Math.Nat.{suc-mul}
 use Rattle.std.proofs.lemmas.Nat.{mul-le}
 use Rattle.rw_base.specs.declared.number.Cell.{Cell}
 use Rattle.rw_model.specs.Basin.{IsBasin}
-use Rattle.rw_engine.proofs.Common.{add-one, Cells, DispatchEnd, Draft, Event, HasCount, List, Log, Look, None, Option, Policy, Put, RunFault, Some, State, [], ap, arith, count_of, ended_by, event_of, fault, given, length, placed, raised, refl, room, sym, ℕ, ℤ, ◌++◌, ◌+◌, ◌-◌, ◌<◌, ◌∙◌, ◌∷◌, ◌≡◌, ◌≤◌}
+use Rattle.rw_engine.proofs.Common.{add-one, Cells, DispatchEnd, Draft, Event, HasCount, List, Log, Look, None, Option, Policy, Put, RunFault, Some, State, [], ap, arith, count_of_number, ended_by, event_of, fault, given, length, placed, raised, refl, room, sym, ℕ, ℤ, ◌++◌, ◌+◌, ◌-◌, ◌<◌, ◌∙◌, ◌∷◌, ◌≡◌, ◌≤◌}
 use Rattle.rw_dispatch.specs.Answer.{Ends, answer_of}
-use Rattle.rw_dispatch.specs.Pick.{LeadsPicked, Picking, picked_at, turn_of, turns}
+use Rattle.rw_dispatch.specs.Pick.{LeadsPicked, Picking, picked_at, turn_of, turn_count}
 use Rattle.rw_dispatch.specs.declared.dispatch_end.DispatchEnd.TheVariants.{Idle as IsIdle, Solved as IsSolved, Conflict as IsConflict, OutOfRange as IsOutOfRange}
 use Rattle.rw_run.specs.Frame.{IsFault}
 use Rattle.rw_run.specs.Log.{dispatched_in}
@@ -16,7 +16,7 @@ use Rattle.rw_run.specs.Waiting.{waiting}
 use Rattle.rw_series.specs.Fire.{Fire}
 use Rattle.rw_series.specs.declared.fire.FireEnd.{FireEnd}
 use Rattle.rw_series.specs.declared.fire.FireEnd.TheVariants.{Done, Unknown, ZeroDivisor as DividesByZero, OutOfRange}
-use Rattle.rw_engine.specs.Picked.{CountsTurns, LeadsBy, most_turns, next_turn, turn_after, turn_behind, turns_after}
+use Rattle.rw_engine.specs.Picked.{CountsTurns, LeadsBy, most_turns, next_turn_number, turn_after, turn_behind, turns_after}
 use Rattle.rw_engine.specs.State.{CountsTurn, turns_at_most}
 use Rattle.rw_engine.specs.declared.step_end.StepEnd.{StepEnd}
 use Rattle.rw_engine.proofs.Raises.{room_falls}
@@ -25,10 +25,10 @@ use Rattle.rw_engine.proofs.Raises.{room_falls}
 
 -- of a dispatch that ended so, where the turn was raised before
 pub counts_dispatch : (basin : Draft) (looked : List Look) (object step before after : ℕ) (event : Event) (ended : DispatchEnd) → Ends basin looked object step event ended
-    → after ≡ next_turn before → before ≤ after → CountsTurn before after event
+    → after ≡ next_turn_number before → before ≤ after → CountsTurn before after event
 counts_dispatch basin looked object step before after event ended ends is rises = rw (ends.is, is) (by ended (rw (← is) rises))
   where
-    by : (e : DispatchEnd) → before ≤ next_turn before → CountsTurn before (next_turn before) (event_of basin looked object step (answer_of e ends.asked ends.written))
+    by : (e : DispatchEnd) → before ≤ next_turn_number before → CountsTurn before (next_turn_number before) (event_of basin looked object step (answer_of e ends.asked ends.written))
     by IsIdle rises = record { least = omega arith; same = λ calm. refl }
     by IsSolved rises = record { least = omega arith; same = λ calm. refl }
     by (IsConflict slot held solves) rises = record { least = rises; same = λ calm. absurd (calm tt) }
@@ -53,7 +53,7 @@ few_ended basin old new None few = few
 few_ended basin old new (Some why) few = few
 
 -- a turn more, of an object that may be dispatched as often less
-pub few_object : (basin : Draft) (old : State) (counts : List ℕ) (turn object : ℕ) → HasCount old.counts object → count_of old.counts object < basin.control.object_limit
+pub few_object : (basin : Draft) (old : State) (counts : List ℕ) (turn object : ℕ) → HasCount old.counts object → count_of_number old.counts object < basin.control.object_limit
     → counts ≡ raised old.counts object → turn ≤ old.turns + 1 → turn + room basin.control.object_limit counts ≤ turns_at_most basin old
 few_object basin old counts turn object known below is few =
     let less = room_falls basin.control.object_limit old.counts object known below in
@@ -122,7 +122,7 @@ one_more turn before None is below = omega (arith, is)
 one_more turn before (Some object) is below = omega (arith, is, below)
 
 -- so the turn that is counted is that of the log
-pub leads_picked : (basin : Draft) (policy : Policy) (rule : Picking) (turn : ℕ) (old : Log) (events : List Event) (new : Log) → turn ≡ turns old → turn ≤ 2 ^ 64 - 1
+pub leads_picked : (basin : Draft) (policy : Policy) (rule : Picking) (turn : ℕ) (old : Log) (events : List Event) (new : Log) → turn ≡ turn_count old → turn ≤ 2 ^ 64 - 1
     → turns_after turn events < 2 ^ 64 - 1 → LeadsBy basin policy rule turn old events new → LeadsPicked basin policy rule old events new
 leads_picked basin policy rule turn old [] new is most below leads = leads
 leads_picked basin policy rule turn old (event ∷ events) new is most below leads =
@@ -130,10 +130,10 @@ leads_picked basin policy rule turn old (event ∷ events) new is most below lea
     let rest = rising (turn_after turn event) events one.1 in
     let near : turn_after turn event < 2 ^ 64 - 1 = omega (arith, rest, below) in (
       ap (λ t. follows_by basin policy old (picked_at rule t (waiting basin old)) (standing old)) (sym is) ∙ leads.0,
-      leads_picked basin policy rule (turn_after turn event) (event ∷ old) events new (one_more turn (turns old) (dispatched_in event) is near) one.1 below leads.2,
+      leads_picked basin policy rule (turn_after turn event) (event ∷ old) events new (one_more turn (turn_count old) (dispatched_in event) is near) one.1 below leads.2,
     )
 
 -- no input is a dispatch
-pub turns_placed : (log : Log) (inputs : List (Cell × ℤ)) → turns (placed log inputs) ≡ turns log
+pub turns_placed : (log : Log) (inputs : List (Cell × ℤ)) → turn_count (placed log inputs) ≡ turn_count log
 turns_placed log [] = refl
 turns_placed log (input ∷ inputs) = turns_placed (given input.0 input.1 ∷ log) inputs ∙ omega arith

@@ -24,12 +24,12 @@ use Rattle.rw_engine.specs.declared.step_end.StepEnd.TheVariants.{Closed as IsCl
 -- ---- turns
 
 -- the turn after a dispatch. It stays at the greatest number, to which no run comes
-abbrev pub next_turn : ℕ → ℕ
-next_turn turn = min (turn + 1) (2 ^ 64 - 1)
+abbrev pub next_turn_number : ℕ → ℕ
+next_turn_number turn = min (turn + 1) (2 ^ 64 - 1)
 
 abbrev pub turn_behind : ℕ → Option ℕ → ℕ
 turn_behind turn None = turn
-turn_behind turn (Some object) = next_turn turn
+turn_behind turn (Some object) = next_turn_number turn
 
 -- the turn after events
 abbrev pub turn_after : ℕ → Event → ℕ

@@ -26,7 +26,7 @@ use Rattle.rw_inputs.specs.Givens.{givens}
 use Rattle.rw_agenda.specs.Agenda.{IsIndexed}
 use Rattle.rpl_verify.specs.Verified.{Accepted}
 use Rattle.rw_rules.specs.Rules.{ShowsLooks, policy_in}
-use Rattle.rw_engine.specs.Counts.{count_of, room}
+use Rattle.rw_engine.specs.Counts.{count_of_number, room}
 use Rattle.rw_engine.specs.Engine.{Engine}
 use Rattle.rw_engine.specs.Lines.{TraceGrows}
 use Rattle.rw_engine.specs.Picked.{LeadsBy, PassesBy, most_turns, turn_after, turns_after}
@@ -78,9 +78,9 @@ pub record HoldsWithin (basin : Draft) (policy : Accepted) (state : State) (step
   pub open_step : standing log ≡ inside step
   pub shows : Shows basin (seen state) log
   pub queue : waits ≡ waiting basin log
-  pub counts : (object : ℕ) → IsObject basin.objects object → count_of state.counts object ≡ dispatches log object
+  pub counts : (object : ℕ) → IsObject basin.objects object → count_of_number state.counts object ≡ dispatches log object
   pub looks : ShowsLooks policy state.rules log
-  pub firings : (rule : ℕ) → 1 ≤ rule → count_of state.firings rule ≡ firings log rule
+  pub firings : (rule : ℕ) → 1 ≤ rule → count_of_number state.firings rule ≡ firings log rule
 
 -- after an event: the timestep goes on, or it ended by the event
 abbrev pub GoesToState : Draft → Accepted → Option StepEnd → State → ℕ → Log → Event → Type 0

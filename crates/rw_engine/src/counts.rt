@@ -1,5 +1,5 @@
 ghost use Rattle.std.specs.Prelude.{◌≡◌, ◌<◌, ℕ, IfOk, length};
-ghost use Rattle.rw_engine.specs.Counts.{HasCount, count_of, raised};
+ghost use Rattle.rw_engine.specs.Counts.{HasCount, count_of_number, raised};
 
 use rw_base::NoMemory;
 use std::alloc::Global;
@@ -31,7 +31,7 @@ impl Counts {
 
     /// Counts anew.
     pub(crate) fn clear(&mut self)
-        ensures zero { (number : ℕ) → count_of self.new number ≡ 0 }
+        ensures zero { (number : ℕ) → count_of_number self.new number ≡ 0 }
         ensures many { length self.new ≡ length self.old }
     {
         for count in self.items.iter_mut() {
@@ -42,7 +42,7 @@ impl Counts {
     /// How often a number was counted.
     pub(crate) fn get(&self, number: u16) -> u8
         requires { HasCount self.now number }
-        ensures { result ≡ count_of self.now number }
+        ensures { result ≡ count_of_number self.now number }
     {
         self.items[usize::from(number) - 1]
     }
@@ -50,7 +50,7 @@ impl Counts {
     /// Counts a number, which was counted less often than 255 times.
     pub(crate) fn raise(&mut self, number: u16)
         requires known { HasCount self.old number }
-        requires few { count_of self.old number < 255 }
+        requires few { count_of_number self.old number < 255 }
         ensures { self.new ≡ raised self.old number }
     {
         self.items[usize::from(number) - 1] += 1;

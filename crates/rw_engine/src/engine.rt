@@ -131,7 +131,8 @@ impl Engine {
         steps: &mut Steps<L>,
     ) -> Result<StepEnd, NoMemory>
         requires made { IsEngineOf basin.now policy.now self.old }
-        requires order { AreInOrder (map (λ b. code (b.vtable, b.value)) methods.now.methods.items) }
+        requires order { AreInOrder
+            (map (λ b. code (b.vtable, b.value)) methods.now.methods.items) }
         requires step { IsStep basin.now step.0 }
         ensures runs { RunsStep basin.now policy.now step.0 self.old self.new result }
         ensures counted { steps.new ≡ steps.old + steps_of result }
@@ -168,7 +169,8 @@ impl Engine {
 
     /// What the run comes to so far. It takes no memory.
     pub fn run(&self) -> &Run
-        ensures run { (basin : Draft) (policy : Accepted) (log : Log) → IsEngineOf basin policy self.now
+        ensures run { (basin : Draft) (policy : Accepted) (log : Log)
+            → IsEngineOf basin policy self.now
             → Shows basin self.now log → IsRunOf basin log result.now }
         ensures same { (result.now.closed ≡ self.now.closed) × (result.now.trace ≡ self.now.trace) }
     {

@@ -5,7 +5,7 @@ ghost use Rattle.rw_inputs.specs.Inputs.{Inputs};
 ghost use Rattle.rw_model.specs.Draft.{Draft};
 ghost use Rattle.rw_run.specs.Next.{asked_by_rule, no_rules};
 ghost use Rattle.rw_run.specs.RunOf.{lines};
-ghost use Rattle.rw_run.specs.Worked.{followed_run, put_of};
+ghost use Rattle.rw_run.specs.Worked.{followed_run, rule_put};
 ghost use Rattle.rw_run.specs.declared.run.Run.{Run};
 ghost use Rattle.rw_rules.specs.Rules.{policy_in};
 ghost use Rattle.rw_engine.specs.Passing.{ComesTo};
@@ -24,5 +24,5 @@ pub fn without_rules()
 /// firing that came to an unknown value.
 pub fn worked_lines()
     ensures { puts_in (flat_map lines followed_run)
-        ≡ asked_by_rule 2 1 (put_of 2 0 (pos 4)) ∷ asked_by_rule 1 1 (put_of 1 0 (pos 4)) ∷ [] }
+        ≡ asked_by_rule 2 1 (rule_put 2 0 (pos 4)) ∷ asked_by_rule 1 1 (rule_put 1 0 (pos 4)) ∷ [] }
 {}

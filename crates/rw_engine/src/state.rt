@@ -7,7 +7,7 @@ ghost use Rattle.rpl_verify.specs.Verified.{Accepted, verified};
 ghost use Rattle.rw_rules.specs.Firing.{IsRuleTurn};
 ghost use Rattle.rw_run.specs.RunOf.{IsRunOf};
 ghost use Rattle.rw_model.specs.Turn.{IsStep, IsTurn};
-ghost use Rattle.rw_engine.specs.Counts.{count_of};
+ghost use Rattle.rw_engine.specs.Counts.{count_of_number};
 ghost use Rattle.rw_model.specs.Links.{IsBetween, bounds_in};
 ghost use Rattle.rw_series.specs.Series.{IsCell};
 ghost use Rattle.rw_dispatch.specs.Pick.{picked_at};
@@ -178,7 +178,7 @@ impl State {
         requires order { AreInOrder
             (map (λ b. code (b.vtable, b.value)) setup.now.methods.now.methods.items) }
         requires turn { IsTurn setup.now.basin.now object.0 step.0 }
-        requires below { count_of self.old.counts object.0
+        requires below { count_of_number self.old.counts object.0
             < setup.now.basin.now.control.object_limit }
         ensures { (place : ℕ) (waits : List ℕ)
             → IsTaken place waits object.0 self.old.queue.waiting
@@ -247,7 +247,8 @@ impl State {
         requires within { IsWithinStep setup.now.basin.now setup.now.policy.now self.old }
         requires idle { self.old.queue.waiting ≡ [] }
         requires turn { IsRuleTurn setup.now.basin.now setup.now.policy.now rule.0 step.0 }
-        requires below { count_of self.old.firings rule.0 < setup.now.basin.now.control.rule_limit }
+        requires below { count_of_number self.old.firings rule.0
+            < setup.now.basin.now.control.rule_limit }
         ensures { DoesEvent setup.now.basin.now setup.now.policy.now None step.0 self.old self.new
             (HoldsDue setup.now.basin.now setup.now.policy.now self.old step.0
             (Some rule.0)) result }
@@ -383,7 +384,8 @@ impl State {
     /// What the run came to.
     pub(crate) fn finish(self) -> Run
         ensures run { (basin : Draft) (policy : Accepted) (log : Log)
-            → IsEngineOf basin policy (seen self) → Shows basin (seen self) log → IsRunOf basin log result }
+            → IsEngineOf basin policy (seen self) → Shows basin (seen self) log
+            → IsRunOf basin log result }
         ensures closed { result.closed ≡ self.run.closed }
         ensures trace { result.trace ≡ self.run.trace }
     {

@@ -7,7 +7,7 @@ use Rattle.rw_inputs.specs.declared.fault.InputFault.{InputFault}
 use Rattle.rw_inputs.specs.declared.fault.InputFault.TheVariants.{NoMemory}
 use Rattle.rw_inputs.specs.declared.edit.Edit.{Edit}
 use Rattle.rw_inputs.specs.declared.wrong.Wrong.{Wrong}
-use Rattle.rw_inputs.specs.EditRows.{at_row, batch_at, batches_with, edit_column, four_fields, more_batches, opened, with_edit}
+use Rattle.rw_inputs.specs.EditRows.{at_row, batch_at, batches_with, edit_column, four_fields, more_batches, batches_opened, with_edit}
 use Rattle.rw_inputs.specs.Edits.{Batch, IsBatch, IsEdit}
 use Rattle.rw_inputs.specs.Records.{Fields}
 use Rattle.rw_inputs.specs.Refusal.{InputRefusal, refusal_of, refused_at}
@@ -45,7 +45,7 @@ module _ (basin : Draft) (row : ℕ) (batches : List Batch) (old rows : List Fie
 
 -- ---- batches of the basin
 
-opened_made : (basin : Draft) (batches : List Batch) (number : ℕ) → All (IsBatch basin) batches → All (IsBatch basin) (opened batches number)
+opened_made : (basin : Draft) (batches : List Batch) (number : ℕ) → All (IsBatch basin) batches → All (IsBatch basin) (batches_opened batches number)
 opened_made basin batches number all =
     cond_both (nat_le number (length batches)) batches (batches ++ [] ∷ []) (All (IsBatch basin)) (λ there. all)
     (λ next. All-push (IsBatch basin) batches [] all (All-nil (IsEdit basin)))
@@ -62,6 +62,6 @@ pub made_with : (basin : Draft) (batches : List Batch) (number : ℕ) (edit : Ed
     → All (IsBatch basin) (with_edit batches number edit)
 made_with basin batches number edit all sound =
     let there = opened_made basin batches number all in
-    let batch = batch_at (opened batches number) number in
-    All-set (IsBatch basin) (opened batches number) (number - 1) (batch ++ edit ∷ [])
-    (All-push (IsEdit basin) batch edit (batch_made basin (opened batches number) number there) sound) there
+    let batch = batch_at (batches_opened batches number) number in
+    All-set (IsBatch basin) (batches_opened batches number) (number - 1) (batch ++ edit ∷ [])
+    (All-push (IsEdit basin) batch edit (batch_made basin (batches_opened batches number) number there) sound) there

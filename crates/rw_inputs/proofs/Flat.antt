@@ -5,7 +5,7 @@ use Rattle.rw_model.specs.Draft.{Draft}
 use Rattle.rw_inputs.specs.declared.edit.Edit.{Edit}
 use Rattle.rw_inputs.specs.declared.wrong.Wrong.{Wrong}
 use Rattle.rw_inputs.specs.Number.{read_number}
-use Rattle.rw_inputs.specs.EditRows.{admit, at_row, batch_behind, batches_with, edits_said, follows, four_fields, more_batches, opened, read_batch, read_edit, said, said_by, with_edit, wrong_among}
+use Rattle.rw_inputs.specs.EditRows.{admit, at_row, batch_behind, batches_with, edits_said, batch_follows, four_fields, more_batches, batches_opened, read_batch, read_edit, said, edit_said_by, with_edit, wrong_among}
 use Rattle.rw_inputs.specs.Edits.{Batch, edits_in}
 use Rattle.rw_inputs.specs.Records.{Fields}
 use Rattle.rw_inputs.specs.Row.{wrong, ◌>>=◌}
@@ -34,20 +34,20 @@ flat_empty [] = refl
 flat_empty (batch ∷ batches) = ap (λ all. batch ++ all) (flat_empty batches)
 
 -- the number is that of the last batch, once it is opened
-flat_with : (batches : List Batch) (number : ℕ) (edit : Edit) → length (opened batches number) ≡ number → 1 ≤ number
-    → edits_in (opened batches number) ≡ edits_in batches → edits_in (with_edit batches number edit) ≡ edits_in batches ++ edit ∷ []
+flat_with : (batches : List Batch) (number : ℕ) (edit : Edit) → length (batches_opened batches number) ≡ number → 1 ≤ number
+    → edits_in (batches_opened batches number) ≡ edits_in batches → edits_in (with_edit batches number edit) ≡ edits_in batches ++ edit ∷ []
 flat_with batches number edit last first same =
-    flat_end (opened batches number) edit (number - 1) (omega (arith, last, first)) ∙ ap (λ all. all ++ edit ∷ []) same
+    flat_end (batches_opened batches number) edit (number - 1) (omega (arith, last, first)) ∙ ap (λ all. all ++ edit ∷ []) same
 
 flat_opened : (batches : List Batch) (number : ℕ) (edit : Edit) → 1 ≤ number → (number ≡ length batches) ⊎ (number ≡ length batches + 1)
     → edits_in (with_edit batches number edit) ≡ edits_in batches ++ edit ∷ []
 flat_opened batches number edit first (inl here) =
     let there : nat_le number (length batches) ≡ true = grind (arith, nat_tests) in
-    let is : opened batches number ≡ batches = rw there refl in
+    let is : batches_opened batches number ≡ batches = rw there refl in
     flat_with batches number edit (ap length is ∙ sym here) first (ap edits_in is)
 flat_opened batches number edit first (inr next) =
     let there : nat_le number (length batches) ≡ false = grind (arith, nat_tests) in
-    let is : opened batches number ≡ batches ++ [] ∷ [] = rw there refl in
+    let is : batches_opened batches number ≡ batches ++ [] ∷ [] = rw there refl in
     flat_with batches number edit (ap length is ∙ length_push batches [] ∙ sym next) first (ap edits_in is ∙ flat_empty batches)
 
 -- ---- the number of a batch that is read
@@ -67,7 +67,7 @@ follows_by last batch false false some same is =
     let next : batch ≡ last + 1 = grind (arith, nat_tests) in
     (omega (arith, next), inr next)
 
-read_by : (last batch number : ℕ) (behind few : Bool) → follows last batch ≡ behind
+read_by : (last batch number : ℕ) (behind few : Bool) → batch_follows last batch ≡ behind
     → (if behind then (if few then Ok batch else wrong TooMany BatchPart) else wrong BatchOrder BatchPart) ≡ Ok number
     → (1 ≤ number) × ((number ≡ last) ⊎ (number ≡ last + 1))
 read_by last batch number true true behind is =
@@ -79,7 +79,7 @@ read_by last batch number false few behind is = absurd (cc)
 number_behind : (last number : ℕ) (reading : Option ℕ) → batch_behind last reading ≡ Ok number
     → (1 ≤ number) × ((number ≡ last) ⊎ (number ≡ last + 1))
 number_behind last number None is = absurd (cc)
-number_behind last number (Some batch) is = read_by last batch number (follows last batch) (nat_le batch BATCHES_MAX) refl is
+number_behind last number (Some batch) is = read_by last batch number (batch_follows last batch) (nat_le batch BATCHES_MAX) refl is
 
 -- ---- a row that is read
 
@@ -105,7 +105,7 @@ flat_number row batches more reading text (Ok number) read is =
 flat_number row batches more reading text (Err refusal) read is = absurd (cc)
 
 flat_row : (basin : Draft) (row : ℕ) (batches more : List Batch) (fields : Option (List ℕ × List ℕ × List ℕ × List ℕ))
-    → batches_with basin row batches fields ≡ Ok more → edits_in more ≡ edits_in batches ++ said_by basin fields
+    → batches_with basin row batches fields ≡ Ok more → edits_in more ≡ edits_in batches ++ edit_said_by basin fields
 flat_row basin row batches more None is = absurd (cc)
 flat_row basin row batches more (Some fields) is =
     flat_number row batches more (read_edit basin fields.1 fields.2 fields.3) fields.0 (read_batch (length batches) fields.0) refl is
@@ -116,11 +116,11 @@ flat_behind : (basin : Draft) (row : ℕ) (batches all : List Batch) (fields : F
     → batches_with basin row batches (four_fields fields) ≡ reading
     → ((more : List Batch) → more_batches basin (row + 1) more rows ≡ Ok all → edits_in all ≡ edits_in more ++ edits_said basin rows)
     → at_row row reading (λ more. more_batches basin (row + 1) more rows) ≡ Ok all
-    → edits_in all ≡ edits_in batches ++ (said_by basin (four_fields fields) ++ edits_said basin rows)
+    → edits_in all ≡ edits_in batches ++ (edit_said_by basin (four_fields fields) ++ edits_said basin rows)
 flat_behind basin row batches all fields rows (Ok more) read later is =
     later more is
     ∙ ap (λ edits. edits ++ edits_said basin rows) (flat_row basin row batches more (four_fields fields) read)
-    ∙ append_assoc (edits_in batches) (said_by basin (four_fields fields)) (edits_said basin rows)
+    ∙ append_assoc (edits_in batches) (edit_said_by basin (four_fields fields)) (edits_said basin rows)
 flat_behind basin row batches all fields rows (Err refusal) read later is = absurd (cc)
 
 flat_rows : (basin : Draft) (rows : List Fields) (row : ℕ) (batches all : List Batch) → more_batches basin row batches rows ≡ Ok all

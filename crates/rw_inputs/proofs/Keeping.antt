@@ -4,8 +4,8 @@ use Rattle.std.proofs.lemmas.List.{length-set}
 use Rattle.rw_model.proofs.Common.{Draft, IsSlot, IsBetween}
 use Rattle.rw_series.proofs.Bounds.{bounds-alike}
 use Rattle.rw_inputs.specs.declared.given.Given.{Given}
-use Rattle.rw_inputs.specs.Inputs.{Inputs, IsInputsOf, IsKeptValue, Keeps, column_of, given_at, gives, kept_slot, value_at}
-use Rattle.rw_inputs.specs.Column.{Column, HasMore, IsColumn, IsFree, IsTaken, value_in}
+use Rattle.rw_inputs.specs.Inputs.{Inputs, IsInputsOf, IsKeptValue, Keeps, slot_column, given_at, row_gives, kept_slot, value_at}
+use Rattle.rw_inputs.specs.Column.{Column, HasMore, IsColumn, IsFree, IsTakenWithin, value_in_column}
 use Rattle.rw_inputs.specs.Reading.{shares_cell}
 use Rattle.rw_inputs.specs.Sound.{IsGiven}
 use Rattle.rw_inputs.specs.Taking.{IsTwice, TakesGiven}
@@ -17,10 +17,10 @@ use Rattle.rw_inputs.proofs.Groups.{kept_slot-together, kept_slot-again}
 module _ (basin : Draft) (given : Given) (slot step : ℕ) where
   -- the next row comes behind one that doesn't give the cell a value
   append-behind : (row : Given) (rows : List Given)
-      → (gives basin given slot step ≡ true → given_at basin (row ∷ rows) slot step ≡ None)
-      → ((gives basin given slot step ≡ true → given_at basin rows slot step ≡ None)
-      → given_at basin (rows ++ given ∷ []) slot step ≡ (if gives basin given slot step then Some given.value else given_at basin rows slot step))
-      → (here : Bool) → gives basin row slot step ≡ here → (new : Bool) → gives basin given slot step ≡ new
+      → (row_gives basin given slot step ≡ true → given_at basin (row ∷ rows) slot step ≡ None)
+      → ((row_gives basin given slot step ≡ true → given_at basin rows slot step ≡ None)
+      → given_at basin (rows ++ given ∷ []) slot step ≡ (if row_gives basin given slot step then Some given.value else given_at basin rows slot step))
+      → (here : Bool) → row_gives basin row slot step ≡ here → (new : Bool) → row_gives basin given slot step ≡ new
       → (if here then Some row.value else given_at basin (rows ++ given ∷ []) slot step)
       ≡ (if new then Some given.value else (if here then Some row.value else given_at basin rows slot step))
   append-behind row rows free more true here true new = let none = rw here at (free new) in absurd (cc)
@@ -29,11 +29,11 @@ module _ (basin : Draft) (given : Given) (slot step : ℕ) where
       subst (λ test. given_at basin (rows ++ given ∷ []) slot step ≡ (if test then Some given.value else given_at basin rows slot step)) is
       (more (λ passes. rw here at (free passes)))
 
-  given_at-append : (rows : List Given) → (gives basin given slot step ≡ true → given_at basin rows slot step ≡ None)
-      → given_at basin (rows ++ given ∷ []) slot step ≡ (if gives basin given slot step then Some given.value else given_at basin rows slot step)
+  given_at-append : (rows : List Given) → (row_gives basin given slot step ≡ true → given_at basin rows slot step ≡ None)
+      → given_at basin (rows ++ given ∷ []) slot step ≡ (if row_gives basin given slot step then Some given.value else given_at basin rows slot step)
   given_at-append [] free = refl
   given_at-append (row ∷ rows) free =
-      append-behind row rows free (given_at-append rows) (gives basin row slot step) refl (gives basin given slot step) refl
+      append-behind row rows free (given_at-append rows) (row_gives basin row slot step) refl (row_gives basin given slot step) refl
 
 -- ---- where rows share a cell
 
@@ -46,20 +46,20 @@ not_here true x later none = absurd (cc)
 not_here false x later none = none
 
 module _ (basin : Draft) (given : Given) where
-  gives-parts : (row : Given) (slot step : ℕ) → gives basin row slot step ≡ true
+  gives-parts : (row : Given) (slot step : ℕ) → row_gives basin row slot step ≡ true
       → (slot ≡ kept_slot basin row.slot) × (row.first ≤ step) × (step ≤ row.last)
   gives-parts row slot step passes = (grind (arith, nat_tests), grind (arith, nat_tests), grind (arith, nat_tests))
 
-  gives-from : (row : Given) (slot step : ℕ) → slot ≡ kept_slot basin row.slot → row.first ≤ step → step ≤ row.last → gives basin row slot step ≡ true
+  gives-from : (row : Given) (slot step : ℕ) → slot ≡ kept_slot basin row.slot → row.first ≤ step → step ≤ row.last → row_gives basin row slot step ≡ true
   gives-from row slot step at from to = grind (arith, nat_tests)
 
-  shares-from : (row : Given) (step : ℕ) → gives basin row (kept_slot basin given.slot) step ≡ true → given.first ≤ step → step ≤ given.last
+  shares-from : (row : Given) (step : ℕ) → row_gives basin row (kept_slot basin given.slot) step ≡ true → given.first ≤ step → step ≤ given.last
       → shares_cell basin given row ≡ true
   shares-from row step passes from to = let parts = gives-parts row (kept_slot basin given.slot) step passes in grind (arith, nat_tests)
 
   taken_at : (row : Given) (rows : List Given) (step : ℕ) → given.first ≤ step → step ≤ given.last
       → (given_at basin rows (kept_slot basin given.slot) step ≢ None → list_any (shares_cell basin given) rows ≡ true)
-      → (here : Bool) → gives basin row (kept_slot basin given.slot) step ≡ here
+      → (here : Bool) → row_gives basin row (kept_slot basin given.slot) step ≡ here
       → (if here then Some row.value else given_at basin rows (kept_slot basin given.slot) step) ≢ None
       → list_any (shares_cell basin given) (row ∷ rows) ≡ true
   taken_at row rows step from to more true here taken = rw (shares-from row step here from to) refl
@@ -69,11 +69,11 @@ module _ (basin : Draft) (given : Given) where
       → given_at basin rows (kept_slot basin given.slot) step ≢ None → list_any (shares_cell basin given) rows ≡ true
   taken_shares [] step from to taken = absurd (taken refl)
   taken_shares (row ∷ rows) step from to taken =
-      taken_at row rows step from to (taken_shares rows step from to) (gives basin row (kept_slot basin given.slot) step) refl taken
+      taken_at row rows step from to (taken_shares rows step from to) (row_gives basin row (kept_slot basin given.slot) step) refl taken
 
   -- the timestep that both have
   shared_step : (row : Given) → shares_cell basin given row ≡ true
-      → (step : ℕ) × (given.first ≤ step) × (step ≤ given.last) × (gives basin row (kept_slot basin given.slot) step ≡ true)
+      → (step : ℕ) × (given.first ≤ step) × (step ≤ given.last) × (row_gives basin row (kept_slot basin given.slot) step ≡ true)
   shared_step row shares =
       let same : kept_slot basin given.slot ≡ kept_slot basin row.slot = grind (arith, nat_tests) in
       let between : max given.first row.first ≤ min given.last row.last = grind (arith, nat_tests) in
@@ -88,7 +88,7 @@ module _ (basin : Draft) (given : Given) where
       let at = shared_step row shares in
       let none = rw at.3 at (free at.0 at.1 at.2) in
       absurd (cc)
-  free_at row rows free more false shares = rw shares (more (λ step from to. not_here (gives basin row (kept_slot basin given.slot) step) row.value (given_at basin rows (kept_slot basin given.slot) step) (free step from to)))
+  free_at row rows free more false shares = rw shares (more (λ step from to. not_here (row_gives basin row (kept_slot basin given.slot) step) row.value (given_at basin rows (kept_slot basin given.slot) step) (free step from to)))
 
   free_shares : (rows : List Given)
       → ((step : ℕ) → given.first ≤ step → step ≤ given.last → given_at basin rows (kept_slot basin given.slot) step ≡ None)
@@ -100,7 +100,7 @@ module _ (basin : Draft) (given : Given) where
 
 -- where a row gives a value to a slot, the slot can have it
 kept_at-sound : (basin : Draft) (given : Given) (old : Inputs) (slot step : ℕ) (value : ℤ) → IsInputsOf basin old → IsGiven basin given
-    → (here : Bool) → gives basin given slot step ≡ here → (if here then Some given.value else value_at old slot step) ≡ Some value
+    → (here : Bool) → row_gives basin given slot step ≡ here → (if here then Some given.value else value_at old slot step) ≡ Some value
     → IsKeptValue basin slot value
 kept_at-sound basin given old slot step value made sound true here is =
     let parts = gives-parts basin given given slot step here in
@@ -115,30 +115,30 @@ kept_at-sound basin given old slot step value made sound false here is = made.so
 -- a row's values are put in the column at which they are kept
 module _ (basin : Draft) (given : Given) (old new : Inputs) (column : Column) (made : IsInputsOf basin old) (sound : IsGiven basin given)
     (near : kept_slot basin given.slot < length old.columns) (set : new.columns ≡ slice_set old.columns (kept_slot basin given.slot) column)
-    (more : HasMore given.value given.first given.last (column_of old.columns (kept_slot basin given.slot)) column) where
-  value-more : (slot step : ℕ) → value_at new slot step ≡ (if gives basin given slot step then Some given.value else value_at old slot step)
+    (more : HasMore given.value given.first given.last (slot_column old.columns (kept_slot basin given.slot)) column) where
+  value-more : (slot step : ℕ) → value_at new slot step ≡ (if row_gives basin given slot step then Some given.value else value_at old slot step)
   value-more slot step =
-      ap (λ columns. value_in (column_of columns slot) step) set
+      ap (λ columns. value_in_column (slot_column columns slot) step) set
       ∙ set-more old.columns (kept_slot basin given.slot) column near given.first given.last (Some given.value) more slot step
 
   made-more : IsColumn basin.control.stamps.count column → IsInputsOf basin new
   made-more whole = record {
     slots = ap length set ∙ length-set old.columns (kept_slot basin given.slot) column ∙ made.slots;
     steps = λ slot.
-        subst (λ columns. IsColumn basin.control.stamps.count (column_of columns slot)) (sym set)
+        subst (λ columns. IsColumn basin.control.stamps.count (slot_column columns slot)) (sym set)
         (set-column old.columns (kept_slot basin given.slot) column near basin.control.stamps.count whole made.steps slot);
     sound = λ slot step value is.
-        kept_at-sound basin given old slot step value made sound (gives basin given slot step) refl (sym (value-more slot step) ∙ is);
+        kept_at-sound basin given old slot step value made sound (row_gives basin given slot step) refl (sym (value-more slot step) ∙ is);
   }
 
   -- nothing was kept there yet
   Keeps-more : (rows : List Given) → IsColumn basin.control.stamps.count column → Keeps basin rows old
-      → IsFree (column_of old.columns (kept_slot basin given.slot)) given.first given.last
+      → IsFree (slot_column old.columns (kept_slot basin given.slot)) given.first given.last
       → (list_any (shares_cell basin given) rows ≡ false) × Keeps basin (rows ++ given ∷ []) new
   Keeps-more rows whole kept free =
       let unkept : ((step : ℕ) → given.first ≤ step → step ≤ given.last → given_at basin rows (kept_slot basin given.slot) step ≡ None) =
       λ step from to. sym (kept.values (kept_slot basin given.slot) step) ∙ free step from to in
-      let none : ((slot step : ℕ) → gives basin given slot step ≡ true → given_at basin rows slot step ≡ None) =
+      let none : ((slot step : ℕ) → row_gives basin given slot step ≡ true → given_at basin rows slot step ≡ None) =
       λ slot step passes.
       let parts = gives-parts basin given given slot step passes in
       ap (λ s. given_at basin rows s step) parts.0 ∙ unkept step parts.1 parts.2 in (
@@ -147,14 +147,14 @@ module _ (basin : Draft) (given : Given) (old new : Inputs) (column : Column) (m
           made = made-more whole;
           values = λ slot step.
               value-more slot step
-              ∙ ap (λ value. if gives basin given slot step then Some given.value else value) (kept.values slot step)
+              ∙ ap (λ value. if row_gives basin given slot step then Some given.value else value) (kept.values slot step)
               ∙ sym (given_at-append basin given slot step rows (none slot step));
         },
       )
 
 -- a cell of a row that has a value already
 taken-shares : (basin : Draft) (given : Given) (rows : List Given) (old : Inputs) → Keeps basin rows old
-    → IsTaken (column_of old.columns (kept_slot basin given.slot)) given.first given.last
+    → IsTakenWithin (slot_column old.columns (kept_slot basin given.slot)) given.first given.last
     → list_any (shares_cell basin given) rows ≡ true
 taken-shares basin given rows old kept taken =
     taken_shares basin given rows taken.step taken.from taken.to
@@ -165,7 +165,7 @@ pub record Taking (basin : Draft) (given : Given) (old new : Inputs) (before aft
   pub nothing : after ≡ before → new.columns ≡ old.columns
   pub made : HasMore given.value given.first given.last before after → IsInputsOf basin new
   pub takes : IsFree before given.first given.last → HasMore given.value given.first given.last before after → TakesGiven basin given old new
-  pub twice : IsTaken before given.first given.last → IsTwice basin given old
+  pub twice : IsTakenWithin before given.first given.last → IsTwice basin given old
 
 module _ (basin : Draft) (given : Given) (old new : Inputs) (slot steps : ℕ) (before after : Column) (made : IsInputsOf basin old) (sound : IsGiven basin given)
     (at : slot ≡ kept_slot basin given.slot) (known : IsSlot basin.objects slot) (run : steps ≡ basin.control.stamps.count)
@@ -173,11 +173,11 @@ module _ (basin : Draft) (given : Given) (old new : Inputs) (slot steps : ℕ) (
   near : kept_slot basin given.slot < length old.columns
   near = omega (arith, at, known.last, made.slots)
 
-  was_there : before ≡ column_of old.columns slot
+  was_there : before ≡ slot_column old.columns slot
   was_there = was ∙ get_or_default old.columns slot before [] (omega (arith, at, near))
 
-  was_kept : before ≡ column_of old.columns (kept_slot basin given.slot)
-  was_kept = was_there ∙ ap (column_of old.columns) at
+  was_kept : before ≡ slot_column old.columns (kept_slot basin given.slot)
+  was_kept = was_there ∙ ap (slot_column old.columns) at
 
   now_kept : new.columns ≡ slice_set old.columns (kept_slot basin given.slot) after
   now_kept = set ∙ ap (λ s. slice_set old.columns s after) at
@@ -186,7 +186,7 @@ module _ (basin : Draft) (given : Given) (old new : Inputs) (slot steps : ℕ) (
   whole_run = subst (λ n. IsColumn n after) run whole
 
   more_kept : HasMore given.value given.first given.last before after
-      → HasMore given.value given.first given.last (column_of old.columns (kept_slot basin given.slot)) after
+      → HasMore given.value given.first given.last (slot_column old.columns (kept_slot basin given.slot)) after
   more_kept more = subst (λ column. HasMore given.value given.first given.last column after) was_kept more
 
   pub taking : Taking basin given old new before after
@@ -196,5 +196,5 @@ module _ (basin : Draft) (given : Given) (old new : Inputs) (slot steps : ℕ) (
     takes = λ free more rows kept.
         Keeps-more basin given old new after made sound near now_kept (more_kept more) rows whole_run kept
         (subst (λ column. IsFree column given.first given.last) was_kept free);
-    twice = λ taken rows kept. taken-shares basin given rows old kept (subst (λ column. IsTaken column given.first given.last) was_kept taken);
+    twice = λ taken rows kept. taken-shares basin given rows old kept (subst (λ column. IsTakenWithin column given.first given.last) was_kept taken);
   }

@@ -1,22 +1,22 @@
 -- Values, of which those are kept that are given.
 use Rattle.rw_base.proofs.Common.{◌≡◌, ◌≢◌, ℕ, zero, suc, ◌+◌, ◌==◌, ◌<◌, ◌≤◌, ◌&&◌, Bool, MatchBool, not, true, false, if◌then◌else◌, List, [], ◌∷◌, length, Some, None, inl, inr, refl, sym, ap, ◌∙◌, arith, ℤ, nat_le, slice_index_or, slice_set, nat_tests, get_or-set_same, get_or-set_other, get_or_past, dec_lt}
-use Rattle.rw_inputs.specs.Column.{Column, HasPlaces, IsColumn, IsPaired, IsSet, given_values, value_in}
+use Rattle.rw_inputs.specs.Column.{Column, HasPlaces, IsColumn, IsPaired, IsSet, given_values, value_in_column}
 
 -- what is kept at a timestep is what stands in its place, where that is given
-pub not-given : (given : List Bool) (values : List ℤ) (step : ℕ) → slice_index_or given step false ≡ false → value_in (given_values given values) step ≡ None
+pub not-given : (given : List Bool) (values : List ℤ) (step : ℕ) → slice_index_or given step false ≡ false → value_in_column (given_values given values) step ≡ None
 not-given [] values step none = refl
 not-given (g ∷ given) [] step none = refl
 not-given (g ∷ given) (v ∷ values) zero none = ap (λ g. if g then Some v else None) none
 not-given (g ∷ given) (v ∷ values) (suc step) none = not-given given values step none
 
-pub past-given : (given : List Bool) (values : List ℤ) (step : ℕ) → length values ≤ step → value_in (given_values given values) step ≡ None
+pub past-given : (given : List Bool) (values : List ℤ) (step : ℕ) → length values ≤ step → value_in_column (given_values given values) step ≡ None
 past-given [] values step past = refl
 past-given (g ∷ given) [] step past = refl
 past-given (g ∷ given) (v ∷ values) zero past = absurd (omega (arith, past))
 past-given (g ∷ given) (v ∷ values) (suc step) past = let rest : length values ≤ step = omega (arith, past) in past-given given values step rest
 
 pub is-given : (given : List Bool) (values : List ℤ) (step : ℕ) (d : ℤ) → slice_index_or given step false ≡ true → step < length values
-    → value_in (given_values given values) step ≡ Some (slice_index_or values step d)
+    → value_in_column (given_values given values) step ≡ Some (slice_index_or values step d)
 is-given [] values step d there near = absurd (cc)
 is-given (g ∷ given) [] step d there near = absurd (omega (arith, near))
 is-given (g ∷ given) (v ∷ values) zero d there near = ap (λ g. if g then Some v else None) there
@@ -52,22 +52,22 @@ pub more-given : (given : List Bool) (values : List ℤ) (old : Column) (first b
     → first ≤ before + 1 → before + 1 < length values → IsSet (if kept then Some value else None) first before old (given_values given values)
     → IsSet (if kept then Some value else None) first (before + 1) old (given_values (slice_set given (before + 1) kept) (slice_set values (before + 1) value))
 more-given given values old first before kept value same from near more step =
-    ap (λ column. value_in column step) (set-given given values (before + 1) kept value same) ∙ at_step (step == before + 1) refl
+    ap (λ column. value_in_column column step) (set-given given values (before + 1) kept value same) ∙ at_step (step == before + 1) refl
   where
     at_step : (here : Bool) → (step == before + 1) ≡ here
-        → value_in (slice_set (given_values given values) (before + 1) (if kept then Some value else None)) step
-        ≡ (if nat_le first step && nat_le step (before + 1) then (if kept then Some value else None) else value_in old step)
+        → value_in_column (slice_set (given_values given values) (before + 1) (if kept then Some value else None)) step
+        ≡ (if nat_le first step && nat_le step (before + 1) then (if kept then Some value else None) else value_in_column old step)
     at_step true here =
         let at : step ≡ before + 1 = grind (arith, nat_tests) in
         let within : (nat_le first step && nat_le step (before + 1)) ≡ true = grind (arith, nat_tests) in
         let size = length-given given values same in
-        rw within (ap (value_in (slice_set (given_values given values) (before + 1) (if kept then Some value else None))) at ∙ get_or-set_same (given_values given values) (before + 1) (if kept then Some value else None) None (omega (arith, size)))
+        rw within (ap (value_in_column (slice_set (given_values given values) (before + 1) (if kept then Some value else None))) at ∙ get_or-set_same (given_values given values) (before + 1) (if kept then Some value else None) None (omega (arith, size)))
     at_step false there =
         let apart : step ≢ before + 1 = λ at. absurd (grind (arith, nat_tests)) in
         let tests : nat_le step (before + 1) ≡ nat_le step before = grind (arith, nat_tests) in
         get_or-set_other (given_values given values) (before + 1) step (if kept then Some value else None) None apart
         ∙ more step
-        ∙ ap (λ last. if nat_le first step && last then (if kept then Some value else None) else value_in old step) (sym tests)
+        ∙ ap (λ last. if nat_le first step && last then (if kept then Some value else None) else value_in_column old step) (sym tests)
 
 -- ---- places
 
@@ -91,8 +91,8 @@ has-places steps given values some (inr same) (inr whole) =
     record { each_given = omega (arith, size, same, whole); each_value = omega (arith, size, whole) }
 
 -- where there are no places yet, nothing has to be taken away
-none_there : (step : ℕ) (within : Bool) (column : Column) → column ≡ [] → value_in column step ≡ (if within then None else value_in column step)
-none_there step true column none = ap (λ column. value_in column step) none
+none_there : (step : ℕ) (within : Bool) (column : Column) → column ≡ [] → value_in_column column step ≡ (if within then None else value_in_column column step)
+none_there step true column none = ap (λ column. value_in_column column step) none
 none_there step false column none = refl
 
 pub cleared : (steps first last : ℕ) (given : List Bool) (values : List ℤ) → IsPaired given values → IsColumn steps (given_values given values)

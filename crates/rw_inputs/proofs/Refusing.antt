@@ -7,22 +7,22 @@ use Rattle.rw_inputs.specs.declared.fault.InputFault.{InputFault}
 use Rattle.rw_inputs.specs.declared.fault.InputFault.TheVariants.{NoMemory}
 use Rattle.rw_inputs.specs.declared.given.Given.{Given}
 use Rattle.rw_inputs.specs.Records.{Fields}
-use Rattle.rw_inputs.specs.Refusal.{InputRefusal, refusal_of, Tells}
+use Rattle.rw_inputs.specs.Refusal.{InputRefusal, refusal_of, TellsInput}
 use Rattle.rw_inputs.specs.Inputs.{Inputs, Keeps}
-use Rattle.rw_inputs.specs.Reading.{givens, first_refusal, values_of}
+use Rattle.rw_inputs.specs.Reading.{givens, first_refusal, values_read}
 use Rattle.rw_inputs.specs.Taking.{RefusesRow}
 
 pub tells-fault : {X : Type 0} (result : Result X InputFault) (fault : InputFault) (due : Option InputRefusal)
-    → IsErrAnd result (λ e. e ≡ fault) → Tells fault due → IfErr result (λ e. Tells e due)
+    → IsErrAnd result (λ e. e ≡ fault) → TellsInput fault due → IfErr result (λ e. TellsInput e due)
 tells-fault (Ok x) fault due same tells = absurd same
-tells-fault (Err e) fault due same tells = subst (λ e. Tells e due) (sym same) tells
+tells-fault (Err e) fault due same tells = subst (λ e. TellsInput e due) (sym same) tells
 
 -- the refusal of a row is that of all that are left
 pub row_refused : (basin : Draft) (number : ℕ) (before old rows : List Fields) (row : Fields) (inputs : Inputs) (fault : InputFault) (due : Option InputRefusal)
     → old ≡ row ∷ rows → first_refusal basin number before old ≡ due → Keeps basin (givens basin before) inputs
-    → RefusesRow basin number row inputs fault → Tells fault due
+    → RefusesRow basin number row inputs fault → TellsInput fault due
 row_refused basin number before old rows row inputs fault due next is kept refuses =
-    subst (Tells fault) (sym (ap (first_refusal basin number before) next) ∙ is)
+    subst (TellsInput fault) (sym (ap (first_refusal basin number before) next) ∙ is)
     (refuses before kept (first_refusal basin (number + 1) (before ++ row ∷ []) rows))
 
 -- a call that hands on a fault answers what it tells
@@ -33,5 +33,5 @@ answers-fault seen (Err e) fault reading same why = subst (IsWhy NoMemory refusa
 
 -- what refuses the records refuses what they give
 pub values-fault : (basin : Draft) (fault : InputFault) (reading : Result (List Given) InputRefusal)
-    → IsWhy NoMemory refusal_of reading fault → IsWhy NoMemory refusal_of (values_of basin reading) fault
-values-fault basin fault reading why = ((λ refusal is. ap (values_of basin) (why.0 refusal is)), why.1)
+    → IsWhy NoMemory refusal_of reading fault → IsWhy NoMemory refusal_of (values_read basin reading) fault
+values-fault basin fault reading why = ((λ refusal is. ap (values_read basin) (why.0 refusal is)), why.1)

@@ -7,8 +7,8 @@ use Rattle.rw_model.specs.Links.{IsBetween, bounds_in}
 use Rattle.rw_series.proofs.Bounds.{bounds-alike}
 use Rattle.rw_inputs.specs.declared.edit.Edit.{Edit}
 use Rattle.rw_inputs.specs.Edits.{IsEdit, after_edit, names}
-use Rattle.rw_inputs.specs.Inputs.{Inputs, IsInputsOf, IsKeptValue, column_of, kept_slot, value_at}
-use Rattle.rw_inputs.specs.Column.{Column, IsColumn, IsSet, value_in}
+use Rattle.rw_inputs.specs.Inputs.{Inputs, IsInputsOf, IsKeptValue, slot_column, kept_slot, value_at}
+use Rattle.rw_inputs.specs.Column.{Column, IsColumn, IsSet, value_in_column}
 use Rattle.rw_inputs.proofs.Columns.{set-column, set-more}
 use Rattle.rw_inputs.proofs.Groups.{kept_slot-again, kept_slot-together}
 
@@ -50,11 +50,11 @@ module _ (basin : Draft) (edit : Edit) (old new : Inputs) (slot steps : ℕ) (be
   near : edit.slot < length old.columns
   near = omega (arith, sound.slot.last, made.slots)
 
-  was_there : before ≡ column_of old.columns slot
+  was_there : before ≡ slot_column old.columns slot
   was_there = was ∙ get_or_default old.columns slot before [] (omega (arith, at, near))
 
-  was_kept : before ≡ column_of old.columns edit.slot
-  was_kept = was_there ∙ ap (column_of old.columns) at
+  was_kept : before ≡ slot_column old.columns edit.slot
+  was_kept = was_there ∙ ap (slot_column old.columns) at
 
   now_kept : new.columns ≡ slice_set old.columns edit.slot after
   now_kept = set ∙ ap (λ s. slice_set old.columns s after) at
@@ -62,7 +62,7 @@ module _ (basin : Draft) (edit : Edit) (old new : Inputs) (slot steps : ℕ) (be
   value-set : IsSet edit.value edit.first edit.last before after → (slot step : ℕ)
       → value_at new slot step ≡ after_edit edit (value_at old) slot step
   value-set is slot step =
-      ap (λ columns. value_in (column_of columns slot) step) now_kept
+      ap (λ columns. value_in_column (slot_column columns slot) step) now_kept
       ∙ set-more old.columns edit.slot after near edit.first edit.last edit.value
       (subst (λ column. IsSet edit.value edit.first edit.last column after) was_kept is) slot step
 
@@ -72,7 +72,7 @@ module _ (basin : Draft) (edit : Edit) (old new : Inputs) (slot steps : ℕ) (be
     made = λ is. record {
       slots = ap length now_kept ∙ length-set old.columns edit.slot after ∙ made.slots;
       steps = λ slot.
-          subst (λ columns. IsColumn basin.control.stamps.count (column_of columns slot)) (sym now_kept)
+          subst (λ columns. IsColumn basin.control.stamps.count (slot_column columns slot)) (sym now_kept)
           (set-column old.columns edit.slot after near basin.control.stamps.count (subst (λ n. IsColumn n after) run whole) made.steps slot);
       sound = λ slot step value kept.
           sound_after basin edit old slot step value made sound (names edit slot step) refl (sym (value-set is slot step) ∙ kept);

@@ -21,33 +21,33 @@ pub record HasPlaces (steps : ℕ) (given : List Bool) (values : List ℤ) : Typ
   pub each_value : length values ≡ steps + 1
 
 -- what is kept at a timestep
-abbrev pub value_in : Column → ℕ → Option ℤ
-value_in column step = slice_index_or column step None
+abbrev pub value_in_column : Column → ℕ → Option ℤ
+value_in_column column step = slice_index_or column step None
 
 -- a column of a run of so many timesteps: it has a place for each, or none at all
 abbrev pub IsColumn : ℕ → Column → Type 0
 IsColumn steps column = (column ≡ []) ⊎ (length column ≡ steps + 1)
 
 -- values, and which of them are given, that make a column of so many timesteps
-pub record IsKept (steps : ℕ) (given : List Bool) (values : List ℤ) : Type 0 where
+pub record IsKeptColumn (steps : ℕ) (given : List Bool) (values : List ℤ) : Type 0 where
   pub paired : IsPaired given values
   pub column : IsColumn steps (given_values given values)
 
 -- nothing is kept from one timestep to another
 abbrev pub IsFree : Column → ℕ → ℕ → Type 0
-IsFree column first last = (step : ℕ) → first ≤ step → step ≤ last → value_in column step ≡ None
+IsFree column first last = (step : ℕ) → first ≤ step → step ≤ last → value_in_column column step ≡ None
 
 -- something is kept there
-pub record IsTaken (column : Column) (first last : ℕ) : Type 0 where
+pub record IsTakenWithin (column : Column) (first last : ℕ) : Type 0 where
   pub step : ℕ
   pub from : first ≤ step
   pub to : step ≤ last
-  pub taken : value_in column step ≢ None
+  pub taken : value_in_column column step ≢ None
 
 -- a value, or none, is kept from one timestep to another, and else what was kept before
 abbrev pub IsSet : Option ℤ → ℕ → ℕ → Column → Column → Type 0
 IsSet value first last old new =
-    (step : ℕ) → value_in new step ≡ (if nat_le first step && nat_le step last then value else value_in old step)
+    (step : ℕ) → value_in_column new step ≡ (if nat_le first step && nat_le step last then value else value_in_column old step)
 
 -- the value is kept there
 abbrev pub HasMore : ℤ → ℕ → ℕ → Column → Column → Type 0

@@ -19,13 +19,13 @@ use Rattle.rw_inputs.specs.Edits.{Batch}
 -- ---- the batch, in column 1
 
 -- the number can stand behind a row of the last batch, whose number is 0 where there is none
-abbrev pub follows : ℕ → ℕ → Bool
-follows last batch = if last == 0 then batch == 1 else (batch == last || batch == last + 1)
+abbrev pub batch_follows : ℕ → ℕ → Bool
+batch_follows last batch = if last == 0 then batch == 1 else (batch == last || batch == last + 1)
 
 abbrev pub batch_behind : ℕ → Option ℕ → Result ℕ Wrong
 batch_behind last None = wrong NotANumber BatchPart
 batch_behind last (Some batch) =
-    if follows last batch
+    if batch_follows last batch
     then (if nat_le batch BATCHES_MAX then Ok batch else wrong TooMany BatchPart)
     else wrong BatchOrder BatchPart
 
@@ -63,14 +63,14 @@ said (Ok edit) = edit ∷ []
 said (Err wrong) = []
 
 -- the edit that a row of four fields says
-abbrev pub said_by : Draft → Option (List ℕ × List ℕ × List ℕ × List ℕ) → List Edit
-said_by basin None = []
-said_by basin (Some fields) = said (read_edit basin fields.1 fields.2 fields.3)
+abbrev pub edit_said_by : Draft → Option (List ℕ × List ℕ × List ℕ × List ℕ) → List Edit
+edit_said_by basin None = []
+edit_said_by basin (Some fields) = said (read_edit basin fields.1 fields.2 fields.3)
 
 -- what rows say, whatever their batches, those left out with which something is wrong by themselves
 abbrev pub edits_said : Draft → List Fields → List Edit
 edits_said basin [] = []
-edits_said basin (fields ∷ rows) = said_by basin (four_fields fields) ++ edits_said basin rows
+edits_said basin (fields ∷ rows) = edit_said_by basin (four_fields fields) ++ edits_said basin rows
 
 -- ---- behind the rows before it
 
@@ -83,13 +83,13 @@ abbrev pub batch_at : List Batch → ℕ → Batch
 batch_at batches number = slice_index_or batches (number - 1) []
 
 -- the batches up to the one of this number, which is the last one or the one behind it
-abbrev pub opened : List Batch → ℕ → List Batch
-opened batches number = if nat_le number (length batches) then batches else batches ++ [] ∷ []
+abbrev pub batches_opened : List Batch → ℕ → List Batch
+batches_opened batches number = if nat_le number (length batches) then batches else batches ++ [] ∷ []
 
 -- the batches, with the edit at the end of the one of this number
 abbrev pub with_edit : List Batch → ℕ → Edit → List Batch
 with_edit batches number edit =
-    slice_set (opened batches number) (number - 1) (batch_at (opened batches number) number ++ edit ∷ [])
+    slice_set (batches_opened batches number) (number - 1) (batch_at (batches_opened batches number) number ++ edit ∷ [])
 
 -- what is wrong with an edit behind others: an earlier one of its batch names one of its cells, or too many rows stand before
 -- it. The header is row 1

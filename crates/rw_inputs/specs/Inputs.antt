@@ -4,32 +4,32 @@ use Rattle.rw_model.specs.Objects.{all_slots}
 use Rattle.rw_model.specs.Draft.{Draft}
 use Rattle.rw_model.specs.Links.{IsBetween, group_of, bounds_in}
 use Rattle.rw_inputs.specs.declared.given.Given.{Given}
-use Rattle.rw_inputs.specs.Column.{Column, IsColumn, value_in}
+use Rattle.rw_inputs.specs.Column.{Column, IsColumn, value_in_column}
 
 -- a column for each slot. These count from 1, so an empty one stands in the first place
 pub record Inputs : Type 0 where
   pub columns : List Column
 
 -- the column of a slot
-abbrev pub column_of : List Column → ℕ → Column
-column_of columns slot = slice_index_or columns slot []
+abbrev pub slot_column : List Column → ℕ → Column
+slot_column columns slot = slice_index_or columns slot []
 
 -- what is kept of a slot at a timestep
 abbrev pub value_at : Inputs → ℕ → ℕ → Option ℤ
-value_at inputs slot step = value_in (column_of inputs.columns slot) step
+value_at inputs slot step = value_in_column (slot_column inputs.columns slot) step
 
 -- the slot at which a slot's values are kept: the least of those that carry one value with it
 abbrev pub kept_slot : Draft → ℕ → ℕ
 kept_slot basin slot = slice_index_or (group_of basin.objects basin.links slot) 0 slot
 
 -- the row gives a value to a slot at a timestep, as it is kept
-abbrev pub gives : Draft → Given → ℕ → ℕ → Bool
-gives basin given slot step = slot == kept_slot basin given.slot && (nat_le given.first step && nat_le step given.last)
+abbrev pub row_gives : Draft → Given → ℕ → ℕ → Bool
+row_gives basin given slot step = slot == kept_slot basin given.slot && (nat_le given.first step && nat_le step given.last)
 
 -- the value that one of the rows gives to a slot at a timestep
 abbrev pub given_at : Draft → List Given → ℕ → ℕ → Option ℤ
 given_at basin [] slot step = None
-given_at basin (given ∷ rows) slot step = if gives basin given slot step then Some given.value else given_at basin rows slot step
+given_at basin (given ∷ rows) slot step = if row_gives basin given slot step then Some given.value else given_at basin rows slot step
 
 -- a value that is kept of a slot: the slot is the least of those that carry one value with it, and can have the value
 pub record IsKeptValue (basin : Draft) (slot : ℕ) (value : ℤ) : Type 0 where
@@ -39,7 +39,7 @@ pub record IsKeptValue (basin : Draft) (slot : ℕ) (value : ℤ) : Type 0 where
 -- inputs made for the basin: they have its slots and timesteps, and keep values where and as the basin can have them
 pub record IsInputsOf (basin : Draft) (inputs : Inputs) : Type 0 where
   pub slots : length inputs.columns ≡ length (all_slots basin.objects) + 1
-  pub steps : (slot : ℕ) → IsColumn basin.control.stamps.count (column_of inputs.columns slot)
+  pub steps : (slot : ℕ) → IsColumn basin.control.stamps.count (slot_column inputs.columns slot)
   pub sound : (slot step : ℕ) (value : ℤ) → value_at inputs slot step ≡ Some value → IsKeptValue basin slot value
 
 -- inputs made for the basin, which keep what the rows give, and nothing else

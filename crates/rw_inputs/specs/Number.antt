@@ -12,12 +12,12 @@ number_after n [] = n
 number_after n (digit ∷ digits) = number_after (n * 10 + (digit - 48)) digits
 
 -- 1 to 18 digits
-abbrev pub is_number : List ℕ → Bool
-is_number text = (nat_le 1 (length text) && nat_le (length text) 18) && list_all is_digit text
+abbrev pub is_number_text : List ℕ → Bool
+is_number_text text = (nat_le 1 (length text) && nat_le (length text) 18) && list_all is_digit text
 
 -- the number that a text of 1 to 18 digits spells
 abbrev pub read_number : List ℕ → Option ℕ
-read_number text = if is_number text then Some (number_after 0 text) else None
+read_number text = if is_number_text text then Some (number_after 0 text) else None
 
 -- the same, and behind a `-` the number below 0
 abbrev pub read_signed : List ℕ → Option ℤ
@@ -31,5 +31,5 @@ place_from place byte [] = None
 place_from place byte (b ∷ text) = if b == byte then Some place else place_from (place + 1) byte text
 
 -- the first place of the byte in a text, counted from 0
-abbrev pub position_of : ℕ → List ℕ → Option ℕ
-position_of byte text = place_from 0 byte text
+abbrev pub byte_position : ℕ → List ℕ → Option ℕ
+byte_position byte text = place_from 0 byte text

@@ -72,13 +72,13 @@ read_records basin [] = Err (refused_at Header 1 0)
 read_records basin (header ∷ rows) = if is_header header then read_rows basin rows else Err (refused_at Header 1 0)
 
 -- a value or none for each slot at each timestep, by what rows give
-abbrev pub values_of : Draft → Result (List Given) InputRefusal → Result (ℕ → ℕ → Option ℤ) InputRefusal
-values_of basin (Ok rows) = Ok (given_at basin rows)
-values_of basin (Err refusal) = Err refusal
+abbrev pub values_read : Draft → Result (List Given) InputRefusal → Result (ℕ → ℕ → Option ℤ) InputRefusal
+values_read basin (Ok rows) = Ok (given_at basin rows)
+values_read basin (Err refusal) = Err refusal
 
 -- the values that a text gives, or why it is refused
 abbrev pub inputs_of : Draft → List ℕ → Result (ℕ → ℕ → Option ℤ) InputRefusal
-inputs_of basin text = values_of basin (read_records basin (records_of text))
+inputs_of basin text = values_read basin (read_records basin (records_of text))
 
 -- the text reads as inputs, which are made for the basin
 pub record Reads (basin : Draft) (text : List ℕ) (inputs : Inputs) : Type 0 where

@@ -15,5 +15,5 @@ refusal_of (Refused kind row column) = Some (refused_at kind row column)
 refusal_of NoMemory = None
 
 -- the fault tells the refusal that is due, or is want of memory
-abbrev pub Tells : InputFault → Option InputRefusal → Type 0
-Tells fault due = ForSome (refusal_of fault) (λ refusal. due ≡ Some refusal) × (refusal_of fault ≡ None → fault ≡ NoMemory)
+abbrev pub TellsInput : InputFault → Option InputRefusal → Type 0
+TellsInput fault due = ForSome (refusal_of fault) (λ refusal. due ≡ Some refusal) × (refusal_of fault ≡ None → fault ≡ NoMemory)

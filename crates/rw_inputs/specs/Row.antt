@@ -13,7 +13,7 @@ use Rattle.rw_inputs.specs.declared.wrong.Part.TheVariants.{Row, Slot, Step, Val
 use Rattle.rw_inputs.specs.declared.wrong.Wrong.{Wrong}
 use Rattle.rw_inputs.specs.declared.given.Given.{Given}
 use Rattle.rw_inputs.specs.declared.span.Span.{Span}
-use Rattle.rw_inputs.specs.Number.{read_number, read_signed, position_of}
+use Rattle.rw_inputs.specs.Number.{read_number, read_signed, byte_position}
 
 -- what is wrong, with a part of a row
 abbrev pub wrong : {A : Type 0} → InputKind → Part → Result A Wrong
@@ -32,15 +32,15 @@ slot_of_names basin object slot = if is_utf8 object && is_utf8 slot then slot_na
 
 -- the slot that a text names: its object and its own name stand before and behind the first `.`
 abbrev pub slot_of_text : Draft → List ℕ → Option ℕ
-slot_of_text basin text = option_and_then (λ dot. slot_of_names basin (take dot text) (drop (dot + 1) text)) (position_of 46 text)
+slot_of_text basin text = option_and_then (λ dot. slot_of_names basin (take dot text) (drop (dot + 1) text)) (byte_position 46 text)
 
 -- inputs can set the slot
-abbrev pub can_set : Draft → ℕ → Bool
-can_set basin slot = unwrap_or (option_map (λ placed. is_settable placed.slot.role) (slot_at basin.objects slot)) false
+abbrev pub can_be_given : Draft → ℕ → Bool
+can_be_given basin slot = unwrap_or (option_map (λ placed. is_settable placed.slot.role) (slot_at basin.objects slot)) false
 
 abbrev pub set_slot : Draft → Option ℕ → Result ℕ Wrong
 set_slot basin None = wrong UnknownSlot Slot
-set_slot basin (Some slot) = if can_set basin slot then Ok slot else wrong NotSettable Slot
+set_slot basin (Some slot) = if can_be_given basin slot then Ok slot else wrong NotSettable Slot
 
 -- a slot of the model that inputs can set
 abbrev pub read_slot : Draft → List ℕ → Result ℕ Wrong
@@ -67,7 +67,7 @@ within_run basin (Some span) =
 
 -- a timestep of the run, or a range of timesteps of the run
 abbrev pub read_span : Draft → List ℕ → Result Span Wrong
-read_span basin text = within_run basin (span_in text (position_of 45 text))
+read_span basin text = within_run basin (span_in text (byte_position 45 text))
 
 -- ---- the value
 

@@ -3,7 +3,7 @@ use Rattle.std.specs.Prelude.{◌≡◌, ℕ, true, false, List, [], ◌∷◌, 
 use Rattle.std.specs.List.{list_any}
 use Rattle.rw_model.specs.Draft.{Draft}
 use Rattle.rw_inputs.specs.declared.fault.InputFault.{InputFault}
-use Rattle.rw_inputs.specs.Refusal.{InputRefusal, Tells}
+use Rattle.rw_inputs.specs.Refusal.{InputRefusal, TellsInput}
 use Rattle.rw_inputs.specs.declared.given.Given.{Given}
 use Rattle.rw_inputs.specs.Records.{Fields}
 use Rattle.rw_inputs.specs.Row.{read_row}
@@ -27,4 +27,4 @@ TakesRow basin row old new = (before : List Fields) → Keeps basin (givens basi
 -- the fault tells why the row of this number is refused behind them, whatever comes later
 abbrev pub RefusesRow : Draft → ℕ → Fields → Inputs → InputFault → Type 0
 RefusesRow basin number row inputs fault = (before : List Fields) → Keeps basin (givens basin before) inputs
-    → (later : Option InputRefusal) → Tells fault (refused_or number (wrong_behind basin before (read_row basin row)) later)
+    → (later : Option InputRefusal) → TellsInput fault (refused_or number (wrong_behind basin before (read_row basin row)) later)

@@ -1,5 +1,5 @@
 ghost use Rattle.std.specs.Prelude.{◌≡◌, ◌≢◌, ◌⊎◌, ℕ, ◌+◌, ◌≤◌, ◌<◌, [], true, false, Ok, Some, None, IfOk, OnOk, OnErr, MatchBool, if◌then◌else◌, length, slice_index_or};
-ghost use Rattle.rw_inputs.specs.Column.{HasMore, HasPlaces, IsColumn, IsFree, IsKept, IsPaired, IsSet, IsTaken, given_values, value_in};
+ghost use Rattle.rw_inputs.specs.Column.{HasMore, HasPlaces, IsColumn, IsFree, IsKeptColumn, IsPaired, IsSet, IsTakenWithin, given_values, value_in_column};
 
 use crate::edit::Edit;
 use crate::given::Given;
@@ -38,7 +38,7 @@ fn is_given(given: &[bool], step: u16) -> bool
 
 // What is kept at a timestep.
 fn value_in(values: &[Qty], given: &[bool], step: u16) -> Option<Qty>
-    ensures { result ≡ value_in (given_values given.now values.now) step }
+    ensures { result ≡ value_in_column (given_values given.now values.now) step }
 {
     let place = usize::from(step);
     if values.len() <= place {
@@ -55,7 +55,7 @@ fn value_in(values: &[Qty], given: &[bool], step: u16) -> Option<Qty>
 fn is_free(values: &[Qty], given: &[bool], first: u16, last: u16) -> bool
     requires { 1 ≤ first }
     ensures { MatchBool result (IsFree (given_values given.now values.now) first last)
-        (IsTaken (given_values given.now values.now) first last) }
+        (IsTakenWithin (given_values given.now values.now) first last) }
 {
     for before in first - 1..last {
         if value_in(values, given, before + 1).is_some() {
@@ -75,7 +75,7 @@ fn make_places(
     requires { given.old.items ≡ [] }
     ensures places { OnOk result (HasPlaces steps given.new.items values.new.items) }
     ensures none { OnOk result ((step : ℕ)
-        → value_in (given_values given.new.items values.new.items) step ≡ None) }
+        → value_in_column (given_values given.new.items values.new.items) step ≡ None) }
     ensures unchanged { OnErr result (given.new.items ≡ []) }
 {
     values.resize(usize::from(steps) + 1, value)?;
@@ -94,8 +94,8 @@ fn widen(
     requires column { IsColumn steps (given_values given.old.items values.old.items) }
     ensures places { OnOk result (HasPlaces steps given.new.items values.new.items) }
     ensures same { OnOk result ((step : ℕ)
-        → value_in (given_values given.new.items values.new.items) step
-        ≡ value_in (given_values given.old.items values.old.items) step) }
+        → value_in_column (given_values given.new.items values.new.items) step
+        ≡ value_in_column (given_values given.old.items values.old.items) step) }
     ensures paired { IsPaired given.new.items values.new.items }
     ensures unchanged { OnErr result (given_values given.new.items values.new.items
         ≡ given_values given.old.items values.old.items) }
@@ -131,11 +131,11 @@ fn give(
     last: u16,
     value: Qty,
 ) -> Result<(), NoMemory>
-    requires kept { IsKept steps given.old.items values.old.items }
+    requires kept { IsKeptColumn steps given.old.items values.old.items }
     requires first { 1 ≤ first }
     requires order { first ≤ last }
     requires last { last ≤ steps }
-    ensures kept { IsKept steps given.new.items values.new.items }
+    ensures kept { IsKeptColumn steps given.new.items values.new.items }
     ensures given { OnOk result (IsSet (Some value) first last
         (given_values given.old.items values.old.items)
         (given_values given.new.items values.new.items)) }
@@ -156,11 +156,11 @@ fn give(
 
 // Keeps nothing from one timestep to another, of so many in all.
 fn clear(values: &mut Vec<Qty>, given: &mut Vec<bool>, steps: u16, first: u16, last: u16)
-    requires kept { IsKept steps given.old.items values.old.items }
+    requires kept { IsKeptColumn steps given.old.items values.old.items }
     requires first { 1 ≤ first }
     requires order { first ≤ last }
     requires last { last ≤ steps }
-    ensures kept { IsKept steps given.new.items values.new.items }
+    ensures kept { IsKeptColumn steps given.new.items values.new.items }
     ensures cleared { IsSet None first last (given_values given.old.items values.old.items)
         (given_values given.new.items values.new.items) }
 {
@@ -198,7 +198,7 @@ impl Column {
 
     /// What is kept at a timestep, nothing where there is no such timestep.
     pub fn value(&self, step: u16) -> Option<Qty>
-        ensures { result ≡ value_in self.now step }
+        ensures { result ≡ value_in_column self.now step }
     {
         value_in(self.values.as_slice(), self.given.as_slice(), step)
     }
@@ -213,7 +213,7 @@ impl Column {
         ensures free { result ≡ Ok true → IsFree self.old row.now.first row.now.last }
         ensures taken { result ≡ Ok true
             → HasMore row.now.value row.now.first row.now.last self.old self.new }
-        ensures twice { result ≡ Ok false → IsTaken self.old row.now.first row.now.last }
+        ensures twice { result ≡ Ok false → IsTakenWithin self.old row.now.first row.now.last }
         ensures unchanged { (result ≡ Ok true) ⊎ (self.new ≡ self.old) }
     {
         if !is_free(

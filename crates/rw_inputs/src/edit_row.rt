@@ -3,7 +3,7 @@ ghost use Rattle.std.specs.Prelude.{◌≡◌, ◌+◌, ◌≤◌, IfOk, IfSome,
 ghost use Rattle.csv.specs.Records.{fields_of};
 ghost use Rattle.rw_model.specs.Draft.{IsSlot};
 ghost use Rattle.rw_model.specs.Links.{IsBetween, bounds_in};
-ghost use Rattle.rw_inputs.specs.EditRows.{follows, four_fields, read_batch, read_change, read_edit};
+ghost use Rattle.rw_inputs.specs.EditRows.{batch_follows, four_fields, read_batch, read_change, read_edit};
 ghost use Rattle.rw_inputs.specs.Edits.{IsEdit};
 
 use crate::InputKind;
@@ -20,7 +20,7 @@ use rw_model::Basin;
 // Whether the number can stand behind a row of the last batch, whose number is 0 where there is none.
 fn follows(last: u64, batch: u64) -> bool
     requires { last ≤ BATCHES_MAX }
-    ensures { result ≡ follows last batch }
+    ensures { result ≡ batch_follows last batch }
 {
     if last == 0 {
         batch == 1

@@ -5,7 +5,7 @@ ghost use Rattle.csv.specs.Records.{fields_of};
 ghost use Rattle.rw_base.specs.Answers.{Answers, IsWhy};
 ghost use Rattle.rw_model.specs.Draft.{Draft};
 ghost use Rattle.rw_inputs.specs.declared.fault.InputFault.TheVariants as InputFault;
-ghost use Rattle.rw_inputs.specs.EditRows.{at_row, batch_at, batches_with, edit_column, edits_of, four_fields, is_edit_header, meets, more_batches, opened, read_batches, with_edit, wrong_among};
+ghost use Rattle.rw_inputs.specs.EditRows.{at_row, batch_at, batches_with, edit_column, edits_of, four_fields, is_edit_header, meets, more_batches, batches_opened, read_batches, with_edit, wrong_among};
 ghost use Rattle.rw_inputs.specs.Edits.{IsBatch, IsEdit};
 ghost use Rattle.rw_inputs.specs.Records.{Fields};
 ghost use Rattle.rw_inputs.specs.Refusal.{refusal_of};
@@ -94,7 +94,7 @@ fn judge(batches: &[Batch], row: u32, number: usize, edit: &Edit) -> Option<Wron
 // Opens the batch of this number, if it isn't there yet.
 fn open(alloc: Global, batches: &mut Vec<Batch>, number: usize) -> Result<(), NoMemory>
     requires { number ≤ length batches.old.items + 1 }
-    ensures opened { OnOk result (batches.new.items ≡ opened batches.old.items number) }
+    ensures opened { OnOk result (batches.new.items ≡ batches_opened batches.old.items number) }
     ensures there { OnOk result (number ≤ length batches.new.items) }
 {
     if number <= batches.len() {

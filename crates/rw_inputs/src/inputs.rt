@@ -1,5 +1,5 @@
 ghost use Rattle.std.specs.Prelude.{◌≡◌, ◌≢◌, ◌⊎◌, [], ℕ, true, false, Ok, MatchBool, IfOk, OnErr, OnOk, length};
-ghost use Rattle.rw_inputs.specs.Inputs.{column_of, value_at, kept_slot, IsInputsOf, Keeps};
+ghost use Rattle.rw_inputs.specs.Inputs.{slot_column, value_at, kept_slot, IsInputsOf, Keeps};
 ghost use Rattle.rw_model.specs.Draft.{IsSlot};
 ghost use Rattle.rw_inputs.specs.Sound.{IsGiven};
 ghost use Rattle.rw_inputs.specs.Edits.{IsEdit, after_edit};
@@ -43,7 +43,7 @@ pub fn kept_slot(basin: &Basin, slot: u16) -> u16
 // So many columns in which nothing is kept.
 fn no_columns(alloc: Global, count: usize) -> Result<Vec<Column>, NoMemory>
     ensures count { IfOk result (λ columns. length columns.items ≡ count) }
-    ensures empty { IfOk result (λ columns. (slot : ℕ) → column_of columns.items slot ≡ []) }
+    ensures empty { IfOk result (λ columns. (slot : ℕ) → slot_column columns.items slot ≡ []) }
 {
     let mut columns = Vec::with_capacity(alloc, count)?;
     for _ in 0..count {
@@ -93,8 +93,8 @@ impl Inputs {
 
     /// Whether the slot has places for values. Where it hasn't, nothing is kept of it at any timestep.
     pub fn has_places(&self, slot: SlotNo) -> bool
-        ensures { MatchBool result (column_of self.now.columns slot.0 ≢ [])
-            (column_of self.now.columns slot.0 ≡ []) }
+        ensures { MatchBool result (slot_column self.now.columns slot.0 ≢ [])
+            (slot_column self.now.columns slot.0 ≡ []) }
     {
         match self.columns.get(usize::from(slot.0)) {
             Some(column) => column.has_places(),

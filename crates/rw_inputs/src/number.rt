@@ -1,7 +1,7 @@
 ghost use Rattle.std.specs.Prelude.{◌≡◌, ◌≤◌, ◌<◌, ◌^◌, IsTrue, length};
 ghost use Rattle.std.specs.Option.{ForSome};
 ghost use Rattle.std.specs.List.{list_all};
-ghost use Rattle.rw_inputs.specs.Number.{is_digit, number_after, is_number, read_number, read_signed, position_of};
+ghost use Rattle.rw_inputs.specs.Number.{is_digit, number_after, is_number_text, read_number, read_signed, byte_position};
 
 // The greatest number of digits of a number.
 const DIGITS_MAX: usize = 18;
@@ -24,14 +24,14 @@ fn has_digits_alone(text: &[u8]) -> bool
 }
 
 fn is_number(text: &[u8]) -> bool
-    ensures { result ≡ is_number text.now }
+    ensures { result ≡ is_number_text text.now }
 {
     (1 <= text.len() && text.len() <= DIGITS_MAX) && has_digits_alone(text)
 }
 
 // The number that the digits spell.
 fn number_of(digits: &[u8]) -> u64
-    requires { IsTrue (is_number digits.now) }
+    requires { IsTrue (is_number_text digits.now) }
     ensures number { result ≡ number_after 0 digits.now }
     ensures small { result < 10 ^ 18 }
 {
@@ -73,7 +73,7 @@ pub fn read_signed(text: &[u8]) -> Option<i64>
 
 /// The first place of the byte, counted from 0.
 pub fn position_of(byte: u8, text: &[u8]) -> Option<usize>
-    ensures place { result ≡ position_of byte text.now }
+    ensures place { result ≡ byte_position byte text.now }
     ensures within { ForSome result (λ place. place < length text.now) }
 {
     for (place, other) in text.iter().enumerate() {

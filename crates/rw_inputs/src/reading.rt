@@ -6,8 +6,8 @@ ghost use Rattle.rw_inputs.specs.declared.fault.InputKind.TheVariants as InputKi
 ghost use Rattle.rw_model.specs.Draft.{Draft};
 ghost use Rattle.rw_inputs.specs.Records.{Fields};
 ghost use Rattle.rw_inputs.specs.Inputs.{IsInputsOf, Keeps, value_at};
-ghost use Rattle.rw_inputs.specs.Reading.{column, givens, first_refusal, inputs_of, is_header, read_records, values_of};
-ghost use Rattle.rw_inputs.specs.Refusal.{refusal_of, Tells};
+ghost use Rattle.rw_inputs.specs.Reading.{column, givens, first_refusal, inputs_of, is_header, read_records, values_read};
+ghost use Rattle.rw_inputs.specs.Refusal.{refusal_of, TellsInput};
 ghost use Rattle.rw_inputs.specs.Taking.{TakesRow, RefusesRow};
 
 use crate::inputs::Inputs;
@@ -104,7 +104,8 @@ fn take_rows(
     requires { Keeps basin.now [] inputs.old }
     ensures taken { OnOk result (first_refusal basin.now 2 [] rows.old ≡ None) }
     ensures kept { OnOk result (Keeps basin.now (givens basin.now rows.old) inputs.new) }
-    ensures refused { IfErr result (λ fault. Tells fault (first_refusal basin.now 2 [] rows.old)) }
+    ensures refused { IfErr result
+        (λ fault. TellsInput fault (first_refusal basin.now 2 [] rows.old)) }
 {
     let mut row = ByteRecord::new(alloc);
     for number in 2..u32::MAX {
@@ -144,7 +145,7 @@ fn read_records(
     records: &mut Records<'_>,
 ) -> Result<Inputs, InputFault>
     ensures answers { Answers InputFault.NoMemory refusal_of value_at result
-        (values_of basin.now (read_records basin.now records.old)) }
+        (values_read basin.now (read_records basin.now records.old)) }
     ensures made { IfOk result (IsInputsOf basin.now) }
 {
     read_header(alloc, records)?;

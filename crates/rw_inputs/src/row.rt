@@ -4,7 +4,7 @@ ghost use Rattle.std.specs.Option.{ForSome};
 ghost use Rattle.csv.specs.Records.{fields_of};
 ghost use Rattle.rw_model.specs.Draft.{IsSlot};
 ghost use Rattle.rw_model.specs.Slot.{IsInside, all_quantities};
-ghost use Rattle.rw_inputs.specs.Number.{read_number, position_of};
+ghost use Rattle.rw_inputs.specs.Number.{read_number, byte_position};
 ghost use Rattle.rw_inputs.specs.Row.{slot_of_names, slot_of_text, read_slot, span_of, span_in, read_span, read_value, three_fields, row_of, read_row};
 ghost use Rattle.rw_inputs.specs.Sound.{IsGiven};
 ghost use Rattle.rw_model.specs.Links.{IsBetween, bounds_in};
@@ -82,7 +82,7 @@ fn span_of(first: &[u8], last: &[u8]) -> Option<(u64, u64)>
 
 // One number, or two numbers round the first `-`.
 fn span_in(text: &[u8]) -> Option<(u64, u64)>
-    ensures { result ≡ span_in text.now (position_of 45 text.now) }
+    ensures { result ≡ span_in text.now (byte_position 45 text.now) }
 {
     match position_of(b'-', text) {
         Some(dash) => span_of(&text[..dash], &text[dash + 1..]),

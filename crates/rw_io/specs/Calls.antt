@@ -24,7 +24,7 @@ pub record Starts (path : List ℕ) (shelf : Change ShelfView) (result : Result 
   pub cause : OnErr result (Rose (shelf.before.faults path) (shelf.after.faults path))
 
 -- `read` into a buffer, which is seen as it is afterwards
-pub record Gives (buffer : List ℕ) (shelf : Change ShelfView) (result : Result ℕ ShelfFault) : Type 0 where
+pub record GivesRead (buffer : List ℕ) (shelf : Change ShelfView) (result : Result ℕ ShelfFault) : Type 0 where
   -- what the paths hold stays, and which is started
   pub held : (p : List ℕ) → shelf.after.holds p ≡ shelf.before.holds p
   pub started : shelf.after.started ≡ shelf.before.started
@@ -38,7 +38,7 @@ pub record Gives (buffer : List ℕ) (shelf : Change ShelfView) (result : Result
   pub cause : OnErr result (PathRose shelf.before.started shelf.before.faults shelf.after.faults)
 
 -- `write` of this piece
-pub record Takes (piece : List ℕ) (sink : Change SinkView) (result : Result ℕ SinkFault) : Type 0 where
+pub record TakesWrite (piece : List ℕ) (sink : Change SinkView) (result : Result ℕ SinkFault) : Type 0 where
   -- a front of the piece was appended, at least a byte of it
   pub bound : IfOk result (λ n. n ≤ length piece)
   pub some : 0 < length piece → IfOk result (λ n. 0 < n)

@@ -10,17 +10,17 @@ abbrev pub Files : Type 0
 Files = List (String Global × Vec ℕ Global)
 
 -- the place of the first file of that path, or the number of files
-abbrev pub position_of : Files → List ℕ → ℕ
-position_of [] path = 0
-position_of (file ∷ files) path = if bytes_eq (string_bytes file.0) path then 0 else position_of files path + 1
+abbrev pub file_position : Files → List ℕ → ℕ
+file_position [] path = 0
+file_position (file ∷ files) path = if bytes_eq (string_bytes file.0) path then 0 else file_position files path + 1
 
 -- what the first file of that path holds
 abbrev pub bytes_at : Files → List ℕ → Option (List ℕ)
-bytes_at files path = option_map (λ file. file.1.items) (slice_get files (position_of files path))
+bytes_at files path = option_map (λ file. file.1.items) (slice_get files (file_position files path))
 
 -- the count of a path, where the last of the counts is that of all paths that aren't held
 abbrev pub count_at : Files → List ℕ → List ℕ → ℕ
-count_at files counts path = slice_index counts (position_of files path)
+count_at files counts path = slice_index counts (file_position files path)
 
 -- what is left of a started file, from a place in it on
 abbrev pub left_at : Files → Option (String Global) → ℕ → ℕ → Option (List ℕ)

@@ -1,7 +1,7 @@
 -- What a shelf in memory means.
 use Rattle.std.specs.Prelude.{◌≡◌, ℕ, List, string_bytes}
 use Rattle.std.specs.Option.{option_map}
-use Rattle.rw_io.specs.Files.{bytes_at, count_at, left_at, position_of}
+use Rattle.rw_io.specs.Files.{bytes_at, count_at, left_at, file_position}
 use Rattle.rw_io.specs.Outside.{ShelfView}
 use Rattle.rw_io.specs.declared.mem_shelf.MemShelf.{MemShelf}
 
@@ -17,7 +17,7 @@ seen_of shelf = record {
 
 -- two paths have one count: they are one held path, or neither is held
 abbrev pub ShareCount : MemShelf → List ℕ → List ℕ → Type 0
-ShareCount shelf a b = position_of shelf.files.items a ≡ position_of shelf.files.items b
+ShareCount shelf a b = file_position shelf.files.items a ≡ file_position shelf.files.items b
 
 -- the numbers of the calls that are to fail, and how many calls there were
 abbrev pub failing_of : MemShelf → List ℕ

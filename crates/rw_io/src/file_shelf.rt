@@ -1,6 +1,6 @@
 ghost use Rattle.std.specs.Prelude.{◌≡◌, ℕ, List, None, OnOk, is_some, string_bytes};
 ghost use Rattle.std.specs.Option.{option_map};
-ghost use Rattle.rw_io.specs.Calls.{Gives, SameFaults, Starts};
+ghost use Rattle.rw_io.specs.Calls.{GivesRead, SameFaults, Starts};
 ghost use Rattle.rw_io.specs.Outside.{change};
 
 use crate::{Shelf, ShelfFault};
@@ -72,7 +72,7 @@ impl<R: Files + Drop> Shelf for FileShelf<R> {
 
     fn read(&mut self, buf: &mut [u8]) -> Result<usize, ShelfFault>
         ensures gives { let seen = ⟦<FileShelf<R> as Shelf>⟧.seen in
-            Gives buf.new (change (seen self.old) (seen self.new)) result }
+            GivesRead buf.new (change (seen self.old) (seen self.new)) result }
 
         // The count rises in failing calls alone.
         ensures calm { let seen = ⟦<FileShelf<R> as Shelf>⟧.seen in

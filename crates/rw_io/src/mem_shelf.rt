@@ -1,7 +1,7 @@
 ghost use Rattle.std.specs.Prelude.{◌≡◌, ◌≢◌, ◌↔◌, ◌⊎◌, ℕ, ◌+◌, ◌-◌, ◌^◌, ◌<◌, ◌≤◌, List, [], ◌++◌, Some, None, min, max, length, take, drop, slice_index, Contains, IsErr, IsSome, IfOk, OnOk, OnErr, string_bytes};
 ghost use Rattle.std.specs.Option.{option_map, ForSome};
 ghost use Rattle.rw_io.specs.Causes.{Rose};
-ghost use Rattle.rw_io.specs.Files.{bytes_at, count_at, left_at, position_of};
+ghost use Rattle.rw_io.specs.Files.{bytes_at, count_at, left_at, file_position};
 
 use crate::plan::Plan;
 use crate::{Shelf, ShelfFault};
@@ -21,13 +21,14 @@ pub struct MemShelf {
     at: usize,
     given: u64,
     ghost counted: { length counts.items ≡ length files.items + 1 },
-    ghost found: { ForSome started (λ path. place ≡ position_of files.items (string_bytes path)) },
+    ghost found: { ForSome started
+        (λ path. place ≡ file_position files.items (string_bytes path)) },
     ghost inside: { ForSome started (λ path. place < length files.items) },
 }
 
 // The place of the first file of that path, or the number of files.
 fn place_in(files: &[(String, Vec<u8>)], path: &str) -> usize
-    ensures place { result ≡ position_of files.now path.now }
+    ensures place { result ≡ file_position files.now path.now }
     ensures bound { result ≤ length files.now }
 {
     for (i, file) in files.iter().enumerate() {
@@ -103,7 +104,7 @@ impl MemShelf {
 
 impl Shelf for MemShelf {
     ghost use Rattle.rw_io.specs.MemShelf.{calls_of, failing_of, seen_of, ShareCount};
-    ghost use Rattle.rw_io.specs.Calls.{Gives, SameFaults, Starts};
+    ghost use Rattle.rw_io.specs.Calls.{GivesRead, SameFaults, Starts};
     ghost use Rattle.rw_io.specs.Outside.{change};
 
     ghost seen = { seen_of };
@@ -135,7 +136,7 @@ impl Shelf for MemShelf {
     }
 
     fn read(&mut self, buf: &mut [u8]) -> Result<usize, ShelfFault>
-        ensures gives { Gives buf.new (change (seen_of self.old) (seen_of self.new)) result }
+        ensures gives { GivesRead buf.new (change (seen_of self.old) (seen_of self.new)) result }
 
         // A call fails exactly where it is to fail and a path is started, and raises the count of that path alone.
         ensures fails { IsErr result ↔ (Contains (failing_of self.old) (calls_of self.new)

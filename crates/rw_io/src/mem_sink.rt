@@ -40,13 +40,13 @@ impl MemSink {
 
 impl Sink for MemSink {
     ghost use Rattle.rw_io.specs.MemSink.{calls_of, failing_of, seen_of};
-    ghost use Rattle.rw_io.specs.Calls.{Takes};
+    ghost use Rattle.rw_io.specs.Calls.{TakesWrite};
     ghost use Rattle.rw_io.specs.Outside.{change};
 
     ghost seen = { seen_of };
 
     fn write(&mut self, piece: &[u8]) -> Result<usize, SinkFault>
-        ensures takes { Takes piece.now (change (seen_of self.old) (seen_of self.new)) result }
+        ensures takes { TakesWrite piece.now (change (seen_of self.old) (seen_of self.new)) result }
 
         // A piece is taken whole, and a call that is to fail does.
         ensures whole { IfOk result (λ n. n ≡ length piece.now) }

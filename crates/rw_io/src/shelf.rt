@@ -1,5 +1,5 @@
 ghost use Rattle.std.specs.Prelude.{string_bytes};
-ghost use Rattle.rw_io.specs.Calls.{Gives, Starts};
+ghost use Rattle.rw_io.specs.Calls.{GivesRead, Starts};
 ghost use Rattle.rw_io.specs.Outside.{ShelfView, change};
 
 /// A start or a read failed, and a count of faults has risen.
@@ -23,5 +23,5 @@ pub trait Shelf {
     /// buffer that isn't empty is the end, and is the answer where nothing is started. Of the buffer of a read that
     /// failed nothing is said.
     fn read(&mut self, buf: &mut [u8]) -> Result<usize, ShelfFault>
-        ensures { Gives buf.new (change (seen self.old) (seen self.new)) result };
+        ensures { GivesRead buf.new (change (seen self.old) (seen self.new)) result };
 }

@@ -1,4 +1,4 @@
-ghost use Rattle.rw_io.specs.Calls.{Takes};
+ghost use Rattle.rw_io.specs.Calls.{TakesWrite};
 ghost use Rattle.rw_io.specs.Outside.{SinkView, change};
 
 /// A write failed, and the sink's count of faults has risen.
@@ -16,5 +16,5 @@ pub trait Sink {
     /// Appends the front of the piece, at least one byte of it, and answers how many. After a fault nothing was
     /// appended. An empty piece changes nothing, and is answered by `Ok(0)`.
     fn write(&mut self, piece: &[u8]) -> Result<usize, SinkFault>
-        ensures { Takes piece.now (change (seen self.old) (seen self.new)) result };
+        ensures { TakesWrite piece.now (change (seen self.old) (seen self.new)) result };
 }

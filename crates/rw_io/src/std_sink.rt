@@ -1,5 +1,5 @@
 ghost use Rattle.std.specs.Prelude.{◌≡◌, None, OnOk};
-ghost use Rattle.rw_io.specs.Calls.{Takes};
+ghost use Rattle.rw_io.specs.Calls.{TakesWrite};
 ghost use Rattle.rw_io.specs.Outside.{change};
 
 use crate::{Sink, SinkFault};
@@ -28,7 +28,7 @@ impl<W: Write + Drop> Sink for StdSink<W> {
 
     fn write(&mut self, piece: &[u8]) -> Result<usize, SinkFault>
         ensures takes { let seen = ⟦<StdSink<W> as Sink>⟧.seen in
-            Takes piece.now (change (seen self.old) (seen self.new)) result }
+            TakesWrite piece.now (change (seen self.old) (seen self.new)) result }
 
         // The count rises in failing calls alone.
         ensures no_fault { let seen = ⟦<StdSink<W> as Sink>⟧.seen in

@@ -9,7 +9,7 @@ pub use Rattle.rw_model.specs.Basin.{IsLink}
 pub use Rattle.rw_model.specs.Code.{code_of}
 pub use Rattle.rw_model.specs.Draft.{Draft, IsSlot, IsSound}
 pub use Rattle.rw_model.specs.Links.{group_of, is_among, is_same_link, is_together, link_from, link_of, owner_of}
-pub use Rattle.rw_model.specs.Put.{end_of_put, is_same_object, is_same_value}
+pub use Rattle.rw_model.specs.Put.{end_of_put, is_same_object, is_value_kept}
 pub use Rattle.rw_model.specs.Turn.{is_data}
 pub use Rattle.rw_model.specs.declared.content.Content.{Content}
 pub use Rattle.rw_model.specs.declared.kind.Kind.{Kind}
@@ -25,7 +25,7 @@ pub use Rattle.rw_method.proofs.LeftKept.{left_by_own, own_puts_fall, puts_are_a
 pub use Rattle.rw_method.proofs.SolvedBalance.{data_balanced, solved_balanced}
 pub use Rattle.rw_method.specs.Balanced.{IsBalanced}
 pub use Rattle.rw_method.specs.Left.{Left}
-pub use Rattle.rw_method.specs.Passing.{IsAfterOthers, IsAfterOwn, IsKept, IsOwnFall, IsReplaced, IsWritten}
+pub use Rattle.rw_method.specs.Passing.{IsAfterOthers, IsAfterOwn, IsPutKept, IsOwnFall, IsReplaced, IsWritten}
 pub use Rattle.rw_method.specs.Past.{past_in}
 pub use Rattle.rw_method.proofs.SolvedPuts.{IsPutOf, solve-puts}
 pub use Rattle.rw_method.specs.Solve.{solve_of}

@@ -1,5 +1,5 @@
 -- What an object's own dispatch leaves in its slots.
-use Rattle.rw_laws.proofs.Common.{AllByRecursion, Among, Asked, Bool, Cell, Cells, Contains, Content, Denied, Draft, Event, IsAfterOwn, IsBasin, IsKept, IsOwnFall, IsWritten, Kept, List, Log, Look, None, Option, Put, PutEnd, Shared-of, Some, View, Written, [], all_among, all_at, all_mapped, among, ap, arith, asked_by, asked_for, both_all, cell_at, cells_of, cond, contains, dispatch_of, end_in, end_of_put, false, if◌then◌else◌, inl, inr, is_shared, is_written, known, known_in_place, last_put, mapped_all, none-some, option_or, puts_written, refl, subst, sym, true, view_of, weaker_all, ℕ, ◌∙◌, ◌∷◌, ◌≡◌, ◌≢◌, ◌≤◌, ◌⊎◌}
+use Rattle.rw_laws.proofs.Common.{AllByRecursion, Among, Asked, Bool, Cell, Cells, Contains, Content, Denied, Draft, Event, IsAfterOwn, IsBasin, IsPutKept, IsOwnFall, IsWritten, Kept, List, Log, Look, None, Option, Put, PutEnd, Shared-of, Some, View, Written, [], all_among, all_at, all_mapped, among, ap, arith, asked_by, asked_for, both_all, cell_at, cells_of, cond, contains, dispatch_of, end_in, end_of_put, false, if◌then◌else◌, inl, inr, is_shared, is_written, known, known_in_place, last_put, mapped_all, none-some, option_or, puts_written, refl, subst, sym, true, view_of, weaker_all, ℕ, ◌∙◌, ◌∷◌, ◌≡◌, ◌≢◌, ◌≤◌, ◌⊎◌}
 use Rattle.rw_laws.proofs.Apart.{one_slot}
 use Rattle.rw_laws.proofs.Dispatches.{AreFine, IsFine, written_all}
 use Rattle.rw_laws.proofs.Linked.{Found, last_found, self_shared}
@@ -131,7 +131,7 @@ module _ (basin : Draft) (valid : IsBasin basin) (log : Log) (looked : List Look
       ]
 
   put_after : (put : Put) → Contains puts put → IsObjectPut basin cells object step put → IsOwnFall old put → IsFine (end_in cells (asked_by basin object step put))
-      → (end : PutEnd) → end_in cells (asked_by basin object step put) ≡ end → IsWritten old new put ⊎ IsKept old new put
+      → (end : PutEnd) → end_in cells (asked_by basin object step put) ≡ end → IsWritten old new put ⊎ IsPutKept old new put
   put_after put has at own able Written end = elim (last_found basin (IsOwnWrite basin cells object step puts) wrote (cell_at at.number step) (own_writes basin cells object step puts all)) [
     | inl none ↦
         let some = some_written basin cells object step (cell_at at.number step) puts put (among puts put has) end (shared_at put at) in

@@ -1,5 +1,5 @@
 -- What the put rules say of a put that is written, kept or denied.
-use Rattle.rw_laws.proofs.Common.{Bool, Content, Decides-int_eq, Denied, Kept, None, Option, PutEnd, Some, Written, and_parts, ap, arith, end_of_put, false, if◌then◌else◌, inl, inr, is_same_object, is_same_value, is_written, nat_le, nat_tests, refl, subst, true, ℕ, ◌<◌, ◌==◌, ◌≡◌, ◌≤◌, ◌⊎◌}
+use Rattle.rw_laws.proofs.Common.{Bool, Content, Decides-int_eq, Denied, Kept, None, Option, PutEnd, Some, Written, and_parts, ap, arith, end_of_put, false, if◌then◌else◌, inl, inr, is_same_object, is_value_kept, is_written, nat_le, nat_tests, refl, subst, true, ℕ, ◌<◌, ◌==◌, ◌≡◌, ◌≤◌, ◌⊎◌}
 use Rattle.rw_model.specs.Put.{gives_way}
 
 abbrev pub end_code : PutEnd → ℕ
@@ -31,9 +31,9 @@ way_is held new true false none is = inl (grind (arith, nat_tests, none))
 way_is held new false false none is = inr (grind (arith, nat_tests, is))
 
 end_is : (held new : Content) → IsEnd held new (end_of_put (Some held) new)
-end_is held new = by (is_same_value held new) refl
+end_is held new = by (is_value_kept held new) refl
   where
-    by : (same : Bool) → is_same_value held new ≡ same → IsEnd held new (if same then Kept else (if gives_way held new then Written else Denied held))
+    by : (same : Bool) → is_value_kept held new ≡ same → IsEnd held new (if same then Kept else (if gives_way held new then Written else Denied held))
     by true same = let parts = and_parts _ _ same in ((Decides-int_eq held.value new.value).0 parts.0, grind (arith, nat_tests, parts.1))
     by false same = way_is held new (held.number == 0) (gives_way held new) refl refl
 

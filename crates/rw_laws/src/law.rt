@@ -25,7 +25,7 @@ ghost use Rattle.rw_laws.specs.Laws.{KeepsLaws};
 ghost use Rattle.rw_laws.specs.Links.{HoldAsLinked};
 ghost use Rattle.rw_laws.specs.Priority.{KeepPriority};
 ghost use Rattle.rw_laws.specs.Rules.{AllStandBy};
-ghost use Rattle.rw_laws.specs.Worked.{apart, by_rule, changed_after, dam, dam_events, dam_log, gage, held_low, inflow, put_at, started, torn, weakened};
+ghost use Rattle.rw_laws.specs.Worked.{apart, by_rule, changed_after, dam_alone, dam_events, dam_log, gage, held_low, inflow, put_at, started, torn, weakened};
 
 use rpl_policy::law::code_keeps_promises;
 use rpl_verify::law::answered_code_is_safe;
@@ -92,13 +92,15 @@ pub fn closed_timesteps_stay()
 /// A dam on one day, into which 100 flow. It comes to hold 1020, of 1000 and 100 less 80; the 50 that rule 2 put gave way to what
 /// the dam solved from rule 1's storage, at priority 1.
 pub fn a_dam()
-    ensures run { IsRun dam held_low inflow (closed 1 ∷ dam_log) }
+    ensures run { IsRun dam_alone held_low inflow (closed 1 ∷ dam_log) }
     ensures closing { before_closing 1 (closed 1 ∷ dam_log) ≡ Some dam_log }
-    ensures past { (view_of dam (cells_of dam dam_log) 1 1).past ≡ Some (pos 1000) }
-    ensures flows { known_value (view_of dam (cells_of dam dam_log) 1 1) 0 ≡ Some (pos 100) }
-    ensures out { known (view_of dam (cells_of dam dam_log) 1 1) 1
+    ensures past { (view_of dam_alone (cells_of dam_alone dam_log) 1 1).past ≡ Some (pos 1000) }
+    ensures flows { known_value (view_of dam_alone (cells_of dam_alone dam_log) 1 1) 0
+        ≡ Some (pos 100) }
+    ensures out { known (view_of dam_alone (cells_of dam_alone dam_log) 1 1) 1
         ≡ Some (put_at 2 (pos 80) 1 (ByObject (record { 0 = 1 }))).content }
-    ensures stored { known_value (view_of dam (cells_of dam dam_log) 1 1) 2 ≡ Some (pos 1020) }
+    ensures stored { known_value (view_of dam_alone (cells_of dam_alone dam_log) 1 1) 2
+        ≡ Some (pos 1020) }
 {}
 
 /// Two linked slots after a run: a rule put 10 to the second one alone.
@@ -117,7 +119,7 @@ pub fn no_runs()
     ensures links { ¬ HoldAsLinked linked_basin apart }
     ensures balance { ¬ AllBalanced gage 1 (cells_of gage torn) }
     ensures priority { ¬ KeepPriority gage weakened }
-    ensures rules { ¬ AllStandBy dam held_low 1 started }
+    ensures rules { ¬ AllStandBy dam_alone held_low 1 started }
     ensures closed { ¬ ((cell : Cell) → cell.step.0 ≤ 1
         → cells_of gage changed_after cell ≡ cells_of gage torn cell) }
 {}

@@ -1,5 +1,5 @@
 -- A request that puts the outflow gets its energy, from the least release.
-use Rattle.rw_method.proofs.Common.{Balanced, Contains, Content, Given, HasNoRelease, IsKind, IsLeastRelease, List, None, Option, OutOfRange, Plant, PowerReservoir, Put, Puts, Row, Some, View, ap, arith, asked_of, ap₂, asked_put, balanced_of, energy_of, fault_of_request, flow_puts, head_of, held_after, if◌then◌else◌, inl, inr, int_min, ints, is_some, none-some, not, option_map, plant, pos, power_balance, power_flows, put, refl, release_for, request_of, requested, same_Some, solve_of, subst, sym, true, unwrap_or, ℕ, ℤ, ◌==◌, ◌∙◌, ◌≡◌, ◌≤ℤ◌, false}
+use Rattle.rw_method.proofs.Common.{Balanced, Contains, Content, Given, HasNoRelease, IsKind, IsLeastRelease, List, None, Option, OutOfRange, Plant, PowerReservoir, Put, Puts, Row, Some, View, ap, arith, asked_of, ap₂, asked_put, balanced_of, energy_of, fault_of_request, flow_puts, head_of, held_after_puts, if◌then◌else◌, inl, inr, int_min, ints, is_some, none-some, not, option_map, plant, pos, power_balance, power_flows, put, refl, release_for, request_of, requested, same_Some, solve_of, subst, sym, true, unwrap_or, ℕ, ℤ, ◌==◌, ◌∙◌, ◌≡◌, ◌≤ℤ◌, false}
 use Rattle.rw_base.proofs.Common.{MatchOption, int_min_is}
 use Rattle.rw_method.specs.Puts.{GivesRequest, is_put_by_request}
 use Rattle.rw_method.proofs.Answering.{answered}
@@ -41,11 +41,11 @@ gives_request initial_storage table max_release tailwater power view request put
     let out : Put = asked_put terms b asking in
     let there : Among (power_flows of view b) out = subst (λ a. Among (flow_puts a terms b) out) (sym asks) (asked_there asking terms b apart) in
     let held = out_held of view b asking asks apart there in
-    let energy : Put = put 5 (energy_of power (head_of of view) (int_min (held_after view (power_flows of view b) 1).value max_release)) (held_after view (power_flows of view b) 1).number in
-    let value : (held_after view (power_flows of view b) 1).value ≡ pos release = ap (λ (g : Given). g.value) held in
-    let number : (held_after view (power_flows of view b) 1).number ≡ out.number = ap (λ (g : Given). g.number) held in
+    let energy : Put = put 5 (energy_of power (head_of of view) (int_min (held_after_puts view (power_flows of view b) 1).value max_release)) (held_after_puts view (power_flows of view b) 1).number in
+    let value : (held_after_puts view (power_flows of view b) 1).value ≡ pos release = ap (λ (g : Given). g.value) held in
+    let number : (held_after_puts view (power_flows of view b) 1).number ≡ out.number = ap (λ (g : Given). g.number) held in
     let inside = least.inside in
-    let whole : int_min (held_after view (power_flows of view b) 1).value max_release ≡ pos release =
+    let whole : int_min (held_after_puts view (power_flows of view b) 1).value max_release ≡ pos release =
     ap (λ v. int_min v max_release) value ∙ within (pos release) max_release inside in
     record {
       release = release;
@@ -62,7 +62,7 @@ gives_request initial_storage table max_release tailwater power view request put
     -- the outflow that is asked for is held
     out_held : (of : Plant) (view : View) (b : Balanced) (asking : Given) → asked_of of view ≡ Some asking → SolvesNot 1 b
         → Among (power_flows of view b) (asked_put (power_balance of view).terms b asking)
-        → held_after view (power_flows of view b) 1 ≡ record { value = asking.value; number = (asked_put (power_balance of view).terms b asking).number }
+        → held_after_puts view (power_flows of view b) 1 ≡ record { value = asking.value; number = (asked_put (power_balance of view).terms b asking).number }
     out_held of view b asking asks apart there = elim (held_cases view (power_flows of view b) 1) [
       | inr (none, same) ↦ absurd (none (asked_put (power_balance of view).terms b asking) there refl)
       | inl (flow, (has, (at, same))) ↦

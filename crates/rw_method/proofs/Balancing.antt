@@ -1,6 +1,6 @@
 -- Where a dispatch answers puts, the balance of what is held then is true, and each derived slot holds what is derived: every kind but the
 -- reservoir.
-use Rattle.rw_method.proofs.Common.{AllByRecursion, Balanced, Bifurcation, Bool, Brings, ByRule, Canal, Conflicts, Confluence, Contains, Content, Conveys, Gage, Holds, Idle, IsKind, Kind, List, None, Option, Put, Reach, Request, RoutedReach, Solves, Some, Supply, Takes, View, WaterUser, [], ap, ap₂, arith, balanced_of, chosen, content_before, content_put, difference, false, given, held_by, if◌then◌else◌, inl, inr, ints, known, known_after, known_value, nat_tests, none-some, option_map, per_mille, pos, refl, same_Some, seepage_put, side_flows, solved_put, subst, suc, sum_of, sym, true, unwrap_or, user_puts, zero, ℕ, ℤ, ◌+ℤ◌, ◌+◌, ◌-ℤ◌, ◌<◌, ◌==◌, ◌∙◌, ◌∷◌, ◌≡◌, ◌≢◌, ◌≤◌}
+use Rattle.rw_method.proofs.Common.{AllByRecursion, Balanced, Bifurcation, Bool, Brings, ByRule, Canal, Conflicts, Confluence, Contains, Content, Conveys, Gage, Holds, Idle, IsKind, Kind, List, None, Option, Put, Reach, Request, RoutedReach, Solves, Some, Supply, Takes, View, WaterUser, [], ap, ap₂, arith, balanced_of, value_if_chosen, content_before, content_put, difference, false, given, held_by, if◌then◌else◌, inl, inr, ints, known, known_after, known_value, nat_tests, none-some, option_map, per_mille, pos, refl, same_Some, seepage_put, side_flows, solved_put, subst, suc, known_sum, sym, true, unwrap_or, user_puts, zero, ℕ, ℤ, ◌+ℤ◌, ◌+◌, ◌-ℤ◌, ◌<◌, ◌==◌, ◌∙◌, ◌∷◌, ◌≡◌, ◌≢◌, ◌≤◌}
 use Rattle.rw_method.specs.Balanced.{IsBalanced, IsHeld, IsUsed}
 use Rattle.rw_method.specs.Passing.{IsAfterOwn}
 use Rattle.rw_method.proofs.Answering.{Answered}
@@ -62,7 +62,7 @@ far_from most place puts all far put has same =
 
 -- ---- flows at the sides
 
-pub same_chosen : (choice : Bool) (old new : View) (place : ℕ) → known_value new place ≡ known_value old place → chosen choice new place ≡ chosen choice old place
+pub same_chosen : (choice : Bool) (old new : View) (place : ℕ) → known_value new place ≡ known_value old place → value_if_chosen choice new place ≡ value_if_chosen choice old place
 same_chosen true old new place same = same
 same_chosen false old new place same = refl
 
@@ -70,10 +70,10 @@ pub same_sides : (old new : View) (place : ℕ) (local_inflow diversion return_f
     → known_value new (place + 2) ≡ known_value old (place + 2) → side_flows new place local_inflow diversion return_flow ≡ side_flows old place local_inflow diversion return_flow
 same_sides old new place local_inflow diversion return_flow first second third =
     ap₂ (λ a b. difference a b)
-    (ap₂ (λ a b. sum_of a b) (same_chosen local_inflow old new place first) (same_chosen return_flow old new (place + 2) third))
+    (ap₂ (λ a b. known_sum a b) (same_chosen local_inflow old new place first) (same_chosen return_flow old new (place + 2) third))
     (same_chosen diversion old new (place + 1) second)
 
-pub both_there : (a b : Option ℤ) (sum : ℤ) → sum_of a b ≡ Some sum → (x : ℤ) × ((y : ℤ) × ((a ≡ Some x) × ((b ≡ Some y) × (x +ℤ y ≡ sum))))
+pub both_there : (a b : Option ℤ) (sum : ℤ) → known_sum a b ≡ Some sum → (x : ℤ) × ((y : ℤ) × ((a ≡ Some x) × ((b ≡ Some y) × (x +ℤ y ≡ sum))))
 both_there None b sum is = absurd (none-some sum is)
 both_there (Some x) None sum is = absurd (none-some sum is)
 both_there (Some x) (Some y) sum is = (x, (y, (refl, (refl, same_Some _ _ is))))

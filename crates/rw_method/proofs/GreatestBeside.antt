@@ -1,5 +1,5 @@
 -- The greatest number beside a term.
-use Rattle.rw_method.proofs.Common.{All, Bool, Contains, Decides-eqb, IsGreatestBeside, List, Term, [], arith, both_ways, cases_Bool, cases_lt, false, greatest_beside, if◌then◌else◌, inl, inr, max, number_of, refl, suc, true, ℕ, ◌<◌, ◌==◌, ◌∙◌, ◌∷◌, ◌≡◌, ◌≢◌, ◌≤◌, ◌⊎◌}
+use Rattle.rw_method.proofs.Common.{All, Bool, Contains, Decides-eqb, IsGreatestBeside, List, Term, [], arith, both_ways, cases_Bool, cases_lt, false, greatest_beside, if◌then◌else◌, inl, inr, max, priority_of, refl, suc, true, ℕ, ◌<◌, ◌==◌, ◌∙◌, ◌∷◌, ◌≡◌, ◌≢◌, ◌≤◌, ◌⊎◌}
 use Rattle.rw_method.proofs.GivingWay.{and_pass, none_pass}
 
 apart : (a b : ℕ) → (a == b) ≡ false → a ≢ b
@@ -20,27 +20,27 @@ differs a b other = elim (cases_Bool (a == b)) [
 ]
 
 most : (place m : ℕ) (terms : List Term) → greatest_beside place terms ≤ m
-    → All (λ (other : Term). other.place ≢ place → number_of other.given ≤ m) terms
-most place m [] h = none_pass (λ (other : Term). other.place ≢ place → number_of other.given ≤ m)
+    → All (λ (other : Term). other.place ≢ place → priority_of other.given ≤ m) terms
+most place m [] h = none_pass (λ (other : Term). other.place ≢ place → priority_of other.given ≤ m)
 most place m (term ∷ terms) h =
-    and_pass (λ (other : Term). other.place ≢ place → number_of other.given ≤ m) term terms
-    (λ other. first_counts (term.place == place) (number_of term.given) (greatest_beside place terms) m h (differs term.place place other))
-    (most place m terms (rest_counts (if term.place == place then 0 else number_of term.given) (greatest_beside place terms) m h))
+    and_pass (λ (other : Term). other.place ≢ place → priority_of other.given ≤ m) term terms
+    (λ other. first_counts (term.place == place) (priority_of term.given) (greatest_beside place terms) m h (differs term.place place other))
+    (most place m terms (rest_counts (if term.place == place then 0 else priority_of term.given) (greatest_beside place terms) m h))
 
 -- one of the others has that number
 abbrev HasOne : ℕ → List Term → ℕ → Type 0
-HasOne place terms number = (other : Term) × Contains terms other × (other.place ≢ place) × (number_of other.given ≡ number)
+HasOne place terms number = (other : Term) × Contains terms other × (other.place ≢ place) × (priority_of other.given ≡ number)
 
 first_has : (place : ℕ) (term : Term) (terms : List Term) (b : Bool) → (term.place == place) ≡ b
-    → greatest_beside place terms < (if b then 0 else number_of term.given)
-    → HasOne place (term ∷ terms) (max (if b then 0 else number_of term.given) (greatest_beside place terms))
+    → greatest_beside place terms < (if b then 0 else priority_of term.given)
+    → HasOne place (term ∷ terms) (max (if b then 0 else priority_of term.given) (greatest_beside place terms))
 first_has place term terms true is more = absurd (omega (arith, more))
 first_has place term terms false is more = (term, (0, omega arith, refl), apart term.place place is, omega (arith, more))
 
 one : (place : ℕ) (terms : List Term) → (greatest_beside place terms ≡ 0) ⊎ HasOne place terms (greatest_beside place terms)
 one place [] = inl refl
 one place (term ∷ terms) =
-    elim (cases_lt (greatest_beside place terms) (if term.place == place then 0 else number_of term.given)) [
+    elim (cases_lt (greatest_beside place terms) (if term.place == place then 0 else priority_of term.given)) [
       | inl more ↦ inr (first_has place term terms (term.place == place) refl more)
       | inr less ↦ elim (one place terms) [
         | inl none ↦ inl (omega (arith, less, none))

@@ -1,5 +1,5 @@
 -- An object that is idle doesn't know all its terms, so that nothing is asked of its balance.
-use Rattle.rw_method.proofs.Common.{AllByRecursion, Balanced, Bifurcation, Bool, ByRule, Canal, Conflicts, Confluence, Content, DataObject, Gage, Given, Holds, Idle, IdleAnswer, Kind, List, None, Option, Put, Reach, Request, Reservoir, RoutedReach, Solved, Some, Term, View, WaterUser, [], all_or_misfit, answer, ap, ap₂, arith, balance_of, balanced_of, difference, false, fault_of_contents, first_misfit, fits, if◌then◌else◌, inl, inr, int_eq, is_some, known, map, missing, nat_le, nat_tests, net_of, none-some, option_map, pos, puts_of, refl, settled, settled_at, solve_of, solves, suc, sum_of, sym, true, value_from_others, weakest, zero, ℕ, ℤ, ◌+ℤ◌, ◌+◌, ◌-ℤ◌, ◌==◌, ◌∙◌, ◌∷◌, ◌≡◌, ◌≢◌, ◌≤◌, PowerReservoir, first_fault, unless_faulty}
+use Rattle.rw_method.proofs.Common.{AllByRecursion, Balanced, Bifurcation, Bool, ByRule, Canal, Conflicts, Confluence, Content, DataObject, Gage, Given, Holds, Idle, IdleAnswer, Kind, List, None, Option, Put, Reach, Request, Reservoir, RoutedReach, Solved, Some, Term, View, WaterUser, [], all_or_misfit, answer, ap, ap₂, arith, balance_of, balanced_of, difference, false, fault_of_contents, first_misfit, fits, if◌then◌else◌, inl, inr, int_eq, is_some, known, map, missing, nat_le, nat_tests, net_of, none-some, option_map, pos, puts_of, refl, settled, settled_at, solve_of, solves, suc, known_sum, sym, true, value_from_others, weakest, zero, ℕ, ℤ, ◌+ℤ◌, ◌+◌, ◌-ℤ◌, ◌==◌, ◌∙◌, ◌∷◌, ◌≡◌, ◌≢◌, ◌≤◌, PowerReservoir, first_fault, unless_faulty}
 use Rattle.rw_method.specs.Balanced.{IsBalanced, IsHeld}
 use Rattle.rw_method.specs.Left.{Left}
 use Rattle.rw_method.proofs.Leaving.{from_left}
@@ -123,12 +123,12 @@ idle_balanced (Reach zero history local_inflow diversion return_flow) view left 
     absurd (never (Reach zero history local_inflow diversion return_flow) view side left (((λ same. omega (arith, same)), tt), (tt, tt)) sides
     (held_known view 0 inflow held_in, (held_known view 1 outflow held_out, tt)) idle)
 idle_balanced (Reach (suc lag) history local_inflow diversion return_flow) view left idle = λ past outflow side past_is held_out sides.
-    absurd (never (Reach (suc lag) history local_inflow diversion return_flow) view (past +ℤ side) left (tt, tt) (ap₂ (λ a b. sum_of a b) past_is sides)
+    absurd (never (Reach (suc lag) history local_inflow diversion return_flow) view (past +ℤ side) left (tt, tt) (ap₂ (λ a b. known_sum a b) past_is sides)
     (held_known view 1 outflow held_out, tt) idle)
 idle_balanced (Reservoir initial_storage table local_inflow diversion return_flow evaporation max_release) view left idle = λ past inflow outflow storage side evaporates past_is held_in held_out held_storage sides evaporates_is.
     absurd (never (Reservoir initial_storage table local_inflow diversion return_flow evaporation max_release) view ((past +ℤ side) -ℤ evaporates) left
     (((λ same. omega (arith, same)), ((λ same. omega (arith, same)), tt)), (((λ same. omega (arith, same)), tt), (tt, tt)))
-    (ap₂ (λ a b. difference a b) (ap₂ (λ a b. sum_of a b) past_is sides) evaporates_is)
+    (ap₂ (λ a b. difference a b) (ap₂ (λ a b. known_sum a b) past_is sides) evaporates_is)
     (held_known view 0 inflow held_in, (held_known view 1 outflow held_out, (held_known view 2 storage held_storage, tt))) idle)
 idle_balanced (PowerReservoir initial_storage table max_release tailwater power) view left idle = λ past inflow outflow storage past_is held_in held_out held_storage.
     absurd (never (PowerReservoir initial_storage table max_release tailwater power) view past left

@@ -1,7 +1,7 @@
 -- A dispatch keeps what it is kept by: which facts of a kind's puts are enough.
-use Rattle.rw_method.proofs.Common.{All, AllByRecursion, Balanced, Bool, ByObject, Contains, Content, Given, Holds, IsShare, IsSome, Kind, List, None, Option, PowerReservoir, Put, Solves, Some, Term, View, [], ap, arith, balance_of, balanced_of, false, held_by, if◌then◌else◌, inl, inr, is_same_object, known, known_after, map, nat_tests, none-some, number_of, refl, rules, same_Some, settled, subst, sym, true, ℕ, ℤ, ◌==◌, ◌∙◌, ◌∷◌, ◌≡◌, ◌≢◌, ◌≤◌, ◌⊎◌}
+use Rattle.rw_method.proofs.Common.{All, AllByRecursion, Balanced, Bool, ByObject, Contains, Content, Given, Holds, IsShare, IsSome, Kind, List, None, Option, PowerReservoir, Put, Solves, Some, Term, View, [], ap, arith, balance_of, balanced_of, false, held_by, if◌then◌else◌, inl, inr, is_same_object, known, known_after, map, nat_tests, none-some, priority_of, refl, rules, same_Some, settled, subst, sym, true, ℕ, ℤ, ◌==◌, ◌∙◌, ◌∷◌, ◌≡◌, ◌≢◌, ◌≤◌, ◌⊎◌}
 use Rattle.rw_method.specs.Left.{AreOthersUpTo, IsGivenUpTo, IsOutflowLeft, IsUpTo, Left, Rest, is_own, rest, rests_of}
-use Rattle.rw_method.specs.Passing.{IsAfterOwn, IsAfterOthers, content_of}
+use Rattle.rw_method.specs.Passing.{IsAfterOwn, IsAfterOthers, put_content}
 use Rattle.rw_method.proofs.Among.{Among, all_at, among, contains, weaker_all}
 use Rattle.rw_method.proofs.Settled.{SolvedFacts, balanced_code, given_up_to, holds_facts, solved_facts}
 use Rattle.rw_method.proofs.Terms.{IsSorted, IsTermOf, Sort, all_sorted, among_terms, given_in, other_in, own_in, shape_of, slot, term_in, term_of, terms_are, up_to_passes}
@@ -67,7 +67,7 @@ own_was old new passes place content there own = elim (passes.slots place) [
       absurd (let no : true ≡ false = sym own ∙ same_own old new content passes.own ∙ ap (is_own old) (sym this) ∙ replaced.other in cc)
 ]
 
-not_given : (view : View) (s : Sort) (held : Option Given) → given_in view s ≡ held → (IsGivenUpTo (number_of held) held → ⊥) → given_in view s ≡ None
+not_given : (view : View) (s : Sort) (held : Option Given) → given_in view s ≡ held → (IsGivenUpTo (priority_of held) held → ⊥) → given_in view s ≡ None
 not_given view s None is never = is
 not_given view s (Some held) is never = absurd (never (record { held = held; is = refl; most = omega arith }))
 
@@ -98,7 +98,7 @@ left_by_others kind old new passes is =
           let own = own_in new s content (all_at IsSorted (shape_of kind) s (all_sorted kind) has) none held in
           let was = own_was old new passes s.place content held own in
           let none_before : given_in old s ≡ None = not_given old s (given_in old s) refl
-          (λ up. let still = other_in old new passes s (number_of (given_in old s)) up in none-some still.held (sym none ∙ still.is)) in
+          (λ up. let still = other_in old new passes s (priority_of (given_in old s)) up in none-some still.held (sym none ∙ still.is)) in
           other_in old new passes r content.number (left.terms s r content has there apart none_before was);
       rests = λ pair content has held own.
           let was = own_was old new passes pair.place content held own in
@@ -188,7 +188,7 @@ up_to_after old new puts after place content there = elim (put_or_none puts plac
   | inl (put, (has, at)) ↦
       let was : known old put.place ≡ Some content = ap (known old) at ∙ there in
       elim (after.put put (contains puts put has)) [
-        | inl written ↦ record { content = content_of old put; is = ap (known new) (sym at) ∙ written.is; most = written.falls content was }
+        | inl written ↦ record { content = put_content old put; is = ap (known new) (sym at) ∙ written.is; most = written.falls content was }
         | inr kept ↦ record { content = content; is = ap (known new) (sym at) ∙ kept.is ∙ sym kept.was ∙ was; most = omega arith }
       ]
 ]
@@ -196,7 +196,7 @@ up_to_after old new puts after place content there = elim (put_or_none puts plac
 -- a put leaves no greater number than its own
 pub put_up_to : (old new : View) (puts : List Put) → IsAfterOwn old new puts → (put : Put) → Contains puts put → IsUpTo put.number (known new put.place)
 put_up_to old new puts after put has = elim (after.put put has) [
-  | inl written ↦ record { content = content_of old put; is = written.is; most = omega arith }
+  | inl written ↦ record { content = put_content old put; is = written.is; most = omega arith }
   | inr kept ↦ record { content = kept.content; is = kept.is; most = kept.number }
 ]
 
@@ -212,7 +212,7 @@ module _ (kind : Kind) (old : View) (steady : ℤ) (settles : settled (Some stea
   pub solving_is : (solving : Solving kind old) → SolvedFacts (map (term_in old) (shape_of kind)) solving.place solving.number
   solving_is solving = solved_facts steady (map (term_in old) (shape_of kind)) solving.place solving.number solving.value shares (settles ∙ solving.is)
 
-  number_of_up : (number : ℕ) (held : Option Given) → IsGivenUpTo number held → number_of held ≤ number
+  number_of_up : (number : ℕ) (held : Option Given) → IsGivenUpTo number held → priority_of held ≤ number
   number_of_up number None is = omega arith
   number_of_up number (Some held) is = let most = is.most in subst (λ (g : Given). g.number ≤ number) (sym (same_Some _ _ is.is)) most
 
@@ -226,7 +226,7 @@ module _ (kind : Kind) (old : View) (steady : ℤ) (settles : settled (Some stea
         let at : s.at.place ≡ solving.place = ap (λ (t : Term). t.place) (sym s.is) ∙ of.there in
         let r = term_of old (shape_of kind) other (among (map (term_in old) (shape_of kind)) other has) in
         let up = left.terms s.at r.at content s.has r.has (λ same. apart (ap (λ (t : Term). t.place) r.is ∙ same ∙ at)) is (ap (known old) at ∙ there) in
-        let below : number_of other.given ≤ content.number = number_of_up content.number other.given (subst (λ (t : Term). IsGivenUpTo content.number t.given) (sym r.is) up) in
+        let below : priority_of other.given ≤ content.number = number_of_up content.number other.given (subst (λ (t : Term). IsGivenUpTo content.number t.given) (sym r.is) up) in
         omega (arith, below, is_number)
   ]
 
@@ -290,7 +290,7 @@ module _ (kind : Kind) (old : View) (puts : List Put) (facts : DispatchFacts kin
         let put : Put = record { place = solving.place; value = solving.value; number = solving.number } in
         elim (after.put put (facts.has_solved solving)) [
           | inl written ↦
-              let same : content_of old put ≡ content = same_Some _ _ (sym written.is ∙ there) in
+              let same : put_content old put ≡ content = same_Some _ _ (sym written.is ∙ there) in
               let n : solving.number ≡ content.number = ap (λ (c : Content). c.number) same in omega (arith, n)
           | inr kept ↦
               let same : kept.content ≡ content = same_Some _ _ (sym kept.is ∙ there) in
@@ -299,7 +299,7 @@ module _ (kind : Kind) (old : View) (puts : List Put) (facts : DispatchFacts kin
 
     given_still : (s : Sort) → Among (shape_of kind) s → ((solving : Solving kind old) → s.place ≢ solving.place) → IsSome (given_in old s) → given_in new s ≡ None → ⊥
     given_still s has apart some none =
-        let still = facts.stays new after s has apart (number_of (given_in old s)) (given_up_to (given_in old s) (number_of (given_in old s)) some (omega arith)) in none-some still.held (sym none ∙ still.is)
+        let still = facts.stays new after s has apart (priority_of (given_in old s)) (given_up_to (given_in old s) (priority_of (given_in old s)) some (omega arith)) in none-some still.held (sym none ∙ still.is)
 
     up_some : (number : ℕ) (held : Option Given) → IsGivenUpTo number held → IsSome held
     up_some number None is = absurd (none-some is.held is.is)
@@ -358,7 +358,7 @@ module _ (kind : Kind) (old : View) (puts : List Put) (facts : DispatchFacts kin
       | inl (put, (in_puts, at)) ↦ elim (after.put put (contains puts put in_puts)) [
         | inr kept ↦ unchanged (ap (known old) (sym at) ∙ kept.was ∙ sym kept.is ∙ ap (known new) at ∙ there)
         | inl written ↦
-            let same : content_of old put ≡ content = same_Some _ _ (sym written.is ∙ ap (known new) at ∙ there) in
+            let same : put_content old put ≡ content = same_Some _ _ (sym written.is ∙ ap (known new) at ∙ there) in
             by_put put at (ap (λ (c : Content). c.number) same) (all_at (PutIs kind old puts) puts put facts.each in_puts)
       ]
     ]

@@ -1,5 +1,5 @@
 -- What an object's slots are left as, whatever the kind: how its own puts keep it.
-use Rattle.rw_method.proofs.Common.{AllByRecursion, Balanced, Basis, Bifurcation, Bool, ByRule, Canal, Conflicts, Confluence, Contains, DataObject, Elevation, Gage, Given, Holds, Idle, IsKind, IsStored, Kind, List, None, Nothing, Option, Plant, PowerReservoir, Put, Puts, Reach, Request, Reservoir, RoutedReach, Row, Solves, Some, Storage, Term, View, WaterUser, [], ap, are_both_zero, arith, asked_of, asked_put, balanced_of, basis_of, beside_basis, beside_given, content_before, content_put, elevation_of, energy_puts, evaporation_of, evaporation_put, false, flow_puts, given, head_of, held_after, if◌then◌else◌, inl, inr, known_after, level_puts, nat_tests, plant, power_balance, power_flows, put, put_found, refl, release_puts, seepage_put, solve_of, solved_put, subst, suc, sym, true, user_puts, volume_of, zero, ℕ, ℤ, ◌++◌, ◌<◌, ◌==◌, ◌∙◌, ◌∷◌, ◌≡◌, ◌≢◌, ◌≤◌}
+use Rattle.rw_method.proofs.Common.{AllByRecursion, Balanced, Basis, Bifurcation, Bool, ByRule, Canal, Conflicts, Confluence, Contains, DataObject, Elevation, Gage, Given, Holds, Idle, IsKind, IsStored, Kind, List, None, Nothing, Option, Plant, PowerReservoir, Put, Puts, Reach, Request, Reservoir, RoutedReach, Row, Solves, Some, Storage, Term, View, WaterUser, [], ap, are_both_zero, arith, asked_of, asked_put, balanced_of, basis_of, beside_basis, beside_given, content_before, content_put, elevation_of, energy_puts, evaporation_of, evaporation_put, false, flow_puts, given, head_of, held_after_puts, if◌then◌else◌, inl, inr, known_after, level_puts, nat_tests, plant, power_balance, power_flows, put, put_found, refl, release_puts, seepage_put, solve_of, solved_put, subst, suc, sym, true, user_puts, volume_of, zero, ℕ, ℤ, ◌++◌, ◌<◌, ◌==◌, ◌∙◌, ◌∷◌, ◌≡◌, ◌≢◌, ◌≤◌}
 use Rattle.rw_method.specs.Left.{IsOutflowLeft, Left}
 use Rattle.rw_method.specs.Passing.{IsAfterOwn, IsOwnFall}
 use Rattle.rw_method.proofs.Answering.{Answered, answered}
@@ -184,7 +184,7 @@ power_apart initial_storage table max_release tailwater power view puts sound is
     let low = low_solving kind view puts 2 (omega arith, (omega arith, (omega arith, tt))) sound is in
     let first : List Put = power_flows of view b in
     let second : List Put = level_puts (Some table) (given view 2) (given view 3) b in
-    let third : List Put = energy_puts of (head_of of view) (held_after view first 1) in
+    let third : List Put = energy_puts of (head_of of view) (held_after_puts view first 1) in
     let are = flows_are (asked_of of view) terms b in
     let first_up : AreUpTo 3 first = weaker_all (IsFlow (asked_of of view) terms b) (λ (put : Put). put.place ≤ 3) first (λ put flow. few put flow low) are in
     let beside : AllApart first second = weaker_all (IsFlow (asked_of of view) terms b) (λ (put : Put). ApartFrom put.place second) first

@@ -1,6 +1,6 @@
 -- The power reservoir: where a dispatch answers puts, the balance of what is held then is true, storage and elevation go together, and
 -- energy, release and spill are what the outflow gives.
-use Rattle.rw_method.proofs.Common.{Brings, Kind, List, Plant, PowerReservoir, Put, Row, Some, View, [], ap, ap₂, arith, balanced_of, elev_of, energy_of, energy_puts, head_from, head_of, held_after, inl, inr, int_min, ints, known_value, option_and_then, option_map, plant, pos, power_flows, refl, same_Some, sym, unwrap_or, ℕ, ℤ, ◌-ℤ◌, ◌∙◌, ◌∷◌, ◌≡◌}
+use Rattle.rw_method.proofs.Common.{Brings, Kind, List, Plant, PowerReservoir, Put, Row, Some, View, [], ap, ap₂, arith, balanced_of, elev_of, energy_of, energy_puts, head_from, head_of, held_after_puts, inl, inr, int_min, ints, known_value, option_and_then, option_map, plant, pos, power_flows, refl, same_Some, sym, unwrap_or, ℕ, ℤ, ◌-ℤ◌, ◌∙◌, ◌∷◌, ◌≡◌}
 use Rattle.rw_method.specs.Balanced.{IsBalanced}
 use Rattle.rw_method.specs.Passing.{IsAfterOwn}
 use Rattle.rw_method.proofs.Among.{Among, contains}
@@ -30,7 +30,7 @@ module _ (initial_storage : ℤ) (table : List Row) (max_release tailwater : ℤ
       let head : head_of of old ≡ head_from stood.0 tailwater =
       ap (λ found. unwrap_or (option_map (λ e. head_from e tailwater) (option_and_then (elev_of table) found)) (pos 0)) was
       ∙ ap (λ found. unwrap_or (option_map (λ e. head_from e tailwater) found) (pos 0)) stood.1 in
-      let value : (held_after old (power_flows of old (balanced_of kind old)) 1).value ≡ outflow =
+      let value : (held_after_puts old (power_flows of old (balanced_of kind old)) 1).value ≡ outflow =
       same_Some _ _ (sym (outflow_value initial_storage table max_release tailwater power old puts is new after) ∙ held_out) in
       record {
         balance = omega (arith, ints, zero_sum, p);
@@ -44,5 +44,5 @@ module _ (initial_storage : ℤ) (table : List Row) (max_release tailwater : ℤ
         );
       }
     where
-      derived : (put : Put) → Among (energy_puts of (head_of of old) (held_after old (power_flows of old (balanced_of kind old)) 1)) put → known_value new put.place ≡ Some put.value
+      derived : (put : Put) → Among (energy_puts of (head_of of old) (held_after_puts old (power_flows of old (balanced_of kind old)) 1)) put → known_value new put.place ≡ Some put.value
       derived put has = put_value old new puts after put (contains puts put (energy_there initial_storage table max_release tailwater power old puts is put has))

@@ -1,7 +1,7 @@
 -- The power reservoir, whose outflow a request may ask for.
-use Rattle.rw_method.proofs.Common.{All, All-contains, AllByRecursion, Balanced, Bool, Brings, Conflicts, Contains, Content, Given, Holds, Idle, IsShare, IsSome, Kind, List, None, Option, Plant, PowerReservoir, Put, Row, Solves, Some, Term, View, [], ap, arith, asked_number, asked_of, asked_put, balanced_of, cases_lt, energy_puts, false, fault_of_past, fault_of_request, flow_puts, given, greatest_beside, head_of, held_after, held_by, if◌then◌else◌, inl, inr, is_some, known, known_value, level_puts, map, nat_tests, none-some, number_of, option_map, outflow_of, outflow_or, plant, power_balance, power_flows, put, refl, request_of, requested, same_Some, solved_put, subst, sym, true, ℕ, ℤ, ◌++◌, ◌<◌, ◌==◌, ◌∙◌, ◌∷◌, ◌≡◌, ◌≢◌, ◌≤◌, ◌⊎◌}
+use Rattle.rw_method.proofs.Common.{All, All-contains, AllByRecursion, Balanced, Bool, Brings, Conflicts, Contains, Content, Given, Holds, Idle, IsShare, IsSome, Kind, List, None, Option, Plant, PowerReservoir, Put, Row, Solves, Some, Term, View, [], ap, arith, asked_number, asked_of, asked_put, balanced_of, cases_lt, energy_puts, false, fault_of_past, fault_of_request, flow_puts, given, greatest_beside, head_of, held_after_puts, held_by, if◌then◌else◌, inl, inr, is_some, known, known_value, level_puts, map, nat_tests, none-some, priority_of, option_map, outflow_of, outflow_or, plant, power_balance, power_flows, put, refl, request_of, requested, same_Some, solved_put, subst, sym, true, ℕ, ℤ, ◌++◌, ◌<◌, ◌==◌, ◌∙◌, ◌∷◌, ◌≡◌, ◌≢◌, ◌≤◌, ◌⊎◌}
 use Rattle.rw_method.specs.Left.{AreOthersUpTo, IsGivenUpTo, IsOutflowLeft, IsUpTo, Rest, is_own, rest, rests_of}
-use Rattle.rw_method.specs.Passing.{IsAfterOwn, content_of}
+use Rattle.rw_method.specs.Passing.{IsAfterOwn, put_content}
 use Rattle.rw_method.proofs.Answering.{Answered}
 use Rattle.rw_method.proofs.Counting.{AsksUpTo, counts, from_asked, to_asked}
 use Rattle.rw_method.proofs.Leaving.{DispatchFacts, IsFalling, LeftBy, PutIs, Solving, alone, beside, falls_from, holds_given, one_solving, others_pass, place_in, put_or_none, rests, same_own, solved, solving_is}
@@ -93,28 +93,28 @@ asked_there by terms (Solves place value number) apart = by_place (place == 1) (
 -- what a place holds after puts: what one of them puts there, or what is known
 abbrev pub HeldAfter : View → List Put → ℕ → Type 0
 HeldAfter view puts place =
-    ((put : Put) × (Among puts put × ((put.place ≡ place) × (held_after view puts place ≡ record { value = put.value; number = put.number }))))
-    ⊎ (((put : Put) → Among puts put → put.place ≢ place) × (held_after view puts place ≡ held_by (known view place)))
+    ((put : Put) × (Among puts put × ((put.place ≡ place) × (held_after_puts view puts place ≡ record { value = put.value; number = put.number }))))
+    ⊎ (((put : Put) → Among puts put → put.place ≢ place) × (held_after_puts view puts place ≡ held_by (known view place)))
 
 pub held_cases : (view : View) (puts : List Put) (place : ℕ) → HeldAfter view puts place
 held_cases view [] place = inr (λ put has. absurd has, refl)
 held_cases view (first ∷ puts) place = by (first.place == place) refl (held_cases view puts place)
   where
     by : (test : Bool) → (first.place == place) ≡ test → HeldAfter view puts place → HeldAfter view (first ∷ puts) place
-    by true is later = inl (first, (inl refl, (grind (arith, nat_tests, is), ap (λ (here : Bool). if here then record { value = first.value; number = first.number } else held_after view puts place) is)))
+    by true is later = inl (first, (inl refl, (grind (arith, nat_tests, is), ap (λ (here : Bool). if here then record { value = first.value; number = first.number } else held_after_puts view puts place) is)))
     by false is (inl found) =
-        inl (found.0, (inr found.1.0, (found.1.1.0, ap (λ (here : Bool). if here then record { value = first.value; number = first.number } else held_after view puts place) is ∙ found.1.1.1)))
+        inl (found.0, (inr found.1.0, (found.1.1.0, ap (λ (here : Bool). if here then record { value = first.value; number = first.number } else held_after_puts view puts place) is ∙ found.1.1.1)))
     by false is (inr none) = inr (
       (λ put has. elim has [
         | inl same ↦ λ at. let here : first.place ≡ place = ap (λ (p : Put). p.place) same ∙ at in absurd (grind (arith, nat_tests, is, here))
         | inr later ↦ none.0 put later
       ]),
-      ap (λ (here : Bool). if here then record { value = first.value; number = first.number } else held_after view puts place) is ∙ none.1,
+      ap (λ (here : Bool). if here then record { value = first.value; number = first.number } else held_after_puts view puts place) is ∙ none.1,
     )
 
 -- ---- numbers
 
-number_of_up : (held : Option Given) (number : ℕ) → IsGivenUpTo number held → number_of held ≤ number
+number_of_up : (held : Option Given) (number : ℕ) → IsGivenUpTo number held → priority_of held ≤ number
 number_of_up None number up = omega arith
 number_of_up (Some held) number up = let most = up.most in subst (λ (g : Given). g.number ≤ number) (sym (same_Some _ _ up.is)) most
 
@@ -165,7 +165,7 @@ module _ (initial_storage : ℤ) (table : List Row) (max_release tailwater : ℤ
   level = level_puts (Some table) (given view 2) (given view 3) b
 
   abbrev energies : List Put
-  energies = energy_puts of (head_of of view) (held_after view flows 1)
+  energies = energy_puts of (head_of of view) (held_after_puts view flows 1)
 
   shares : All (λ (term : Term). IsShare term.share) (map (term_in view) (shape_of kind))
   shares = shares_three (term_in view (sort Brings 0)) (term_in view (let_out of)) (term_in view (stored (Some table))) tt tt tt
@@ -409,7 +409,7 @@ module _ (initial_storage : ℤ) (table : List Row) (max_release tailwater : ℤ
           (subst (λ asking. Among (flow_puts asking terms b) (asked_put terms b out.asking)) (sym out.asks) (asked_there out.asking terms b (not_at out.none))) refl)
       by (inr (inr out)) = (out.held, (out.there, out.none))
 
-  energy_is : (put : Put) → Contains (rests_of kind) (rest put.place 1) → put.number ≡ (held_after view flows 1).number → PutIs kind view puts put
+  energy_is : (put : Put) → Contains (rests_of kind) (rest put.place 1) → put.number ≡ (held_after_puts view flows 1).number → PutIs kind view puts put
   energy_is put has number = elim (held_cases view flows 1) [
     | inl (flow, (there, (at, same))) ↦
         beside (record {
@@ -540,7 +540,7 @@ module _ (initial_storage : ℤ) (table : List Row) (max_release tailwater : ℤ
               | inr other ↦ none-some other.by (sym out.asks ∙ other.is)
             ]) ∙ ap (λ (h : Given). Some h.value) same
 
-    pub outflow_value : known_value new 1 ≡ Some (held_after view flows 1).value
+    pub outflow_value : known_value new 1 ≡ Some (held_after_puts view flows 1).value
     outflow_value = elim (held_cases view flows 1) [
       | inl (flow, (there, (at, same))) ↦
           ap (known_value new) (sym at) ∙ put_value view new puts after flow (contains puts flow (flow_there flow there)) ∙ ap (λ (g : Given). Some g.value) (sym same)
@@ -611,7 +611,7 @@ module _ (initial_storage : ℤ) (table : List Row) (max_release tailwater : ℤ
             (λ other has apart.
             given_up_to other.given (asked_number terms Holds asks.by.number)
             (all_given holds other has)
-            (let most = All-contains (λ (o : Term). o.place ≢ 1 → number_of o.given ≤ greatest_beside 1 terms) terms other (is_greatest_beside 1 terms).most has apart in omega (arith, most, more))))
+            (let most = All-contains (λ (o : Term). o.place ≢ 1 → priority_of o.given ≤ greatest_beside 1 terms) terms other (is_greatest_beside 1 terms).most has apart in omega (arith, most, more))))
           where
             all_given : b ≡ Holds → (other : Term) → Contains terms other → IsSome other.given
             all_given holds other has =
@@ -625,7 +625,7 @@ module _ (initial_storage : ℤ) (table : List Row) (max_release tailwater : ℤ
           stays_left left content was (sym (same_own view new content after.own) ∙ own)
       | inl (put, (has, at)) ↦ elim (after.put put (contains puts put has)) [
         | inl written ↦
-            let same : content_of view put ≡ content = same_Some _ _ (sym written.is ∙ ap (known new) at ∙ there) in
+            let same : put_content view put ≡ content = same_Some _ _ (sym written.is ∙ ap (known new) at ∙ there) in
             subst IsLeft (ap (λ (c : Content). c.number) same) (put_left put (out_flow put has at) at)
         | inr kept ↦
             let was : known view 1 ≡ Some content = ap (known view) (sym at) ∙ kept.was ∙ sym kept.is ∙ ap (known new) at ∙ there in

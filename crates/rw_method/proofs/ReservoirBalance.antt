@@ -1,6 +1,6 @@
 -- The reservoir: where a dispatch answers puts, the balance of what is held then is true, storage and elevation go together, and each
 -- derived slot holds what is derived.
-use Rattle.rw_method.proofs.Common.{Bool, Brings, Contains, IsStored, Kind, List, None, Option, Put, Reservoir, Row, Some, Takes, View, [], ap, ap₂, arith, balanced_of, difference, evaporation_from, evaporation_of, evaporation_put, false, given, inl, inr, int_min, ints, is_some, known_after, known_value, level_puts, none-some, pos, refl, release_puts, same_Some, side_flows, solved_put, subst, sum_of, sym, true, unwrap_or, ℕ, ℤ, ◌++◌, ◌-ℤ◌, ◌∙◌, ◌∷◌, ◌≡◌, ◌≤◌}
+use Rattle.rw_method.proofs.Common.{Bool, Brings, Contains, IsStored, Kind, List, None, Option, Put, Reservoir, Row, Some, Takes, View, [], ap, ap₂, arith, balanced_of, difference, evaporation_from, evaporation_of, evaporation_put, false, given, inl, inr, int_min, ints, is_some, known_after, known_value, level_puts, none-some, pos, refl, release_puts, same_Some, side_flows, solved_put, subst, known_sum, sym, true, unwrap_or, ℕ, ℤ, ◌++◌, ◌-ℤ◌, ◌∙◌, ◌∷◌, ◌≡◌, ◌≤◌}
 use Rattle.rw_method.specs.Balanced.{IsBalanced, IsHeld, IsLevel, IsLost, IsReleased}
 use Rattle.rw_method.specs.Passing.{IsAfterOwn}
 use Rattle.rw_method.proofs.Answering.{Answered}
@@ -88,7 +88,7 @@ module _ (initial_storage : ℤ) (table : Option (List Row)) (local_inflow diver
       (sort Brings 0) (inl refl) (inflow ∷ outflow ∷ stores ∷ []) (held_in, (held_out, (held_storage, tt))) in
       let same_side = same_sides old new 4 local_inflow diversion return_flow (middle 4 (omega arith) (omega arith)) (middle 5 (omega arith) (omega arith)) (middle 6 (omega arith) (omega arith)) in
       let same_lost = same_evaporation evaporation table old new after.past (middle 7 (omega arith) (omega arith)) in
-      let parts = both_of (sum_of old.past (side_flows old 4 local_inflow diversion return_flow)) (evaporation_of evaporation table old) is.steady is.is_steady in
+      let parts = both_of (known_sum old.past (side_flows old 4 local_inflow diversion return_flow)) (evaporation_of evaporation table old) is.steady is.is_steady in
       let sums = both_there old.past (side_flows old 4 local_inflow diversion return_flow) parts.0 parts.1.1.0 in
       let p : sums.0 ≡ past = same_Some _ _ (sym sums.1.1.0 ∙ sym after.past ∙ past_is) in
       let f : sums.1.0 ≡ side = same_Some _ _ (sym sums.1.1.1.0 ∙ sym same_side ∙ sides) in

@@ -1,5 +1,5 @@
 -- What a settled balance tells of its terms.
-use Rattle.rw_method.proofs.Common.{All, All-contains, Balanced, Conflicts, Contains, Contains-append_cases, Contains-append_left, Contains-append_right, Decides-int_eq, Given, Holds, Idle, IsNoWeaker, IsShare, IsSome, IsStronger, List, None, Option, Solves, Some, Term, ap, arith, cases_Bool, inl, inr, int_eq, missing, nat_le, net_of, number_of, pos, refl, rules, settled, settled_at, solves, subst, sym, value_from_others, weakest, ℕ, ℤ, ◌++◌, ◌+ℤ◌, ◌==◌, ◌∙◌, ◌∷◌, ◌≡◌, ◌≢◌, ◌≤◌, ◌⊎◌}
+use Rattle.rw_method.proofs.Common.{All, All-contains, Balanced, Conflicts, Contains, Contains-append_cases, Contains-append_left, Contains-append_right, Decides-int_eq, Given, Holds, Idle, IsNoWeaker, IsShare, IsSome, IsStronger, List, None, Option, Solves, Some, Term, ap, arith, cases_Bool, inl, inr, int_eq, missing, nat_le, net_of, priority_of, pos, refl, rules, settled, settled_at, solves, subst, sym, value_from_others, weakest, ℕ, ℤ, ◌++◌, ◌+ℤ◌, ◌==◌, ◌∙◌, ◌∷◌, ◌≡◌, ◌≢◌, ◌≤◌, ◌⊎◌}
 use Rattle.rw_method.proofs.GivingWay.{gives_way}
 use Rattle.rw_method.proofs.SolvedTerm.{number_of_solved, solved_term}
 use Rattle.rw_method.specs.Left.{IsGivenUpTo}
@@ -19,17 +19,17 @@ pub record SolvedFacts (terms : List Term) (place number : ℕ) : Type 0 where
   pub there : term.place ≡ place
   pub others : (other : Term) → Contains terms other → other.place ≢ place → IsGivenUpTo number other.given
   pub self : (held : Given) → term.given ≡ Some held → number ≤ held.number
-  pub one : (number ≡ 0) ⊎ ((other : Term) × Contains terms other × (other.place ≢ place) × (number_of other.given ≡ number))
+  pub one : (number ≡ 0) ⊎ ((other : Term) × Contains terms other × (other.place ≢ place) × (priority_of other.given ≡ number))
 
-pub given_up_to : (given : Option Given) (number : ℕ) → IsSome given → number_of given ≤ number → IsGivenUpTo number given
+pub given_up_to : (given : Option Given) (number : ℕ) → IsSome given → priority_of given ≤ number → IsGivenUpTo number given
 given_up_to None number some most = absurd (cc)
 given_up_to (Some held) number some most = record { held = held; is = refl; most = most }
 
-no_weaker : (given : Option Given) (held : Given) → IsNoWeaker given (Some held) → number_of given ≤ held.number
+no_weaker : (given : Option Given) (held : Given) → IsNoWeaker given (Some held) → priority_of given ≤ held.number
 no_weaker None held is = absurd is
 no_weaker (Some other) held is = is
 
-stronger : (given : Option Given) (held : Given) → IsStronger given (Some held) → number_of given ≤ held.number
+stronger : (given : Option Given) (held : Given) → IsStronger given (Some held) → priority_of given ≤ held.number
 stronger None held is = absurd is
 stronger (Some other) held is = omega (arith, is)
 
@@ -50,9 +50,9 @@ solved_facts steady terms place number value shares is =
     let solved = solved_term steady terms place number value shares is in
     let greatest = number_of_solved steady terms place number value is in
     let way = solved.way in
-    let self : ((held : Given) → solved.term.given ≡ Some held → (other : Term) → Contains terms other → other.place ≢ place → number_of other.given ≤ held.number) =
+    let self : ((held : Given) → solved.term.given ≡ Some held → (other : Term) → Contains terms other → other.place ≢ place → priority_of other.given ≤ held.number) =
     (λ held given other has apart.
-    beside (λ (o : Term). number_of o.given ≤ held.number) way.before way.after solved.term other (subst (λ ts. Contains ts other) way.among has) (λ same. apart (sym same ∙ solved.there))
+    beside (λ (o : Term). priority_of o.given ≤ held.number) way.before way.after solved.term other (subst (λ ts. Contains ts other) way.among has) (λ same. apart (sym same ∙ solved.there))
     (λ earlier. no_weaker other.given held (subst (λ g. IsNoWeaker other.given g) given (All-contains (λ (o : Term). IsNoWeaker o.given solved.term.given) way.before other way.earlier earlier)))
     (λ later. stronger other.given held (subst (λ g. IsStronger other.given g) given (All-contains (λ (o : Term). IsStronger o.given solved.term.given) way.after other way.later later)))) in
     record {
@@ -64,7 +64,7 @@ solved_facts steady terms place number value shares is =
           (beside (λ (o : Term). IsSome o.given) way.before way.after solved.term other (subst (λ ts. Contains ts other) way.among has) (λ same. apart (sym same ∙ solved.there))
           (λ earlier. All-contains (λ (o : Term). IsSome o.given) (way.before ++ way.after) other solved.given (Contains-append_left way.before way.after other earlier))
           (λ later. All-contains (λ (o : Term). IsSome o.given) (way.before ++ way.after) other solved.given (Contains-append_right way.before way.after other later)))
-          (All-contains (λ (o : Term). o.place ≢ place → number_of o.given ≤ number) terms other greatest.most has apart);
+          (All-contains (λ (o : Term). o.place ≢ place → priority_of o.given ≤ number) terms other greatest.most has apart);
       self = λ held given. elim greatest.one [
         | inl none ↦ omega (arith, none)
         | inr (other, has, apart, is_number) ↦ let below = self held given other has apart in omega (arith, below, is_number)

@@ -1,5 +1,5 @@
 -- What a method puts stands in slots of its kind.
-use Rattle.rw_method.proofs.Common.{All, All-append, All-push, AllFit, Balanced, Bool, Conflicts, Given, Holds, Idle, IsSome, List, None, Option, Put, Solves, Some, Term, View, [], all_or_misfit, answer, ap, ap₂, arith, balanced_of, beside_basis, beside_given, content_before, content_put, evaporation_put, false, fault_of_contents, fault_of_past, first_misfit, fits, gives_way_before, if◌then◌else◌, inl, inr, int_eq, is_bounded, is_some, known_after, length, length-append, level_puts, missing, nat_le, net_of, none-some, not, or_else, pos, put_found, puts_of, refl, release_puts, same_Some, seepage_put, settled, settled_at, solve_of, solved_put, solves, subst, suc, true, user_puts, value_from_others, weakest, zero, ℕ, ℤ, ◌&&◌, ◌++◌, ◌+ℤ◌, ◌+◌, ◌<◌, ◌==◌, ◌∙◌, ◌∷◌, ◌≡◌, ◌≤◌, ◌⊎◌, asked_of, asked_put, energy_puts, fault_of_level, fault_of_request, first_fault, flow_puts, head_of, held_after, plant, Plant, power_balance, power_flows, release_for, request_of, unless_faulty, Content, put}
+use Rattle.rw_method.proofs.Common.{All, All-append, All-push, AllFit, Balanced, Bool, Conflicts, Given, Holds, Idle, IsSome, List, None, Option, Put, Solves, Some, Term, View, [], all_or_misfit, answer, ap, ap₂, arith, balanced_of, beside_basis, beside_given, content_before, content_put, evaporation_put, false, fault_of_contents, fault_of_past, first_misfit, fits, gives_way_before, if◌then◌else◌, inl, inr, int_eq, is_bounded, is_some, known_after, length, length-append, level_puts, missing, nat_le, net_of, none-some, not, or_else, pos, put_found, puts_of, refl, release_puts, same_Some, seepage_put, settled, settled_at, solve_of, solved_put, solves, subst, suc, true, user_puts, value_from_others, weakest, zero, ℕ, ℤ, ◌&&◌, ◌++◌, ◌+ℤ◌, ◌+◌, ◌<◌, ◌==◌, ◌∙◌, ◌∷◌, ◌≡◌, ◌≤◌, ◌⊎◌, asked_of, asked_put, energy_puts, fault_of_level, fault_of_request, first_fault, flow_puts, head_of, held_after_puts, plant, Plant, power_balance, power_flows, release_for, request_of, unless_faulty, Content, put}
 use Rattle.rw_table.specs.Table.{Row}
 use Rattle.rw_model.specs.declared.kind.Kind.{Kind}
 use Rattle.rw_model.specs.declared.kind.Kind.TheVariants.{DataObject, Gage, Confluence, Bifurcation, Reach, Reservoir, WaterUser, Canal, RoutedReach, PowerReservoir}
@@ -231,7 +231,7 @@ puts_own (PowerReservoir initial_storage table max_release tailwater power) view
     flows_own kind (asked_of of view) (power_balance of view).terms b (settled_own kind view.past (power_balance of view).terms (zero_own, (one, (two, tt)))) one in
     let level : AreOwn kind 1 (level_puts (Some table) (given view 2) (given view 3) b) =
     level_own kind (Some table) (given view 2) (given view 3) b two (λ e. own_at kind 3 _ (omega arith) refl) in
-    let energy : AreOwn kind 3 (energy_puts of (head_of of view) (held_after view (power_flows of view b) 1)) =
+    let energy : AreOwn kind 3 (energy_puts of (head_of of view) (held_after_puts view (power_flows of view b) 1)) =
     both_own kind 1 2 (_ ∷ []) (_ ∷ _ ∷ []) (one_own kind _ (own_at kind 5 _ (omega arith) refl))
     (both_own kind 1 1 (_ ∷ []) (_ ∷ []) (one_own kind _ (own_at kind 6 _ (omega arith) refl)) (one_own kind _ (own_at kind 7 _ (omega arith) refl))) in
     more_room kind 6 8 _ (omega arith) (both_own kind 3 3 _ _ (both_own kind 2 1 _ _ flows level) energy)

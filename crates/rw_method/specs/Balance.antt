@@ -23,10 +23,10 @@ abbrev pub balance : Option ℤ → List Term → Balance
 balance steady terms = record { steady = steady; terms = terms }
 
 -- the sum of two values, where both are there
-abbrev pub sum_of : Option ℤ → Option ℤ → Option ℤ
-sum_of (Some a) (Some b) = Some (a +ℤ b)
-sum_of (Some a) None = None
-sum_of None b = None
+abbrev pub known_sum : Option ℤ → Option ℤ → Option ℤ
+known_sum (Some a) (Some b) = Some (a +ℤ b)
+known_sum (Some a) None = None
+known_sum None b = None
 
 -- the slot in a place as a term that counts so
 abbrev pub term_at : View → Share → ℕ → Term
@@ -57,13 +57,13 @@ abbrev pub lets_out : Option Given → Term
 lets_out outflow = record { place = OUTFLOW; share = Takes; given = outflow }
 
 -- the value in a place, and 0 where that slot isn't chosen
-abbrev pub chosen : Bool → View → ℕ → Option ℤ
-chosen choice view place = if choice then known_value view place else Some (pos 0)
+abbrev pub value_if_chosen : Bool → View → ℕ → Option ℤ
+value_if_chosen choice view place = if choice then known_value view place else Some (pos 0)
 
 -- LocalInflow + ReturnFlow - Diversion, which stand in places one after the other as LocalInflow, Diversion, ReturnFlow
 abbrev pub side_flows : View → ℕ → Bool → Bool → Bool → Option ℤ
 side_flows view place local_inflow diversion return_flow =
-    difference (sum_of (chosen local_inflow view place) (chosen return_flow view (place + 2))) (chosen diversion view (place + 1))
+    difference (known_sum (value_if_chosen local_inflow view place) (value_if_chosen return_flow view (place + 2))) (value_if_chosen diversion view (place + 1))
 
 -- Evaporation, known where the rate and the storage before are. A storage that the table doesn't have counts as none evaporated,
 -- since the answer is then OutOfRange
@@ -98,10 +98,10 @@ balance_of (Reach zero history local_inflow diversion return_flow) view =
     balance (side_flows view REACH_SIDE local_inflow diversion return_flow) (brings view INFLOW ∷ takes view OUTFLOW ∷ [])
 -- Outflow = Inflow(t - lag) + LocalInflow - Diversion + ReturnFlow
 balance_of (Reach (suc lag) history local_inflow diversion return_flow) view =
-    balance (sum_of view.past (side_flows view REACH_SIDE local_inflow diversion return_flow)) (takes view OUTFLOW ∷ [])
+    balance (known_sum view.past (side_flows view REACH_SIDE local_inflow diversion return_flow)) (takes view OUTFLOW ∷ [])
 -- Contents = Storage(t - 1) + Inflow + LocalInflow + ReturnFlow - Diversion - Evaporation - Outflow
 balance_of (Reservoir initial_storage table local_inflow diversion return_flow evaporation max_release) view =
-    balance (difference (sum_of view.past (side_flows view RESERVOIR_SIDE local_inflow diversion return_flow)) (evaporation_of evaporation table view))
+    balance (difference (known_sum view.past (side_flows view RESERVOIR_SIDE local_inflow diversion return_flow)) (evaporation_of evaporation table view))
     (brings view INFLOW ∷ takes view OUTFLOW ∷ stores (contents_by table (basis_of (given view STORAGE) (given view POOL_ELEVATION))) ∷ [])
 -- Diversion = DiversionRequest
 balance_of (WaterUser depletion Request) view = balance (known_value view DIVERSION_REQUEST) (takes view DIVERSION ∷ [])

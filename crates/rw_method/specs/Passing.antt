@@ -21,16 +21,16 @@ pub record IsAfterOthers (old new : View) : Type 0 where
   pub slots : (place : ℕ) → (known new place ≡ known old place) ⊎ IsReplaced old new place
 
 -- the content that a put of the object makes
-abbrev pub content_of : View → Put → Content
-content_of view put = record { value = put.value; number = put.number; writer = Object view.own }
+abbrev pub put_content : View → Put → Content
+put_content view put = record { value = put.value; number = put.number; writer = Object view.own }
 
 -- a put is written, over a content with no lesser number if there was one
 pub record IsWritten (old new : View) (put : Put) : Type 0 where
-  pub is : known new put.place ≡ Some (content_of old put)
+  pub is : known new put.place ≡ Some (put_content old put)
   pub falls : (before : Content) → known old put.place ≡ Some before → put.number ≤ before.number
 
 -- a put is kept: its value is there, with no greater number
-pub record IsKept (old new : View) (put : Put) : Type 0 where
+pub record IsPutKept (old new : View) (put : Put) : Type 0 where
   pub content : Content
   pub was : known old put.place ≡ Some content
   pub is : known new put.place ≡ Some content
@@ -41,7 +41,7 @@ pub record IsKept (old new : View) (put : Put) : Type 0 where
 pub record IsAfterOwn (old new : View) (puts : List Put) : Type 0 where
   pub own : new.own ≡ old.own
   pub past : new.past ≡ old.past
-  pub put : (put : Put) → Contains puts put → IsWritten old new put ⊎ IsKept old new put
+  pub put : (put : Put) → Contains puts put → IsWritten old new put ⊎ IsPutKept old new put
   pub rest : (place : ℕ) → ((put : Put) → Contains puts put → put.place ≢ place) → known new place ≡ known old place
 
 -- over a content that the object wrote itself a put has no greater number

@@ -15,7 +15,7 @@ use Rattle.rw_method.specs.declared.balanced.Balanced.{Balanced}
 use Rattle.rw_method.specs.declared.balanced.Balanced.TheVariants.{Holds, Solves}
 use Rattle.rw_method.specs.declared.term.Term.{Term}
 use Rattle.rw_method.specs.declared.view.View.{View}
-use Rattle.rw_method.specs.View.{known, given, bounds_at, is_between}
+use Rattle.rw_method.specs.View.{known, given, bounds_in_view, is_between}
 use Rattle.rw_method.specs.Term.{per_mille}
 use Rattle.rw_method.specs.Contents.{basis_of, elevation_of, volume_of, are_both_zero}
 use Rattle.rw_method.specs.Power.{IsLeastRelease, Plant, plant, asked_of, energy_of, head_of}
@@ -27,7 +27,7 @@ put place value number = record { place = place; value = value; number = number 
 
 -- a put is a quantity within its slot's bounds
 abbrev pub is_bounded : View → Put → Bool
-is_bounded view put = is_between (bounds_at view put.place) put.value && is_between all_quantities put.value
+is_bounded view put = is_between (bounds_in_view view put.place) put.value && is_between all_quantities put.value
 
 -- a value and its number, 0 and 0 where nothing is known
 abbrev pub held_by : Option Content → Given
@@ -40,14 +40,14 @@ solved_put (Solves place value number) = put place value number ∷ []
 solved_put balanced = []
 
 -- what a place holds after these puts: what one of them puts there, or what is known
-abbrev pub held_after : View → List Put → ℕ → Given
-held_after view [] place = held_by (known view place)
-held_after view (put ∷ puts) place =
-    if put.place == place then record { value = put.value; number = put.number } else held_after view puts place
+abbrev pub held_after_puts : View → List Put → ℕ → Given
+held_after_puts view [] place = held_by (known view place)
+held_after_puts view (put ∷ puts) place =
+    if put.place == place then record { value = put.value; number = put.number } else held_after_puts view puts place
 
 -- what a place holds once the balance is settled: what was just solved, or what is known
 abbrev pub known_after : View → Balanced → ℕ → Given
-known_after view balanced place = held_after view (solved_put balanced) place
+known_after view balanced place = held_after_puts view (solved_put balanced) place
 
 -- the slot in a place gets the value that the table has, if it has one
 abbrev pub put_found : ℕ → Option ℤ → ℕ → List Put
@@ -134,7 +134,7 @@ abbrev pub power_puts : Plant → View → Balanced → List Put
 power_puts plant view balanced =
     power_flows plant view balanced
     ++ level_puts (Some plant.table) (given view STORAGE) (given view POOL_ELEVATION) balanced
-    ++ energy_puts plant (head_of plant view) (held_after view (power_flows plant view balanced) OUTFLOW)
+    ++ energy_puts plant (head_of plant view) (held_after_puts view (power_flows plant view balanced) OUTFLOW)
 
 -- what is left of what was held and what flows in, once the outflow is let go
 abbrev pub content_put : ℤ → Given → Given → List Put

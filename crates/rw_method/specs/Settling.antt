@@ -17,14 +17,14 @@ abbrev pub net_of : List Term → ℤ
 net_of [] = pos 0
 net_of (term ∷ terms) = brought_by term.share term.given +ℤ net_of terms
 
-abbrev pub number_of : Option Given → ℕ
-number_of None = 0
-number_of (Some held) = held.number
+abbrev pub priority_of : Option Given → ℕ
+priority_of None = 0
+priority_of (Some held) = held.number
 
 -- the greatest number of the given terms but the one of this place, 0 if there is none
 abbrev pub greatest_beside : ℕ → List Term → ℕ
 greatest_beside place [] = 0
-greatest_beside place (term ∷ terms) = max (if term.place == place then 0 else number_of term.given) (greatest_beside place terms)
+greatest_beside place (term ∷ terms) = max (if term.place == place then 0 else priority_of term.given) (greatest_beside place terms)
 
 -- whether a term gives way before a later one
 abbrev pub gives_way_before : Option Given → Option Given → Bool
@@ -95,5 +95,5 @@ pub record IsSolved (steady : ℤ) (terms : List Term) (place : ℕ) (value : �
 
 -- a number that no given term in another place passes, and that one of them has, or 0
 pub record IsGreatestBeside (place : ℕ) (terms : List Term) (number : ℕ) : Type 0 where
-  pub most : All (λ (other : Term). other.place ≢ place → number_of other.given ≤ number) terms
-  pub one : (number ≡ 0) ⊎ ((other : Term) × Contains terms other × (other.place ≢ place) × (number_of other.given ≡ number))
+  pub most : All (λ (other : Term). other.place ≢ place → priority_of other.given ≤ number) terms
+  pub one : (number ≡ 0) ⊎ ((other : Term) × Contains terms other × (other.place ≢ place) × (priority_of other.given ≡ number))

@@ -31,8 +31,8 @@ abbrev pub given : View → ℕ → Option Given
 given view place = given_by view.own (known view place)
 
 -- the least and the greatest value of the slot in a place
-abbrev pub bounds_at : View → ℕ → Bounds
-bounds_at view place = slice_index_or view.bounds place (pos 0, pos 0)
+abbrev pub bounds_in_view : View → ℕ → Bounds
+bounds_in_view view place = slice_index_or view.bounds place (pos 0, pos 0)
 
 abbrev pub is_between : Bounds → ℤ → Bool
 is_between bounds value = int_le bounds.0 value && int_le value bounds.1
@@ -47,4 +47,4 @@ pub record IsBounded (bounds : Bounds) (slot : Slot) (value : Option ℤ) : Type
 pub record IsViewOf (kind : Kind) (view : View) : Type 0 where
   pub parameters : IsKind kind
   pub absent : (place : ℕ) → place < 12 → slot_in kind place ≡ None → known view place ≡ None
-  pub bounded : (place : ℕ) (slot : Slot) → place < 12 → slot_in kind place ≡ Some slot → IsBounded (bounds_at view place) slot (known_value view place)
+  pub bounded : (place : ℕ) (slot : Slot) → place < 12 → slot_in kind place ≡ Some slot → IsBounded (bounds_in_view view place) slot (known_value view place)

@@ -16,8 +16,8 @@ abbrev pub input : ℤ → Option Content
 input value = Some (record { value = value; number = 0; writer = Input })
 
 -- set by a rule
-abbrev pub by_rule : RuleNo → ℤ → ℕ → Option Content
-by_rule rule value number = Some (record { value = value; number = number; writer = Rule rule })
+abbrev pub set_by_rule : RuleNo → ℤ → ℕ → Option Content
+set_by_rule rule value number = Some (record { value = value; number = number; writer = Rule rule })
 
 -- written by an object
 abbrev pub by_object : ObjectNo → ℤ → ℕ → Option Content

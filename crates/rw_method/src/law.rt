@@ -19,7 +19,7 @@ ghost use Rattle.rw_method.specs.View.{given};
 ghost use Rattle.rw_method.specs.declared.given.Given.{Given};
 ghost use Rattle.rw_method.specs.declared.places.TheConstants.{INFLOW, OUTFLOW};
 ghost use Rattle.rw_method.specs.declared.view.View.{View};
-ghost use Rattle.rw_method.specs.Worked.{input, by_rule, view_with, worked_rows};
+ghost use Rattle.rw_method.specs.Worked.{input, set_by_rule, view_with, worked_rows};
 
 /// The term that gives way is one that isn't given, or else one of the greatest number, and of several such the last.
 #[tactic(auto, using(crate::proofs::GivingWay::gives_way))]
@@ -86,11 +86,13 @@ pub fn solved_inflow_of_a_routed_reach()
 pub fn confluence_values()
     ensures last_in_a_tie { (own : ObjectNo) (two three : RuleNo)
         → solve_of Kind.Confluence (view_with Kind.Confluence own None
-        (by_rule two (pos 5) 2 ∷ by_rule three (pos 6) 3 ∷ by_rule three (pos 10) 3 ∷ []))
+        (set_by_rule two (pos 5) 2 ∷ set_by_rule three (pos 6) 3
+        ∷ set_by_rule three (pos 10) 3 ∷ []))
         ≡ Solved.Puts (put 2 (pos 11) 3 ∷ []) }
     ensures greatest_number { (own : ObjectNo) (two three : RuleNo)
         → solve_of Kind.Confluence (view_with Kind.Confluence own None
-        (by_rule two (pos 5) 2 ∷ by_rule three (pos 6) 4 ∷ by_rule three (pos 10) 3 ∷ []))
+        (set_by_rule two (pos 5) 2 ∷ set_by_rule three (pos 6) 4
+        ∷ set_by_rule three (pos 10) 3 ∷ []))
         ≡ Solved.Puts (put 1 (pos 5) 3 ∷ []) }
     ensures conflict { (own : ObjectNo)
         → solve_of Kind.Confluence

@@ -12,7 +12,7 @@ ghost use Rattle.rw_method.specs.declared.view.View.{View};
 ghost use Rattle.rw_method.specs.Power.{plant, request_of, least_release, quotient_release, HasNoRelease, IsLeastRelease};
 ghost use Rattle.rw_method.specs.Puts.{put, is_put_by_request, GivesRequest};
 ghost use Rattle.rw_method.specs.Solve.{balanced_of, solve_of};
-ghost use Rattle.rw_method.specs.Worked.{input, by_rule, by_object, object, view_with, high_dam, low_dam};
+ghost use Rattle.rw_method.specs.Worked.{input, set_by_rule, by_object, object, view_with, high_dam, low_dam};
 
 /// The least release is from 0 to the greatest one, gives the energy, and no lesser one does. There is none exactly where none of
 /// these gives it.
@@ -89,12 +89,12 @@ pub fn low_dam_values()
         → solve_of low_dam (view_with low_dam (object 1) (Some (pos 3000))
         (by_object (object 2) (pos 600) 0 ∷ by_object (object 1) (pos 100) 0
         ∷ input (pos 3100) ∷ None
-        ∷ by_rule five (pos 1) 5 ∷ []))
+        ∷ set_by_rule five (pos 1) 5 ∷ []))
         ≡ Solved.Puts (put 1 (pos 500) 0 ∷ put 3 (pos 310) 0 ∷ put 5 (pos 1) 0
         ∷ put 6 (pos 500) 0 ∷ put 7 (pos 0) 0 ∷ []) }
     ensures gives_way { (own : ObjectNo) (five : RuleNo)
         → solve_of low_dam (view_with low_dam own (Some (pos 3000))
-        (input (pos 100) ∷ None ∷ input (pos 3000) ∷ None ∷ by_rule five (pos 1) 5 ∷ []))
+        (input (pos 100) ∷ None ∷ input (pos 3000) ∷ None ∷ set_by_rule five (pos 1) 5 ∷ []))
         ≡ Solved.Puts (put 1 (pos 100) 0 ∷ put 3 (pos 300) 0 ∷ put 5 (pos 0) 0
         ∷ put 6 (pos 100) 0 ∷ put 7 (pos 0) 0 ∷ []) }
     ensures conflict { (own : ObjectNo)

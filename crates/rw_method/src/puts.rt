@@ -1,9 +1,9 @@
 ghost use Rattle.std.specs.Prelude.{◌≡◌, ◌<◌, MatchOption, Bool, List, [], ◌∷◌, ◌++◌, length, None, IsTrue, IsOk, ◌↔◌, OnOk, OnErr, IfOk, IfErr};
 ghost use Rattle.rw_method.specs.declared.solved.Solved.TheVariants as Solved;
 ghost use Rattle.rw_model.specs.Slot.{all_quantities};
-ghost use Rattle.rw_method.specs.View.{bounds_at, is_between};
+ghost use Rattle.rw_method.specs.View.{bounds_in_view, is_between};
 ghost use Rattle.std.specs.List.{All};
-ghost use Rattle.rw_method.specs.Puts.{put, is_bounded, solved_put, held_by, held_after, known_after};
+ghost use Rattle.rw_method.specs.Puts.{put, is_bounded, solved_put, held_by, held_after_puts, known_after};
 ghost use Rattle.rw_method.specs.Solve.{AllFit, answer_of_puts, answer};
 ghost use Rattle.rw_method.specs.declared.put.Put.{Put};
 
@@ -18,7 +18,7 @@ fn is_between(low: i64, high: i64, value: i128) -> bool
 }
 
 fn bounds_at(view: &View, place: u8) -> (i64, i64)
-    ensures { result ≡ bounds_at view.entry.now place }
+    ensures { result ≡ bounds_in_view view.entry.now place }
 {
     match view.bounds.get(usize::from(place)) {
         Some(bounds) => *bounds,
@@ -194,7 +194,7 @@ fn given_by(put: Put) -> Given
 
 /// What a place holds after these puts: what one of them puts there, or what is known, and 0 where nothing is.
 pub fn held_after(view: &View, puts: &[Put], place: u8) -> Given
-    ensures { result ≡ held_after view.entry.now puts.now place }
+    ensures { result ≡ held_after_puts view.entry.now puts.now place }
 {
     for put in puts {
         if put.place == place {

@@ -2,7 +2,7 @@ ghost use Rattle.std.specs.Prelude.{◌≡◌, ◌≤◌, pos, neg_ℤ, ◌+ℤ�
 ghost use Rattle.std.specs.Ordering.{int_eq};
 ghost use Rattle.std.specs.Option.{ForSome};
 ghost use Rattle.rw_method.specs.Term.{IsWithin};
-ghost use Rattle.rw_method.specs.Settling.{missing, net_of, greatest_beside, number_of, gives_way_before, weakest, value_from_others, solves, settled_at, settled};
+ghost use Rattle.rw_method.specs.Settling.{missing, net_of, greatest_beside, priority_of, gives_way_before, weakest, value_from_others, solves, settled_at, settled};
 
 use crate::brought::{bringing, brought_by};
 use crate::{Balanced, Given, Term};
@@ -44,7 +44,7 @@ fn net_of(terms: &[Term]) -> i128
 }
 
 fn number_of(given: Option<Given>) -> u16
-    ensures { result ≡ number_of given }
+    ensures { result ≡ priority_of given }
 {
     match given {
         Some(held) => held.number,

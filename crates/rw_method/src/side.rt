@@ -1,13 +1,13 @@
 ghost use Rattle.std.specs.Prelude.{◌≡◌, ◌≤◌, ◌+ℤ◌, ◌-ℤ◌};
 ghost use Rattle.std.specs.Option.{ForSome};
 ghost use Rattle.rw_method.specs.Term.{IsWithin};
-ghost use Rattle.rw_method.specs.Balance.{chosen, side_flows};
+ghost use Rattle.rw_method.specs.Balance.{value_if_chosen, side_flows};
 
 use crate::View;
 
 // The value in a place, and 0 where that slot isn't chosen.
 fn chosen(choice: bool, view: &View, place: u8) -> Option<i64>
-    ensures { result ≡ chosen choice view.entry.now place }
+    ensures { result ≡ value_if_chosen choice view.entry.now place }
 {
     if choice {
         view.known_value(place)

@@ -6,20 +6,20 @@ use Rattle.rw_model.specs.Slot.{Bounds}
 use Rattle.rw_model.specs.Objects.{Object, all_slots}
 use Rattle.rw_model.specs.Draft.{Draft, Bound, IsSlot}
 use Rattle.rw_model.specs.Links.{is_among, link_from, link_of, is_same_link, is_together, slot_numbers, group_of, IsBetween, own_bounds, meet, meet_all}
-use Rattle.rw_model.specs.Basin.{IsLink, IsDraft, link_count, IsBasin, finish_refusal, cell_count, has_crossed_bounds}
+use Rattle.rw_model.specs.Basin.{IsLink, IsDraft, link_count, IsBasin, finish_refusal, basin_cell_count, has_crossed_bounds}
 
 pub basin_iff : (draft : Draft) → IsDraft draft → (finish_refusal draft ≡ None) ↔ IsBasin draft
 basin_iff draft whole = (
   λ e.
       let first = spared (nat_le (length draft.objects) 0) _ _ e in
-      let second = passed (nat_le (cell_count draft) 1000000) _ _ first.1 in
+      let second = passed (nat_le (basin_cell_count draft) 1000000) _ _ first.1 in
       let third = spared (has_crossed_bounds draft) None link_bounds second.1 in
       record { whole = whole; some = grind (arith, nat_tests); few_cells = grind (arith, nat_tests); meets = third.0 },
   λ basin.
       let some = basin.some in
       let few = basin.few_cells in
       unless (nat_le (length draft.objects) 0) _ _ (grind (arith, nat_tests))
-      ∙ where-true (nat_le (cell_count draft) 1000000) _ _ (grind (arith, nat_tests))
+      ∙ where-true (nat_le (basin_cell_count draft) 1000000) _ _ (grind (arith, nat_tests))
       ∙ unless (has_crossed_bounds draft) _ _ basin.meets,
 )
 

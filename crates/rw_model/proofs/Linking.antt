@@ -4,7 +4,7 @@ use Rattle.rw_base.specs.declared.number.SlotNo.{SlotNo}
 use Rattle.rw_model.specs.Refusal.{unknown_slot, linked_twice, link_within_object, link_dimension}
 use Rattle.rw_model.specs.Kept.{numbers_of, KeepsPlaces}
 use Rattle.rw_model.specs.Objects.{Object}
-use Rattle.rw_model.specs.Links.{is_among, is_slot, link_from, link_of, is_alike, shares_owner, join_refusal}
+use Rattle.rw_model.specs.Links.{is_among, is_slot, link_from, link_of, measures_alike, shares_owner, join_refusal}
 
 -- ---- which link has a slot
 
@@ -69,7 +69,7 @@ pub record IsJoined (objects : List Object) (links : List (List ℕ)) (before : 
   pub known : is_slot objects slot ≡ true
   pub free : link_of links slot ≡ None
   pub apart : shares_owner objects slot before ≡ false
-  pub alike : is_alike objects slot before ≡ true
+  pub alike : measures_alike objects slot before ≡ true
 
 no_fault : (known : Bool) (link : Option ℕ) (shares alike : Bool)
     → (if not known then Some unknown_slot else if is_some link then Some linked_twice else if shares then Some link_within_object else if alike then None else Some link_dimension) ≡ None
@@ -82,5 +82,5 @@ no_fault true None false true none = (refl, refl, refl, refl)
 
 pub joined : (objects : List Object) (links : List (List ℕ)) (before : List ℕ) (slot : ℕ) → join_refusal objects links before slot ≡ None → IsJoined objects links before slot
 joined objects links before slot none =
-    let facts = no_fault (is_slot objects slot) (link_of links slot) (shares_owner objects slot before) (is_alike objects slot before) none in
+    let facts = no_fault (is_slot objects slot) (link_of links slot) (shares_owner objects slot before) (measures_alike objects slot before) none in
     record { known = facts.0; free = facts.1; apart = facts.2; alike = facts.3 }

@@ -41,8 +41,8 @@ pub record IsDraft (draft : Draft) : Type 0 where
   pub bound_once : IsDistinct (λ (a : ℕ) b. a == b) (map (λ (bound : Bound). bound.slot) draft.bounds)
 
 -- how many values the slots have over all timesteps
-abbrev pub cell_count : Draft → ℕ
-cell_count draft = length (all_slots draft.objects) * draft.control.stamps.count
+abbrev pub basin_cell_count : Draft → ℕ
+basin_cell_count draft = length (all_slots draft.objects) * draft.control.stamps.count
 
 -- no value is between them
 abbrev pub is_crossed : Bounds → Bool
@@ -57,14 +57,14 @@ has_crossed_bounds draft =
 pub record IsBasin (draft : Draft) : Type 0 where
   pub whole : IsDraft draft
   pub some : 1 ≤ length draft.objects
-  pub few_cells : cell_count draft ≤ CELLS_MAX
+  pub few_cells : basin_cell_count draft ≤ CELLS_MAX
   pub meets : has_crossed_bounds draft ≡ false
 
 -- why what a builder was told is no basin, if it isn't: it has no object, or too many values, or a group can have none
 abbrev pub finish_refusal : Draft → Option BuildRefusal
 finish_refusal draft =
     if nat_le (length draft.objects) 0 then Some bad_parameter else
-    if nat_le (cell_count draft) CELLS_MAX then (if has_crossed_bounds draft then Some link_bounds else None) else Some (too_many CELLS_MAX)
+    if nat_le (basin_cell_count draft) CELLS_MAX then (if has_crossed_bounds draft then Some link_bounds else None) else Some (too_many CELLS_MAX)
 
 -- all slots but those that a method derives can be set by inputs and rules
 abbrev pub is_settable : Role → Bool

@@ -22,24 +22,24 @@ abbrev pub past_content : ℤ → ℕ → Option ℤ
 past_content initial_content place = if place == 2 then Some initial_content else None
 
 -- the value of a kind's slot in a place at a timestep before the run, if it has one
-abbrev pub before_in : Kind → ℕ → ℤ → Option ℤ
-before_in (DataObject slots) place step = None
-before_in Gage place step = None
-before_in Confluence place step = None
-before_in Bifurcation place step = None
-before_in (Reach lag history local_inflow diversion return_flow) place step =
+abbrev pub initial_of_kind : Kind → ℕ → ℤ → Option ℤ
+initial_of_kind (DataObject slots) place step = None
+initial_of_kind Gage place step = None
+initial_of_kind Confluence place step = None
+initial_of_kind Bifurcation place step = None
+initial_of_kind (Reach lag history local_inflow diversion return_flow) place step =
     if place == 0 then past_inflow history step else None
-before_in (Reservoir initial_storage table local_inflow diversion return_flow evaporation max_release) place step =
+initial_of_kind (Reservoir initial_storage table local_inflow diversion return_flow evaporation max_release) place step =
     if int_eq step (pos 0) then past_storage initial_storage table place else None
-before_in (WaterUser depletion supply) place step = None
-before_in (Canal seepage) place step = None
-before_in (PowerReservoir initial_storage table max_release tailwater power) place step =
+initial_of_kind (WaterUser depletion supply) place step = None
+initial_of_kind (Canal seepage) place step = None
+initial_of_kind (PowerReservoir initial_storage table max_release tailwater power) place step =
     if int_eq step (pos 0) then past_storage initial_storage (Some table) place else None
-before_in (RoutedReach initial_content release) place step =
+initial_of_kind (RoutedReach initial_content release) place step =
     if int_eq step (pos 0) then past_content initial_content place else None
 
 -- the value of a slot at a timestep before the run, if it has one
 abbrev pub before_of : List Object → ℕ → ℤ → Option ℤ
 before_of objects slot step =
-    option_and_then (λ placed. option_and_then (λ object. before_in object.kind placed.place step) (object_at objects placed.owner))
+    option_and_then (λ placed. option_and_then (λ object. initial_of_kind object.kind placed.place step) (object_at objects placed.owner))
     (slot_at objects slot)

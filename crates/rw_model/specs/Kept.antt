@@ -14,8 +14,8 @@ use Rattle.rw_model.specs.Basin.{IsBasin}
 use Rattle.std.specs.List.{filter, range_with_len}
 use Rattle.rw_model.specs.Objects.{Object, Placed, placed_from, all_slots, slot_in_place}
 
-abbrev pub objects_of : {A : Type 0} → List (String A × Kind) → List Object
-objects_of {A} entries = map (λ (entry : String A × Kind). record { name = string_bytes entry.0; kind = entry.1 }) entries
+abbrev pub objects_kept : {A : Type 0} → List (String A × Kind) → List Object
+objects_kept {A} entries = map (λ (entry : String A × Kind). record { name = string_bytes entry.0; kind = entry.1 }) entries
 
 abbrev pub place_of : Placed → Place
 place_of placed = record { owner = placed.owner; place = placed.place }

@@ -43,9 +43,9 @@ abbrev pub is_same_dim : Dimension → Dimension → Bool
 is_same_dim a b = int_eq a.volume b.volume && int_eq a.length b.length && int_eq a.step b.step && int_eq a.energy b.energy
 
 -- the slot measures what the first of the slots measures, if there is one
-abbrev pub is_alike : List Object → ℕ → List ℕ → Bool
-is_alike objects slot [] = true
-is_alike objects slot (first ∷ slots) = is_same_dim (dim_of objects first) (dim_of objects slot)
+abbrev pub measures_alike : List Object → ℕ → List ℕ → Bool
+measures_alike objects slot [] = true
+measures_alike objects slot (first ∷ slots) = is_same_dim (dim_of objects first) (dim_of objects slot)
 
 -- the object of the slot has one of the slots
 abbrev pub shares_owner : List Object → ℕ → List ℕ → Bool
@@ -57,7 +57,7 @@ join_refusal objects links before slot =
     if not (is_slot objects slot) then Some unknown_slot else
     if is_some (link_of links slot) then Some linked_twice else
     if shares_owner objects slot before then Some link_within_object else
-    if is_alike objects slot before then None else Some link_dimension
+    if measures_alike objects slot before then None else Some link_dimension
 
 -- the first of these slots with which something is wrong, where a link names others before them
 abbrev pub joins_refusal : List Object → List (List ℕ) → List ℕ → List ℕ → Option BuildRefusal

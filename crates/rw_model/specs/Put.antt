@@ -21,8 +21,8 @@ abbrev pub IsSameObject : Writer → Writer → Type 0
 IsSameObject held new = (object : ObjectNo) × (held ≡ Object object) × (new ≡ Object object)
 
 -- the same value, under a number that is the held one or larger
-abbrev pub is_same_value : Content → Content → Bool
-is_same_value held new = int_eq held.value new.value && nat_le held.number new.number
+abbrev pub is_value_kept : Content → Content → Bool
+is_value_kept held new = int_eq held.value new.value && nat_le held.number new.number
 
 -- a value of number 0 gives way only to the object that wrote it, any other to a number that isn't larger
 abbrev pub gives_way : Content → Content → Bool
@@ -31,4 +31,4 @@ gives_way held new = if held.number == 0 then is_same_object held.writer new.wri
 -- an unknown cell is written. A value that is there already is kept; otherwise it is overwritten where it gives way
 abbrev pub end_of_put : Option Content → Content → PutEnd
 end_of_put None new = Written
-end_of_put (Some held) new = if is_same_value held new then Kept else (if gives_way held new then Written else Denied held)
+end_of_put (Some held) new = if is_value_kept held new then Kept else (if gives_way held new then Written else Denied held)

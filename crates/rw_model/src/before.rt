@@ -3,7 +3,7 @@ ghost use Rattle.std.specs.Option.{ForSome};
 ghost use Rattle.rw_base.specs.Quantity.{IsQuantity};
 ghost use Rattle.rw_table.specs.Curve.{elev_of};
 ghost use Rattle.rw_model.specs.Kind.{IsAmount, IsKind};
-ghost use Rattle.rw_model.specs.Before.{past_content, past_inflow, past_storage, before_in};
+ghost use Rattle.rw_model.specs.Before.{past_content, past_inflow, past_storage, initial_of_kind};
 
 use crate::Kind;
 use rw_table::Rating;
@@ -62,7 +62,7 @@ fn past_content(initial_content: i64, place: u8) -> Option<i64>
 /// The value of a kind's slot in a place at a timestep before the run.
 pub fn before_in(kind: &Kind, place: u8, step: i64) -> Option<i64>
     requires { IsKind kind.now }
-    ensures value { result ≡ before_in kind.now place step }
+    ensures value { result ≡ initial_of_kind kind.now place step }
     ensures quantity { ForSome result IsQuantity }
 {
     match kind {

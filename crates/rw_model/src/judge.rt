@@ -3,7 +3,7 @@ ghost use Rattle.std.specs.Ordering.{int_eq};
 ghost use Rattle.rw_base.specs.Answers.{Finds};
 ghost use Rattle.rw_model.specs.Slots.{slots_of};
 ghost use Rattle.rw_model.specs.Objects.{placed_from, slot_at};
-ghost use Rattle.rw_model.specs.Links.{is_same_dim, is_alike, shares_owner, link_of, join_refusal, link_refusal};
+ghost use Rattle.rw_model.specs.Links.{is_same_dim, measures_alike, shares_owner, link_of, join_refusal, link_refusal};
 ghost use Rattle.rw_model.specs.Kept.{numbers_of};
 ghost use Rattle.rw_model.specs.Draft.{has_slot_named, has_distinct_names, has_distinct_slots, CanAdd, IsSlot};
 ghost use Rattle.rw_model.specs.Kind.{IsKind};
@@ -129,7 +129,7 @@ fn shares_owner(objects: &Objects, slot: u16, before: &[SlotNo]) -> bool
 fn is_alike(objects: &Objects, slot: u16, before: &[SlotNo]) -> bool
     requires slot { IsSlot objects.now slot }
     requires before { All (λ (other : SlotNo). IsSlot objects.now other.0) before.now }
-    ensures { result ≡ is_alike objects.now slot (numbers_of before.now) }
+    ensures { result ≡ measures_alike objects.now slot (numbers_of before.now) }
 {
     match before.first() {
         Some(first) => is_same_dim(objects.dim(first.0), objects.dim(slot)),

@@ -30,12 +30,12 @@ impl Model for Objects {
 
     ghost Value = { List Object };
 
-    ghost use Rattle.rw_model.specs.Kept.{objects_of, KeepsSlots};
+    ghost use Rattle.rw_model.specs.Kept.{objects_kept, KeepsSlots};
 
-    ghost view = { λ o. objects_of o.kinds.entries };
+    ghost view = { λ o. objects_kept o.kinds.entries };
 
     ghost invariant = { λ o.
-        KeepsSlots (objects_of o.kinds.entries) o.places.items o.firsts.items };
+        KeepsSlots (objects_kept o.kinds.entries) o.places.items o.firsts.items };
 }
 
 impl Objects {

@@ -1,5 +1,5 @@
 ghost use Rattle.std.specs.Prelude.{◌≡◌};
-ghost use Rattle.rw_model.specs.Put.{is_same_object, is_same_value, gives_way, end_of_put};
+ghost use Rattle.rw_model.specs.Put.{is_same_object, is_value_kept, gives_way, end_of_put};
 
 use crate::{Content, Writer};
 

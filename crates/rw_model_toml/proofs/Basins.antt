@@ -5,15 +5,15 @@ use Rattle.rw_model.proofs.Common.{link_refusal, Draft, IsControl, IsDraft, IsBa
 use Rattle.rw_model_toml.specs.declared.run.Run.{Run}
 use Rattle.rw_model_toml.specs.Refusal.{ModelRefusal, missing, ◌>>=◌, refused_as, bad_build, bad_calendar, out_of_range}
 use Rattle.rw_model_toml.specs.Path.{key_path, element_path}
-use Rattle.rw_model_toml.specs.Value.{integer_of, text_of, items_of, members_of, within, count_of}
+use Rattle.rw_model_toml.specs.Value.{integer_of, text_of, items_of, members_of, within_or_refused, count_read}
 use Rattle.rw_model_toml.specs.Key.{judged_or, required, optional, only_listed}
-use Rattle.rw_model_toml.specs.ListOf.{list_of}
-use Rattle.rw_model_toml.specs.Run.{start_of, step_length_of, agenda_of, run_keys, run_of}
+use Rattle.rw_model_toml.specs.ListOf.{list_read}
+use Rattle.rw_model_toml.specs.Run.{start_read, step_length_of, agenda_read, run_keys, run_of}
 use Rattle.rw_model_toml.specs.Control.{ahead_in, control_of}
 use Rattle.rw_model_toml.specs.Names.{name_of}
-use Rattle.rw_model_toml.specs.Kinds.{kind_of}
+use Rattle.rw_model_toml.specs.Kinds.{kind_read}
 use Rattle.rw_model_toml.specs.Told as told
-use Rattle.rw_model_toml.specs.Told.{object_told, link_told, bound_told, object_of, link_of, slot_in, few_linked, slot_number}
+use Rattle.rw_model_toml.specs.Told.{object_told, link_told, bound_told, object_read, link_read, slot_read, few_linked, slot_number}
 use Rattle.rw_model_toml.specs.Model.{in_turn, control_in, empty_draft, objects_from, links_from, bounds_from, filled, file_keys, draft_of, basin_of, toml_of, table_or, model_of}
 use Rattle.rw_base.specs.Answers.{unless_refused}
 use Rattle.rw_base.proofs.Tests.{denied, Decides-int_lt}
@@ -50,7 +50,7 @@ by-test : (low high : ℕ) (refusal : ModelRefusal) (z : ℤ) (b : Bool) → (b 
 by-test low high refusal z true h = tt
 by-test low high refusal z false h = h refl
 
-inside-is : (low high : ℕ) (path : List ℕ) (z : ℤ) → IfOk (within (pos low) (pos high) path z >>= λ y. Ok (unsigned_abs y)) (IsFromTo low high)
+inside-is : (low high : ℕ) (path : List ℕ) (z : ℤ) → IfOk (within_or_refused (pos low) (pos high) path z >>= λ y. Ok (unsigned_abs y)) (IsFromTo low high)
 inside-is low high path z = by-test low high (out_of_range path) z (int_lt z (pos low) || int_lt (pos high) z)
     (λ e.
     let parts = neither (int_lt z (pos low)) (int_lt (pos high) z) e in
@@ -58,7 +58,7 @@ inside-is low high path z = by-test low high (out_of_range path) z (int_lt z (po
     let most : ¬ (pos high <ℤ z) = denied _ (Decides-int_lt (pos high) z) parts.1 in
     (omega (arith, ints), omega (arith, ints)))
 
-count-inside : (low high : ℕ) (path : List ℕ) (d : Data) → IfOk (count_of low high path d) (IsFromTo low high)
+count-inside : (low high : ℕ) (path : List ℕ) (d : Data) → IfOk (count_read low high path d) (IsFromTo low high)
 count-inside low high path (string s) = tt
 count-inside low high path (integer z) = inside-is low high path z
 count-inside low high path (float x) = tt
@@ -76,22 +76,22 @@ abbrev InLimits : Run → Type 0
 InLimits run = IsFromTo 16 100 run.object_limit × IsFromTo 1 100 run.rule_limit × IsFromTo 1 4096 run.steps
 
 limit-inside : (default low high : ℕ) (key : List ℕ) (ms : Members) → IsFromTo low high default
-    → IfOk (optional default (count_of low high) (codes "run") key ms) (IsFromTo low high)
+    → IfOk (optional default (count_read low high) (codes "run") key ms) (IsFromTo low high)
 limit-inside default low high key ms within_ =
-    judged-inside (IsFromTo low high) (Ok default) (count_of low high (key_path (codes "run") key)) (get_member key ms) within_ (count-inside low high (key_path (codes "run") key))
+    judged-inside (IsFromTo low high) (Ok default) (count_read low high (key_path (codes "run") key)) (get_member key ms) within_ (count-inside low high (key_path (codes "run") key))
 
-steps-inside : (ms : Members) → IfOk (required (count_of 1 4096) (codes "run") (codes "steps") ms) (IsFromTo 1 4096)
+steps-inside : (ms : Members) → IfOk (required (count_read 1 4096) (codes "run") (codes "steps") ms) (IsFromTo 1 4096)
 steps-inside ms =
-    judged-inside (IsFromTo 1 4096) (Err (missing (key_path (codes "run") (codes "steps")))) (count_of 1 4096 (key_path (codes "run") (codes "steps")))
+    judged-inside (IsFromTo 1 4096) (Err (missing (key_path (codes "run") (codes "steps")))) (count_read 1 4096 (key_path (codes "run") (codes "steps")))
     (get_member (codes "steps") ms) tt (count-inside 1 4096 (key_path (codes "run") (codes "steps")))
 
 run-inside : (ms : Members) → IfOk (run_of ms) InLimits
 unfolding run_of
-run-inside ms = next InLimits (start_of ms) _ (λ start. next InLimits (step_length_of ms) _
-    (λ length. next-by (IsFromTo 1 4096) InLimits (required (count_of 1 4096) (codes "run") (codes "steps") ms) _ (steps-inside ms)
-    (λ steps r. next InLimits (agenda_of ms) _
-    (λ agenda. next-by (IsFromTo 16 100) InLimits (optional 50 (count_of 16 100) (codes "run") (codes "object_limit") ms) _ (limit-inside 50 16 100 (codes "object_limit") ms (omega arith, omega arith))
-    (λ objects p. next-by (IsFromTo 1 100) InLimits (optional 20 (count_of 1 100) (codes "run") (codes "rule_limit") ms) _ (limit-inside 20 1 100 (codes "rule_limit") ms (omega arith, omega arith))
+run-inside ms = next InLimits (start_read ms) _ (λ start. next InLimits (step_length_of ms) _
+    (λ length. next-by (IsFromTo 1 4096) InLimits (required (count_read 1 4096) (codes "run") (codes "steps") ms) _ (steps-inside ms)
+    (λ steps r. next InLimits (agenda_read ms) _
+    (λ agenda. next-by (IsFromTo 16 100) InLimits (optional 50 (count_read 16 100) (codes "run") (codes "object_limit") ms) _ (limit-inside 50 16 100 (codes "object_limit") ms (omega arith, omega arith))
+    (λ objects p. next-by (IsFromTo 1 100) InLimits (optional 20 (count_read 1 100) (codes "run") (codes "rule_limit") ms) _ (limit-inside 20 1 100 (codes "rule_limit") ms (omega arith, omega arith))
     (λ rules q. next InLimits (only_listed run_keys (codes "run") ms) _ (λ listed. (p, q, r))))))))
 
 abbrev IsAhead : ℕ → Type 0
@@ -112,7 +112,7 @@ control-inside ahead run steps p = next-by AreTimesteps IsControl (refused_as ba
 
 in-control : (ms : Members) → IfOk (control_in ms) IsControl
 unfolding control_in
-in-control ms = next IsControl (required (count_of 1 2) [] (codes "format") ms) _
+in-control ms = next IsControl (required (count_read 1 2) [] (codes "format") ms) _
     (λ format. next IsControl (required members_of [] (codes "run") ms) _
     (λ run_table. next-by InLimits IsControl (run_of run_table) _ (run-inside run_table)
     (λ run p. control-inside (ahead_in format) run (ahead-inside format) p)))
@@ -123,23 +123,23 @@ in-control ms = next IsControl (required (count_of 1 2) [] (codes "format") ms) 
 abbrev Keeps : (List ℕ → Data → Draft → Result Draft ModelRefusal) → Type 0
 Keeps step = (at : List ℕ) (d : Data) (draft : Draft) → IsDraft draft → IfOk (step at d draft) IsDraft
 
-object-keeps : Keeps object_of
-unfolding object_of object_told
+object-keeps : Keeps object_read
+unfolding object_read object_told
 object-keeps at d draft is = next IsDraft (members_of at d) _ (λ ms. next IsDraft (name_of at ms) _
-    (λ name. next IsDraft (required text_of at (codes "kind") ms) _ (λ word. next IsDraft (kind_of at word ms) _
+    (λ name. next IsDraft (required text_of at (codes "kind") ms) _ (λ word. next IsDraft (kind_read at word ms) _
     (λ kind. kept-by IsDraft (bad_build at) (object_refusal draft.objects (record { name = name; kind = kind })) (record draft { objects = draft.objects ++ record { name = name; kind = kind } ∷ [] })
     (λ free. IsDraft-object draft (record { name = name; kind = kind }) is ((object-iff draft.objects (record { name = name; kind = kind })).0 free))))))
 
-link-keeps : Keeps link_of
-unfolding link_of link_told
+link-keeps : Keeps link_read
+unfolding link_read link_told
 link-keeps at d draft is = next IsDraft (members_of at d) _ (λ ms. next IsDraft (required items_of at (codes "slots") ms) _
-    (λ ds. next IsDraft (list_of (slot_in draft.objects) (key_path at (codes "slots")) 1 ds) _
+    (λ ds. next IsDraft (list_read (slot_read draft.objects) (key_path at (codes "slots")) 1 ds) _
     (λ slots. next IsDraft (few_linked (key_path at (codes "slots")) slots) _
     (λ few. next IsDraft (only_listed (codes "slots" ∷ []) at ms) _
     (λ listed. kept-by IsDraft (bad_build at) (link_refusal draft.objects draft.links slots) (record draft { links = draft.links ++ slots ∷ [] }) (IsDraft-link draft slots is))))))
 
-bound-keeps : Keeps told.bound_of
-unfolding told.bound_of bound_told
+bound-keeps : Keeps told.bound_read
+unfolding told.bound_read bound_told
 bound-keeps at d draft is = next IsDraft (members_of at d) _ (λ ms. next IsDraft (required text_of at (codes "slot") ms) _
     (λ text. next IsDraft (required integer_of at (codes "min") ms) _ (λ min. next IsDraft (required integer_of at (codes "max") ms) _
     (λ max. next IsDraft (only_listed (codes "slot" ∷ codes "min" ∷ codes "max" ∷ []) at ms) _
@@ -159,15 +159,15 @@ turn-keeps step path number (item d ds) draft keeps is =
 
 objects-keep : (ms : Members) (draft : Draft) → IsDraft draft → IfOk (objects_from ms draft) IsDraft
 objects-keep ms draft is = next IsDraft (required items_of [] (codes "object") ms) _
-    (λ items. turn-keeps object_of (codes "object") 1 items draft object-keeps is)
+    (λ items. turn-keeps object_read (codes "object") 1 items draft object-keeps is)
 
 links-keep : (ms : Members) (draft : Draft) → IsDraft draft → IfOk (links_from ms draft) IsDraft
 links-keep ms draft is = next IsDraft (optional no_items items_of [] (codes "link") ms) _
-    (λ items. turn-keeps link_of (codes "link") 1 items draft link-keeps is)
+    (λ items. turn-keeps link_read (codes "link") 1 items draft link-keeps is)
 
 bounds-keep : (ms : Members) (draft : Draft) → IsDraft draft → IfOk (bounds_from ms draft) IsDraft
 bounds-keep ms draft is = next IsDraft (optional no_items items_of [] (codes "bound") ms) _
-    (λ items. turn-keeps told.bound_of (codes "bound") 1 items draft bound-keeps is)
+    (λ items. turn-keeps told.bound_read (codes "bound") 1 items draft bound-keeps is)
 
 filled-keeps : (ms : Members) (draft : Draft) → IsDraft draft → IfOk (filled ms draft) IsDraft
 unfolding filled

@@ -21,8 +21,8 @@ refusal_of (Calendar fault) = option_map bad_calendar (calendar.refusal_of fault
 refusal_of NoMemory = None
 
 -- the fault tells why nothing is read, or is want of memory
-abbrev pub IsWhy : {A : Type 0} → Result A ModelRefusal → ModelFault → Type 0
-IsWhy reading fault = answers.IsWhy NoMemory refusal_of reading fault
+abbrev pub IsModelWhy : {A : Type 0} → Result A ModelRefusal → ModelFault → Type 0
+IsModelWhy reading fault = answers.IsWhy NoMemory refusal_of reading fault
 
 -- the call answers what is read, or why nothing is, unless there was no memory
 abbrev pub Gives : {X A : Type 0} → (X → A) → Result X ModelFault → Result A ModelRefusal → Type 0

@@ -12,9 +12,9 @@ use Rattle.rw_model.specs.declared.kind.Supply.{Supply}
 use Rattle.rw_model_toml.specs.declared.options.Options.{Options}
 use Rattle.rw_model_toml.specs.Refusal.{ModelRefusal, ◌>>=◌, refused_as, wrong_kind, unknown_kind, bad_table, out_of_range}
 use Rattle.rw_model_toml.specs.Path.{key_path}
-use Rattle.rw_model_toml.specs.Value.{text_of, truth_of, items_of, members_of, number_of, count_of, given_number}
+use Rattle.rw_model_toml.specs.Value.{text_of, truth_of, items_of, members_of, number_read, count_read, given_number}
 use Rattle.rw_model_toml.specs.Key.{required, optional, known_or, only_listed}
-use Rattle.rw_model_toml.specs.ListOf.{list_of}
+use Rattle.rw_model_toml.specs.ListOf.{list_read}
 use Rattle.rw_model_toml.specs.Names.{name_of}
 use Rattle.rw_model_toml.specs.Word.{supply_in}
 
@@ -34,8 +34,8 @@ unit_of at table = required text_of at (codes "unit") table >>= λ word.
     known_or (key_path at (codes "unit")) (option_map (λ unit. unit.0) (unit_in units word))
 
 -- the table of a slot
-unfoldable pub slot_of : List ℕ → Data → Result DataSlot ModelRefusal
-slot_of at value = do
+unfoldable pub data_slot_read : List ℕ → Data → Result DataSlot ModelRefusal
+data_slot_read at value = do
   table ← members_of at value
   name ← name_of at table
   dim ← unit_of at table
@@ -49,7 +49,7 @@ few_slots path slots = if nat_le 1 (length slots) && nat_le (length slots) 8 the
 unfoldable pub data_of : List ℕ → Members → Result Kind ModelRefusal
 data_of at table = do
   items ← required items_of at (codes "slots") table
-  slots ← list_of slot_of (key_path at (codes "slots")) 1 items
+  slots ← list_read data_slot_read (key_path at (codes "slots")) 1 items
   few ← few_slots (key_path at (codes "slots")) slots
   listed ← only_listed (object_keys (codes "slots" ∷ [])) at table
   Ok (DataObject slots)
@@ -70,18 +70,18 @@ history_items_of at lag table =
     if lag == 0 then optional no_items items_of at (codes "history") table else required items_of at (codes "history") table
 
 abbrev pub inflow_of : List ℕ → Data → Result ℤ ModelRefusal
-inflow_of path value = number_of (neg_ℤ quantity_max) quantity_max path value
+inflow_of path value = number_read (neg_ℤ quantity_max) quantity_max path value
 
 -- one past inflow for each timestep of the lag
 abbrev pub history_of : List ℕ → ℕ → Members → Result (List ℤ) ModelRefusal
 history_of at lag table = do
   items ← history_items_of at lag table
-  inflows ← list_of inflow_of (key_path at (codes "history")) 1 items
+  inflows ← list_read inflow_of (key_path at (codes "history")) 1 items
   if length inflows == lag then Ok inflows else Err (out_of_range (key_path at (codes "history")))
 
 unfoldable pub reach_of : List ℕ → Members → Result Kind ModelRefusal
 reach_of at table = do
-  lag ← optional 0 (count_of 0 30) at (codes "lag") table
+  lag ← optional 0 (count_read 0 30) at (codes "lag") table
   history ← history_of at lag table
   options ← options_of at table
   listed ← only_listed (object_keys (codes "lag" ∷ codes "history" ∷ codes "local_inflow" ∷ codes "diversion" ∷ codes "return_flow" ∷ [])) at table
@@ -102,9 +102,9 @@ row_or path None = Err (wrong_kind path)
 row_or path (Some row) = Ok row
 
 -- an elevation and a volume
-abbrev pub row_of : List ℕ → Data → Result Row ModelRefusal
-row_of path (array pair) = row_or path (row_in pair)
-row_of path _ = Err (wrong_kind path)
+abbrev pub row_read : List ℕ → Data → Result Row ModelRefusal
+row_read path (array pair) = row_or path (row_in pair)
+row_read path _ = Err (wrong_kind path)
 
 -- the table that rows make
 abbrev pub rated : List ℕ → List Row → Result (List Row) ModelRefusal
@@ -114,7 +114,7 @@ rated path rows = refused_as (bad_table path) (table_of rows)
 abbrev pub rating_of : List ℕ → Data → Result (List Row) ModelRefusal
 rating_of path value = do
   items ← items_of path value
-  rows ← list_of row_of path 1 items
+  rows ← list_read row_read path 1 items
   rated path rows
 
 -- the same, of a key that may be left out
@@ -123,7 +123,7 @@ given_rating path value = rating_of path value >>= λ rows. Ok (Some rows)
 
 unfoldable pub reservoir_of : List ℕ → Members → Result Kind ModelRefusal
 reservoir_of at table = do
-  initial_storage ← required (number_of (pos 0) quantity_max) at (codes "initial_storage") table
+  initial_storage ← required (number_read (pos 0) quantity_max) at (codes "initial_storage") table
   rows ← optional None given_rating at (codes "table") table
   options ← options_of at table
   evaporation ← optional false truth_of at (codes "evaporation") table
@@ -133,18 +133,18 @@ reservoir_of at table = do
 
 unfoldable pub power_reservoir_of : List ℕ → Members → Result Kind ModelRefusal
 power_reservoir_of at table = do
-  initial_storage ← required (number_of (pos 0) quantity_max) at (codes "initial_storage") table
+  initial_storage ← required (number_read (pos 0) quantity_max) at (codes "initial_storage") table
   rows ← required rating_of at (codes "table") table
-  max_release ← required (number_of (pos 0) quantity_max) at (codes "max_release") table
-  tailwater ← optional (pos 0) (number_of (pos 0) (pos 10000000)) at (codes "tailwater") table
-  power ← required (count_of 1 10000) at (codes "power") table
+  max_release ← required (number_read (pos 0) quantity_max) at (codes "max_release") table
+  tailwater ← optional (pos 0) (number_read (pos 0) (pos 10000000)) at (codes "tailwater") table
+  power ← required (count_read 1 10000) at (codes "power") table
   listed ← only_listed (object_keys (codes "initial_storage" ∷ codes "table" ∷ codes "max_release" ∷ codes "tailwater" ∷ codes "power" ∷ [])) at table
   Ok (PowerReservoir initial_storage rows max_release tailwater power)
 
 unfoldable pub routed_reach_of : List ℕ → Members → Result Kind ModelRefusal
 routed_reach_of at table = do
-  initial_content ← required (number_of (pos 0) quantity_max) at (codes "initial_content") table
-  release ← required (count_of 1 1000) at (codes "release") table
+  initial_content ← required (number_read (pos 0) quantity_max) at (codes "initial_content") table
+  release ← required (count_read 1 1000) at (codes "release") table
   listed ← only_listed (object_keys (codes "initial_content" ∷ codes "release" ∷ [])) at table
   Ok (RoutedReach initial_content release)
 
@@ -156,22 +156,22 @@ supply_of at table = optional (codes "request") text_of at (codes "supply") tabl
 
 unfoldable pub water_user_of : List ℕ → Members → Result Kind ModelRefusal
 water_user_of at table = do
-  depletion ← required (count_of 0 1000) at (codes "depletion") table
+  depletion ← required (count_read 0 1000) at (codes "depletion") table
   supply ← supply_of at table
   listed ← only_listed (object_keys (codes "depletion" ∷ codes "supply" ∷ [])) at table
   Ok (WaterUser depletion supply)
 
 unfoldable pub canal_of : List ℕ → Members → Result Kind ModelRefusal
 canal_of at table = do
-  seepage ← required (count_of 0 999) at (codes "seepage") table
+  seepage ← required (count_read 0 999) at (codes "seepage") table
   listed ← only_listed (object_keys (codes "seepage" ∷ [])) at table
   Ok (Canal seepage)
 
 -- ---- any object
 
 -- the keys of the kind that the word names
-unfoldable pub kind_of : List ℕ → List ℕ → Members → Result Kind ModelRefusal
-kind_of at word table =
+unfoldable pub kind_read : List ℕ → List ℕ → Members → Result Kind ModelRefusal
+kind_read at word table =
     if bytes_eq (codes "data") word then data_of at table
     else (if bytes_eq (codes "gage") word then bare_of Gage at table
     else (if bytes_eq (codes "confluence") word then bare_of Confluence at table

@@ -5,9 +5,9 @@ use Rattle.rw_model_toml.specs.Refusal.{ModelRefusal, ◌>>=◌}
 use Rattle.rw_model_toml.specs.Path.{element_path}
 
 -- what the items of the array at a path are, each at its own path, where they are numbered from the one that is given
-abbrev pub list_of : {A : Type 0} → (List ℕ → Data → Result A ModelRefusal) → List ℕ → ℕ → Items → Result (List A) ModelRefusal
-list_of judge path number no_items = Ok []
-list_of judge path number (item value rest) = do
+abbrev pub list_read : {A : Type 0} → (List ℕ → Data → Result A ModelRefusal) → List ℕ → ℕ → Items → Result (List A) ModelRefusal
+list_read judge path number no_items = Ok []
+list_read judge path number (item value rest) = do
   x ← judge (element_path path number) value
-  xs ← list_of judge path (number + 1) rest
+  xs ← list_read judge path (number + 1) rest
   Ok (x ∷ xs)

@@ -8,11 +8,11 @@ use Rattle.rw_model.specs.Draft.{Draft}
 use Rattle.rw_model.specs.Build.{finished}
 use Rattle.rw_model_toml.specs.Refusal.{ModelRefusal, ◌>>=◌, refused_as, not_toml, bad_build}
 use Rattle.rw_model_toml.specs.Path.{element_path}
-use Rattle.rw_model_toml.specs.Value.{items_of, members_of, count_of}
+use Rattle.rw_model_toml.specs.Value.{items_of, members_of, count_read}
 use Rattle.rw_model_toml.specs.Key.{required, optional, only_listed}
 use Rattle.rw_model_toml.specs.Run.{run_of}
 use Rattle.rw_model_toml.specs.Control.{ahead_in, control_of}
-use Rattle.rw_model_toml.specs.Told.{object_of, link_of, bound_of}
+use Rattle.rw_model_toml.specs.Told.{object_read, link_read, bound_read}
 
 -- the items of the array at a path one after another, each told to what was built by those before it, where they are
 -- numbered from the one that is given
@@ -23,7 +23,7 @@ in_turn told path number (item value rest) draft = told (element_path path numbe
 -- what the file says first: its format, which is 1 or 2, and the run
 unfoldable pub control_in : Members → Result RunControl ModelRefusal
 control_in table = do
-  format ← required (count_of 1 2) [] (codes "format") table
+  format ← required (count_read 1 2) [] (codes "format") table
   run_table ← required members_of [] (codes "run") table
   run ← run_of run_table
   control_of (ahead_in format) run
@@ -35,19 +35,19 @@ empty_draft control = record { control = control; objects = []; links = []; boun
 abbrev pub objects_from : Members → Draft → Result Draft ModelRefusal
 objects_from table draft = do
   items ← required items_of [] (codes "object") table
-  in_turn object_of (codes "object") 1 items draft
+  in_turn object_read (codes "object") 1 items draft
 
 -- the links that it adds
 abbrev pub links_from : Members → Draft → Result Draft ModelRefusal
 links_from table draft = do
   items ← optional no_items items_of [] (codes "link") table
-  in_turn link_of (codes "link") 1 items draft
+  in_turn link_read (codes "link") 1 items draft
 
 -- the bounds that it adds
 abbrev pub bounds_from : Members → Draft → Result Draft ModelRefusal
 bounds_from table draft = do
   items ← optional no_items items_of [] (codes "bound") table
-  in_turn bound_of (codes "bound") 1 items draft
+  in_turn bound_read (codes "bound") 1 items draft
 
 -- objects, links and bounds, in this order
 unfoldable pub filled : Members → Draft → Result Draft ModelRefusal

@@ -7,19 +7,19 @@ use Rattle.rw_model.specs.declared.control.AgendaOrder.{AgendaOrder}
 use Rattle.toml.specs.Data.{Members}
 use Rattle.rw_model_toml.specs.declared.run.Run.{Run}
 use Rattle.rw_model_toml.specs.Refusal.{ModelRefusal, ◌>>=◌}
-use Rattle.rw_model_toml.specs.Value.{text_of, count_of}
+use Rattle.rw_model_toml.specs.Value.{text_of, count_read}
 use Rattle.rw_model_toml.specs.Key.{required, optional, known_or, only_listed}
 use Rattle.rw_model_toml.specs.StartText.{start_in}
 use Rattle.rw_model_toml.specs.Word.{step_length_in, agenda_in}
 
-abbrev pub start_of : Members → Result Start ModelRefusal
-start_of table = required text_of (codes "run") (codes "start") table >>= λ text. known_or (codes "run.start") (start_in text)
+abbrev pub start_read : Members → Result Start ModelRefusal
+start_read table = required text_of (codes "run") (codes "start") table >>= λ text. known_or (codes "run.start") (start_in text)
 
 abbrev pub step_length_of : Members → Result StepLength ModelRefusal
 step_length_of table = required text_of (codes "run") (codes "step") table >>= λ word. known_or (codes "run.step") (step_length_in word)
 
-abbrev pub agenda_of : Members → Result AgendaOrder ModelRefusal
-agenda_of table = optional (codes "321") text_of (codes "run") (codes "agenda") table >>= λ word. known_or (codes "run.agenda") (agenda_in word)
+abbrev pub agenda_read : Members → Result AgendaOrder ModelRefusal
+agenda_read table = optional (codes "321") text_of (codes "run") (codes "agenda") table >>= λ word. known_or (codes "run.agenda") (agenda_in word)
 
 abbrev pub run_keys : List (List ℕ)
 run_keys =
@@ -28,12 +28,12 @@ run_keys =
 -- the keys of `run` in their order
 unfoldable pub run_of : Members → Result Run ModelRefusal
 run_of table = do
-  start ← start_of table
+  start ← start_read table
   step_length ← step_length_of table
-  steps ← required (count_of 1 STEPS_MAX) (codes "run") (codes "steps") table
-  agenda ← agenda_of table
-  object_limit ← optional 50 (count_of 16 100) (codes "run") (codes "object_limit") table
-  rule_limit ← optional 20 (count_of 1 100) (codes "run") (codes "rule_limit") table
+  steps ← required (count_read 1 STEPS_MAX) (codes "run") (codes "steps") table
+  agenda ← agenda_read table
+  object_limit ← optional 50 (count_read 16 100) (codes "run") (codes "object_limit") table
+  rule_limit ← optional 20 (count_read 1 100) (codes "run") (codes "rule_limit") table
   listed ← only_listed run_keys (codes "run") table
   Ok (record {
     start = start;

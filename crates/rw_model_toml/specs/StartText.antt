@@ -11,11 +11,11 @@ is_open b = (b == 89) || (b == 77) || (b == 68) || (b == 72)
 abbrev pub fits_byte : ℕ → ℕ → Bool
 fits_byte form b = if is_open form then is_digit b else b == form
 
-abbrev pub fits : List ℕ → List ℕ → Bool
-fits [] [] = true
-fits [] (b ∷ text) = false
-fits (form ∷ forms) [] = false
-fits (form ∷ forms) (b ∷ text) = fits_byte form b && fits forms text
+abbrev pub fits_forms : List ℕ → List ℕ → Bool
+fits_forms [] [] = true
+fits_forms [] (b ∷ text) = false
+fits_forms (form ∷ forms) [] = false
+fits_forms (form ∷ forms) (b ∷ text) = fits_byte form b && fits_forms forms text
 
 -- the number in two digits from this place on
 abbrev pub two_digits : List ℕ → ℕ → ℕ
@@ -24,7 +24,7 @@ two_digits text place = (slice_index text place - 48) * 10 + (slice_index text (
 -- the start that the text names, if it has the form
 abbrev pub start_in : List ℕ → Option Start
 start_in text =
-    if fits (codes "YYYY-MM-DDTHH:00") text
+    if fits_forms (codes "YYYY-MM-DDTHH:00") text
     then Some (record {
       year = pos (two_digits text 0 * 100 + two_digits text 2);
       month = pos (two_digits text 5);

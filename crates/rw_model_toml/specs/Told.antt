@@ -10,9 +10,9 @@ use Rattle.rw_model_toml.specs.Refusal.{ModelRefusal, ◌>>=◌, refused_as, bad
 use Rattle.rw_model_toml.specs.Path.{key_path}
 use Rattle.rw_model_toml.specs.Value.{integer_of, text_of, items_of, members_of}
 use Rattle.rw_model_toml.specs.Key.{required, only_listed}
-use Rattle.rw_model_toml.specs.ListOf.{list_of}
+use Rattle.rw_model_toml.specs.ListOf.{list_read}
 use Rattle.rw_model_toml.specs.Names.{name_of}
-use Rattle.rw_model_toml.specs.Kinds.{kind_of}
+use Rattle.rw_model_toml.specs.Kinds.{kind_read}
 
 -- ---- objects
 
@@ -21,12 +21,12 @@ unfoldable pub object_told : List ℕ → Draft → Object → Result Draft Mode
 object_told at draft object = refused_as (bad_build at) (with_object draft object)
 
 -- the object whose table stands at the path
-unfoldable pub object_of : List ℕ → Data → Draft → Result Draft ModelRefusal
-object_of at value draft = do
+unfoldable pub object_read : List ℕ → Data → Draft → Result Draft ModelRefusal
+object_read at value draft = do
   table ← members_of at value
   name ← name_of at table
   word ← required text_of at (codes "kind") table
-  kind ← kind_of at word table
+  kind ← kind_read at word table
   object_told at draft (record { name = name; kind = kind })
 
 -- ---- names of slots
@@ -45,8 +45,8 @@ slot_number objects text =
 -- ---- links
 
 -- the slot that the value at the path names, by its number
-abbrev pub slot_in : List Object → List ℕ → Data → Result ℕ ModelRefusal
-slot_in objects path value = text_of path value >>= λ text. Ok (slot_number objects text)
+abbrev pub slot_read : List Object → List ℕ → Data → Result ℕ ModelRefusal
+slot_read objects path value = text_of path value >>= λ text. Ok (slot_number objects text)
 
 -- 2 to 8 of them
 abbrev pub few_linked : List ℕ → List ℕ → Result (List ℕ) ModelRefusal
@@ -57,11 +57,11 @@ unfoldable pub link_told : List ℕ → Draft → List ℕ → Result Draft Mode
 link_told at draft slots = refused_as (bad_build at) (with_link draft slots)
 
 -- the link whose table stands at the path
-unfoldable pub link_of : List ℕ → Data → Draft → Result Draft ModelRefusal
-link_of at value draft = do
+unfoldable pub link_read : List ℕ → Data → Draft → Result Draft ModelRefusal
+link_read at value draft = do
   table ← members_of at value
   items ← required items_of at (codes "slots") table
-  slots ← list_of (slot_in draft.objects) (key_path at (codes "slots")) 1 items
+  slots ← list_read (slot_read draft.objects) (key_path at (codes "slots")) 1 items
   few ← few_linked (key_path at (codes "slots")) slots
   listed ← only_listed (codes "slots" ∷ []) at table
   link_told at draft slots
@@ -73,8 +73,8 @@ unfoldable pub bound_told : List ℕ → Draft → ℕ → Bounds → Result Dra
 bound_told at draft slot bounds = refused_as (bad_build at) (with_bound draft slot bounds)
 
 -- the bound whose table stands at the path
-unfoldable pub bound_of : List ℕ → Data → Draft → Result Draft ModelRefusal
-bound_of at value draft = do
+unfoldable pub bound_read : List ℕ → Data → Draft → Result Draft ModelRefusal
+bound_read at value draft = do
   table ← members_of at value
   text ← required text_of at (codes "slot") table
   min ← required integer_of at (codes "min") table

@@ -25,16 +25,16 @@ members_of path (table members) = Ok members
 members_of path _ = Err (wrong_kind path)
 
 -- a whole number from low to high
-abbrev pub within : ℤ → ℤ → List ℕ → ℤ → Result ℤ ModelRefusal
-within low high path z = if int_lt z low || int_lt high z then Err (out_of_range path) else Ok z
+abbrev pub within_or_refused : ℤ → ℤ → List ℕ → ℤ → Result ℤ ModelRefusal
+within_or_refused low high path z = if int_lt z low || int_lt high z then Err (out_of_range path) else Ok z
 
-abbrev pub number_of : ℤ → ℤ → List ℕ → Data → Result ℤ ModelRefusal
-number_of low high path value = integer_of path value >>= within low high path
+abbrev pub number_read : ℤ → ℤ → List ℕ → Data → Result ℤ ModelRefusal
+number_read low high path value = integer_of path value >>= within_or_refused low high path
 
 -- a whole number from low to high, neither below 0
-abbrev pub count_of : ℕ → ℕ → List ℕ → Data → Result ℕ ModelRefusal
-count_of low high path value = number_of (pos low) (pos high) path value >>= λ z. Ok (unsigned_abs z)
+abbrev pub count_read : ℕ → ℕ → List ℕ → Data → Result ℕ ModelRefusal
+count_read low high path value = number_read (pos low) (pos high) path value >>= λ z. Ok (unsigned_abs z)
 
 -- the same, of a key that may be left out
 abbrev pub given_number : ℤ → ℤ → List ℕ → Data → Result (Option ℤ) ModelRefusal
-given_number low high path value = number_of low high path value >>= λ z. Ok (Some z)
+given_number low high path value = number_read low high path value >>= λ z. Ok (Some z)

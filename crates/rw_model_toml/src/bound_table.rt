@@ -1,7 +1,7 @@
 ghost use Rattle.std.specs.Prelude.{codes};
 ghost use Rattle.toml.specs.View.{view, items_view, table_view};
 ghost use Rattle.rw_model_toml.specs.Fault.{Gives};
-ghost use Rattle.rw_model_toml.specs.Told.{bound_told, bound_of};
+ghost use Rattle.rw_model_toml.specs.Told.{bound_told, bound_read};
 ghost use Rattle.rw_model_toml.specs.Model.{in_turn, bounds_from};
 
 use crate::ModelFault;
@@ -33,14 +33,14 @@ fn add_bound(
     }
 }
 
-#[tactic(auto, unfolding(crate::specs::Told::bound_of))]
+#[tactic(auto, unfolding(crate::specs::Told::bound_read))]
 fn read_bound(
     alloc: Global,
     builder: &mut BasinBuilder,
     at: &str,
     value: &Value,
 ) -> Result<(), ModelFault>
-    ensures { Gives (λ _. builder.new) result (bound_of at.now (view value.now) builder.old) }
+    ensures { Gives (λ _. builder.new) result (bound_read at.now (view value.now) builder.old) }
 {
     let table = table(alloc, at, value)?;
     let text = required_text(alloc, at, "slot", table)?;
@@ -54,7 +54,7 @@ fn read_bound(
 // Gives slots the bounds that the items say, one after another.
 fn add_bounds(alloc: Global, builder: &mut BasinBuilder, items: &[Value]) -> Result<(), ModelFault>
     ensures { Gives (λ _. builder.new) result
-        (in_turn bound_of (codes "bound") 1 (items_view items.now) builder.old) }
+        (in_turn bound_read (codes "bound") 1 (items_view items.now) builder.old) }
 {
     for place in 0..items.len() {
         let at = element_path(alloc, "bound", place + 1)?;

@@ -1,8 +1,8 @@
 ghost use Rattle.std.specs.Prelude.{◌≤◌, length, string_bytes};
 ghost use Rattle.toml.specs.View.{view, items_view, table_view};
 ghost use Rattle.rw_model_toml.specs.Fault.{Gives};
-ghost use Rattle.rw_model_toml.specs.ListOf.{list_of};
-ghost use Rattle.rw_model_toml.specs.Kinds.{unit_of, slot_of, data_of};
+ghost use Rattle.rw_model_toml.specs.ListOf.{list_read};
+ghost use Rattle.rw_model_toml.specs.Kinds.{unit_of, data_slot_read, data_of};
 
 use crate::ModelFault;
 use crate::key::{required_items, required_text};
@@ -29,9 +29,9 @@ fn read_unit(alloc: Global, at: &str, table: &Table) -> Result<Dim, ModelFault>
 }
 
 // The slot that the value at the path says.
-#[tactic(auto, unfolding(crate::specs::Kinds::slot_of))]
+#[tactic(auto, unfolding(crate::specs::Kinds::data_slot_read))]
 fn read_slot(alloc: Global, at: &str, value: &Value) -> Result<DataSlot, ModelFault>
-    ensures { Gives (λ slot. slot) result (slot_of at.now (view value.now)) }
+    ensures { Gives (λ slot. slot) result (data_slot_read at.now (view value.now)) }
 {
     let members = table(alloc, at, value)?;
     let name = read_name(alloc, at, members)?;
@@ -43,7 +43,7 @@ fn read_slot(alloc: Global, at: &str, value: &Value) -> Result<DataSlot, ModelFa
 
 fn read_slots(alloc: Global, path: &str, items: &[Value]) -> Result<Vec<DataSlot>, ModelFault>
     ensures { Gives (λ slots. slots.items) result
-        (list_of slot_of path.now 1 (items_view items.now)) }
+        (list_read data_slot_read path.now 1 (items_view items.now)) }
 {
     let mut slots = Vec::new(alloc);
     for place in 0..items.len() {

@@ -1,7 +1,7 @@
 ghost use Rattle.toml.specs.View.{items_view, table_view};
 ghost use Rattle.rw_base.specs.Quantity.{quantity_max};
 ghost use Rattle.rw_model_toml.specs.Fault.{Gives};
-ghost use Rattle.rw_model_toml.specs.ListOf.{list_of};
+ghost use Rattle.rw_model_toml.specs.ListOf.{list_read};
 ghost use Rattle.rw_model_toml.specs.Kinds.{inflow_of, history_items_of, history_of};
 
 use crate::ModelFault;
@@ -32,7 +32,7 @@ fn history_items<'a>(
 
 fn read_inflows(alloc: Global, path: &str, items: &[Value]) -> Result<Vec<i64>, ModelFault>
     ensures { Gives (λ inflows. inflows.items) result
-        (list_of inflow_of path.now 1 (items_view items.now)) }
+        (list_read inflow_of path.now 1 (items_view items.now)) }
 {
     let mut inflows = Vec::new(alloc);
     for place in 0..items.len() {

@@ -2,7 +2,7 @@ ghost use Rattle.std.specs.Prelude.{◌≡◌, ◌≤◌, ◌≤ℤ◌, false, I
 ghost use Rattle.toml.specs.Data.{get_member, no_items};
 ghost use Rattle.toml.specs.View.{view, items_view, table_view};
 ghost use Rattle.rw_model_toml.specs.Fault.{Gives};
-ghost use Rattle.rw_model_toml.specs.Value.{integer_of, text_of, truth_of, items_of, members_of, number_of, count_of, given_number};
+ghost use Rattle.rw_model_toml.specs.Value.{integer_of, text_of, truth_of, items_of, members_of, number_read, count_read, given_number};
 ghost use Rattle.rw_model_toml.specs.Key.{required, optional};
 
 use crate::ModelFault;
@@ -140,7 +140,7 @@ pub fn required_number(
     high: i64,
 ) -> Result<i64, ModelFault>
     ensures read { Gives (λ z. z) result
-        (required (number_of low high) at.now key.now (table_view members.now)) }
+        (required (number_read low high) at.now key.now (table_view members.now)) }
     ensures least { IfOk result (λ z. low ≤ℤ z) }
     ensures most { IfOk result (λ z. z ≤ℤ high) }
 {
@@ -162,7 +162,7 @@ pub fn optional_number(
     high: i64,
 ) -> Result<i64, ModelFault>
     ensures { Gives (λ z. z) result
-        (optional default (number_of low high) at.now key.now (table_view members.now)) }
+        (optional default (number_read low high) at.now key.now (table_view members.now)) }
 {
     match member(members, key) {
         Some(value) => number(key_path(alloc, at, key)?, value, low, high),
@@ -180,7 +180,7 @@ pub fn required_count(
     high: u16,
 ) -> Result<u16, ModelFault>
     ensures read { Gives (λ n. n) result
-        (required (count_of low high) at.now key.now (table_view members.now)) }
+        (required (count_read low high) at.now key.now (table_view members.now)) }
     ensures least { IfOk result (λ n. low ≤ n) }
     ensures most { IfOk result (λ n. n ≤ high) }
 {
@@ -204,7 +204,7 @@ pub fn optional_count(
     requires least { low ≤ default }
     requires most { default ≤ high }
     ensures read { Gives (λ n. n) result
-        (optional default (count_of low high) at.now key.now (table_view members.now)) }
+        (optional default (count_read low high) at.now key.now (table_view members.now)) }
     ensures least { IfOk result (λ n. low ≤ n) }
     ensures most { IfOk result (λ n. n ≤ high) }
 {

@@ -2,8 +2,8 @@ ghost use Rattle.std.specs.Prelude.{string_bytes, ◌≤◌, codes, length};
 ghost use Rattle.toml.specs.View.{view, items_view, table_view};
 ghost use Rattle.rw_model.specs.Kept.{numbers_of};
 ghost use Rattle.rw_model_toml.specs.Fault.{Gives};
-ghost use Rattle.rw_model_toml.specs.ListOf.{list_of};
-ghost use Rattle.rw_model_toml.specs.Told.{slot_in, link_told, link_of};
+ghost use Rattle.rw_model_toml.specs.ListOf.{list_read};
+ghost use Rattle.rw_model_toml.specs.Told.{slot_read, link_told, link_read};
 ghost use Rattle.rw_model_toml.specs.Model.{in_turn, links_from};
 
 use crate::ModelFault;
@@ -24,7 +24,7 @@ const SLOTS_MAX: usize = 8;
 // The slot that the value at the path names.
 fn read_slot(path: String, builder: &BasinBuilder, value: &Value) -> Result<SlotNo, ModelFault>
     ensures { Gives (λ slot. slot.0) result
-        (slot_in builder.now.objects (string_bytes path) (view value.now)) }
+        (slot_read builder.now.objects (string_bytes path) (view value.now)) }
 {
     let text = text(path, value)?;
     Ok(slot_number(builder, text))
@@ -37,7 +37,7 @@ fn read_slots(
     items: &[Value],
 ) -> Result<Vec<SlotNo>, ModelFault>
     ensures { Gives (λ slots. numbers_of slots.items) result
-        (list_of (slot_in builder.now.objects) path.now 1 (items_view items.now)) }
+        (list_read (slot_read builder.now.objects) path.now 1 (items_view items.now)) }
 {
     let mut slots = Vec::new(alloc);
     for place in 0..items.len() {
@@ -64,14 +64,14 @@ fn add_link(
     }
 }
 
-#[tactic(auto, unfolding(crate::specs::Told::link_of))]
+#[tactic(auto, unfolding(crate::specs::Told::link_read))]
 fn read_link(
     alloc: Global,
     builder: &mut BasinBuilder,
     at: &str,
     value: &Value,
 ) -> Result<(), ModelFault>
-    ensures { Gives (λ _. builder.new) result (link_of at.now (view value.now) builder.old) }
+    ensures { Gives (λ _. builder.new) result (link_read at.now (view value.now) builder.old) }
 {
     let table = table(alloc, at, value)?;
     let items = required_items(alloc, at, "slots", table)?;
@@ -87,7 +87,7 @@ fn read_link(
 // Links the slots that the items say, one link after another.
 fn add_links(alloc: Global, builder: &mut BasinBuilder, items: &[Value]) -> Result<(), ModelFault>
     ensures { Gives (λ _. builder.new) result
-        (in_turn link_of (codes "link") 1 (items_view items.now) builder.old) }
+        (in_turn link_read (codes "link") 1 (items_view items.now) builder.old) }
 {
     for place in 0..items.len() {
         let at = element_path(alloc, "link", place + 1)?;

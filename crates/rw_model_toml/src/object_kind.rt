@@ -2,7 +2,7 @@ ghost use Rattle.std.specs.Prelude.{pos};
 ghost use Rattle.toml.specs.View.{table_view};
 ghost use Rattle.rw_model.specs.declared.kind.Kind.TheVariants as Kind;
 ghost use Rattle.rw_model_toml.specs.Fault.{Gives};
-ghost use Rattle.rw_model_toml.specs.Kinds.{bare_of, reach_of, reservoir_of, power_reservoir_of, routed_reach_of, supply_of, water_user_of, canal_of, kind_of};
+ghost use Rattle.rw_model_toml.specs.Kinds.{bare_of, reach_of, reservoir_of, power_reservoir_of, routed_reach_of, supply_of, water_user_of, canal_of, kind_read};
 
 use crate::ModelFault;
 use crate::data::read_data;
@@ -168,9 +168,9 @@ fn read_canal(alloc: Global, at: &str, table: &Table) -> Result<Kind, ModelFault
 }
 
 /// The kind that the word names, with the keys of the table at the path.
-#[tactic(auto, unfolding(crate::specs::Kinds::kind_of))]
+#[tactic(auto, unfolding(crate::specs::Kinds::kind_read))]
 pub fn read_kind(alloc: Global, at: &str, word: &str, table: &Table) -> Result<Kind, ModelFault>
-    ensures { Gives (λ kind. kind) result (kind_of at.now word.now (table_view table.now)) }
+    ensures { Gives (λ kind. kind) result (kind_read at.now word.now (table_view table.now)) }
 {
     match word {
         "data" => read_data(alloc, at, table),

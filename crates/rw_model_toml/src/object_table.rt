@@ -1,7 +1,7 @@
 ghost use Rattle.std.specs.Prelude.{codes};
 ghost use Rattle.toml.specs.View.{view, items_view, table_view};
 ghost use Rattle.rw_model_toml.specs.Fault.{Gives};
-ghost use Rattle.rw_model_toml.specs.Told.{object_told, object_of};
+ghost use Rattle.rw_model_toml.specs.Told.{object_told, object_read};
 ghost use Rattle.rw_model_toml.specs.Model.{in_turn, objects_from};
 
 use crate::ModelFault;
@@ -32,14 +32,14 @@ fn add_object(
     }
 }
 
-#[tactic(auto, unfolding(crate::specs::Told::object_of))]
+#[tactic(auto, unfolding(crate::specs::Told::object_read))]
 fn read_object(
     alloc: Global,
     builder: &mut BasinBuilder,
     at: &str,
     value: &Value,
 ) -> Result<(), ModelFault>
-    ensures { Gives (λ _. builder.new) result (object_of at.now (view value.now) builder.old) }
+    ensures { Gives (λ _. builder.new) result (object_read at.now (view value.now) builder.old) }
 {
     let table = table(alloc, at, value)?;
     let name = read_name(alloc, at, table)?;
@@ -51,7 +51,7 @@ fn read_object(
 // Adds the objects that the items say, one after another.
 fn add_objects(alloc: Global, builder: &mut BasinBuilder, items: &[Value]) -> Result<(), ModelFault>
     ensures { Gives (λ _. builder.new) result
-        (in_turn object_of (codes "object") 1 (items_view items.now) builder.old) }
+        (in_turn object_read (codes "object") 1 (items_view items.now) builder.old) }
 {
     for place in 0..items.len() {
         let at = element_path(alloc, "object", place + 1)?;

@@ -2,8 +2,8 @@ ghost use Rattle.std.specs.Prelude.{◌≡◌, codes, None, string_bytes};
 ghost use Rattle.toml.specs.View.{view, items_view, table_view};
 ghost use Rattle.rw_model_toml.specs.Fault.{Gives};
 ghost use Rattle.rw_model_toml.specs.Key.{required, optional};
-ghost use Rattle.rw_model_toml.specs.ListOf.{list_of};
-ghost use Rattle.rw_model_toml.specs.Kinds.{row_in, row_of, rated, rating_of, given_rating};
+ghost use Rattle.rw_model_toml.specs.ListOf.{list_read};
+ghost use Rattle.rw_model_toml.specs.Kinds.{row_in, row_read, rated, rating_of, given_rating};
 
 use crate::ModelFault;
 use crate::key::member;
@@ -27,7 +27,7 @@ fn row_in(pair: &[Value]) -> Option<(i64, i64)>
 }
 
 fn read_row(path: String, value: &Value) -> Result<(i64, i64), ModelFault>
-    ensures { Gives (λ row. row) result (row_of (string_bytes path) (view value.now)) }
+    ensures { Gives (λ row. row) result (row_read (string_bytes path) (view value.now)) }
 {
     let Value::Array(pair) = value else {
         return Err(ModelFault::WrongKind(path));
@@ -39,7 +39,8 @@ fn read_row(path: String, value: &Value) -> Result<(i64, i64), ModelFault>
 }
 
 fn read_rows(alloc: Global, path: &str, items: &[Value]) -> Result<Vec<(i64, i64)>, ModelFault>
-    ensures { Gives (λ rows. rows.items) result (list_of row_of path.now 1 (items_view items.now)) }
+    ensures { Gives (λ rows. rows.items) result
+        (list_read row_read path.now 1 (items_view items.now)) }
 {
     let mut rows = Vec::new(alloc);
     for place in 0..items.len() {

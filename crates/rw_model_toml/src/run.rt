@@ -4,7 +4,7 @@ ghost use Rattle.std.specs.Int.{IsInRange};
 ghost use Rattle.rw_calendar.specs.StepLength.{IsStepLength};
 ghost use Rattle.toml.specs.View.{table_view};
 ghost use Rattle.rw_model_toml.specs.Fault.{Gives};
-ghost use Rattle.rw_model_toml.specs.Run.{start_of, step_length_of, agenda_of, run_of};
+ghost use Rattle.rw_model_toml.specs.Run.{start_read, step_length_of, agenda_read, run_of};
 
 use crate::ModelFault;
 use crate::key::{optional_count, optional_text, required_count, required_text};
@@ -45,7 +45,7 @@ const KEYS: [&str; 6] = [
 ];
 
 fn read_start(alloc: Global, table: &Table) -> Result<Start, ModelFault>
-    ensures { Gives (λ start. start) result (start_of (table_view table.now)) }
+    ensures { Gives (λ start. start) result (start_read (table_view table.now)) }
 {
     let text = required_text(alloc, "run", "start", table)?;
     match start_in(text) {
@@ -66,7 +66,7 @@ fn read_step_length(alloc: Global, table: &Table) -> Result<StepLength, ModelFau
 }
 
 fn read_agenda(alloc: Global, table: &Table) -> Result<AgendaOrder, ModelFault>
-    ensures { Gives (λ agenda. agenda) result (agenda_of (table_view table.now)) }
+    ensures { Gives (λ agenda. agenda) result (agenda_read (table_view table.now)) }
 {
     let word = optional_text(alloc, "run", "agenda", table, "321")?;
     match agenda_in(word) {

@@ -1,6 +1,6 @@
 ghost use Rattle.std.specs.Prelude.{◌≡◌, ◌+◌, ◌<◌, ◌≤◌, IsTrue, length, slice_index};
 ghost use Rattle.rw_model.specs.Name.{is_digit};
-ghost use Rattle.rw_model_toml.specs.StartText.{is_open, fits_byte, fits, two_digits, start_in};
+ghost use Rattle.rw_model_toml.specs.StartText.{is_open, fits_byte, fits_forms, two_digits, start_in};
 
 use rw_calendar::Start;
 
@@ -16,7 +16,7 @@ fn fits_byte(form: u8, b: u8) -> bool
 
 // Whether the text has the form.
 fn fits(form: &[u8], text: &[u8]) -> bool
-    ensures { result ≡ fits form.now text.now }
+    ensures { result ≡ fits_forms form.now text.now }
 {
     if form.len() != text.len() {
         return false;

@@ -4,7 +4,7 @@ ghost use Rattle.rw_model.specs.declared.fault.BuildFault.TheVariants as BuildFa
 ghost use Rattle.rw_model.specs.Draft.{Draft};
 ghost use Rattle.rw_model.specs.Refusal.{BuildRefusal, refusal_of};
 ghost use Rattle.rw_model_toml.specs.Refusal.{refused_as, bad_build};
-ghost use Rattle.rw_model_toml.specs.Fault.{IsWhy};
+ghost use Rattle.rw_model_toml.specs.Fault.{IsModelWhy};
 
 use crate::ModelFault;
 use rw_model::BuildFault;
@@ -14,7 +14,7 @@ use std::alloc::Global;
 pub fn told(alloc: Global, path: &str, fault: BuildFault) -> ModelFault
     ensures { (given : Result Draft BuildRefusal)
         → IsWhyOf BuildFault.NoMemory refusal_of given fault
-        → IsWhy (refused_as (bad_build path.now) given) result }
+        → IsModelWhy (refused_as (bad_build path.now) given) result }
 {
     if let BuildFault::NoMemory = fault {
         return ModelFault::NoMemory;

@@ -1,7 +1,7 @@
 ghost use Rattle.std.specs.Prelude.{◌≤◌, ◌≤ℤ◌, IfOk, string_bytes};
 ghost use Rattle.toml.specs.View.{view, items_view, table_view};
 ghost use Rattle.rw_model_toml.specs.Fault.{Gives};
-ghost use Rattle.rw_model_toml.specs.Value.{integer_of, text_of, truth_of, items_of, members_of, number_of, count_of};
+ghost use Rattle.rw_model_toml.specs.Value.{integer_of, text_of, truth_of, items_of, members_of, number_read, count_read};
 
 use crate::ModelFault;
 use rw_model::BuildFault;
@@ -61,7 +61,8 @@ pub fn table<'a>(alloc: Global, path: &str, value: &'a Value) -> Result<&'a Tabl
 
 /// The whole number from low to high that it is.
 pub fn number(path: String, value: &Value, low: i64, high: i64) -> Result<i64, ModelFault>
-    ensures read { Gives (λ z. z) result (number_of low high (string_bytes path) (view value.now)) }
+    ensures read { Gives (λ z. z) result
+        (number_read low high (string_bytes path) (view value.now)) }
     ensures least { IfOk result (λ z. low ≤ℤ z) }
     ensures most { IfOk result (λ z. z ≤ℤ high) }
 {
@@ -78,7 +79,8 @@ pub fn number(path: String, value: &Value, low: i64, high: i64) -> Result<i64, M
 
 /// The whole number from low to high that it is, where these are counts.
 pub fn count(path: String, value: &Value, low: u16, high: u16) -> Result<u16, ModelFault>
-    ensures read { Gives (λ n. n) result (count_of low high (string_bytes path) (view value.now)) }
+    ensures read { Gives (λ n. n) result
+        (count_read low high (string_bytes path) (view value.now)) }
     ensures least { IfOk result (λ n. low ≤ n) }
     ensures most { IfOk result (λ n. n ≤ high) }
 {

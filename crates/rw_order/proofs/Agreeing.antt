@@ -1,5 +1,5 @@
 -- What else is brought: the same wherever it is known, and known where more is.
-use Rattle.rw_order.proofs.Common.{Bool, ByRule, IsSome, Kind, List, None, Option, PowerReservoir, Reach, Request, Reservoir, RoutedReach, Row, Some, View, WaterUser, agree, ap, ap₂, balance_of, both_ways, chosen, difference, evaporation_from, evaporation_of, false, known_value, pos, refl, same_Some, side_flows, subst, suc, sum_of, sym, true, zero, ℕ, ℤ, ◌+◌, ◌∙◌, ◌≡◌}
+use Rattle.rw_order.proofs.Common.{Bool, ByRule, IsSome, Kind, List, None, Option, PowerReservoir, Reach, Request, Reservoir, RoutedReach, Row, Some, View, WaterUser, agree, ap, ap₂, balance_of, both_ways, value_if_chosen, difference, evaporation_from, evaporation_of, false, known_value, pos, refl, same_Some, side_flows, subst, suc, known_sum, sym, true, zero, ℕ, ℤ, ◌+◌, ◌∙◌, ◌≡◌}
 use Rattle.rw_order.specs.Free.{is_free}
 use Rattle.rw_order.proofs.Held.{IsSeenOf, IsWhole, Values, known_stands}
 
@@ -8,10 +8,10 @@ record IsStrict (op : Option ℤ → Option ℤ → Option ℤ) : Type 0 where
   first : (b : Option ℤ) → op None b ≡ None
   second : (a : Option ℤ) → op a None ≡ None
 
-strict_sum : IsStrict sum_of
+strict_sum : IsStrict known_sum
 strict_sum = record { first = λ b. refl; second = none }
   where
-    none : (a : Option ℤ) → sum_of a None ≡ None
+    none : (a : Option ℤ) → known_sum a None ≡ None
     none None = refl
     none (Some a) = refl
 
@@ -34,7 +34,7 @@ strict_lost rows = record { first = λ b. refl; second = none }
 module _ (R : Option ℤ → Option ℤ → Type 0) (same : (a : Option ℤ) → R a a)
     (both : (op : Option ℤ → Option ℤ → Option ℤ) → IsStrict op → (a b c d : Option ℤ) → R a b → R c d → R (op a c) (op b d)) (one other : View)
     (knows : (place : ℕ) → R (known_value one place) (known_value other place)) (past : R one.past other.past) where
-  of_chosen : (choice : Bool) (place : ℕ) → R (chosen choice one place) (chosen choice other place)
+  of_chosen : (choice : Bool) (place : ℕ) → R (value_if_chosen choice one place) (value_if_chosen choice other place)
   of_chosen true place = knows place
   of_chosen false place = same (Some (pos 0))
 
@@ -42,7 +42,7 @@ module _ (R : Option ℤ → Option ℤ → Type 0) (same : (a : Option ℤ) →
       → R (side_flows one place local_inflow diversion return_flow) (side_flows other place local_inflow diversion return_flow)
   of_sides place local_inflow diversion return_flow =
       both difference strict_difference _ _ _ _
-      (both sum_of strict_sum _ _ _ _ (of_chosen local_inflow place) (of_chosen return_flow (place + 2))) (of_chosen diversion (place + 1))
+      (both known_sum strict_sum _ _ _ _ (of_chosen local_inflow place) (of_chosen return_flow (place + 2))) (of_chosen diversion (place + 1))
 
   of_evaporation : (evaporation : Bool) (table : Option (List Row)) → R (evaporation_of evaporation table one) (evaporation_of evaporation table other)
   of_evaporation evaporation None = same (Some (pos 0))
@@ -51,10 +51,10 @@ module _ (R : Option ℤ → Option ℤ → Type 0) (same : (a : Option ℤ) →
 
   of_steady : (kind : Kind) → is_free kind ≡ true → R (balance_of kind one).steady (balance_of kind other).steady
   of_steady (Reach zero history local_inflow diversion return_flow) free = of_sides 2 local_inflow diversion return_flow
-  of_steady (Reach (suc lag) history local_inflow diversion return_flow) free = both sum_of strict_sum _ _ _ _ past (of_sides 2 local_inflow diversion return_flow)
+  of_steady (Reach (suc lag) history local_inflow diversion return_flow) free = both known_sum strict_sum _ _ _ _ past (of_sides 2 local_inflow diversion return_flow)
   of_steady (Reservoir initial_storage table local_inflow diversion return_flow evaporation max_release) free =
       both difference strict_difference _ _ _ _
-      (both sum_of strict_sum _ _ _ _ past (of_sides 4 local_inflow diversion return_flow)) (of_evaporation evaporation table)
+      (both known_sum strict_sum _ _ _ _ past (of_sides 4 local_inflow diversion return_flow)) (of_evaporation evaporation table)
   of_steady (WaterUser depletion Request) free = knows 0
   of_steady (WaterUser depletion ByRule) free = knows 1
   of_steady (PowerReservoir initial_storage table max_release tailwater power) free = absurd (both_ways false refl free)

@@ -37,10 +37,10 @@ pub use Rattle.rw_method.proofs.Earlier.{some_ago}
 pub use Rattle.rw_method.proofs.PutFacts.{first_fits}
 pub use Rattle.rw_method.proofs.SolvedPuts.{IsPutOf, solve-puts}
 pub use Rattle.rw_method.proofs.SolvedTerm.{solved_term}
-pub use Rattle.rw_method.specs.Balance.{balance_of, chosen, evaporation_from, evaporation_of, side_flows, sum_of}
+pub use Rattle.rw_method.specs.Balance.{balance_of, value_if_chosen, evaporation_from, evaporation_of, side_flows, known_sum}
 pub use Rattle.rw_method.specs.Contents.{agree, are_both_zero, basis_of, can_hold, contents_by, difference, disagreement, elevation_of, fault_of_basis, volume_of}
 pub use Rattle.rw_method.specs.Puts.{beside_basis, beside_given, evaporation_put, held_by, is_bounded, known_after, level_puts, put, put_found, puts_of, release_puts, seepage_put, solved_put, user_puts}
-pub use Rattle.rw_method.specs.Settling.{IsSolved, gives_way_before, greatest_beside, missing, net_of, number_of, settled, settled_at, solves, value_from_others, weakest}
+pub use Rattle.rw_method.specs.Settling.{IsSolved, gives_way_before, greatest_beside, missing, net_of, priority_of, settled, settled_at, solves, value_from_others, weakest}
 pub use Rattle.rw_method.specs.Solve.{AllFit, all_or_misfit, answer, answer_of_puts, balanced_of, fault_of_contents, fault_of_past, first_fault, first_misfit, fits, or_else, solve_of, unless_faulty}
 pub use Rattle.rw_method.specs.Term.{IsShare, brought, brought_by, per_mille}
 pub use Rattle.rw_method.specs.View.{given, given_by, is_between, known, known_value}

@@ -1,5 +1,5 @@
 -- The numbers and the places of what is put, where all numbers are 0.
-use Rattle.rw_order.proofs.Common.{AllByRecursion, Balanced, Bifurcation, Bool, ByRule, Canal, Conflicts, Confluence, Content, DataObject, Gage, Given, Holds, Idle, Kind, List, None, Option, PowerReservoir, Put, Puts, Reach, Request, Reservoir, RoutedReach, Row, Share, Solves, Some, Term, View, WaterUser, [], ap₂, are_both_zero, arith, balance_of, balanced_of, basis_of, beside_basis, beside_given, both_ways, elevation_of, evaporation_of, evaporation_put, false, given, gives_way_before, greatest_beside, held_by, if◌then◌else◌, int_eq, known, known_after, level_puts, max, missing, nat_le, nat_tests, net_of, number_of, pos, put, put_found, puts_of, refl, release_puts, seepage_put, settled, settled_at, solve_of, solved_put, solves, subst, suc, sym, true, unwrap_or, user_puts, value_from_others, volume_of, weakest, zero, ℕ, ℤ, ◌++◌, ◌+ℤ◌, ◌<◌, ◌==◌, ◌∙◌, ◌∷◌, ◌≡◌, ◌≤◌}
+use Rattle.rw_order.proofs.Common.{AllByRecursion, Balanced, Bifurcation, Bool, ByRule, Canal, Conflicts, Confluence, Content, DataObject, Gage, Given, Holds, Idle, Kind, List, None, Option, PowerReservoir, Put, Puts, Reach, Request, Reservoir, RoutedReach, Row, Share, Solves, Some, Term, View, WaterUser, [], ap₂, are_both_zero, arith, balance_of, balanced_of, basis_of, beside_basis, beside_given, both_ways, elevation_of, evaporation_of, evaporation_put, false, given, gives_way_before, greatest_beside, held_by, if◌then◌else◌, int_eq, known, known_after, level_puts, max, missing, nat_le, nat_tests, net_of, priority_of, pos, put, put_found, puts_of, refl, release_puts, seepage_put, settled, settled_at, solve_of, solved_put, solves, subst, suc, sym, true, unwrap_or, user_puts, value_from_others, volume_of, weakest, zero, ℕ, ℤ, ◌++◌, ◌+ℤ◌, ◌<◌, ◌==◌, ◌∙◌, ◌∷◌, ◌≡◌, ◌≤◌}
 use Rattle.rw_order.specs.Free.{is_free}
 use Rattle.rw_order.proofs.Lists.{all_joined}
 use Rattle.rw_order.proofs.Held.{AreZero, Sight, given_known}
@@ -49,14 +49,14 @@ if_zero : (test : Bool) (number : ℕ) → number ≡ 0 → (if test then 0 else
 if_zero true number is = refl
 if_zero false number is = is
 
-number_zero : (found : Option Given) → Zero found → number_of found ≡ 0
+number_zero : (found : Option Given) → Zero found → priority_of found ≡ 0
 number_zero None is = refl
 number_zero (Some held) is = is
 
 greatest_zero : (place : ℕ) (sight : Sight) (parts : Parts) → AreZero sight → greatest_beside place (terms_of sight parts) ≡ 0
 greatest_zero place sight [] zeros = refl
 greatest_zero place sight (part ∷ parts) zeros =
-    ap₂ max (if_zero (part.1 == place) (number_of (sight part.1)) (number_zero (sight part.1) (zero_at sight part.1 zeros))) (greatest_zero place sight parts zeros)
+    ap₂ max (if_zero (part.1 == place) (priority_of (sight part.1)) (number_zero (sight part.1) (zero_at sight part.1 zeros))) (greatest_zero place sight parts zeros)
 
 solved_below : (most : ℕ) (steady : ℤ) (terms : List Term) (term : Term) (found : Option Given) → term.place < most → greatest_beside term.place terms ≡ 0
     → SolvesBelow most (settled_at steady terms term found)

@@ -1,7 +1,7 @@
 -- Runs in which a rule picks who is dispatched.
 use Rattle.std.specs.Prelude.{Err, IfOk, Ok, Result}
 use Rattle.rw_base.specs.declared.memory.NoMemory.{NoMemory}
-use Rattle.rw_dispatch.specs.Pick.{IsPickedRun, LeadsPicked, Picking, PicksOne, follows_picked, picked, turns}
+use Rattle.rw_dispatch.specs.Pick.{IsPickedRun, LeadsPicked, Picking, PicksOne, follows_picked, picked, turn_count}
 use Rattle.rw_run.specs.Next.{Policy, first_due, next_of}
 use Rattle.rw_run.specs.declared.run.Run.{Run}
 use Rattle.rpl_verify.specs.Verified.{Accepted}
@@ -19,7 +19,7 @@ picks_may_lead basin rule old [] new one leads = leads
 picks_may_lead basin rule old (event ∷ events) new one leads = (
   record {
     object = picked rule old (waiting basin old);
-    waits = chosen_at (waiting basin old) (rule (turns old) (waiting basin old)) (picked rule old (waiting basin old)) refl (one (turns old) (waiting basin old));
+    waits = chosen_at (waiting basin old) (rule (turn_count old) (waiting basin old)) (picked rule old (waiting basin old)) refl (one (turn_count old) (waiting basin old));
     is = leads.0;
   },
   picks_may_lead basin rule (event ∷ old) events new one leads.1,

@@ -1,5 +1,5 @@
 -- What a reservoir puts beside the solved term, and that it can be held.
-use Rattle.rw_order.proofs.Common.{AllByRecursion, Balanced, Bool, Given, IsSome, Kind, List, None, Option, Put, Reservoir, Row, Solved, Some, Term, View, [], and_parts, ap, ap₂, arith, balance_of, balanced_of, basis_of, both_ways, can_hold, contents_by, difference, disagreement, evaporation_of, evaporation_put, false, fault_of_basis, fault_of_contents, fault_of_past, fits, given, if◌then◌else◌, int_min, is_bounded, known_after, level_puts, nat_tests, none-some, or_else, put, put_found, refl, release_puts, same_Some, settled, side_flows, solved_put, subst, sum_of, sym, true, volume_of, ℕ, ℤ, ◌&&◌, ◌++◌, ◌-ℤ◌, ◌==◌, ◌∙◌, ◌∷◌, ◌≡◌}
+use Rattle.rw_order.proofs.Common.{AllByRecursion, Balanced, Bool, Given, IsSome, Kind, List, None, Option, Put, Reservoir, Row, Solved, Some, Term, View, [], and_parts, ap, ap₂, arith, balance_of, balanced_of, basis_of, both_ways, can_hold, contents_by, difference, disagreement, evaporation_of, evaporation_put, false, fault_of_basis, fault_of_contents, fault_of_past, fits, given, if◌then◌else◌, int_min, is_bounded, known_after, level_puts, nat_tests, none-some, or_else, put, put_found, refl, release_puts, same_Some, settled, side_flows, solved_put, subst, known_sum, sym, true, volume_of, ℕ, ℤ, ◌&&◌, ◌++◌, ◌-ℤ◌, ◌==◌, ◌∙◌, ◌∷◌, ◌≡◌}
 use Rattle.rw_order.proofs.Lists.{all_joined, all_left, all_right, all_weaker}
 use Rattle.rw_order.proofs.Held.{AreHeld, AreZero, FitsThere, IsSeenOf, Stands, Values, given_stands}
 use Rattle.rw_order.proofs.Terms.{balanced_is, store_sight, terms_of}
@@ -18,7 +18,7 @@ both_there None b some = absurd (both_ways false refl some)
 both_there (Some a) None some = absurd (both_ways false refl some)
 both_there (Some a) (Some b) some = (refl, refl)
 
-first_there : (a b : Option ℤ) → IsSome (sum_of a b) → IsSome a
+first_there : (a b : Option ℤ) → IsSome (known_sum a b) → IsSome a
 first_there None b some = some
 first_there (Some a) b some = refl
 
@@ -130,9 +130,9 @@ module _ (initial_storage : ℤ) (table : Option (List Row)) (local_inflow diver
         → (known_after one (balanced_of kind one) 1).value ≡ (known_after other (balanced_of kind other) 1).value
         → (fault_of_contents kind other ≡ None) × AreHeld values (rest_of kind other (balanced_of kind other))
     rest_stays within some_one some_other same_outflow =
-        let known_one = both_there (sum_of one.past (side_flows one 4 local_inflow diversion return_flow)) (lost one)
+        let known_one = both_there (known_sum one.past (side_flows one 4 local_inflow diversion return_flow)) (lost one)
         (steady_there (balance_of kind one).steady (balance_of kind one).terms some_one) in
-        let known_other = both_there (sum_of other.past (side_flows other 4 local_inflow diversion return_flow)) (lost other)
+        let known_other = both_there (known_sum other.past (side_flows other 4 local_inflow diversion return_flow)) (lost other)
         (steady_there (balance_of kind other).steady (balance_of kind other).terms some_other) in
         let same_past : one.past ≡ other.past = agree_is one.past other.past (agree_past values past one other seen_one seen_other) (first_there one.past _ known_one.0) (first_there other.past _ known_other.0) in
         let same_loss : lost one ≡ lost other = agree_is (lost one) (lost other) (agree_evaporation values past one other seen_one seen_other evaporation table) known_one.1 known_other.1 in

@@ -1,5 +1,5 @@
 -- The terms of a balance, each of a share in a place, and what stands in these places all together.
-use Rattle.rw_order.proofs.Common.{AllByRecursion, Balanced, Bifurcation, Bool, Brings, ByRule, Canal, Conflicts, Confluence, Conveys, Gage, Given, Holds, Idle, IsSome, Kind, List, None, Option, PowerReservoir, Reach, Request, Reservoir, RoutedReach, Row, Share, Solves, Some, Takes, Term, View, WaterUser, [], ap, ap₂, arith, balance_of, balanced_of, basis_of, both_ways, brought, brought_by, contents_by, false, given, gives_way_before, if◌then◌else◌, int_eq, ints, is_some, map, missing, nat_le, net_of, option_map, pos, refl, settled, settled_at, solves, suc, sum_of, true, value_from_others, weakest, zero, ℕ, ℤ, ◌++◌, ◌+ℤ◌, ◌==◌, ◌∙◌, ◌∷◌, ◌≡◌}
+use Rattle.rw_order.proofs.Common.{AllByRecursion, Balanced, Bifurcation, Bool, Brings, ByRule, Canal, Conflicts, Confluence, Conveys, Gage, Given, Holds, Idle, IsSome, Kind, List, None, Option, PowerReservoir, Reach, Request, Reservoir, RoutedReach, Row, Share, Solves, Some, Takes, Term, View, WaterUser, [], ap, ap₂, arith, balance_of, balanced_of, basis_of, both_ways, brought, brought_by, contents_by, false, given, gives_way_before, if◌then◌else◌, int_eq, ints, is_some, map, missing, nat_le, net_of, option_map, pos, refl, settled, settled_at, solves, suc, known_sum, true, value_from_others, weakest, zero, ℕ, ℤ, ◌++◌, ◌+ℤ◌, ◌==◌, ◌∙◌, ◌∷◌, ◌≡◌}
 use Rattle.rw_order.specs.Free.{is_free}
 use Rattle.rw_order.proofs.Held.{Sight, Stands, Values}
 
@@ -15,7 +15,7 @@ terms_of sight parts = map (term_in sight) parts
 -- how much the values in these places bring, where there is one in each
 abbrev pub brought_in : Values → Parts → Option ℤ
 brought_in values [] = Some (pos 0)
-brought_in values (part ∷ parts) = sum_of (option_map (brought part.0) (values part.1)) (brought_in values parts)
+brought_in values (part ∷ parts) = known_sum (option_map (brought part.0) (values part.1)) (brought_in values parts)
 
 abbrev pub AreGiven : List Term → Type 0
 AreGiven terms = AllByRecursion (λ (term : Term). IsSome term.given) terms
@@ -108,19 +108,19 @@ pub all_in : (values : Values) (sight : Sight) (parts : Parts) → Stands values
     → brought_in values parts ≡ Some (net_of (terms_of sight parts))
 all_in values sight [] stands all = refl
 all_in values sight (part ∷ parts) stands all =
-    ap₂ sum_of (part_stands values sight part.0 part.1 (sight part.1) stands refl all.0) (all_in values sight parts stands all.1)
+    ap₂ known_sum (part_stands values sight part.0 part.1 (sight part.1) stands refl all.0) (all_in values sight parts stands all.1)
 
 -- what the terms before and after bring, with a value of the one between
 abbrev pub brought_with : List Term → Term → List Term → ℤ → ℤ
 brought_with before term after value = net_of before +ℤ brought term.share value +ℤ net_of after
 
 first_sum : (share : Share) (value : Option ℤ) (net : ℤ)
-    → sum_of (option_map (brought share) value) (Some net) ≡ option_map (λ w. pos 0 +ℤ brought share w +ℤ net) value
+    → known_sum (option_map (brought share) value) (Some net) ≡ option_map (λ w. pos 0 +ℤ brought share w +ℤ net) value
 first_sum share None net = refl
 first_sum share (Some w) net = ap Some (omega (arith, ints))
 
 more_sum : (share : Share) (value : Option ℤ) (more before after : ℤ)
-    → sum_of (Some more) (option_map (λ w. before +ℤ brought share w +ℤ after) value) ≡ option_map (λ w. (more +ℤ before) +ℤ brought share w +ℤ after) value
+    → known_sum (Some more) (option_map (λ w. before +ℤ brought share w +ℤ after) value) ≡ option_map (λ w. (more +ℤ before) +ℤ brought share w +ℤ after) value
 more_sum share None more before after = refl
 more_sum share (Some w) more before after = ap Some (omega (arith, ints))
 
@@ -133,7 +133,7 @@ but_one values sight (part ∷ parts) [] term after stands among given_before gi
     let here : term_in sight part ≡ term = cc in
     let rest : terms_of sight parts ≡ after = cc in
     rw (← here, ← rest)
-    (ap (sum_of (option_map (brought part.0) (values part.1))) (all_in values sight parts stands (rw rest given_after))
+    (ap (known_sum (option_map (brought part.0) (values part.1))) (all_in values sight parts stands (rw rest given_after))
     ∙ first_sum part.0 (values part.1) (net_of (terms_of sight parts)))
 but_one values sight (part ∷ parts) (x ∷ before) term after stands among given_before given_after =
     let here : term_in sight part ≡ x = cc in
@@ -141,5 +141,5 @@ but_one values sight (part ∷ parts) (x ∷ before) term after stands among giv
     let some : IsSome (sight part.1) = rw (ap (λ (t : Term). t.given) here) given_before.0 in
     let first = part_stands values sight part.0 part.1 (sight part.1) stands refl some in
     rw (← here)
-    (ap₂ sum_of first (but_one values sight parts before term after stands rest given_before.1 given_after)
+    (ap₂ known_sum first (but_one values sight parts before term after stands rest given_before.1 given_after)
     ∙ more_sum term.share (values term.place) (brought_by part.0 (sight part.1)) (net_of before) (net_of after))

@@ -20,7 +20,7 @@ ghost use Rattle.rw_dispatch.specs.Pick.{IsPickedRun, Picking, PicksOne, newest,
 ghost use Rattle.rw_order.specs.AnyRun.{IsAnyRun, IsSettledLog, WaitsBefore};
 ghost use Rattle.rw_order.specs.Free.{order_free};
 ghost use Rattle.rw_order.specs.Inside.{AreInside};
-ghost use Rattle.rw_order.specs.Worked.{chain, chain_inputs, chain_newest, chain_oldest, dry, gauged, losing, losing_fault, losing_inputs, losing_newest, losing_oldest, newest_first, pools, pools_fault, pools_inputs, pools_newest, pools_oldest, stores, stores_fault, stores_inputs, stores_newest, stores_oldest, valley, valley_with};
+ghost use Rattle.rw_order.specs.Worked.{chain, chain_inputs, chain_newest, chain_oldest, dry, gauged, losing, losing_fault, losing_inputs, losing_newest, losing_oldest, newest_first, pools, pools_fault, pools_inputs, pools_newest, pools_oldest, two_stores, stores_fault, stores_inputs, stores_newest, stores_oldest, valley, valley_with};
 
 /// Where one order of dispatches settles, every order does: all timesteps are closed, with the same values in the same cells.
 /// Who wrote a value may differ. The basin's order has to be free, and the inputs are of values that their slots can have.
@@ -142,10 +142,10 @@ pub fn pools_orders_differ()
 /// Two reservoirs share a storage of 3 m3, which the second has by its elevation alone. The first one first, it puts 3, and the
 /// second agrees; the second one first, it puts the volume at its elevation, 2, and the first conflicts.
 pub fn stores_orders_differ()
-    ensures not_free { order_free stores ≡ false }
-    ensures oldest { IsPickedRun stores no_rules oldest stores_inputs
+    ensures not_free { order_free two_stores ≡ false }
+    ensures oldest { IsPickedRun two_stores no_rules oldest stores_inputs
         (log_after stores_oldest (placed [] stores_inputs)) }
-    ensures newest { IsPickedRun stores no_rules newest stores_inputs
+    ensures newest { IsPickedRun two_stores no_rules newest stores_inputs
         (log_after stores_newest (placed [] stores_inputs)) }
     ensures settles { end_of (log_after stores_oldest (placed [] stores_inputs)) ≡ Settled }
     ensures fails { end_of (log_after stores_newest (placed [] stores_inputs))

@@ -8,7 +8,7 @@ pub use Rattle.rw_model.specs.declared.kind.Kind.TheVariants.{Reservoir}
 pub use Rattle.rw_model.specs.declared.kind.Kind.{Kind}
 pub use Rattle.rw_plain_reservoir.specs.FirstForm.{FirstModel, IsFirstFlows, IsFirstForm, plain_reservoir}
 pub use Rattle.rw_plain_reservoir.specs.Reservoir.{IsReservoirRun, storage_at, total}
-pub use Rattle.rw_plain_reservoir.specs.Table.{IsFirstText, columns, heading, row, rows}
+pub use Rattle.rw_plain_reservoir.specs.Table.{IsFirstText, columns_line, heading_line, table_row, table_rows}
 pub use Rattle.rw_run.specs.declared.fault.RunFault.TheVariants.{ObjectLimit, ObjectOutOfRange}
 pub use Rattle.rw_run.specs.declared.run.RunEnd.TheVariants.{Fault, Settled}
 pub use Rattle.rw_run.specs.declared.run.RunEnd.{RunEnd}

@@ -1,5 +1,5 @@
 -- A run has one end and one text.
-use Rattle.rw_plain_reservoir.proofs.Common.{FirstModel, IsFirstText, IsReservoirRun, List, None, Option, Some, ap, arith, columns, heading, refl, rows, subst, sym, ℕ, ℤ, ◌++◌, ◌<◌, ◌∙◌, ◌≡◌, ◌≤◌}
+use Rattle.rw_plain_reservoir.proofs.Common.{FirstModel, IsFirstText, IsReservoirRun, List, None, Option, Some, ap, arith, columns_line, heading_line, refl, table_rows, subst, sym, ℕ, ℤ, ◌++◌, ◌<◌, ◌∙◌, ◌≡◌, ◌≤◌}
 use Rattle.rw_model.specs.Kind.{IsAmount}
 
 -- the steps of a run are its end at most
@@ -30,5 +30,5 @@ one_text model ins outs f g x y h k =
     let closed : h.closed ≡ k.closed = same_closed steps model.initial ins outs h.closed k.closed f g h.run k.run in
     let P : ℕ → Type 0 = λ n. IsReservoirRun steps model.initial ins outs n g in
     let fault : f ≡ g = same_fault steps model.initial ins outs h.closed f g h.run (subst P (sym closed) k.run) in
-    let text : (ℕ → Option ℤ → List ℕ) = λ n e. (heading model.name n e ++ columns model.name) ++ rows model ins outs n in
+    let text : (ℕ → Option ℤ → List ℕ) = λ n e. (heading_line model.name n e ++ columns_line model.name) ++ table_rows model ins outs n in
     (fault, h.text_is ∙ ap (λ n. text n f) closed ∙ ap (λ e. text k.closed e) fault ∙ sym k.text_is)

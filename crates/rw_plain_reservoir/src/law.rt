@@ -13,7 +13,7 @@ ghost use Rattle.rw_report.specs.Section.{section_of, values_in};
 ghost use Rattle.rw_plain_reservoir.specs.FirstForm.{FirstModel, IsFirstForm, IsFirstFlows};
 ghost use Rattle.rw_inputs.specs.Givens.{givens};
 ghost use Rattle.rw_plain_reservoir.specs.Reservoir.{IsReservoirRun, storage_at};
-ghost use Rattle.rw_plain_reservoir.specs.Table.{IsFirstText, columns, heading};
+ghost use Rattle.rw_plain_reservoir.specs.Table.{IsFirstText, columns_line, heading_line};
 
 use rw_run::law::one_run;
 
@@ -67,9 +67,9 @@ pub fn worked()
         (pos 50 ∷ pos 150 ∷ pos 100 ∷ []) 2 ≡ pos 1000 }
     ensures empty { storage_at (pos 1000) (pos 0 ∷ []) (pos 1001 ∷ []) 1 ≡ negsuc 0 }
     ensures run { IsReservoirRun 1 (pos 1000) (pos 0 ∷ []) (pos 1001 ∷ []) 0 (Some (negsuc 0)) }
-    ensures settled { heading (codes "Dam") 3 None ≡ codes "# batch 0 settled\n" }
-    ensures faulted { heading (codes "Dam") 0 (Some (negsuc 0))
+    ensures settled { heading_line (codes "Dam") 3 None ≡ codes "# batch 0 settled\n" }
+    ensures faulted { heading_line (codes "Dam") 0 (Some (negsuc 0))
         ≡ codes "# batch 0 fault out of range object Dam slot Dam.Storage step 1 value -1\n" }
-    ensures names { columns (codes "Dam")
+    ensures names { columns_line (codes "Dam")
         ≡ codes "step,stamp,Dam.Inflow,Dam.Outflow,Dam.Storage\n" }
 {}

@@ -15,7 +15,7 @@ use Rattle.rw_method.specs.declared.places.TheConstants.{OUTFLOW, POOL_ELEVATION
 use Rattle.rw_method.specs.declared.view.View.{View}
 use Rattle.rw_method.specs.Balance.{power_balance}
 use Rattle.rw_method.specs.Power.{Plant, asked_of, head_of, plant}
-use Rattle.rw_method.specs.Puts.{asked_number, asked_put, energy_puts, flow_puts, held_after, level_puts, power_puts, put, solved_put}
+use Rattle.rw_method.specs.Puts.{asked_number, asked_put, energy_puts, flow_puts, held_after_puts, level_puts, power_puts, put, solved_put}
 use Rattle.rw_method.specs.Settling.{settled}
 use Rattle.rw_method.specs.Solve.{AllFit, answer, answer_of_puts, fault_of_level, fault_of_power, solve_of, unless_faulty}
 use Rattle.rw_method.specs.View.{given}
@@ -72,7 +72,7 @@ pub answered_by : (plant : Plant) (view : View) (head : ℤ) (asked : Option Giv
     → head ≡ head_of plant view → asked ≡ asked_of plant view → terms ≡ (power_balance plant view).terms → balanced ≡ settled view.past (power_balance plant view).terms
     → fault ≡ fault_of_level (Some plant.table) view
     → solved ≡ answer_of_puts (can_get (Some plant.table) view) (flow_puts asked terms balanced ++ level_puts (Some plant.table) (given view STORAGE) (given view POOL_ELEVATION) balanced
-    ++ energy_puts plant head (held_after view (flow_puts asked terms balanced) OUTFLOW))
+    ++ energy_puts plant head (held_after_puts view (flow_puts asked terms balanced) OUTFLOW))
     → ((fit : Put → Bool) (puts : List Put) → answer fit puts balanced fault ≡ answer_of_puts fit puts)
     → solved ≡ answer (can_get (Some plant.table) view) (power_puts plant view (settled view.past (power_balance plant view).terms)) (settled view.past (power_balance plant view).terms)
     (fault_of_level (Some plant.table) view)
@@ -88,7 +88,7 @@ answered_by plant view head asked terms balanced fault solved head_is asked_is t
     puts : ℤ → Option Given → List Term → Balanced → List Put
     puts head asked terms balanced =
         flow_puts asked terms balanced ++ level_puts (Some plant.table) (given view STORAGE) (given view POOL_ELEVATION) balanced
-        ++ energy_puts plant head (held_after view (flow_puts asked terms balanced) OUTFLOW)
+        ++ energy_puts plant head (held_after_puts view (flow_puts asked terms balanced) OUTFLOW)
 
 pub three_same : (a b c x y z : Term) → a ≡ x → b ≡ y → c ≡ z → (a ∷ b ∷ c ∷ []) ≡ (x ∷ y ∷ z ∷ [])
 three_same a b c x y z first second third =

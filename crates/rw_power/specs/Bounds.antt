@@ -12,7 +12,7 @@ pub record IsFall (head : ℤ) : Type 0 where
   pub high : head ≤ℤ pos 10000000
 
 -- a fall at a power, which is up to 65,535 kWh for 10^9 m3 mm
-pub record IsPowered (product : ℤ) : Type 0 where
+pub record IsPoweredFall (product : ℤ) : Type 0 where
   pub low : pos 0 ≤ℤ product
   pub high : product ≤ℤ pos 655350000000
 

@@ -4,7 +4,7 @@ ghost use Rattle.rw_base.specs.Quotient.{floor_div};
 ghost use Rattle.rw_table.specs.Curve.{elev_of};
 ghost use Rattle.rw_method.specs.Power.{head_from, energy_of, least_release, quotient_release, release_quotient, up_to};
 ghost use Rattle.rw_method.specs.Term.{IsWithin};
-ghost use Rattle.rw_power.specs.Bounds.{IsFall, IsPowered};
+ghost use Rattle.rw_power.specs.Bounds.{IsFall, IsPoweredFall};
 
 use rw_base::Qty;
 use rw_method::power_law::least_release_by_a_quotient;
@@ -58,13 +58,13 @@ pub(crate) fn head_of(rating: &Rating, tailwater: i64, past: Option<Qty>) -> i64
 fn powered(head: i64, power: u16) -> i128
     requires { IsFall head }
     ensures product { result ≡ head *ℤ pos power }
-    ensures bound { IsPowered result }
+    ensures bound { IsPoweredFall result }
 {
     i128::from(head) * i128::from(power)
 }
 
 fn product(release: i64, powered: i128) -> i128
-    requires { IsPowered powered }
+    requires { IsPoweredFall powered }
     ensures { result ≡ release *ℤ powered }
 {
     i128::from(release) * powered

@@ -3,7 +3,7 @@ ghost use Rattle.rw_table.specs.Table.{Row};
 ghost use Rattle.rw_method.specs.declared.places.TheConstants.{ENERGY, OUTFLOW, POOL_ELEVATION, POWER_RELEASE, POWER_SPILL, STORAGE};
 ghost use Rattle.rw_method.specs.View.{given};
 ghost use Rattle.rw_method.specs.Power.{plant};
-ghost use Rattle.rw_method.specs.Puts.{put, flow_puts, level_puts, energy_puts, released_puts, held_after};
+ghost use Rattle.rw_method.specs.Puts.{put, flow_puts, level_puts, energy_puts, released_puts, held_after_puts};
 ghost use Rattle.rw_method.specs.Solve.{AllFit, answer_of_puts};
 ghost use Rattle.rw_method.specs.Asking.{Asks, can_get};
 ghost use Rattle.rw_power.specs.Bounds.{IsFall};
@@ -56,7 +56,7 @@ fn ask_front(
         (given view.entry.now STORAGE) (given view.entry.now POOL_ELEVATION) balanced)
         puts.old puts.new result }
     ensures outflow { IfOk result (λ outflow.
-        outflow ≡ held_after view.entry.now (flow_puts asked terms.now balanced) OUTFLOW) }
+        outflow ≡ held_after_puts view.entry.now (flow_puts asked terms.now balanced) OUTFLOW) }
     ensures room { OnOk result (length puts.new ≤ 3) }
 {
     if let Err(answer) = ask_flows(view, table, puts, asked, terms, balanced) {
@@ -89,7 +89,7 @@ pub(crate) fn put_all(
         ++ level_puts (option_map (λ rating. rating.now) table.entry)
         (given view.entry.now STORAGE) (given view.entry.now POOL_ELEVATION) balanced
         ++ energy_puts (plant rows max_release tailwater power) head
-        (held_after view.entry.now (flow_puts asked terms.now balanced) OUTFLOW)) }
+        (held_after_puts view.entry.now (flow_puts asked terms.now balanced) OUTFLOW)) }
 {
     let mut puts = PutList::none();
     let outflow = match ask_front(view, table, &mut puts, asked, terms, balanced) {

@@ -7,7 +7,7 @@ use Rattle.std.proofs.lemmas.List.Sorted.{IsPermutation-to_front}
 use Rattle.std.proofs.lemmas.Map.Keys.{IsDistinct-IsPermutation, IsDistinct-head, IsDistinct-tail}
 use Rattle.rw_series.specs.Cells.{position_of}
 use Rattle.rw_series.proofs.Places.{Kept-of, same_slot, same_step, within}
-use Rattle.rw_record.specs.Marks.{KeepsMarks, has_mark, is_marked}
+use Rattle.rw_record.specs.Marks.{KeepsMarks, has_mark, is_cell_marked}
 use Rattle.rw_record.proofs.Cells.{cells_equiv, same_cell}
 use Rattle.rw_record.proofs.Noting.{noted_is, once}
 
@@ -19,7 +19,7 @@ near slots steps marks cell many there =
 -- a cell is set, and no other changes
 pub mark_set : (slots steps : ℕ) (marks : List Bool) (cell other : Cell) (mark : Bool) → length marks ≡ slots * steps
     → has_mark slots steps cell ≡ true → has_mark slots steps other ≡ true
-    → is_marked slots (set marks (position_of slots cell.slot.0 cell.step.0) mark) other ≡ (if is_same_cell cell other then mark else is_marked slots marks other)
+    → is_cell_marked slots (set marks (position_of slots cell.slot.0 cell.step.0) mark) other ≡ (if is_same_cell cell other then mark else is_cell_marked slots marks other)
 mark_set slots steps marks cell other mark many there too = by (is_same_cell cell other) refl
   where
     apart : is_same_cell cell other ≡ false → position_of slots other.slot.0 other.step.0 ≢ position_of slots cell.slot.0 cell.step.0
@@ -32,9 +32,9 @@ mark_set slots steps marks cell other mark many there too = by (is_same_cell cel
         false≢true (sym none ∙ same)
 
     by : (same : Bool) → is_same_cell cell other ≡ same
-        → is_marked slots (set marks (position_of slots cell.slot.0 cell.step.0) mark) other ≡ (if same then mark else is_marked slots marks other)
+        → is_cell_marked slots (set marks (position_of slots cell.slot.0 cell.step.0) mark) other ≡ (if same then mark else is_cell_marked slots marks other)
     by true same =
-        subst (λ it. is_marked slots (set marks (position_of slots cell.slot.0 cell.step.0) mark) it ≡ mark) (same_cell cell other same)
+        subst (λ it. is_cell_marked slots (set marks (position_of slots cell.slot.0 cell.step.0) mark) it ≡ mark) (same_cell cell other same)
         (get_or-set_same marks (position_of slots cell.slot.0 cell.step.0) mark false (near slots steps marks cell many there))
     by false none = get_or-set_other marks (position_of slots cell.slot.0 cell.step.0) (position_of slots other.slot.0 other.step.0) mark false (apart none)
 
@@ -56,7 +56,7 @@ no_marks slots steps = record {
 -- a cell that isn't noted is noted and marked
 pub one_added : (slots steps : ℕ) (marks new : List Bool) (cells : Cells) (noted : List Held) (cell : Cell) → KeepsMarks slots steps marks noted
     → is_noted noted cell ≡ false → length new ≡ slots * steps
-    → ((other : Cell) → IsTrue (has_mark slots steps other) → is_marked slots new other ≡ (if is_same_cell cell other then true else is_marked slots marks other))
+    → ((other : Cell) → IsTrue (has_mark slots steps other) → is_cell_marked slots new other ≡ (if is_same_cell cell other then true else is_cell_marked slots marks other))
     → KeepsMarks slots steps new (noted_after cells noted (cell ∷ []))
 one_added slots steps marks new cells noted cell keeps fresh many sets = record {
   many = many;
@@ -90,7 +90,7 @@ but_last first last once =
 -- the last one is noted no more, and has no mark
 pub one_taken : (slots steps : ℕ) (marks new : List Bool) (all noted : List Held) (last : Held) → all ≡ noted ++ last ∷ [] → KeepsMarks slots steps marks all
     → length new ≡ slots * steps
-    → ((other : Cell) → IsTrue (has_mark slots steps other) → is_marked slots new other ≡ (if is_same_cell last.cell other then false else is_marked slots marks other))
+    → ((other : Cell) → IsTrue (has_mark slots steps other) → is_cell_marked slots new other ≡ (if is_same_cell last.cell other then false else is_cell_marked slots marks other))
     → KeepsMarks slots steps new noted
 one_taken slots steps marks new all noted last is keeps many sets = record {
   many = many;

@@ -10,13 +10,13 @@ abbrev pub has_mark : ℕ → ℕ → Cell → Bool
 has_mark slots steps cell = is_kept slots steps cell.slot.0 cell.step.0
 
 -- the cell is marked
-abbrev pub is_marked : ℕ → List Bool → Cell → Bool
-is_marked slots marks cell = slice_index_or marks (position_of slots cell.slot.0 cell.step.0) false
+abbrev pub is_cell_marked : ℕ → List Bool → Cell → Bool
+is_cell_marked slots marks cell = slice_index_or marks (position_of slots cell.slot.0 cell.step.0) false
 
 -- each cell is noted once, and marked exactly where it is noted, if there is a mark for it
 pub record KeepsMarks (slots steps : ℕ) (marks : List Bool) (noted : List Held) : Type 0 where
   pub many : length marks ≡ slots * steps
-  pub marked : (cell : Cell) → IsTrue (has_mark slots steps cell) → is_marked slots marks cell ≡ is_noted noted cell
+  pub marked : (cell : Cell) → IsTrue (has_mark slots steps cell) → is_cell_marked slots marks cell ≡ is_noted noted cell
   pub once : AreOnce noted
 
 -- and nothing is noted where nothing is kept

@@ -5,8 +5,8 @@ use Rattle.rw_run.specs.Log.{Cells, input_content}
 use Rattle.rw_run.specs.declared.held.Held.{Held}
 
 -- each cell holds this
-abbrev pub all_hold : ℤ → Cells
-all_hold value cell = Some (input_content value)
+abbrev pub each_holds : ℤ → Cells
+each_holds value cell = Some (input_content value)
 
 -- no cell holds anything
 abbrev pub none_holds : Cells

@@ -12,7 +12,7 @@ ghost use Rattle.rw_run.specs.declared.trace.TraceEvent.{TraceEvent};
 ghost use Rattle.rw_record.specs.Noted.{AreOnce, is_noted, noted_after};
 ghost use Rattle.rw_record.specs.Notes.{CanTakeBack, Notes};
 ghost use Rattle.rw_record.specs.Record.{AreRisingCells, IsRecordOf, StepRecord};
-ghost use Rattle.rw_record.specs.Worked.{all_hold, held_at, none_holds, unknown_at};
+ghost use Rattle.rw_record.specs.Worked.{each_holds, held_at, none_holds, unknown_at};
 ghost use Rattle.rw_run.specs.Dispatch.{cell_at};
 ghost use Rattle.rw_run.specs.Worked.{linked_basin, one_end_run};
 
@@ -78,9 +78,10 @@ pub fn recorded()
 /// Small lists of cells, worked out by hand. A cell that is named again isn't noted again, and keeps what it held first. A put to
 /// one end of a link reaches the other. Cells rise by slot, and of one slot by timestep.
 pub fn worked_notes()
-    ensures again { noted_after (all_hold (pos 5)) [] (cell_at 1 1 ∷ cell_at 2 1 ∷ cell_at 1 1 ∷ [])
+    ensures again { noted_after (each_holds (pos 5)) []
+        (cell_at 1 1 ∷ cell_at 2 1 ∷ cell_at 1 1 ∷ [])
         ≡ held_at 1 1 (pos 5) ∷ held_at 2 1 (pos 5) ∷ [] }
-    ensures first { noted_after (all_hold (pos 7)) (held_at 1 1 (pos 5) ∷ [])
+    ensures first { noted_after (each_holds (pos 7)) (held_at 1 1 (pos 5) ∷ [])
         (cell_at 1 1 ∷ cell_at 1 2 ∷ [])
         ≡ held_at 1 1 (pos 5) ∷ held_at 1 2 (pos 7) ∷ [] }
     ensures both { noted_after none_holds [] (flat_map (reached_by linked_basin) one_end_run)

@@ -2,7 +2,7 @@ ghost use Rattle.std.specs.Prelude.{◌≡◌, ◌≤◌, ◌*◌, IsTrue, if◌
 ghost use Rattle.rw_base.specs.declared.number.Cell.{Cell};
 ghost use Rattle.rw_run.specs.Step.{is_same_cell};
 ghost use Rattle.rw_series.specs.Cells.{position_of};
-ghost use Rattle.rw_record.specs.Marks.{has_mark, is_marked};
+ghost use Rattle.rw_record.specs.Marks.{has_mark, is_cell_marked};
 
 use rw_base::Cell;
 
@@ -26,7 +26,7 @@ fn position(slots: u16, cell: Cell) -> usize
 pub(crate) fn is_marked(marks: &[bool], slots: u16, steps: u16, cell: Cell) -> bool
     requires many { length marks.now ≡ slots * steps }
     requires there { IsTrue (has_mark slots steps cell) }
-    ensures { result ≡ is_marked slots marks.now cell }
+    ensures { result ≡ is_cell_marked slots marks.now cell }
 {
     marks[position(slots, cell)]
 }
@@ -37,8 +37,8 @@ pub(crate) fn set_mark(marks: &mut Vec<bool>, slots: u16, steps: u16, cell: Cell
     requires there { IsTrue (has_mark slots steps cell) }
     ensures many { vec_len marks.new ≡ slots * steps }
     ensures set { (other : Cell) → IsTrue (has_mark slots steps other)
-        → is_marked slots marks.new.items other
-        ≡ (if is_same_cell cell other then mark else is_marked slots marks.old.items other) }
+        → is_cell_marked slots marks.new.items other
+        ≡ (if is_same_cell cell other then mark else is_cell_marked slots marks.old.items other) }
 {
     marks[position(slots, cell)] = mark;
 }

@@ -7,7 +7,7 @@ ghost use Rattle.rw_series.specs.Series.{held};
 ghost use Rattle.rw_run.specs.Frame.{cells_looked};
 ghost use Rattle.rw_run.specs.Step.{cells_reached, cells_with, is_same_cell};
 ghost use Rattle.rw_run.specs.declared.write.Write.{Write};
-ghost use Rattle.rw_record.specs.Marks.{KeepsMarks, has_mark, is_marked};
+ghost use Rattle.rw_record.specs.Marks.{KeepsMarks, has_mark, is_cell_marked};
 ghost use Rattle.rw_record.specs.Noted.{AddsNotes, AreOnce, is_noted, noted_after, noted_in};
 
 use crate::marks::{has_mark, is_marked, set_mark};
@@ -236,8 +236,8 @@ fn mark_if(marks: &mut Vec<bool>, slots: u16, steps: u16, cell: Cell, mark: bool
     requires { vec_len marks.old ≡ slots * steps }
     ensures many { vec_len marks.new ≡ slots * steps }
     ensures set { (other : Cell) → IsTrue (has_mark slots steps other)
-        → is_marked slots marks.new.items other
-        ≡ (if is_same_cell cell other then mark else is_marked slots marks.old.items other) }
+        → is_cell_marked slots marks.new.items other
+        ≡ (if is_same_cell cell other then mark else is_cell_marked slots marks.old.items other) }
 {
     if has_mark(slots, steps, cell) {
         set_mark(marks, slots, steps, cell, mark);

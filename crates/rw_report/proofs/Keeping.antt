@@ -6,9 +6,9 @@ use Rattle.rw_model.specs.Objects.{all_slots}
 use Rattle.rw_model.specs.declared.content.Content.{Content}
 use Rattle.rw_run.specs.Dispatch.{cell_at}
 use Rattle.rw_run.specs.Log.{Cells}
-use Rattle.rw_report.specs.Kept.{AreInPlace, IsTold, TellFirst, Tells}
+use Rattle.rw_report.specs.Kept.{AreInPlace, IsTold, TellFirst, TellsKeptLine}
 use Rattle.rw_report.specs.Section.{row, values_in}
-use Rattle.rw_report.specs.Sheet.{AreToldBefore, AreToldOf, line_of, listed, values_of}
+use Rattle.rw_report.specs.Sheet.{AreToldBefore, AreToldOf, sheet_line, values_listed, values_of}
 use Rattle.rw_report.specs.declared.kept.KeptLine.{KeptLine}
 use Rattle.rw_report.proofs.Telling.{row_told}
 
@@ -37,18 +37,18 @@ pushed_before (first ∷ items) (suc at) one item near there = pushed_before ite
 
 -- one line more tells of its timestep
 pub tells_more : (basin : Draft) (cells : Cells) (lines : List KeptLine) (place step : ℕ) (one : KeptLine) → step ≡ place + 1 → place < length lines
-    → Tells basin cells step one → TellFirst basin cells place lines → TellFirst basin cells step (set lines place one)
+    → TellsKeptLine basin cells step one → TellFirst basin cells place lines → TellFirst basin cells step (set lines place one)
 tells_more basin cells lines place step one next near tells first at line before there = by (nat_lt at place) refl
   where
-    by : (less : Bool) → nat_lt at place ≡ less → Tells basin cells (at + 1) line
+    by : (less : Bool) → nat_lt at place ≡ less → TellsKeptLine basin cells (at + 1) line
     by true is =
         let less : at < place = grind (arith, nat_tests, is) in first at line less (set_before lines place at one line less there)
     by false is =
         let far : place ≤ at = grind (arith, nat_tests, is) in
         let same : at ≡ place = omega (arith, far, before, next) in
         let step_is : step ≡ at + 1 = omega (arith, same, next) in
-        subst (λ n. Tells basin cells n line) step_is
-        (subst (Tells basin cells step)
+        subst (λ n. TellsKeptLine basin cells n line) step_is
+        (subst (TellsKeptLine basin cells step)
         (same_Some one line (sym (set_here lines place one near) ∙ ap (slice_get (set lines place one)) (sym same) ∙ there)) tells)
 
 -- and one that is put behind them changes none of them
@@ -58,11 +58,11 @@ tells_still basin cells lines count one few first at line before there =
     first at line before (pushed_before lines at one line (omega (arith, before, few)) there)
 
 -- a line that tells of a timestep has the text of its row
-pub row_of : (basin : Draft) (cells : Cells) (step : ℕ) (line : KeptLine) → 1 ≤ step → IsTold basin line → Tells basin cells step line
+pub row_of : (basin : Draft) (cells : Cells) (step : ℕ) (line : KeptLine) → 1 ≤ step → IsTold basin line → TellsKeptLine basin cells step line
     → string_bytes line.text ≡ row basin (values_in cells) step
 row_of basin cells step line first told tells =
     let same = tells.step_is in
-    told (omega (arith, same, first)) ∙ ap₂ (λ n values. line_of basin n values) same tells.values_are ∙ row_told basin (values_in cells) step
+    told (omega (arith, same, first)) ∙ ap₂ (λ n values. sheet_line basin n values) same tells.values_are ∙ row_told basin (values_in cells) step
 
 pub row_there : (basin : Draft) (cells : Cells) (count place : ℕ) (lines : List KeptLine) (line : KeptLine) → place < count
     → slice_get lines place ≡ Some line → All (IsTold basin) lines → TellFirst basin cells count lines
@@ -120,7 +120,7 @@ told_by basin cells lines told first before values there =
 
 -- ---- cells that hold alike
 
-listed_alike : (one other : ℕ → Option ℤ) (count : ℕ) → ((slot : ℕ) → one slot ≡ other slot) → listed one count ≡ listed other count
+listed_alike : (one other : ℕ → Option ℤ) (count : ℕ) → ((slot : ℕ) → one slot ≡ other slot) → values_listed one count ≡ values_listed other count
 listed_alike one other zero same = refl
 listed_alike one other (suc before) same = ap₂ (λ t v. t ++ v ∷ []) (listed_alike one other before same) (same (suc before))
 

@@ -10,8 +10,8 @@ use Rattle.rw_run.specs.Log.{Log, cells_of}
 use Rattle.rw_run.specs.RunOf.{IsRunOf, end_of, last_closed, trace_of}
 use Rattle.rw_run.specs.Trace.{lines_in}
 use Rattle.rw_report.specs.Section.{heading, section_of, values_in}
-use Rattle.rw_report.specs.Outcome.{Outcome, outcome_by, outcome_of}
-use Rattle.rw_report.specs.Whole.{table_of, whole_of}
+use Rattle.rw_report.specs.Outcome.{RunOutcome, outcome_by, outcome_of}
+use Rattle.rw_report.specs.Whole.{run_table, whole_of}
 use Rattle.rw_report.specs.Why.{why_of}
 
 -- the lines of a trace that is kept
@@ -38,17 +38,17 @@ same_outcome basin log run is kept =
 pub same_reason : (basin : Draft) (inputs : Inputs) (log : Log) (run : Run) (cell : Cell) → IsRunOf basin log run → IsSome run.trace
     → why_of basin inputs (outcome_of run) cell ≡ why_of basin inputs (outcome_by basin log) cell
 same_reason basin inputs log run cell is kept =
-    ap (λ (told : Outcome). why_of basin inputs told cell) (same_outcome basin log run is kept)
+    ap (λ (told : RunOutcome). why_of basin inputs told cell) (same_outcome basin log run is kept)
 
 pub same_section : (basin : Draft) (batch : ℕ) (log : Log) (run : Run) (reran : Option (List StepNo)) (flags trace : Bool)
     → IsRunOf basin log run → (IsTrue trace → IsSome run.trace)
     → whole_of basin batch (outcome_of run) reran flags trace ≡ whole_of basin batch (outcome_by basin log) reran flags trace
 same_section basin batch log run reran flags true is kept =
-    ap (λ (told : Outcome). whole_of basin batch told reran flags true) (same_outcome basin log run is (kept refl))
+    ap (λ (told : RunOutcome). whole_of basin batch told reran flags true) (same_outcome basin log run is (kept refl))
 same_section basin batch log run reran flags false is kept =
-    ap (λ (told : Outcome). whole_of basin batch told reran flags false) (known basin log run (lines_in run.trace) is refl)
+    ap (λ (told : RunOutcome). whole_of basin batch told reran flags false) (known basin log run (lines_in run.trace) is refl)
 
-pub plain_section : (basin : Draft) (batch : ℕ) (run : Outcome)
+pub plain_section : (basin : Draft) (batch : ℕ) (run : RunOutcome)
     → whole_of basin batch run None false false ≡ section_of basin batch run.end run.closed (values_in run.cells)
 plain_section basin batch run =
-    ap₂ (λ top table. top ++ table) (append-nil (heading basin batch run.end)) (append-nil (table_of basin run))
+    ap₂ (λ top table. top ++ table) (append-nil (heading basin batch run.end)) (append-nil (run_table basin run))

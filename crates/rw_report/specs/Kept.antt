@@ -3,21 +3,21 @@ use Rattle.std.specs.Prelude.{◌≡◌, ◌≢◌, ◌<◌, ◌+◌, ℕ, List,
 use Rattle.rw_model.specs.Draft.{Draft}
 use Rattle.rw_run.specs.Log.{Cells}
 use Rattle.rw_report.specs.declared.kept.KeptLine.{KeptLine}
-use Rattle.rw_report.specs.Sheet.{line_of, values_of}
+use Rattle.rw_report.specs.Sheet.{sheet_line, values_of}
 
 -- where a line tells of a timestep, its text is that of its values at it
 abbrev pub IsTold : Draft → KeptLine → Type 0
-IsTold basin line = line.step ≢ 0 → string_bytes line.text ≡ line_of basin line.step line.values.items
+IsTold basin line = line.step ≢ 0 → string_bytes line.text ≡ sheet_line basin line.step line.values.items
 
 -- it tells of this timestep, and its values are those of these cells
-pub record Tells (basin : Draft) (cells : Cells) (step : ℕ) (line : KeptLine) : Type 0 where
+pub record TellsKeptLine (basin : Draft) (cells : Cells) (step : ℕ) (line : KeptLine) : Type 0 where
   pub step_is : line.step ≡ step
   pub values_are : line.values.items ≡ values_of basin cells step
 
 -- so do the first lines, so many of them, of the first timesteps
 abbrev pub TellFirst : Draft → Cells → ℕ → List KeptLine → Type 0
 TellFirst basin cells count lines =
-    (place : ℕ) (line : KeptLine) → place < count → slice_get lines place ≡ Some line → Tells basin cells (place + 1) line
+    (place : ℕ) (line : KeptLine) → place < count → slice_get lines place ≡ Some line → TellsKeptLine basin cells (place + 1) line
 
 -- the first lines, so many of them, tell of the first timesteps
 abbrev pub AreInPlace : ℕ → List KeptLine → Type 0

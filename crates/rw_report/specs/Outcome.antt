@@ -10,17 +10,17 @@ use Rattle.rw_run.specs.RunOf.{end_of, last_closed, trace_of}
 use Rattle.rw_run.specs.Trace.{lines_in}
 
 -- how it ended, its last closed timestep, what the cells hold at its end, and the lines of its trace
-pub record Outcome : Type 0 where
+pub record RunOutcome : Type 0 where
   pub end : RunEnd
   pub closed : ℕ
   pub cells : Cells
   pub lines : List TraceEvent
 
-abbrev pub outcome_of : Run → Outcome
+abbrev pub outcome_of : Run → RunOutcome
 outcome_of run = record { end = run.end; closed = run.closed; cells = held run.series; lines = lines_in run.trace }
 
 -- the same by the events of a run
-abbrev pub outcome_by : Draft → Log → Outcome
+abbrev pub outcome_by : Draft → Log → RunOutcome
 outcome_by basin log = record {
   end = end_of log;
   closed = last_closed log;

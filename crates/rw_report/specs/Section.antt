@@ -1,7 +1,7 @@
 -- The text of a section: how the run of a batch ended, the names of the columns, and a line for each closed timestep.
 use Rattle.std.specs.Prelude.{ℕ, zero, suc, ℤ, nat_le, ◌&&◌, if◌then◌else◌, List, [], ◌++◌, length, Option, None, Some, codes}
 use Rattle.std.specs.Fmt.{decimal, signed_decimal}
-use Rattle.rw_calendar.specs.Stamps.{end_of, stamp_text}
+use Rattle.rw_calendar.specs.Stamps.{end_of_step, stamp_text}
 use Rattle.rw_model.specs.Objects.{Object, Placed, object_at, all_slots, slot_at}
 use Rattle.rw_model.specs.Draft.{Draft}
 use Rattle.rw_run.specs.declared.fault.RunFault.{RunFault}
@@ -13,14 +13,14 @@ use Rattle.rw_run.specs.Log.{Cells, value_in}
 
 -- ---- names
 
-abbrev pub name_of : Option Object → List ℕ
-name_of None = []
-name_of (Some object) = object.name
+abbrev pub object_name : Option Object → List ℕ
+object_name None = []
+object_name (Some object) = object.name
 
 -- the name of the object of this number, and nothing where there is none
 abbrev pub object_words : Draft → ℕ → List ℕ
 object_words basin object =
-    if nat_le 1 object && nat_le object (length basin.objects) then name_of (object_at basin.objects object) else []
+    if nat_le 1 object && nat_le object (length basin.objects) then object_name (object_at basin.objects object) else []
 
 abbrev pub placed_words : Draft → Option Placed → List ℕ
 placed_words basin None = []
@@ -85,7 +85,7 @@ value_words (Some value) = signed_decimal value
 -- the line of a timestep: its number, the moment at which it ends, and the values by slot number and timestep
 abbrev pub row : Draft → (ℕ → ℕ → Option ℤ) → ℕ → List ℕ
 row basin values step =
-    (decimal step ++ (codes "," ++ stamp_text (end_of basin.control.stamps step)))
+    (decimal step ++ (codes "," ++ stamp_text (end_of_step basin.control.stamps step)))
     ++ (for_slots basin (λ slot. codes "," ++ value_words (values slot step)) ++ codes "\n")
 
 -- the lines of the first timesteps, so many of them

@@ -1,7 +1,7 @@
 -- A sheet: what was told last of a basin's runs, whose table is told line by line from lists of values.
 use Rattle.std.specs.Prelude.{◌≡◌, ◌<◌, ◌+◌, ℕ, zero, suc, ℤ, List, [], ◌∷◌, ◌++◌, length, Option, Some, codes, slice_get}
 use Rattle.std.specs.Fmt.{decimal}
-use Rattle.rw_calendar.specs.Stamps.{end_of, stamp_text}
+use Rattle.rw_calendar.specs.Stamps.{end_of_step, stamp_text}
 use Rattle.rw_model.specs.Draft.{Draft}
 use Rattle.rw_model.specs.Objects.{all_slots}
 use Rattle.rw_run.specs.Log.{Cells}
@@ -16,9 +16,9 @@ pub record Sheet : Type 0 where
 -- ---- a line by its values
 
 -- the values of the slots 1, 2, .. up to this number, one after another
-abbrev pub listed : (ℕ → Option ℤ) → ℕ → List (Option ℤ)
-listed values zero = []
-listed values (suc before) = listed values before ++ values (suc before) ∷ []
+abbrev pub values_listed : (ℕ → Option ℤ) → ℕ → List (Option ℤ)
+values_listed values zero = []
+values_listed values (suc before) = values_listed values before ++ values (suc before) ∷ []
 
 -- a comma and the words of each value
 abbrev pub values_words : List (Option ℤ) → List ℕ
@@ -26,15 +26,15 @@ values_words [] = []
 values_words (value ∷ values) = (codes "," ++ value_words value) ++ values_words values
 
 -- the line of a timestep at which the slots have these values
-abbrev pub line_of : Draft → (step : ℕ) → List (Option ℤ) → List ℕ
-line_of basin step values =
-    (decimal step ++ (codes "," ++ stamp_text (end_of basin.control.stamps step))) ++ (values_words values ++ codes "\n")
+abbrev pub sheet_line : Draft → (step : ℕ) → List (Option ℤ) → List ℕ
+sheet_line basin step values =
+    (decimal step ++ (codes "," ++ stamp_text (end_of_step basin.control.stamps step))) ++ (values_words values ++ codes "\n")
 
 -- ---- values that were told
 
 -- the values of all slots at a timestep, by what cells hold
 abbrev pub values_of : Draft → Cells → ℕ → List (Option ℤ)
-values_of basin cells step = listed (λ slot. values_in cells slot step) (length (all_slots basin.objects))
+values_of basin cells step = values_listed (λ slot. values_in cells slot step) (length (all_slots basin.objects))
 
 -- the values that were told of the first timesteps are those of these cells
 abbrev pub AreToldOf : Draft → Cells → List (List (Option ℤ)) → Type 0

@@ -6,7 +6,7 @@ use Rattle.rw_model.specs.Draft.{Draft}
 use Rattle.rw_report.specs.Section.{columns, heading, rows, values_in}
 use Rattle.rw_report.specs.Flags.{flag_table}
 use Rattle.rw_report.specs.Lines.{trace_words}
-use Rattle.rw_report.specs.Outcome.{Outcome}
+use Rattle.rw_report.specs.Outcome.{RunOutcome}
 
 -- a space and a number for each timestep
 abbrev pub steps_words : List StepNo → List ℕ
@@ -27,13 +27,13 @@ abbrev pub if_asked : Bool → List ℕ → List ℕ
 if_asked asked text = if asked then text else []
 
 -- the first line, and which timesteps were run again
-abbrev pub top_of : Draft → (batch : ℕ) → Outcome → Option (List StepNo) → List ℕ
-top_of basin batch run reran = heading basin batch run.end ++ reran_words reran
+abbrev pub section_top : Draft → (batch : ℕ) → RunOutcome → Option (List StepNo) → List ℕ
+section_top basin batch run reran = heading basin batch run.end ++ reran_words reran
 
-abbrev pub table_of : Draft → Outcome → List ℕ
-table_of basin run = columns basin ++ rows basin (values_in run.cells) run.closed
+abbrev pub run_table : Draft → RunOutcome → List ℕ
+run_table basin run = columns basin ++ rows basin (values_in run.cells) run.closed
 
-abbrev pub whole_of : Draft → (batch : ℕ) → Outcome → Option (List StepNo) → (flags trace : Bool) → List ℕ
+abbrev pub whole_of : Draft → (batch : ℕ) → RunOutcome → Option (List StepNo) → (flags trace : Bool) → List ℕ
 whole_of basin batch run reran flags trace =
-    top_of basin batch run reran ++ (table_of basin run
+    section_top basin batch run reran ++ (run_table basin run
     ++ (if_asked flags (flag_table basin run.cells run.closed) ++ if_asked trace (trace_words basin run.lines)))

@@ -12,7 +12,7 @@ use Rattle.rw_run.specs.declared.trace.TraceEvent.{TraceEvent}
 use Rattle.rw_run.specs.declared.trace.TraceEvent.TheVariants.{Opened, Written}
 use Rattle.rw_report.specs.Section.{object_words}
 use Rattle.rw_report.specs.Flags.{content_words}
-use Rattle.rw_report.specs.Outcome.{Outcome}
+use Rattle.rw_report.specs.Outcome.{RunOutcome}
 
 -- ---- what was put
 
@@ -59,6 +59,6 @@ abbrev pub holds_words : Option Content → List ℕ
 holds_words None = codes "holds unknown\n"
 holds_words (Some content) = codes "holds " ++ (content_words content ++ codes "\n")
 
-abbrev pub why_of : Draft → Inputs → Outcome → Cell → List ℕ
+abbrev pub why_of : Draft → Inputs → RunOutcome → Cell → List ℕ
 why_of basin inputs run cell =
     source_words basin cell run.lines (given_to basin inputs cell) ++ holds_words (run.cells cell)

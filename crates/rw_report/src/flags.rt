@@ -57,7 +57,8 @@ fn push_slots(
     step: StepNo,
 ) -> Result<(), NoMemory>
     ensures { OnOk result (string_bytes text.new ≡ string_bytes text.old
-        ++ for_slots basin.now (λ slot. codes "," ++ held_flag (held series.now (cell_at slot step.0)))) }
+        ++ for_slots basin.now
+        (λ slot. codes "," ++ held_flag (held series.now (cell_at slot step.0)))) }
 {
     for before in 0..basin.slot_count() {
         let slot = SlotNo(before + 1);

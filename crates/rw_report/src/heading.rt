@@ -17,7 +17,9 @@ fn push_place(
     slot: SlotNo,
     step: StepNo,
 ) -> Result<(), NoMemory>
-    ensures { OnOk result (string_bytes text.new ≡ string_bytes text.old ++ place_words basin.now what.now object.0 slot.0 step.0) }
+    ensures { OnOk result
+        (string_bytes text.new
+        ≡ string_bytes text.old ++ place_words basin.now what.now object.0 slot.0 step.0) }
 {
     let (object, step) = (object_words(basin, object), step.0);
     write!(text, "{what} object {object} slot ")?;
@@ -36,7 +38,8 @@ fn push_conflict(
     solved: i128,
 ) -> Result<(), NoMemory>
     ensures { OnOk result (string_bytes text.new
-        ≡ string_bytes text.old ++ fault_words basin.now (RunFault.Conflict object slot step held solved)) }
+        ≡ string_bytes text.old
+        ++ fault_words basin.now (RunFault.Conflict object slot step held solved)) }
 {
     push_place(text, basin, "conflict", object, slot, step)?;
     write!(text, " held {held} solved {solved}")?;
@@ -49,7 +52,9 @@ fn push_zero_divisor(
     rule: RuleNo,
     step: StepNo,
 ) -> Result<(), NoMemory>
-    ensures { OnOk result (string_bytes text.new ≡ string_bytes text.old ++ fault_words basin.now (RunFault.ZeroDivisor rule step)) }
+    ensures { OnOk result
+        (string_bytes text.new
+        ≡ string_bytes text.old ++ fault_words basin.now (RunFault.ZeroDivisor rule step)) }
 {
     let (rule, step) = (rule.0, step.0);
     write!(text, "division by zero rule {rule} step {step}")?;
@@ -65,7 +70,8 @@ fn push_object_value(
     value: i128,
 ) -> Result<(), NoMemory>
     ensures { OnOk result (string_bytes text.new
-        ≡ string_bytes text.old ++ fault_words basin.now (RunFault.ObjectOutOfRange object slot step value)) }
+        ≡ string_bytes text.old
+        ++ fault_words basin.now (RunFault.ObjectOutOfRange object slot step value)) }
 {
     push_place(text, basin, "out of range", object, slot, step)?;
     write!(text, " value {value}")?;
@@ -80,7 +86,8 @@ fn push_rule_value(
     value: i128,
 ) -> Result<(), NoMemory>
     ensures { OnOk result (string_bytes text.new
-        ≡ string_bytes text.old ++ fault_words basin.now (RunFault.RuleOutOfRange rule step value)) }
+        ≡ string_bytes text.old
+        ++ fault_words basin.now (RunFault.RuleOutOfRange rule step value)) }
 {
     let (rule, step) = (rule.0, step.0);
     write!(text, "out of range rule {rule} step {step} value {value}")?;
@@ -119,7 +126,8 @@ fn push_rule_limit(
 
 /// Appends what happened.
 pub(crate) fn push_fault(text: &mut String, basin: &Basin, fault: RunFault) -> Result<(), NoMemory>
-    ensures { OnOk result (string_bytes text.new ≡ string_bytes text.old ++ fault_words basin.now fault) }
+    ensures { OnOk result
+        (string_bytes text.new ≡ string_bytes text.old ++ fault_words basin.now fault) }
 {
     match fault {
         RunFault::Conflict {
@@ -152,7 +160,8 @@ pub(crate) fn push_fault(text: &mut String, basin: &Basin, fault: RunFault) -> R
 
 // Appends how the run ended.
 fn push_end(text: &mut String, basin: &Basin, end: &RunEnd) -> Result<(), NoMemory>
-    ensures { OnOk result (string_bytes text.new ≡ string_bytes text.old ++ end_words basin.now end.now) }
+    ensures { OnOk result
+        (string_bytes text.new ≡ string_bytes text.old ++ end_words basin.now end.now) }
 {
     match end {
         RunEnd::Settled => text.push_str("settled")?,
@@ -171,7 +180,8 @@ pub(crate) fn push_heading(
     batch: u32,
     end: &RunEnd,
 ) -> Result<(), NoMemory>
-    ensures { OnOk result (string_bytes text.new ≡ string_bytes text.old ++ heading basin.now batch end.now) }
+    ensures { OnOk result
+        (string_bytes text.new ≡ string_bytes text.old ++ heading basin.now batch end.now) }
 {
     write!(text, "# batch {batch} ")?;
     push_end(text, basin, end)?;

@@ -5,9 +5,9 @@ ghost use Rattle.rw_model.specs.Draft.{Draft};
 ghost use Rattle.rw_model.specs.Objects.{all_slots};
 ghost use Rattle.rw_run.specs.Log.{Cells};
 ghost use Rattle.rw_series.specs.Series.{held};
-ghost use Rattle.rw_report.specs.Kept.{IsTold, TellFirst, Tells};
+ghost use Rattle.rw_report.specs.Kept.{IsTold, TellFirst, TellsKeptLine};
 ghost use Rattle.rw_report.specs.Section.{row, rows, values_in};
-ghost use Rattle.rw_report.specs.Sheet.{listed};
+ghost use Rattle.rw_report.specs.Sheet.{values_listed};
 
 use crate::table::push_row;
 use crate::value::KeptValue;
@@ -41,7 +41,8 @@ fn blank(alloc: Global) -> KeptLine
 // Whether the slots have these values at a timestep.
 fn are_alike(values: &[KeptValue], basin: &Basin, series: &Series, step: StepNo) -> bool
     requires { length values.now ≡ length (all_slots basin.now.objects) }
-    ensures { result ≡ true → values.now ≡ listed (λ slot. values_in (held series.now) slot step.0)
+    ensures { result ≡ true
+        → values.now ≡ values_listed (λ slot. values_in (held series.now) slot step.0)
         (length (all_slots basin.now.objects)) }
 {
     let cells = series.at_step(step);
@@ -61,7 +62,7 @@ fn list(
     step: StepNo,
 ) -> Result<(), NoMemory>
     ensures { OnOk result (values.new.items
-        ≡ listed (λ slot. values_in (held series.now) slot step.0)
+        ≡ values_listed (λ slot. values_in (held series.now) slot step.0)
         (length (all_slots basin.now.objects))) }
 {
     let cells = series.at_step(step);
@@ -78,7 +79,7 @@ fn is_current(line: &KeptLine, basin: &Basin, series: &Series, step: u16) -> boo
     requires first { 1 ≤ step }
     ensures row { result ≡ true → string_bytes line.now.text
         ≡ row basin.now (values_in (held series.now)) step }
-    ensures tells { result ≡ true → Tells basin.now (held series.now) step line.now }
+    ensures tells { result ≡ true → TellsKeptLine basin.now (held series.now) step line.now }
 {
     if line.step != step || line.values.len() != usize::from(basin.slot_count()) {
         return false;
@@ -99,7 +100,7 @@ fn tell_anew(
     ensures told { IsTold basin.now line.new }
     ensures row { OnOk result (string_bytes line.new.text
         ≡ row basin.now (values_in (held series.now)) step) }
-    ensures tells { OnOk result (Tells basin.now (held series.now) step line.new) }
+    ensures tells { OnOk result (TellsKeptLine basin.now (held series.now) step line.new) }
 {
     line.step = 0;
     line.text.clear();
@@ -123,7 +124,7 @@ fn tell_line(
     ensures told { IsTold basin.now line.new }
     ensures row { OnOk result (string_bytes line.new.text
         ≡ row basin.now (values_in (held series.now)) step) }
-    ensures tells { OnOk result (Tells basin.now (held series.now) step line.new) }
+    ensures tells { OnOk result (TellsKeptLine basin.now (held series.now) step line.new) }
 {
     if is_current(line, basin, series, step) {
         Ok(())

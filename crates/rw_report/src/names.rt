@@ -30,7 +30,8 @@ pub(crate) fn object_words(basin: &Basin, object: ObjectNo) -> &str
 
 /// Appends the name of a slot behind that of its object, and nothing where there is none of its number.
 pub(crate) fn push_slot(text: &mut String, basin: &Basin, slot: SlotNo) -> Result<(), NoMemory>
-    ensures { OnOk result (string_bytes text.new ≡ string_bytes text.old ++ slot_words basin.now slot.0) }
+    ensures { OnOk result
+        (string_bytes text.new ≡ string_bytes text.old ++ slot_words basin.now slot.0) }
 {
     if is_slot(basin, slot) {
         text.push_str(object_words(basin, basin.owner(slot)))?;

@@ -4,7 +4,7 @@ ghost use Rattle.rw_series.specs.Series.{held};
 ghost use Rattle.rw_report.specs.Kept.{IsTold, TellFirst};
 ghost use Rattle.rw_report.specs.Outcome.{outcome_of};
 ghost use Rattle.rw_report.specs.Sheet.{AreToldBefore, AreToldOf};
-ghost use Rattle.rw_report.specs.Whole.{table_of, whole_of};
+ghost use Rattle.rw_report.specs.Whole.{run_table, whole_of};
 
 use crate::kept::{KeptLine, push_kept};
 use crate::table::{push_columns, push_rows};
@@ -67,7 +67,7 @@ fn push_table(
     ensures tells { OnOk result
         (TellFirst basin.now (held run.now.series) kept lines.new.items) }
     ensures table { OnOk result (string_bytes text.new
-        ≡ string_bytes text.old ++ table_of basin.now (outcome_of run.now)) }
+        ≡ string_bytes text.old ++ run_table basin.now (outcome_of run.now)) }
 {
     push_columns(text, basin)?;
     push_kept(alloc, text, lines, basin, &run.series, first, kept)?;

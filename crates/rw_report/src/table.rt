@@ -1,6 +1,6 @@
 ghost use Rattle.std.specs.Prelude.{◌≡◌, ◌≤◌, ◌++◌, ℕ, List, OnOk, string_bytes, codes, option_map, length};
 ghost use Rattle.std.specs.Fmt.{decimal};
-ghost use Rattle.rw_calendar.specs.Stamps.{end_of, stamp_text};
+ghost use Rattle.rw_calendar.specs.Stamps.{end_of_step, stamp_text};
 ghost use Rattle.rw_model.specs.declared.content.Content.{Content};
 ghost use Rattle.rw_series.specs.Series.{held};
 ghost use Rattle.rw_report.specs.Section.{columns, for_slots, row, rows, slot_words, value_words, values_in};
@@ -14,7 +14,9 @@ use std::alloc::Global;
 
 // Appends a comma and the name of a slot.
 fn push_name(text: &mut String, basin: &Basin, slot: SlotNo) -> Result<(), NoMemory>
-    ensures { OnOk result (string_bytes text.new ≡ string_bytes text.old ++ (codes "," ++ slot_words basin.now slot.0)) }
+    ensures { OnOk result
+        (string_bytes text.new
+        ≡ string_bytes text.old ++ (codes "," ++ slot_words basin.now slot.0)) }
 {
     text.push_str(",")?;
     push_slot(text, basin, slot)
@@ -22,7 +24,10 @@ fn push_name(text: &mut String, basin: &Basin, slot: SlotNo) -> Result<(), NoMem
 
 /// Appends a comma and the name of each slot.
 pub(crate) fn push_names(text: &mut String, basin: &Basin) -> Result<(), NoMemory>
-    ensures { OnOk result (string_bytes text.new ≡ string_bytes text.old ++ for_slots basin.now (λ slot. codes "," ++ slot_words basin.now slot)) }
+    ensures { OnOk result
+        (string_bytes text.new
+        ≡ string_bytes text.old
+        ++ for_slots basin.now (λ slot. codes "," ++ slot_words basin.now slot)) }
 {
     for before in 0..basin.slot_count() {
         push_name(text, basin, SlotNo(before + 1))?;
@@ -60,7 +65,8 @@ fn push_values(
     step: StepNo,
 ) -> Result<(), NoMemory>
     ensures { OnOk result (string_bytes text.new ≡ string_bytes text.old
-        ++ for_slots basin.now (λ slot. codes "," ++ value_words (values_in (held series.now) slot step.0))) }
+        ++ for_slots basin.now
+        (λ slot. codes "," ++ value_words (values_in (held series.now) slot step.0))) }
 {
     let cells = series.at_step(step);
     for before in 0..basin.slot_count() {
@@ -85,7 +91,8 @@ fn push_stamp(alloc: Global, text: &mut String, basin: &Basin, step: u16) -> Res
     requires first { 1 ≤ step }
     requires last { step ≤ basin.now.control.stamps.count }
     ensures { OnOk result (string_bytes text.new ≡ string_bytes text.old
-        ++ (decimal step ++ (codes "," ++ stamp_text (end_of basin.now.control.stamps step)))) }
+        ++ (decimal step
+        ++ (codes "," ++ stamp_text (end_of_step basin.now.control.stamps step)))) }
 {
     let stamp = basin.control().stamps.text(alloc, step)?;
     push_stamped(text, step, stamp.as_str())?;
@@ -102,7 +109,9 @@ pub(crate) fn push_row(
 ) -> Result<(), NoMemory>
     requires first { 1 ≤ step }
     requires last { step ≤ basin.now.control.stamps.count }
-    ensures { OnOk result (string_bytes text.new ≡ string_bytes text.old ++ row basin.now (values_in (held series.now)) step) }
+    ensures { OnOk result
+        (string_bytes text.new
+        ≡ string_bytes text.old ++ row basin.now (values_in (held series.now)) step) }
 {
     push_stamp(alloc, text, basin, step)?;
     push_values(text, basin, series, StepNo(step))?;

@@ -6,7 +6,7 @@ ghost use Rattle.rw_report.specs.Section.{heading};
 ghost use Rattle.rw_report.specs.Flags.{flag_table};
 ghost use Rattle.rw_report.specs.Lines.{trace_words};
 ghost use Rattle.rw_report.specs.Outcome.{outcome_of};
-ghost use Rattle.rw_report.specs.Whole.{if_asked, reran_words, some_words, steps_words, table_of, top_of, whole_of};
+ghost use Rattle.rw_report.specs.Whole.{if_asked, reran_words, some_words, steps_words, run_table, section_top, whole_of};
 
 use crate::flags::push_flags;
 use crate::heading::push_heading;
@@ -76,7 +76,8 @@ pub(crate) fn push_top(
     reran: Option<&[StepNo]>,
 ) -> Result<(), NoMemory>
     ensures { OnOk result (string_bytes text.new ≡ string_bytes text.old
-        ++ (heading basin.now batch end.now ++ reran_words (option_map (λ steps. steps.now) reran.entry))) }
+        ++ (heading basin.now batch end.now
+        ++ reran_words (option_map (λ steps. steps.now) reran.entry))) }
 {
     push_heading(text, basin, batch, end)?;
     push_reran(text, reran)
@@ -85,7 +86,7 @@ pub(crate) fn push_top(
 fn push_table(alloc: Global, text: &mut String, basin: &Basin, run: &Run) -> Result<(), NoMemory>
     requires closed { run.now.closed ≤ basin.now.control.stamps.count }
     ensures { OnOk result (string_bytes text.new
-        ≡ string_bytes text.old ++ table_of basin.now (outcome_of run.now)) }
+        ≡ string_bytes text.old ++ run_table basin.now (outcome_of run.now)) }
 {
     push_columns(text, basin)?;
     push_rows(alloc, text, basin, &run.series, 0, run.closed)

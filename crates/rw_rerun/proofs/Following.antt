@@ -19,7 +19,7 @@ use Rattle.rpl_verify.specs.Verified.{Accepted}
 use Rattle.rw_rules.specs.Rules.{policy_in}
 use Rattle.rw_rerun.specs.Edited.{AreEdited, BecomesSpare, LeavesFirst}
 use Rattle.rw_rerun.specs.Kept.{AreStepLinks, changed}
-use Rattle.rw_rerun.specs.Next.{IsNext, IsReady, PassesBehind, PassesFrom, PassesNext, StayFirst}
+use Rattle.rw_rerun.specs.Next.{IsNext, IsSpareReady, PassesBehind, PassesFrom, PassesNext, StayFirst}
 use Rattle.rw_rerun.specs.Session.{Applies, HoldAsBefore, IsSessionOf, Session}
 use Rattle.rw_rerun.specs.Spare.{BeginsBy, IsSpare, IsSpareIn, MayBeSpare, StandsIn}
 use Rattle.rw_rerun.specs.Touched.{CountsUntouched}
@@ -63,7 +63,7 @@ kept_first one other (Err fault) first kept = tt
 kept_first one other (Ok pass) first kept = keeps_more one other pass.engine first kept
 
 pub passes_behind : (basin : Draft) (policy : Accepted) (inputs : Inputs) (cells : List Cell) (was : List (Option StepRecord)) (behind : ℕ) (old new : Spare)
-    (before after : ℕ) (result : Result Pass NoMemory) → IsFramed (policy_in basin policy) → IsReady basin inputs cells was behind old new
+    (before after : ℕ) (result : Result Pass NoMemory) → IsFramed (policy_in basin policy) → IsSpareReady basin inputs cells was behind old new
     → PassesFrom basin policy was new before after result → PassesBehind basin policy inputs cells was behind old before after result
 passes_behind basin policy inputs cells was behind old new before after result framed ready passes =
     let in_run = policy_in basin policy in

@@ -14,7 +14,7 @@ use Rattle.rw_record.specs.Record.{StepRecord}
 use Rattle.rw_engine.specs.Shows.{CanShow, IsBefore, Shows}
 use Rattle.rw_rerun.specs.Kept.{AreKept, AreStepLinks, IsKeptOrNot, IsStepLink, changed}
 use Rattle.rw_rerun.specs.Session.{numbers_of_steps}
-use Rattle.rw_rerun.specs.UnderWay.{Grows, IsUnderWay, stands_at}
+use Rattle.rw_rerun.specs.UnderWay.{GrowsChanges, IsUnderWay, stands_at}
 use Rattle.rw_rerun.specs.declared.pass.Pass.{Pass}
 use Rattle.rw_rerun.proofs.Keeping.{changed_more, kept_more, length_changed, linked_more, still_kept}
 
@@ -31,7 +31,7 @@ pub numbers_more : (steps : List StepNo) (step : StepNo) → numbers_of_steps (s
 numbers_more [] step = refl
 numbers_more (first ∷ steps) step = ap (λ rest. first.0 ∷ rest) (numbers_more steps step)
 
-pub grows_on : (old mid new : Pass) → Grows old mid → Grows mid new → Grows old new
+pub grows_on : (old mid new : Pass) → GrowsChanges old mid → GrowsChanges mid new → GrowsChanges old new
 grows_on old mid new first more = (
   first.0 ++ more.0,
   more.1 ∙ ap (λ changes. changes ++ more.0) first.1 ∙ append_assoc old.changes.items first.0 more.0,

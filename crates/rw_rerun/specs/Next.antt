@@ -26,7 +26,7 @@ abbrev pub StayFirst : List (Option StepRecord) → ℕ → Pass → Type 0
 StayFirst was behind pass = take behind (changed was pass.changes.items) ≡ take behind was
 
 -- a spare engine was brought behind so many timesteps, and then given the cells
-pub record IsReady (basin : Draft) (inputs : Inputs) (cells : List Cell) (was : List (Option StepRecord)) (behind : ℕ) (old new : Spare) : Type 0 where
+pub record IsSpareReady (basin : Draft) (inputs : Inputs) (cells : List Cell) (was : List (Option StepRecord)) (behind : ℕ) (old new : Spare) : Type 0 where
   pub mid : Spare
   pub brings : BringsTo basin was behind old mid
   pub same : new.behind ≡ mid.behind

@@ -57,8 +57,8 @@ pub record IsEntry (basin : Draft) (policy : Policy) (earlier : Log) (was : List
   pub kept : IsKeptOrNot basin policy earlier (last + 1) entry
 
 -- what it changes of what is kept of the timesteps before stays as it is
-abbrev pub Grows : Pass → Pass → Type 0
-Grows old new = (more : List (Option (Option StepRecord))) × (new.changes.items ≡ old.changes.items ++ more)
+abbrev pub GrowsChanges : Pass → Pass → Type 0
+GrowsChanges old new = (more : List (Option (Option StepRecord))) × (new.changes.items ≡ old.changes.items ++ more)
 
 -- a call comes behind one timestep more, where what is kept of it is so, and counts it if it is run
 pub record GoesOn (basin : Draft) (policy : Accepted) (step : ℕ) (Fits : Option StepRecord → Type 0) (old new : Pass) (before after : ℕ) (result : Result (Unit {0}) NoMemory) : Type 0 where
@@ -67,7 +67,7 @@ pub record GoesOn (basin : Draft) (policy : Accepted) (step : ℕ) (Fits : Optio
       → IsFramed (policy_in basin policy) → IsEntry basin (policy_in basin policy) earlier was last entry → Fits entry → step ≡ last + 1
       → IsUnderWay basin (policy_in basin policy) inputs earlier was old last
       → IfOk result (λ done. IsUnderWay basin (policy_in basin policy) inputs earlier was new step)
-  pub grows : IfOk result (λ done. Grows old new)
+  pub grows : IfOk result (λ done. GrowsChanges old new)
   pub kept : IfOk result (λ done. KeepsOn old.engine new.engine)
   pub each : IfOk result (λ done. after + length old.reran.items ≡ before + length new.reran.items)
   pub rises : before ≤ after
@@ -87,7 +87,7 @@ pub record PassesRest (basin : Draft) (policy : Accepted) (was : List (Option St
   pub goes : (inputs : Inputs) (earlier : Log) → AreKept basin (policy_in basin policy) earlier 1 was
       → IsUnderWay basin (policy_in basin policy) inputs earlier was old behind
       → IfOk result (λ done. IsUnderWay basin (policy_in basin policy) inputs earlier was new basin.control.stamps.count)
-  pub grows : IfOk result (λ done. Grows old new)
+  pub grows : IfOk result (λ done. GrowsChanges old new)
   pub kept : IfOk result (λ done. KeepsOn old.engine new.engine)
   pub each : IfOk result (λ done. after + length old.reran.items ≡ before + length new.reran.items)
   pub rises : before ≤ after

@@ -10,7 +10,7 @@ ghost use Rattle.rw_run.specs.Log.{Log, cells_of, input_content};
 ghost use Rattle.rw_run.specs.Next.{Policy};
 ghost use Rattle.rw_run.specs.RunOf.{trace_of};
 ghost use Rattle.rw_run.specs.Runs.{placed, rests, standing};
-ghost use Rattle.rw_run.specs.Worked.{basin_of, raised, raised_twice, three};
+ghost use Rattle.rw_run.specs.Worked.{data_object_basin, raises_x, raised_twice, three};
 ghost use Rattle.rw_inputs.specs.Inputs.{Inputs};
 ghost use Rattle.rw_record.specs.Record.{StepRecord};
 ghost use Rattle.rw_run.specs.Step.{events_of};
@@ -71,10 +71,12 @@ pub fn told()
 
 /// Two days on which a rule looks at X go so where nothing is given, and where Y is given on the first one, which is held then.
 pub fn worked_beginning()
-    ensures first { TimestepsGo (basin_of HighFirst 2) raised 1 raised_days [] }
-    ensures again { TimestepsGo (basin_of HighFirst 2) raised 1 raised_days (placed [] three) }
+    ensures first { TimestepsGo (data_object_basin HighFirst 2) raises_x 1 raised_days [] }
+    ensures again { TimestepsGo (data_object_basin HighFirst 2) raises_x 1 raised_days
+        (placed [] three) }
     ensures whole { log_behind 1 raised_days (placed [] three)
         ≡ log_after raised_twice (placed [] three) }
-    ensures held { cells_of (basin_of HighFirst 2) (log_behind 1 raised_days (placed [] three))
+    ensures held { cells_of (data_object_basin HighFirst 2)
+        (log_behind 1 raised_days (placed [] three))
         (cell_at 2 1) ≡ Some (input_content (pos 3)) }
 {}

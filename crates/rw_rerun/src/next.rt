@@ -5,7 +5,7 @@ ghost use Rattle.rw_engine.specs.Shows.{IsEngineOf};
 ghost use Rattle.rw_inputs.specs.Inputs.{IsInputsOf};
 ghost use Rattle.rw_method.specs.Catalogue.{AreInOrder};
 ghost use Rattle.rw_series.specs.Series.{IsCell};
-ghost use Rattle.rw_rerun.specs.Next.{IsReady, PassesBehind, PassesFrom};
+ghost use Rattle.rw_rerun.specs.Next.{IsSpareReady, PassesBehind, PassesFrom};
 ghost use Rattle.rw_rerun.specs.Spare.{AreKeptFrom, IsSpare, IsSpareBy};
 ghost use Rattle.rw_rerun.specs.UnderWay.{AreReplayable};
 
@@ -37,7 +37,7 @@ fn made_ready(
     requires cells { All (IsCell basin.now) cells.now }
     requires near { behind ≤ length kept.now }
     requires left { AreKeptFrom kept.now 0 behind }
-    ensures { IfOk result (IsReady basin.now inputs.now cells.now kept.now behind spare) }
+    ensures { IfOk result (IsSpareReady basin.now inputs.now cells.now kept.now behind spare) }
 {
     bring(&mut spare, basin, kept, behind)?;
     give_all(&mut spare.engine, basin, inputs, cells);

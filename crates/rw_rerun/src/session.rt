@@ -43,7 +43,8 @@ impl<'a> Session<'a> {
         steps: &mut Steps<L>,
     ) -> Result<Session<'a>, NoMemory>
         requires fits { verified basin.now policy.now.blocks ≡ Ok policy.now }
-        requires order { AreInOrder (map (λ b. code (b.vtable, b.value)) methods.now.methods.items) }
+        requires order { AreInOrder
+            (map (λ b. code (b.vtable, b.value)) methods.now.methods.items) }
         requires inputs { IsInputsOf basin.now inputs }
         ensures started { IfOk result
             (λ session. IsStarted basin.entry.now policy.entry.now inputs session.state) }

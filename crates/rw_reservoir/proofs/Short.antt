@@ -2,7 +2,7 @@
 use Rattle.std.specs.Prelude.{◌≡◌, ℤ, List, ◌∷◌, Option, None, Some, nat_le, true, refl}
 use Rattle.rw_method.specs.declared.balanced.Balanced.TheVariants.{Idle}
 use Rattle.rw_method.specs.declared.term.Term.{Term}
-use Rattle.rw_method.specs.Balance.{sum_of}
+use Rattle.rw_method.specs.Balance.{known_sum}
 use Rattle.rw_method.specs.Contents.{difference}
 use Rattle.rw_method.specs.Settling.{missing, settled}
 
@@ -10,6 +10,6 @@ pub idle_beside : (steady : Option ℤ) (first : Term) (rest : List Term) → na
 idle_beside None first rest few = refl
 idle_beside (Some steady) first rest few = rw few refl
 
-pub idle_aside : (past evaporated : Option ℤ) (terms : List Term) → settled (difference (sum_of past None) evaporated) terms ≡ Idle
+pub idle_aside : (past evaporated : Option ℤ) (terms : List Term) → settled (difference (known_sum past None) evaporated) terms ≡ Idle
 idle_aside None evaporated terms = refl
 idle_aside (Some past) evaporated terms = refl

@@ -4,7 +4,7 @@ ghost use Rattle.rw_method.specs.declared.balanced.Balanced.TheVariants as Balan
 ghost use Rattle.rw_method.specs.declared.places.TheConstants.{INFLOW, OUTFLOW};
 ghost use Rattle.rw_method.specs.Term.{IsWithin};
 ghost use Rattle.rw_method.specs.Contents.{difference};
-ghost use Rattle.rw_method.specs.Balance.{sum_of, brings, takes};
+ghost use Rattle.rw_method.specs.Balance.{known_sum, brings, takes};
 ghost use Rattle.rw_method.specs.Settling.{settled};
 
 use rw_base::Qty;
@@ -32,7 +32,7 @@ fn less_evaporation(held: i128, evaporation: i128) -> i128
 fn steady(past: Option<Qty>, side: Option<i128>, evaporation: Option<i128>) -> Option<i128>
     requires side { ForSome side (IsWithin 3) }
     requires evaporation { ForSome evaporation (IsWithin 1) }
-    ensures flow { result ≡ difference (sum_of past side) evaporation }
+    ensures flow { result ≡ difference (known_sum past side) evaporation }
     ensures bound { ForSome result (IsWithin 6) }
 {
     match (past, side, evaporation) {
@@ -59,7 +59,7 @@ fn are_two_missing(one: Option<Given>, other: Option<Given>, last: Option<Given>
 #[inline(always)]
 pub(crate) fn is_short(view: &View, contents: &Term, side: Option<i128>) -> bool
     ensures { result ≡ true → (evaporated : Option ℤ)
-        → settled (difference (sum_of view.entry.now.past side) evaporated)
+        → settled (difference (known_sum view.entry.now.past side) evaporated)
         (brings view.entry.now INFLOW ∷ takes view.entry.now OUTFLOW ∷ contents.now ∷ [])
         ≡ Balanced.Idle }
 {
@@ -79,7 +79,7 @@ pub(crate) fn balance(
 ) -> Balanced
     requires side { ForSome side (IsWithin 3) }
     requires evaporated { ForSome evaporated (IsWithin 1) }
-    ensures { result ≡ settled (difference (sum_of view.entry.now.past side) evaporated)
+    ensures { result ≡ settled (difference (known_sum view.entry.now.past side) evaporated)
         (brings view.entry.now INFLOW ∷ takes view.entry.now OUTFLOW ∷ contents.now ∷ []) }
 {
     let terms = [

@@ -76,7 +76,9 @@ fn rate(view: &View) -> Option<Qty>
 /// How much evaporates, in m3/step, which is 0 where evaporation isn't chosen. `None` where the rate or the storage before
 /// is unknown.
 pub(crate) fn evaporation_of(evaporation: bool, table: Option<&Rating>, view: &View) -> Option<i128>
-    ensures amount { result ≡ evaporation_of evaporation (option_map (λ rating. rating.now) table.entry) view.entry.now }
+    ensures amount { result
+        ≡ evaporation_of evaporation (option_map (λ rating. rating.now) table.entry)
+        view.entry.now }
     ensures bound { ForSome result (IsWithin 1) }
 {
     match table {

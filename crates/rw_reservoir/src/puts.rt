@@ -20,7 +20,8 @@ fn ask_contents(
     requires { length puts.old < 7 }
     ensures asks { Asks (can_get (option_map (λ rating. rating.now) table.entry) view.entry.now)
         (solved_put balanced
-        ++ level_puts (option_map (λ rating. rating.now) table.entry) (given view.entry.now STORAGE) (given view.entry.now POOL_ELEVATION) balanced)
+        ++ level_puts (option_map (λ rating. rating.now) table.entry) (given view.entry.now STORAGE)
+        (given view.entry.now POOL_ELEVATION) balanced)
         puts.old puts.new result }
     ensures bounded { OnOk result (AllFit (is_bounded view.entry.now) (solved_put balanced)) }
     ensures room { OnOk result (length puts.new ≤ length puts.old + 2) }
@@ -68,8 +69,11 @@ pub(crate) fn put_all(
     max_release: Option<i64>,
     balanced: Balanced,
 ) -> Solved
-    ensures { result ≡ answer_of_puts (can_get (option_map (λ rating. rating.now) table.entry) view.entry.now) (solved_put balanced
-        ++ level_puts (option_map (λ rating. rating.now) table.entry) (given view.entry.now STORAGE) (given view.entry.now POOL_ELEVATION) balanced
+    ensures { result
+        ≡ answer_of_puts (can_get (option_map (λ rating. rating.now) table.entry) view.entry.now)
+        (solved_put balanced
+        ++ level_puts (option_map (λ rating. rating.now) table.entry) (given view.entry.now STORAGE)
+        (given view.entry.now POOL_ELEVATION) balanced
         ++ evaporation_put evaporation evaporated ++ release_puts max_release
         (known_after view.entry.now balanced OUTFLOW)) }
 {

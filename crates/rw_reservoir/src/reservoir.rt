@@ -26,7 +26,8 @@ pub struct ReservoirMethod;
 
 // What is answered where something is wrong with what the reservoir holds.
 fn faulty(balanced: Balanced, fault: Solved) -> Solved
-    ensures { (fit : Put → Bool) (puts : List Put) → result ≡ answer fit puts balanced (Some fault) }
+    ensures { (fit : Put → Bool) (puts : List Put)
+        → result ≡ answer fit puts balanced (Some fault) }
 {
     match balanced {
         Balanced::Idle => Solved::Idle,
@@ -43,12 +44,17 @@ fn answer_by(
     max_release: Option<i64>,
     balanced: Balanced,
 ) -> Solved
-    ensures { result ≡ answer (can_get (option_map (λ rating. rating.now) table.entry) view.entry.now) (solved_put balanced
-        ++ level_puts (option_map (λ rating. rating.now) table.entry) (given view.entry.now STORAGE) (given view.entry.now POOL_ELEVATION) balanced
+    ensures { result
+        ≡ answer (can_get (option_map (λ rating. rating.now) table.entry) view.entry.now)
+        (solved_put balanced
+        ++ level_puts (option_map (λ rating. rating.now) table.entry) (given view.entry.now STORAGE)
+        (given view.entry.now POOL_ELEVATION) balanced
         ++ evaporation_put evaporation evaporated ++ release_puts max_release
         (known_after view.entry.now balanced OUTFLOW))
         balanced
-        (or_else (fault_of_past evaporation (option_map (λ rating. rating.now) table.entry) view.entry.now.past)
+        (or_else
+        (fault_of_past evaporation (option_map (λ rating. rating.now) table.entry)
+        view.entry.now.past)
         (fault_of_level (option_map (λ rating. rating.now) table.entry) view.entry.now)) }
 {
     if let Some(fault) = fault_of_past(evaporation, table, view.past) {
@@ -74,7 +80,10 @@ pub(crate) fn solve_reservoir(
     requires { ForSome side (IsWithin 3) }
     ensures { (initial_storage : ℤ) (local_inflow diversion return_flow : Bool)
         → side ≡ side_flows view.entry.now RESERVOIR_SIDE local_inflow diversion return_flow
-        → result ≡ solve_of (Kind.Reservoir initial_storage (option_map (λ rating. rating.now) table.entry) local_inflow diversion return_flow evaporation
+        → result
+        ≡ solve_of
+        (Kind.Reservoir initial_storage (option_map (λ rating. rating.now) table.entry) local_inflow
+        diversion return_flow evaporation
         max_release) view.entry.now }
 {
     let contents = stores(view, table);

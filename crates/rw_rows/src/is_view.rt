@@ -1,7 +1,7 @@
 //! A test of what a dispatch may be given.
 ghost use Rattle.std.specs.Prelude.{◌≡◌, ◌≤ℤ◌, IsTrue};
 ghost use Rattle.std.specs.Option.{ForSome};
-ghost use Rattle.rw_method.specs.View.{bounds_at, IsBounded, IsViewOf};
+ghost use Rattle.rw_method.specs.View.{bounds_in_view, IsBounded, IsViewOf};
 ghost use Rattle.rw_rows.specs.IsView.{IsPlaced};
 
 use rw_method::View;
@@ -24,7 +24,7 @@ fn is_bounded(bounds: (i64, i64), slot: &Slot<'_>, value: Option<i64>) -> bool
 }
 
 fn bounds_at(view: &View, place: u8) -> (i64, i64)
-    ensures { result ≡ bounds_at view.entry.now place }
+    ensures { result ≡ bounds_in_view view.entry.now place }
 {
     match view.bounds.get(usize::from(place)) {
         Some(bounds) => *bounds,

@@ -6,7 +6,7 @@ use Rattle.rw_model.specs.declared.control.AgendaOrder.{AgendaOrder}
 use Rattle.rw_model.specs.declared.control.AgendaOrder.TheVariants.{HighFirst, LowFirst}
 use Rattle.rw_run.proofs.Common.{Cells, Log, agenda_of, numbers}
 use Rattle.rw_run.specs.Next.{first_due, is_changed, is_due}
-use Rattle.rw_agenda.specs.Agenda.{Agenda, IsListed, first_due as due_in, is_due as is_due_in}
+use Rattle.rw_agenda.specs.Agenda.{Agenda, IsListed, first_due_in as due_in, is_due_in}
 use Rattle.rpl_verify.specs.Verified.{Accepted}
 use Rattle.rw_rules.specs.Rules.{IsRulesOf, Rules, ShowsLooks, policy_in}
 

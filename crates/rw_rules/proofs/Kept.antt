@@ -9,7 +9,7 @@ use Rattle.rw_run.specs.Index.{IsIndex}
 use Rattle.rw_run.specs.Log.{Asked, Cells, Firing, Log, fired, last_put, value_in}
 use Rattle.rw_run.specs.Next.{is_changed, is_same_value, last_looks, newest_firing, since_opening}
 use Rattle.rw_agenda.proofs.Indexed.{same_looks}
-use Rattle.rw_agenda.specs.Agenda.{Agenda, Entry, IsIndexed, after_firing, is_marked, looked_by, room_of, unfired}
+use Rattle.rw_agenda.specs.Agenda.{Agenda, Entry, IsIndexed, after_firing, is_marked, looked_by, look_room, unfired}
 use Rattle.rpl_verify.specs.Verified.{Accepted}
 use Rattle.rw_rules.specs.Rules.{Rules, ShowsLooks}
 
@@ -44,7 +44,7 @@ looks_more log firing rule false is = ap (λ (t : Bool). option_map (λ (f : Fir
 other_looks : (old new : Agenda) (rule other : ℕ) (looks : List Look) → other - 1 ≢ rule - 1 → new.rules ≡ after_firing old rule looks → looked_by new other ≡ looked_by old other
 other_looks old new rule other looks apart is =
     ap (λ (rules : List Entry). (slice_index_or rules (other - 1) (unfired 0)).looked) is
-    ∙ ap (λ (e : Entry). e.looked) (get_or-set_other old.rules (rule - 1) (other - 1) (record { room = room_of old rule; looked = Some looks }) (unfired 0) apart)
+    ∙ ap (λ (e : Entry). e.looked) (get_or-set_other old.rules (rule - 1) (other - 1) (record { room = look_room old rule; looked = Some looks }) (unfired 0) apart)
 
 pub shows_more : (policy : Accepted) (old new : Rules) (rule : ℕ) (looks : List Look) (log : Log) (firing : Firing) → 1 ≤ rule
     → new.agenda.rules ≡ after_firing old.agenda rule looks → firing.rule ≡ rule → looked_by new.agenda rule ≡ Some firing.looked

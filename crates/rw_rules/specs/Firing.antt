@@ -25,12 +25,12 @@ pub record IsRuleTurn (basin : Draft) (policy : Accepted) (rule step : ℕ) : Ty
   pub at : IsStep basin step
 
 -- the event that its firing is, where the cells hold this
-abbrev pub firing_in : Draft → Accepted → Cells → ℕ → ℕ → Option Event
-firing_in basin policy cells rule step = firing_of basin (policy_of_code basin policy.blocks) cells rule step
+abbrev pub firing_event : Draft → Accepted → Cells → ℕ → ℕ → Option Event
+firing_event basin policy cells rule step = firing_of basin (policy_of_code basin policy.blocks) cells rule step
 
 -- the event of a firing that is told, where the cells held this
-abbrev pub event_of : Draft → Cells → ℕ → ℕ → Fired → Event
-event_of basin cells rule step fired = ended basin cells rule step (fire_seen fired) (fire_seen fired).end
+abbrev pub event_of_fired : Draft → Cells → ℕ → ℕ → Fired → Event
+event_of_fired basin cells rule step fired = ended basin cells rule step (fire_seen fired) (fire_seen fired).end
 
 -- the writes of a firing are what its event asks for and what it writes, and all of it may be written
 pub record HasPuts (basin : Draft) (event : Event) (writes : Writes) : Type 0 where

@@ -6,12 +6,12 @@ use Rattle.rw_run.specs.Dispatch.{looks_at}
 use Rattle.rw_dispatch.specs.Writes.{AreWrites}
 use Rattle.rw_run.specs.Log.{Asked, Cells, Firing, Log, asked_in, fired, written_by}
 use Rattle.rw_run.specs.Next.{Policy, ended, last_looks}
-use Rattle.rw_agenda.specs.Agenda.{Agenda, IsIndexed, looked_by, room_of}
+use Rattle.rw_agenda.specs.Agenda.{Agenda, IsIndexed, looked_by, look_room}
 use Rattle.rpl_code.specs.declared.block.BlockHead.TheVariants.{Rule}
 use Rattle.rpl_policy.specs.Policy.{policy_of_code}
 use Rattle.rpl_verify.specs.Fits.{count_alike}
 use Rattle.rpl_verify.specs.Verified.{Accepted}
-use Rattle.rw_rules.specs.Firing.{firing_in, most_looks}
+use Rattle.rw_rules.specs.Firing.{firing_event, most_looks}
 use Rattle.rw_rules.specs.declared.rule_fired.RuleFired.{RuleFired}
 
 -- the agenda, the puts of the last firing in the run's timesteps, and those of them that are to be written
@@ -24,7 +24,7 @@ pub record Rules : Type 0 where
 pub record IsRulesOf (basin : Draft) (policy : Accepted) (rules : Rules) : Type 0 where
   pub order : rules.agenda.order ≡ basin.control.agenda
   pub many : length rules.agenda.rules ≡ count_alike Rule policy.blocks
-  pub rooms : (rule : ℕ) → 1 ≤ rule → rule ≤ count_alike Rule policy.blocks → most_looks policy rule ≤ room_of rules.agenda rule
+  pub rooms : (rule : ℕ) → 1 ≤ rule → rule ≤ count_alike Rule policy.blocks → most_looks policy rule ≤ look_room rules.agenda rule
 
 -- they have what each rule looked at when it last fired in the log's open timestep
 abbrev pub ShowsLooks : Accepted → Rules → Log → Type 0
@@ -39,7 +39,7 @@ policy_in basin policy = policy_of_code basin policy.blocks
 -- asked for what may be written, and writes what is to be written
 pub record Told (basin : Draft) (policy : Accepted) (cells : Cells) (rule step : ℕ) (told : RuleFired) (rules : Rules) : Type 0 where
   pub fire : Fire
-  pub event : firing_in basin policy cells rule step ≡ Some (ended basin cells rule step fire fire.end)
+  pub event : firing_event basin policy cells rule step ≡ Some (ended basin cells rule step fire fire.end)
   pub end : told.end ≡ fire.end
   pub count : told.count ≡ fire.count
   pub looked : looked_by rules.agenda rule ≡ Some (looks_at cells fire.looked)

@@ -1,8 +1,8 @@
 ghost use Rattle.std.specs.Prelude.{◌≡◌, ◌≤◌, Some, length};
 ghost use Rattle.rw_run.specs.Dispatch.{looks_at};
 ghost use Rattle.rw_series.specs.Series.{held};
-ghost use Rattle.rpl_machine.specs.Fired.{cells_of};
-ghost use Rattle.rw_rules.specs.Firing.{HasPuts, IsRuleTurn, event_of, firing_in, most_looks};
+ghost use Rattle.rpl_machine.specs.Fired.{look_cells};
+ghost use Rattle.rw_rules.specs.Firing.{HasPuts, IsRuleTurn, event_of_fired, firing_event, most_looks};
 
 use rpl_machine::{Fired, Machine};
 use rpl_predef::Predefs;
@@ -27,11 +27,11 @@ pub fn fire<'m>(
     t: StepNo,
 ) -> Fired<'m>
     requires turn { IsRuleTurn basin.now policy.now r.0 t.0 }
-    ensures event { firing_in basin.now policy.now (held series.now) r.0 t.0
-        ≡ Some (event_of basin.now (held series.now) r.0 t.0 result) }
-    ensures looked { looks_at (held series.now) (cells_of result.looked.now) ≡ result.looked.now }
+    ensures event { firing_event basin.now policy.now (held series.now) r.0 t.0
+        ≡ Some (event_of_fired basin.now (held series.now) r.0 t.0 result) }
+    ensures looked { looks_at (held series.now) (look_cells result.looked.now) ≡ result.looked.now }
     ensures few { length result.looked.now ≤ most_looks policy.now r.0 }
-    ensures puts { HasPuts basin.now (event_of basin.now (held series.now) r.0 t.0 result)
+    ensures puts { HasPuts basin.now (event_of_fired basin.now (held series.now) r.0 t.0 result)
         writes.new }
 {
     accepted_code();

@@ -44,7 +44,9 @@ impl Model for Rules {
 
     ghost Value = { specs.Rules };
 
-    ghost view = { λ rules. record { agenda = rules.agenda; asked = rules.writes.asked; written = rules.writes.written } };
+    ghost view = { λ rules.
+        record
+        { agenda = rules.agenda; asked = rules.writes.asked; written = rules.writes.written } };
 }
 
 impl Rules {

@@ -4,7 +4,7 @@ use Rattle.std.proofs.lemmas.List.Elements.{Contains-append_left, Contains-appen
 use Rattle.std.specs.List.{flat_map}
 use Rattle.rw_base.specs.declared.number.Cell.{Cell}
 use Rattle.rw_model.specs.Draft.{Draft}
-use Rattle.rw_run.specs.Frame.{AreAlike, IsFramed, cells_asked, cells_looked, log_after, looked_by, looked_in}
+use Rattle.rw_run.specs.Frame.{AreAlike, IsFramed, cells_asked, cells_looked, log_after, cells_of_event, looked_in}
 use Rattle.rw_run.specs.Log.{Asked, Cells, Event, Log, asked_in, cells_of, looks_in, opened}
 use Rattle.rw_run.specs.Next.{Policy}
 use Rattle.rw_run.specs.Runs.{rests, standing}
@@ -39,7 +39,7 @@ module _ (basin : Draft) (one other : Cells) where
   alike_both [] others first second = second
   alike_both (cell ∷ cells) others first second = (first.0, alike_both cells others first.1 second)
 
-  pub alike_event : (event : Event) → AllAlike (reached_by basin event) → AreAlike one other (looked_by event)
+  pub alike_event : (event : Event) → AllAlike (reached_by basin event) → AreAlike one other (cells_of_event event)
   alike_event event same =
       let looks : List Cell = cells_looked (looks_in event) in
       let reached : List Cell = cells_reached basin (asked_in event) in
@@ -49,7 +49,7 @@ module _ (basin : Draft) (one other : Cells) where
   pub alike_events : (events : List Event) → AreAll (λ event. AllAlike (reached_by basin event)) events → AreAlike one other (looked_in events)
   alike_events [] same = tt
   alike_events (event ∷ events) same =
-      alike_both (looked_by event) (looked_in events) (alike_event event same.0) (alike_events events same.1)
+      alike_both (cells_of_event event) (looked_in events) (alike_event event same.0) (alike_events events same.1)
 
   -- cells of all events are alike, so those of each are
   pub alike_each : (events : List Event) → AllAlike (flat_map (reached_by basin) events) → AreAll (λ event. AllAlike (reached_by basin event)) events

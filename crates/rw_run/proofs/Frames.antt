@@ -16,7 +16,7 @@ use Rattle.rw_model.specs.Turn.{is_data}
 use Rattle.rw_run.specs.Waiting.{waiting, since, wakes, ends_wait, numbers, first_of}
 use Rattle.rw_run.specs.Dispatch.{Past, bounds_in_place, places, cell_in, past_of, cell_of_past, cell_at, past_cell_of, value_of_past, view_of, if_cell, looked_cells, looks_at, solved_by, asked_by, end_in, is_written, puts_written, denied_by, or_fault, judged, dispatch_of, answered, dispatched}
 use Rattle.rw_run.specs.Next.{Policy, next, next_of, after_objects, asked_next, firing_of, ended, agenda_of, count, dispatches, firings, is_dispatch_of, is_firing_of, last_looks, newest_firing, since_opening, is_changed, is_same_value, first_due, is_put_again, last_ones, asked_of_rule}
-use Rattle.rw_run.specs.Frame.{IsFault, cells_looked, cells_asked, looked_by, looked_in, AreAlike, FollowInStep, IsFramed}
+use Rattle.rw_run.specs.Frame.{IsFault, cells_looked, cells_asked, cells_of_event, looked_in, AreAlike, FollowInStep, IsFramed}
 use Rattle.rw_run.proofs.Lists.{filter-same}
 use Rattle.rw_run.proofs.Waits.{waiting-more, opens}
 
@@ -108,13 +108,13 @@ if_changed : (f g : Cells) (test : Bool) (one other : Option Firing) → is_chan
 if_changed f g true one other u v = v
 if_changed f g false one other u v = u
 
-if_since : (test : Bool) (event : Event) (events : Log) (f g : Cells) → AreAlike f g (looked_by event ++ looked_in events)
+if_since : (test : Bool) (event : Event) (events : Log) (f g : Cells) → AreAlike f g (cells_of_event event ++ looked_in events)
     → AreAlike f g (looked_in events) → AreAlike f g (looked_in (if test then [] else event ∷ events))
 if_since true event events f g all rest = tt
 if_since false event events f g all rest = all
 
 -- where looks are those of a firing, they are among those of its event
-fired_same : (f g : Cells) (event : Event) → AreAlike f g (looked_by event)
+fired_same : (f g : Cells) (event : Event) → AreAlike f g (cells_of_event event)
     → is_changed f (looks_of (firing_in event)) ≡ is_changed g (looks_of (firing_in event))
 fired_same f g (fired firing) a = changed_same f g firing.looked (alike_left f g _ (cells_asked firing.asked) a)
 fired_same f g event a = refl
@@ -124,16 +124,16 @@ newest_same : (f g : Cells) (rule : ℕ) (events : Log) → AreAlike f g (looked
 newest_same f g rule [] a = refl
 newest_same f g rule (event ∷ events) a =
     if_changed f g (is_firing_of rule event) (firing_in event) (newest_firing rule events)
-    (newest_same f g rule events (alike_right f g (looked_by event) (looked_in events) a))
-    (fired_same f g event (alike_left f g (looked_by event) (looked_in events) a))
+    (newest_same f g rule events (alike_right f g (cells_of_event event) (looked_in events) a))
+    (fired_same f g event (alike_left f g (cells_of_event event) (looked_in events) a))
 
 since_looked : (f g : Cells) (events : Log) (step : ℕ) (x : Log) → AreAlike f g (looked_in events)
     → AreAlike f g (looked_in (since_opening (events ++ opened step ∷ x)))
 since_looked f g [] step x a = tt
 since_looked f g (event ∷ events) step x a =
-    let later = since_looked f g events step x (alike_right f g (looked_by event) (looked_in events) a) in
+    let later = since_looked f g events step x (alike_right f g (cells_of_event event) (looked_in events) a) in
     if_since (is_opened event) event (since_opening (events ++ opened step ∷ x)) f g
-    (alike_both f g (looked_by event) (looked_in (since_opening (events ++ opened step ∷ x))) (alike_left f g (looked_by event) (looked_in events) a) later) later
+    (alike_both f g (cells_of_event event) (looked_in (since_opening (events ++ opened step ∷ x))) (alike_left f g (cells_of_event event) (looked_in events) a) later) later
 
 -- the looks of the last firing are among those of the timestep
 due_same : (f g : Cells) (events : Log) (step : ℕ) (x : Log) (rule : ℕ) → AreAlike f g (looked_in events)
@@ -182,7 +182,7 @@ cells_of_looks f (cell ∷ cells) = ap (λ z. cell ∷ z) (cells_of_looks f cell
 
 -- the event of an answer, over cells that are alike where it looked and put
 answered_same : (basin : Draft) (f g : Cells) (cells : List Cell) (object step : ℕ) (answer : Solved)
-    → AreAlike f g (looked_by (answered basin f (looks_at f cells) object step answer)) → ¬ IsFault (answered basin f (looks_at f cells) object step answer)
+    → AreAlike f g (cells_of_event (answered basin f (looks_at f cells) object step answer)) → ¬ IsFault (answered basin f (looks_at f cells) object step answer)
     → AreAlike f g cells × (answered basin f (looks_at f cells) object step answer ≡ answered basin g (looks_at g cells) object step answer)
 answered_same basin f g cells object step Idle a fine =
     let l : AreAlike f g cells = subst (AreAlike f g) (cells_of_looks f cells) (alike_left f g (cells_looked (looks_at f cells)) [] a) in
@@ -192,7 +192,7 @@ answered_same basin f g cells object step (OutOfRange place value) a fine = absu
 answered_same basin f g cells object step (Puts puts) a fine =
     let asked : List Asked = map (asked_by basin object step) puts in
     let all : AreAlike f g (cells_looked (looks_at f cells) ++ cells_asked asked) =
-    subst (λ e. AreAlike f g (looked_by e)) (final_if_fine f object asked (dispatch_of f (looks_at f cells) object step asked) fine) a in
+    subst (λ e. AreAlike f g (cells_of_event e)) (final_if_fine f object asked (dispatch_of f (looks_at f cells) object step asked) fine) a in
     let l : AreAlike f g cells = subst (AreAlike f g) (cells_of_looks f cells) (alike_left f g _ (cells_asked asked) all) in
     let q : AreAlike f g (cells_asked asked) = alike_right f g (cells_looked (looks_at f cells)) _ all in (
       l,
@@ -230,7 +230,7 @@ view_same basin f g object step a =
     (seen_same f g (cell_in basin object step) places (alike_left f g own (if_cell (past_cell_of basin object step)) a))
     (past_same basin f g step (past_of basin object) (alike_right f g own (if_cell (past_cell_of basin object step)) a))
 
-dispatched_same : (basin : Draft) (f g : Cells) (object step : ℕ) → AreAlike f g (looked_by (dispatched basin f object step)) → ¬ IsFault (dispatched basin f object step)
+dispatched_same : (basin : Draft) (f g : Cells) (object step : ℕ) → AreAlike f g (cells_of_event (dispatched basin f object step)) → ¬ IsFault (dispatched basin f object step)
     → dispatched basin f object step ≡ dispatched basin g object step
 dispatched_same basin f g object step a fine =
     let cells : List Cell = looked_cells basin object step in
@@ -251,7 +251,7 @@ last_alike basin f g [] a = tt
 last_alike basin f g (put ∷ puts) a =
     if_alike f g (is_put_again basin put puts) put (last_ones basin puts) a.0 (last_alike basin f g puts a.1)
 
-ended_same : (basin : Draft) (f g : Cells) (rule step : ℕ) (fire : Fire) (end : FireEnd) → AreAlike f g (looked_by (ended basin f rule step fire end))
+ended_same : (basin : Draft) (f g : Cells) (rule step : ℕ) (fire : Fire) (end : FireEnd) → AreAlike f g (cells_of_event (ended basin f rule step fire end))
     → ¬ IsFault (ended basin f rule step fire end)
     → AreAlike f g fire.looked × (ended basin f rule step fire end ≡ ended basin g rule step fire end)
 ended_same basin f g rule step fire DividesByZero a fine = absurd (fine tt)
@@ -271,11 +271,11 @@ ended_same basin f g rule step fire Done a fine =
 
 firing_same : (basin : Draft) (policy : Policy) (f g : Cells) (rule step : ℕ) (found : Option Fire) (event : Event) → IsFramed policy
     → policy.fire rule step (value_in f) ≡ found → option_map (λ (fire : Fire). ended basin f rule step fire fire.end) found ≡ Some event
-    → AreAlike f g (looked_by event) → ¬ IsFault event → firing_of basin policy g rule step ≡ Some event
+    → AreAlike f g (cells_of_event event) → ¬ IsFault event → firing_of basin policy g rule step ≡ Some event
 firing_same basin policy f g rule step None event framed by is a fine = absurd (none-some _ is)
 firing_same basin policy f g rule step (Some fire) event framed by is a fine =
     let same : event ≡ ended basin f rule step fire fire.end = sym (same_Some _ _ is) in
-    let h = ended_same basin f g rule step fire fire.end (subst (λ e. AreAlike f g (looked_by e)) same a) (subst (λ e. ¬ IsFault e) same fine) in
+    let h = ended_same basin f g rule step fire fire.end (subst (λ e. AreAlike f g (cells_of_event e)) same a) (subst (λ e. ¬ IsFault e) same fine) in
     ap (option_map (λ (z : Fire). ended basin g rule step z z.end))
     (framed rule step (value_in f) (value_in g) fire by (alike_values f g fire.looked h.0))
     ∙ ap Some (sym h.1 ∙ sym same)
@@ -283,8 +283,8 @@ firing_same basin policy f g rule step (Some fire) event framed by is a fine =
 -- ---- what follows
 
 -- below the limit, or the same fault
-either_same : (f g : Cells) (test : Bool) (limit d e : Event) → (AreAlike f g (looked_by d) → ¬ IsFault d → d ≡ e)
-    → AreAlike f g (looked_by (if test then limit else d)) → ¬ IsFault (if test then limit else d) → (if test then limit else d) ≡ (if test then limit else e)
+either_same : (f g : Cells) (test : Bool) (limit d e : Event) → (AreAlike f g (cells_of_event d) → ¬ IsFault d → d ≡ e)
+    → AreAlike f g (cells_of_event (if test then limit else d)) → ¬ IsFault (if test then limit else d) → (if test then limit else d) ≡ (if test then limit else e)
 either_same f g true limit d e h a fine = refl
 either_same f g false limit d e h a fine = h a fine
 
@@ -295,7 +295,7 @@ either_follows false limit event d e h is = h is
 
 after_same : (basin : Draft) (policy : Policy) (f g : Cells) (x y : Log) (step : ℕ) (due : Option ℕ) (event : Event) → IsFramed policy
     → ((rule : ℕ) → firings x rule ≡ firings y rule) → after_objects basin policy f x step due ≡ Some event
-    → AreAlike f g (looked_by event) → ¬ IsFault event → after_objects basin policy g y step due ≡ Some event
+    → AreAlike f g (cells_of_event event) → ¬ IsFault event → after_objects basin policy g y step due ≡ Some event
 after_same basin policy f g x y step None event framed count is a fine = is
 after_same basin policy f g x y step (Some rule) event framed count is a fine =
     ap (λ k. if nat_le basin.control.rule_limit k then Some (fault (RuleLimit (record { 0 = rule }) (record { 0 = step }) k)) else firing_of basin policy g rule step)
@@ -305,7 +305,7 @@ after_same basin policy f g x y step (Some rule) event framed count is a fine =
     (λ fires. firing_same basin policy f g rule step (policy.fire rule step (value_in f)) event framed refl fires a fine) is
 
 asked_same : (basin : Draft) (f g : Cells) (x y : Log) (step object : ℕ) → dispatches x object ≡ dispatches y object
-    → AreAlike f g (looked_by (asked_next basin f x step object)) → ¬ IsFault (asked_next basin f x step object)
+    → AreAlike f g (cells_of_event (asked_next basin f x step object)) → ¬ IsFault (asked_next basin f x step object)
     → asked_next basin f x step object ≡ asked_next basin g y step object
 asked_same basin f g x y step object count a fine =
     either_same f g (nat_le basin.control.object_limit (dispatches x object)) (fault (ObjectLimit (record { 0 = object }) (record { 0 = step }) (dispatches x object))) _ _
@@ -315,13 +315,13 @@ asked_same basin f g x y step object count a fine =
 next_of_same : (basin : Draft) (policy : Policy) (f g : Cells) (x y : Log) (step : ℕ) (waits : Option ℕ) (event : Event) → IsFramed policy
     → ((object : ℕ) → dispatches x object ≡ dispatches y object) → ((rule : ℕ) → firings x rule ≡ firings y rule)
     → first_due basin policy f x ≡ first_due basin policy g y → next_of basin policy f x step waits ≡ Some event
-    → AreAlike f g (looked_by event) → ¬ IsFault event → next_of basin policy g y step waits ≡ Some event
+    → AreAlike f g (cells_of_event event) → ¬ IsFault event → next_of basin policy g y step waits ≡ Some event
 next_of_same basin policy f g x y step None event framed count fires due is a fine =
     ap (after_objects basin policy g y step) (sym due) ∙ after_same basin policy f g x y step (first_due basin policy f x) event framed fires is a fine
 next_of_same basin policy f g x y step (Some object) event framed count fires due is a fine =
     let same : event ≡ asked_next basin f x step object = sym (same_Some _ _ is) in
     ap Some
-    (sym (asked_same basin f g x y step object (count object) (subst (λ e. AreAlike f g (looked_by e)) same a) (subst (λ e. ¬ IsFault e) same fine)) ∙ sym same)
+    (sym (asked_same basin f g x y step object (count object) (subst (λ e. AreAlike f g (cells_of_event e)) same a) (subst (λ e. ¬ IsFault e) same fine)) ∙ sym same)
 
 going : (basin : Draft) (policy : Policy) (step : ℕ) (x y : Log) → IsFramed policy → (done : Log) (events : List Event)
     → FollowInStep basin policy step (done ++ opened step ∷ x) events → AreAlike (cells_of basin x) (cells_of basin y) (looked_in done)
@@ -330,15 +330,15 @@ going basin policy step x y framed done [] goes a c = tt
 going basin policy step x y framed done (event ∷ events) goes a c =
     let u : Log = done ++ opened step ∷ x in
     let v : Log = done ++ opened step ∷ y in
-    let own = alike_left (cells_of basin x) (cells_of basin y) (looked_by event) (looked_in events) c in
-    let later = alike_right (cells_of basin x) (cells_of basin y) (looked_by event) (looked_in events) c in
+    let own = alike_left (cells_of basin x) (cells_of basin y) (cells_of_event event) (looked_in events) c in
+    let later = alike_right (cells_of basin x) (cells_of basin y) (cells_of_event event) (looked_in events) c in
     let same : next basin policy step v ≡ Some event =
     ap (λ q. next_of basin policy (cells_of basin v) v step (first_of q)) (sym (waiting_same basin done step x y))
     ∙ next_of_same basin policy (cells_of basin u) (cells_of basin v) u v step (first_of (waiting basin u)) event framed (λ o. ap (count (is_dispatch_of o)) (same_since done step x y))
     (λ r. ap (count (is_firing_of r)) (same_since done step x y))
     (first_due_same basin policy (cells_of basin u) (cells_of basin v) done step x y (alike_over basin done step x y (looked_in done) a))
-    goes.0 (alike_over basin done step x y (looked_by event) own) goes.1 in
-    (same, goes.1, going basin policy step x y framed (event ∷ done) events goes.2 (alike_both (cells_of basin x) (cells_of basin y) (looked_by event) (looked_in done) own a) later)
+    goes.0 (alike_over basin done step x y (cells_of_event event) own) goes.1 in
+    (same, goes.1, going basin policy step x y framed (event ∷ done) events goes.2 (alike_both (cells_of basin x) (cells_of basin y) (cells_of_event event) (looked_in done) own a) later)
 
 pub frame : (basin : Draft) (policy : Policy) (step : ℕ) (x y : Log) (events : List Event) → IsFramed policy
     → FollowInStep basin policy step (opened step ∷ x) events → AreAlike (cells_of basin x) (cells_of basin y) (looked_in events)

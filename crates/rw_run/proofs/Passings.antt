@@ -8,7 +8,7 @@ use Rattle.rw_run.specs.Frame.{IsStepFrom, log_after}
 use Rattle.rw_run.specs.Log.{Event, Log, given, opened, closed, idle, solved, fired, fault}
 use Rattle.rw_run.specs.Next.{Policy}
 use Rattle.rw_run.specs.Runs.{Leads, Standing, placed, rests, inside, over, standing}
-use Rattle.rw_run.specs.Step.{before_closing, before_opening, events_of, is_closing, is_of, is_opening}
+use Rattle.rw_run.specs.Step.{before_closing, before_opening, events_of, is_closing, is_of_step, is_opening}
 use Rattle.rw_run.specs.Timestep.{IsTimestep}
 use Rattle.rw_run.proofs.StepEvents.{IsAfter, IsWithin, closes_nothing, is_after, of_its_own, of_no_other, opened_of_no_other, opens_nothing, within_opens_nothing}
 
@@ -116,14 +116,14 @@ passed basin policy step last old before (event ∷ first ∷ events) end rest n
 
 -- what goes by the events of another timestep alone is as it was
 unmoved : {A : Type 0} (f : Log → A) (step other : ℕ) (event : Event) (events : List Event) (log : Log)
-    → ((event : Event) (log : Log) → is_of other event ≡ false → f (event ∷ log) ≡ f log) → step ≢ other → AreWithin step event events
+    → ((event : Event) (log : Log) → is_of_step other event ≡ false → f (event ∷ log) ≡ f log) → step ≢ other → AreWithin step event events
     → f (log_after (event ∷ events) log) ≡ f log
 unmoved f step other event [] log apart differ within = apart event log (of_no_other step other event within differ)
 unmoved f step other event (next ∷ events) log apart differ within =
     unmoved f step other next events (event ∷ log) apart differ within.2 ∙ apart event log (of_no_other step other event within.0 differ)
 
 still : {A : Type 0} (f : Log → A) (step other : ℕ) (old before : Log) (end : Event)
-    → ((event : Event) (log : Log) → is_of other event ≡ false → f (event ∷ log) ≡ f log) → step ≢ other → IsPassed step old end before
+    → ((event : Event) (log : Log) → is_of_step other event ≡ false → f (event ∷ log) ≡ f log) → step ≢ other → IsPassed step old end before
     → f (end ∷ before) ≡ f old
 still f step other old before end apart differ passed =
     ap f passed.whole ∙ unmoved f step other passed.first passed.events (opened step ∷ old) apart differ passed.within
@@ -206,11 +206,11 @@ some_first x xs is = absurd (cc)
 
 -- where the timestep has no event, the newest event is none of its own
 not_first : (step : ℕ) (event : Event) (log : Log) → events_of step (event ∷ log) ≡ []
-    → (is_of step event ≡ false) × (events_of step log ≡ [])
-not_first step event log none = by (is_of step event) refl none
+    → (is_of_step step event ≡ false) × (events_of step log ≡ [])
+not_first step event log none = by (is_of_step step event) refl none
   where
-    by : (own : Bool) → is_of step event ≡ own → (if own then event ∷ events_of step log else events_of step log) ≡ []
-        → (is_of step event ≡ false) × (events_of step log ≡ [])
+    by : (own : Bool) → is_of_step step event ≡ own → (if own then event ∷ events_of step log else events_of step log) ≡ []
+        → (is_of_step step event ≡ false) × (events_of step log ≡ [])
     by true is none = absurd (some_first event (events_of step log) none)
     by false is none = (is, none)
 

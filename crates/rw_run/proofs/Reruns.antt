@@ -7,7 +7,7 @@ use Rattle.rw_run.specs.Log.{Cells, Event, Log, cells_of, given, opened, closed,
 use Rattle.rw_run.specs.Next.{Policy}
 use Rattle.rw_run.specs.Reuse.{IsReused}
 use Rattle.rw_run.specs.Runs.{IsRun, Leads, Standing, follows, placed, rests, inside, over, standing}
-use Rattle.rw_run.specs.Step.{before, before_closing, before_opening, events_of, is_closing, is_of, is_opening, looked_at, reached_by}
+use Rattle.rw_run.specs.Step.{before_newest, before_closing, before_opening, events_of, is_closing, is_of_step, is_opening, looked_at, reached_by}
 use Rattle.rw_run.specs.Waiting.{first_waiting}
 use Rattle.rw_run.proofs.Agains.{AllAlike, AreAll, alike_each, alike_events}
 use Rattle.rw_run.proofs.OneRun.{none_follows}
@@ -33,7 +33,7 @@ placed_given log (input ∷ inputs) all = placed_given (given input.0 input.1 �
 -- no event is of a timestep behind this one
 abbrev IsUpTo : ℕ → Log → Type 0
 IsUpTo last [] = Unit {0}
-IsUpTo last (event ∷ log) = ((step : ℕ) → last < step → is_of step event ≡ false) × IsUpTo last log
+IsUpTo last (event ∷ log) = ((step : ℕ) → last < step → is_of_step step event ≡ false) × IsUpTo last log
 
 given_up_to : (last : ℕ) (log : Log) → AreGiven log → IsUpTo last log
 given_up_to last [] all = tt
@@ -80,7 +80,7 @@ within_past step other event log is past = absurd is
 -- the test is met by no event of them
 abbrev HasNone : ℕ → Log → Type 0
 HasNone step [] = Unit {0}
-HasNone step (event ∷ log) = (is_of step event ≡ false) × HasNone step log
+HasNone step (event ∷ log) = (is_of_step step event ≡ false) × HasNone step log
 
 none_among : (step : ℕ) (newer log : Log) → HasNone step newer → events_of step (newer ++ log) ≡ events_of step log
 none_among step [] log none = refl
@@ -100,12 +100,12 @@ record Parts (test : Event → Bool) (log old : Log) : Type 0 where
   whole : log ≡ newer ++ event ∷ old
   passes : test event ≡ true
 
-parts : (test : Event → Bool) (log old : Log) → before test log ≡ Some old → Parts test log old
+parts : (test : Event → Bool) (log old : Log) → before_newest test log ≡ Some old → Parts test log old
 parts test [] old is = absurd (none-some _ is)
 parts test (event ∷ log) old is = by (test event) refl (λ later. parts test log old later) is
   where
-    by : (passed : Bool) → test event ≡ passed → (before test log ≡ Some old → Parts test log old)
-        → (if passed then Some log else before test log) ≡ Some old → Parts test (event ∷ log) old
+    by : (passed : Bool) → test event ≡ passed → (before_newest test log ≡ Some old → Parts test log old)
+        → (if passed then Some log else before_newest test log) ≡ Some old → Parts test (event ∷ log) old
     by true passed below is = record { newer = []; event = event; whole = ap (λ rest. event ∷ rest) (same_Some log old is); passes = passed }
     by false passed below is =
         let rest = below is in
@@ -123,7 +123,7 @@ events_after : (step : ℕ) (events : List Event) (one other : Log) → events_o
     → events_of step (log_after events one) ≡ events_of step (log_after events other)
 events_after step [] one other same = same
 events_after step (event ∷ events) one other same =
-    events_after step events (event ∷ one) (event ∷ other) (ap (λ rest. if is_of step event then event ∷ rest else rest) same)
+    events_after step events (event ∷ one) (event ∷ other) (ap (λ rest. if is_of_step step event then event ∷ rest else rest) same)
 
 log_after_more : (events : List Event) (event : Event) (log : Log) → log_after (events ++ event ∷ []) log ≡ event ∷ log_after events log
 log_after_more [] event log = refl
@@ -203,7 +203,7 @@ module _ (basin : Draft) (policy : Policy) where
           → IsUpTo step (event ∷ log)
       by below (rests last) is after =
           let next_one : last + 1 ≡ step = subst (λ e. IsAt step (standing (e ∷ log))) after at in (
-            λ later far. subst (λ e. is_of later e ≡ false) (sym after) (opened_of_no_other (last + 1) later (omega (arith, next_one, far))),
+            λ later far. subst (λ e. is_of_step later e ≡ false) (sym after) (opened_of_no_other (last + 1) later (omega (arith, next_one, far))),
             weaker last step log (omega (arith, next_one)) (below last (subst (IsAt last) (sym is) refl)),
           )
       by below (inside last) is after =
@@ -228,7 +228,7 @@ module _ (basin : Draft) (policy : Policy) where
       by there past none (rests last) is after =
           let far : step ≤ last = subst (IsPast step) is past in (
             subst (λ e. IsPast step (standing (e ∷ there))) (sym after) (omega (arith, far)),
-            (subst (λ e. is_of step e ≡ false) (sym after) (opened_of_no_other (last + 1) step (omega (arith, far))), none),
+            (subst (λ e. is_of_step step e ≡ false) (sym after) (opened_of_no_other (last + 1) step (omega (arith, far))), none),
           )
       by there past none (inside last) is after =
           let far : step < last = subst (IsPast step) is past in

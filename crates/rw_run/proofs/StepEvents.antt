@@ -13,7 +13,7 @@ use Rattle.rw_run.specs.Dispatch.{asked_by, answered, denied_by, dispatch_of, di
 use Rattle.rw_run.specs.Log.{Asked, Cells, Event, Log, cells_of, opened, closed, idle, solved, fired, fault, value_in}
 use Rattle.rw_run.specs.Next.{Policy, after_objects, asked_next, dispatches, ended, firing_of, firings, first_due, next_of}
 use Rattle.rw_run.specs.Runs.{Standing, follows_in, rests, inside, over}
-use Rattle.rw_run.specs.Step.{is_closing, is_of, is_opening, step_of_fault}
+use Rattle.rw_run.specs.Step.{is_closing, is_of_step, is_opening, step_of_fault}
 use Rattle.rw_run.specs.Waiting.{first_waiting}
 
 -- an event within the timestep: all but an input and an opening
@@ -110,7 +110,7 @@ apart a step other is differ = grind (arith, nat_tests, is, differ)
 alike : (a step : ℕ) → a ≡ step → (a == step) ≡ true
 alike a step is = grind (arith, nat_tests, is)
 
-pub of_no_other : (step other : ℕ) (event : Event) → IsWithin step event → step ≢ other → is_of other event ≡ false
+pub of_no_other : (step other : ℕ) (event : Event) → IsWithin step event → step ≢ other → is_of_step other event ≡ false
 of_no_other step other (closed at) is differ = apart at step other is differ
 of_no_other step other (idle object at looked) is differ = apart at step other is differ
 of_no_other step other (solved dispatch) is differ = apart dispatch.step step other is differ
@@ -118,7 +118,7 @@ of_no_other step other (fired firing) is differ = apart firing.step step other i
 of_no_other step other (fault why) is differ = apart (step_of_fault why) step other is differ
 of_no_other step other event is differ = absurd is
 
-pub of_its_own : (step : ℕ) (event : Event) → IsWithin step event → is_of step event ≡ true
+pub of_its_own : (step : ℕ) (event : Event) → IsWithin step event → is_of_step step event ≡ true
 of_its_own step (closed at) is = alike at step is
 of_its_own step (idle object at looked) is = alike at step is
 of_its_own step (solved dispatch) is = alike dispatch.step step is
@@ -126,14 +126,14 @@ of_its_own step (fired firing) is = alike firing.step step is
 of_its_own step (fault why) is = alike (step_of_fault why) step is
 of_its_own step event is = absurd is
 
-pub opened_of_no_other : (step other : ℕ) → step ≢ other → is_of other (opened step) ≡ false
+pub opened_of_no_other : (step other : ℕ) → step ≢ other → is_of_step other (opened step) ≡ false
 opened_of_no_other step other differ = apart step step other refl differ
 
-pub opens_nothing : (step : ℕ) (event : Event) → is_of step event ≡ false → is_opening step event ≡ false
+pub opens_nothing : (step : ℕ) (event : Event) → is_of_step step event ≡ false → is_opening step event ≡ false
 opens_nothing step (opened other) none = none
 opens_nothing step event none = refl
 
-pub closes_nothing : (step : ℕ) (event : Event) → is_of step event ≡ false → is_closing step event ≡ false
+pub closes_nothing : (step : ℕ) (event : Event) → is_of_step step event ≡ false → is_closing step event ≡ false
 closes_nothing step (closed other) none = none
 closes_nothing step event none = refl
 

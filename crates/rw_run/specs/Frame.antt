@@ -20,12 +20,12 @@ abbrev pub cells_asked : List Asked → List Cell
 cells_asked puts = map (λ (put : Asked). put.cell) puts
 
 -- the cells at which an event looked, and those of the puts that it asked for
-abbrev pub looked_by : Event → List Cell
-looked_by event = cells_looked (looks_in event) ++ cells_asked (asked_in event)
+abbrev pub cells_of_event : Event → List Cell
+cells_of_event event = cells_looked (looks_in event) ++ cells_asked (asked_in event)
 
 abbrev pub looked_in : List Event → List Cell
 looked_in [] = []
-looked_in (event ∷ events) = looked_by event ++ looked_in events
+looked_in (event ∷ events) = cells_of_event event ++ looked_in events
 
 -- each of these cells is alike in both
 abbrev pub AreAlike : {A : Type 0} → (Cell → A) → (Cell → A) → List Cell → Type 0

@@ -4,11 +4,11 @@ use Rattle.rw_run.specs.declared.line.Line.TheVariants.{Opened, Idle, Solve, Fir
 use Rattle.rw_run.specs.declared.trace.TraceEvent.{TraceEvent}
 use Rattle.rw_run.specs.declared.trace.TraceEvent.TheVariants as Told
 
-abbrev pub event_of : Line → TraceEvent
-event_of (Opened step) = Told.Opened step
-event_of (Idle object) = Told.Idle object
-event_of (Solve object) = Told.Solve object
-event_of (Fire done rule count) = Told.Fire rule done count
-event_of (Written slot step number writer value) = Told.Written slot step (record { value = value; number = number; writer = writer })
-event_of (Closed step) = Told.Closed step
-event_of (Fault why) = Told.Fault why.value
+abbrev pub line_event : Line → TraceEvent
+line_event (Opened step) = Told.Opened step
+line_event (Idle object) = Told.Idle object
+line_event (Solve object) = Told.Solve object
+line_event (Fire done rule count) = Told.Fire rule done count
+line_event (Written slot step number writer value) = Told.Written slot step (record { value = value; number = number; writer = writer })
+line_event (Closed step) = Told.Closed step
+line_event (Fault why) = Told.Fault why.value

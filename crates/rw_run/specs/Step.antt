@@ -22,18 +22,18 @@ step_of_fault (ObjectLimit object step count) = step.0
 step_of_fault (RuleLimit rule step count) = step.0
 
 -- the event is of this timestep; an input is of none
-abbrev pub is_of : ℕ → Event → Bool
-is_of step (given cell value) = false
-is_of step (opened other) = other == step
-is_of step (closed other) = other == step
-is_of step (idle object other looked) = other == step
-is_of step (solved dispatch) = dispatch.step == step
-is_of step (fired firing) = firing.step == step
-is_of step (fault why) = step_of_fault why == step
+abbrev pub is_of_step : ℕ → Event → Bool
+is_of_step step (given cell value) = false
+is_of_step step (opened other) = other == step
+is_of_step step (closed other) = other == step
+is_of_step step (idle object other looked) = other == step
+is_of_step step (solved dispatch) = dispatch.step == step
+is_of_step step (fired firing) = firing.step == step
+is_of_step step (fault why) = step_of_fault why == step
 
 -- the events of a timestep, from its opening to its closing or its fault, the newest first
 abbrev pub events_of : ℕ → Log → Log
-events_of step log = filter (is_of step) log
+events_of step log = filter (is_of_step step) log
 
 abbrev pub is_opening : ℕ → Event → Bool
 is_opening step (opened other) = other == step
@@ -44,16 +44,16 @@ is_closing step (closed other) = other == step
 is_closing step event = false
 
 -- what stood before the newest event that passes the test, if one does
-abbrev pub before : (Event → Bool) → Log → Option Log
-before test [] = None
-before test (event ∷ log) = if test event then Some log else before test log
+abbrev pub before_newest : (Event → Bool) → Log → Option Log
+before_newest test [] = None
+before_newest test (event ∷ log) = if test event then Some log else before_newest test log
 
 -- the log just before the timestep was opened, if it was, and just before it was closed
 abbrev pub before_opening : ℕ → Log → Option Log
-before_opening step = before (is_opening step)
+before_opening step = before_newest (is_opening step)
 
 abbrev pub before_closing : ℕ → Log → Option Log
-before_closing step = before (is_closing step)
+before_closing step = before_newest (is_closing step)
 
 -- ---- at which cells it looked, and how many lines it has in a trace
 

@@ -21,7 +21,7 @@ ghost use Rattle.rw_run.specs.Step.{before_closing, before_opening, cell_count, 
 ghost use Rattle.rw_run.specs.Reuse.{AreRerun, AreRising, IsReused};
 ghost use Rattle.rw_run.specs.Timestep.{AreLooked, IsTimestep};
 ghost use Rattle.rw_run.specs.declared.held.Held.{Held};
-ghost use Rattle.rw_run.specs.Worked.{across, across_run, ahead, ahead_run, basin_of, both_days, both_days_run, both_ends, both_ends_run, counted, counted_run, divided, divided_run, faulty_run, five, first_of_ahead, followed, followed_run, given_once, given_run, given_seven_run, linked_basin, needy, needy_run, one_end_run, one_of_each, outranked, outranked_run, put_twice, put_twice_run, raised, raised_run, raised_twice, seven, three};
+ghost use Rattle.rw_run.specs.Worked.{across, across_run, sets_ahead, ahead_run, data_object_basin, both_days, both_days_run, both_ends, both_ends_run, counts_up, counted_run, divided, divided_run, faulty_run, five, first_of_ahead, followed, followed_run, given_once, given_run, given_seven_run, linked_basin, needy, needy_run, one_end_run, one_of_each, outranked, outranked_run, put_twice, put_twice_run, raises_x, raised_run, raised_twice, seven, three};
 ghost use Rattle.rw_model.specs.declared.control.AgendaOrder.TheVariants.{HighFirst, LowFirst};
 ghost use Rattle.rw_run.specs.Frame.{AreAlike, FollowInStep, IsFramed, IsStepFrom, looked_in, log_after};
 ghost use Rattle.rw_run.specs.Index.{IsIndex, MarksTouched};
@@ -104,15 +104,18 @@ pub fn choices()
 /// Small runs of rules, each worked out by hand, come out of the definitions: on the agenda, on rules that fire again, on their
 /// limit, on puts that are denied, left out, or a day ahead.
 pub fn worked_runs()
-    ensures raised { IsRun (basin_of HighFirst 1) raised [] (log_after raised_run []) }
-    ensures counted { IsRun (basin_of LowFirst 1) counted [] (log_after counted_run []) }
-    ensures followed { IsRun (basin_of HighFirst 1) followed [] (log_after followed_run []) }
-    ensures outranked { IsRun (basin_of HighFirst 1) outranked [] (log_after outranked_run []) }
-    ensures divided { IsRun (basin_of HighFirst 2) divided three
+    ensures raised { IsRun (data_object_basin HighFirst 1) raises_x [] (log_after raised_run []) }
+    ensures counted { IsRun (data_object_basin LowFirst 1) counts_up [] (log_after counted_run []) }
+    ensures followed { IsRun (data_object_basin HighFirst 1) followed []
+        (log_after followed_run []) }
+    ensures outranked { IsRun (data_object_basin HighFirst 1) outranked []
+        (log_after outranked_run []) }
+    ensures divided { IsRun (data_object_basin HighFirst 2) divided three
         (log_after divided_run (placed [] three)) }
-    ensures ahead { IsRun (basin_of HighFirst 3) ahead [] (log_after ahead_run []) }
-    ensures put_twice { IsRun (basin_of HighFirst 1) put_twice [] (log_after put_twice_run []) }
-    ensures given { IsRun (basin_of HighFirst 1) put_twice five
+    ensures ahead { IsRun (data_object_basin HighFirst 3) sets_ahead [] (log_after ahead_run []) }
+    ensures put_twice { IsRun (data_object_basin HighFirst 1) put_twice []
+        (log_after put_twice_run []) }
+    ensures given { IsRun (data_object_basin HighFirst 1) put_twice five
         (log_after given_run (placed [] five)) }
 {}
 
@@ -133,8 +136,10 @@ pub fn worked_timesteps()
     ensures closing { before_closing 1 (log_after ahead_run [])
         ≡ Some (log_after first_of_ahead []) }
     ensures open { before_closing 1 (log_after counted_run []) ≡ None }
-    ensures cells { cell_count (looked_at (basin_of HighFirst 1) 1 (log_after raised_run [])) ≡ 1 }
-    ensures both { cell_count (looked_at (basin_of HighFirst 1) 1 (log_after followed_run [])) ≡ 2 }
+    ensures cells { cell_count
+        (looked_at (data_object_basin HighFirst 1) 1 (log_after raised_run [])) ≡ 1 }
+    ensures both { cell_count
+        (looked_at (data_object_basin HighFirst 1) 1 (log_after followed_run [])) ≡ 2 }
     ensures apart { cell_count (cell_at 1 1 ∷ cell_at 1 2 ∷ cell_at 2 1 ∷ cell_at 1 1 ∷ []) ≡ 3 }
     ensures lines { line_count 1 (log_after raised_run []) ≡ 8 }
 {}
@@ -143,20 +148,21 @@ pub fn worked_timesteps()
 /// differs but the first. It isn't where a cell holds the same value with another number and writer, nor where the earlier run
 /// didn't open it. A day that the earlier run didn't close isn't either.
 pub fn worked_reruns()
-    ensures earlier { IsRun (basin_of HighFirst 2) raised [] (log_after raised_twice []) }
-    ensures later { IsRun (basin_of HighFirst 2) raised five
+    ensures earlier { IsRun (data_object_basin HighFirst 2) raises_x []
+        (log_after raised_twice []) }
+    ensures later { IsRun (data_object_basin HighFirst 2) raises_x five
         (log_after given_once (placed [] five)) }
-    ensures first { AreRerun (basin_of HighFirst 2) (log_after raised_twice [])
+    ensures first { AreRerun (data_object_basin HighFirst 2) (log_after raised_twice [])
         (log_after given_once (placed [] five)) (1 ∷ []) }
-    ensures put { IsRun (basin_of HighFirst 2) both_days [] (log_after both_days_run []) }
-    ensures given { IsRun (basin_of HighFirst 2) both_days seven
+    ensures put { IsRun (data_object_basin HighFirst 2) both_days [] (log_after both_days_run []) }
+    ensures given { IsRun (data_object_basin HighFirst 2) both_days seven
         (log_after given_seven_run (placed [] seven)) }
-    ensures both { AreRerun (basin_of HighFirst 2) (log_after both_days_run [])
+    ensures both { AreRerun (data_object_basin HighFirst 2) (log_after both_days_run [])
         (log_after given_seven_run (placed [] seven)) (1 ∷ 2 ∷ []) }
-    ensures faulty { IsRun (basin_of HighFirst 2) needy [] (log_after faulty_run []) }
-    ensures longer { IsRun (basin_of HighFirst 2) needy five
+    ensures faulty { IsRun (data_object_basin HighFirst 2) needy [] (log_after faulty_run []) }
+    ensures longer { IsRun (data_object_basin HighFirst 2) needy five
         (log_after needy_run (placed [] five)) }
-    ensures opened { AreRerun (basin_of HighFirst 2) (log_after faulty_run [])
+    ensures opened { AreRerun (data_object_basin HighFirst 2) (log_after faulty_run [])
         (log_after needy_run (placed [] five)) (1 ∷ 2 ∷ []) }
     ensures rising { (first later : ℕ) → AreRising (first ∷ later ∷ []) → first < later }
 {}

@@ -1,5 +1,5 @@
 ghost use Rattle.std.specs.Prelude.{◌≡◌, IfOk};
-ghost use Rattle.rw_run.specs.Line.{event_of};
+ghost use Rattle.rw_run.specs.Line.{line_event};
 ghost use Rattle.rw_run.specs.Trace.{write_of};
 
 use crate::{RunFault, TraceEvent, Write};
@@ -31,7 +31,7 @@ pub enum Line {
 
 /// The line of an event.
 pub fn line_of(alloc: Global, event: TraceEvent) -> Result<Line, NoMemory>
-    ensures { IfOk result (λ line. event_of line ≡ event) }
+    ensures { IfOk result (λ line. line_event line ≡ event) }
 {
     Ok(match event {
         TraceEvent::Opened(step) => Line::Opened(step),
@@ -56,7 +56,7 @@ pub fn line_of(alloc: Global, event: TraceEvent) -> Result<Line, NoMemory>
 
 /// A copy of a line, with a box of its own where it has one.
 pub fn copy_of(alloc: Global, line: &Line) -> Result<Line, NoMemory>
-    ensures { IfOk result (λ copy. event_of copy ≡ event_of line.now) }
+    ensures { IfOk result (λ copy. line_event copy ≡ line_event line.now) }
 {
     Ok(match line {
         Line::Opened(step) => Line::Opened(*step),
@@ -87,7 +87,7 @@ pub fn copy_of(alloc: Global, line: &Line) -> Result<Line, NoMemory>
 
 /// The event that a line tells.
 pub fn event_of(line: &Line) -> TraceEvent
-    ensures { result ≡ event_of line.now }
+    ensures { result ≡ line_event line.now }
 {
     match line {
         Line::Opened(step) => TraceEvent::Opened(*step),
@@ -121,7 +121,7 @@ pub fn event_of(line: &Line) -> TraceEvent
 /// What a line says to be written, if it says that.
 #[inline(always)]
 pub fn write_of(line: &Line) -> Option<Write>
-    ensures { result ≡ write_of (event_of line.now) }
+    ensures { result ≡ write_of (line_event line.now) }
 {
     match line {
         Line::Written {

@@ -1,5 +1,5 @@
 ghost use Rattle.std.specs.Prelude.{◌≡◌, [], ◌∷◌, ◌++◌, length, map, take, drop, slice_get, option_and_then, option_map, is_some, Some, None, IsSome, IfOk, IfErr};
-ghost use Rattle.rw_run.specs.Line.{event_of};
+ghost use Rattle.rw_run.specs.Line.{line_event};
 ghost use Rattle.rw_run.specs.Trace.{lines_in, told, write_of};
 
 use crate::line::{Line, copy_of, event_of, line_of, write_of};
@@ -54,11 +54,11 @@ pub struct Trace {
 impl Model for Trace {
     ghost use Rattle.std.specs.Prelude.{List, map, Option, Some, None, if◌then◌else◌};
     ghost use Rattle.rw_run.specs.declared.trace.TraceEvent.{TraceEvent};
-    ghost use Rattle.rw_run.specs.Line.{event_of};
+    ghost use Rattle.rw_run.specs.Line.{line_event};
 
     ghost Value = { Option (List TraceEvent) };
 
-    ghost view = { λ t. if t.kept then Some (map event_of t.lines.items) else None };
+    ghost view = { λ t. if t.kept then Some (map line_event t.lines.items) else None };
 }
 
 impl Trace {
@@ -115,7 +115,7 @@ impl Trace {
 
     // The lines from a place on, as they are kept.
     fn kept_from(&self, place: usize) -> &[Line]
-        ensures { map event_of result.now ≡ drop place (lines_in self.now) }
+        ensures { map line_event result.now ≡ drop place (lines_in self.now) }
     {
         if self.kept {
             from_place(&self.lines, place)
@@ -171,8 +171,8 @@ impl Trace {
 // Adds the line of an event. After want of memory the lines are as they were.
 #[inline(never)]
 fn push(alloc: Global, lines: &mut Vec<Line>, event: TraceEvent) -> Result<(), NoMemory>
-    ensures pushed { IfOk result (λ _. map event_of lines.new.items
-        ≡ map event_of lines.old.items ++ event ∷ []) }
+    ensures pushed { IfOk result (λ _. map line_event lines.new.items
+        ≡ map line_event lines.old.items ++ event ∷ []) }
     ensures unchanged { IfErr result (λ _. lines.new.items ≡ lines.old.items) }
 {
     lines.push(line_of(alloc, event)?)?;
@@ -181,8 +181,8 @@ fn push(alloc: Global, lines: &mut Vec<Line>, event: TraceEvent) -> Result<(), N
 
 // Adds copies of these lines. After want of memory some of them may have been added.
 fn push_copies(alloc: Global, lines: &mut Vec<Line>, more: &[Line]) -> Result<(), NoMemory>
-    ensures pushed { IfOk result (λ _. map event_of lines.new.items
-        ≡ map event_of lines.old.items ++ map event_of more.now) }
+    ensures pushed { IfOk result (λ _. map line_event lines.new.items
+        ≡ map line_event lines.old.items ++ map line_event more.now) }
     ensures before { take (length lines.old.items) lines.new.items ≡ lines.old.items }
 {
     lines.reserve(more.len())?;
@@ -194,8 +194,8 @@ fn push_copies(alloc: Global, lines: &mut Vec<Line>, more: &[Line]) -> Result<()
 
 // Adds copies of these lines. After want of memory the lines are as they were.
 fn append(alloc: Global, lines: &mut Vec<Line>, more: &[Line]) -> Result<(), NoMemory>
-    ensures appended { IfOk result (λ _. map event_of lines.new.items
-        ≡ map event_of lines.old.items ++ map event_of more.now) }
+    ensures appended { IfOk result (λ _. map line_event lines.new.items
+        ≡ map line_event lines.old.items ++ map line_event more.now) }
     ensures unchanged { IfErr result (λ _. lines.new.items ≡ lines.old.items) }
 {
     let before = lines.len();
@@ -221,7 +221,7 @@ fn from_place(lines: &[Line], place: usize) -> &[Line]
 
 // What the line in a place tells.
 fn line_at(lines: &[Line], place: usize) -> Option<TraceEvent>
-    ensures { result ≡ slice_get (map event_of lines.now) place }
+    ensures { result ≡ slice_get (map line_event lines.now) place }
 {
     match lines.get(place) {
         Some(line) => Some(event_of(line)),
@@ -231,7 +231,7 @@ fn line_at(lines: &[Line], place: usize) -> Option<TraceEvent>
 
 // What the line in a place says to be written.
 fn write_at(lines: &[Line], place: usize) -> Option<Write>
-    ensures { result ≡ option_and_then write_of (slice_get (map event_of lines.now) place) }
+    ensures { result ≡ option_and_then write_of (slice_get (map line_event lines.now) place) }
 {
     match lines.get(place) {
         Some(line) => write_of(line),

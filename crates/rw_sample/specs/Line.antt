@@ -9,7 +9,7 @@ use Rattle.rw_run.specs.declared.run.RunEnd.TheVariants.{Settled, Fault}
 use Rattle.rw_run.specs.declared.trace.TraceEvent.{TraceEvent}
 use Rattle.rw_run.specs.declared.trace.TraceEvent.TheVariants.{Idle, Solve, Fire}
 use Rattle.rw_run.specs.Log.{Cells}
-use Rattle.rw_report.specs.Outcome.{Outcome}
+use Rattle.rw_report.specs.Outcome.{RunOutcome}
 use Rattle.rw_report.specs.Section.{values_in}
 use Rattle.rw_sample.specs.declared.counted.Counted.{Counted}
 use Rattle.rw_sample.specs.declared.counted.Counted.TheVariants.{Dispatches, Firings}
@@ -82,6 +82,6 @@ line_with seed word dispatches firings storage =
     ++ (codes " firings " ++ (decimal firings ++ (codes " storage " ++ (signed_decimal storage ++ codes "\n")))))))))
 
 -- the line on the run of the sample of a seed
-abbrev pub sample_line : Draft → (seed : ℕ) → Outcome → List ℕ
+abbrev pub sample_line : Draft → (seed : ℕ) → RunOutcome → List ℕ
 sample_line basin seed run =
     line_with seed (end_word run.end) (lines_counted Dispatches run.lines) (lines_counted Firings run.lines) (storage_in basin run.cells 365)

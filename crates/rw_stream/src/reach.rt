@@ -3,7 +3,7 @@ ghost use Rattle.std.specs.Option.{ForSome};
 ghost use Rattle.rw_model.specs.declared.kind.Kind.TheVariants as Kind;
 ghost use Rattle.rw_method.specs.declared.places.TheConstants.{REACH_SIDE};
 ghost use Rattle.rw_method.specs.Term.{IsWithin};
-ghost use Rattle.rw_method.specs.Balance.{sum_of, side_flows};
+ghost use Rattle.rw_method.specs.Balance.{known_sum, side_flows};
 ghost use Rattle.rw_method.specs.Solve.{solve_of};
 
 use rw_base::Qty;
@@ -26,7 +26,7 @@ fn with_side(past: Qty, side: i128) -> i128
 // What flowed in as many timesteps ago as the lag, and what flows in by the side.
 fn lagged_outflow(past: Option<Qty>, side: Option<i128>) -> Option<i128>
     requires { ForSome side (IsWithin 3) }
-    ensures flow { result ≡ sum_of past side }
+    ensures flow { result ≡ known_sum past side }
     ensures bound { ForSome result (IsWithin 6) }
 {
     match (past, side) {

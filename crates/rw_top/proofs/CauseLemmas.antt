@@ -10,7 +10,7 @@ use Rattle.rpl_parse.specs.declared.fault.ParseFault.TheVariants as P
 use Rattle.rpl_parse.specs.Declarations.{bad_declaration, bad_token, too_many}
 use Rattle.rpl_parse.specs.Parsing.{AnswersReading, refusal_of as refusal_of_grammar}
 use Rattle.rpl_parse.proofs.Answering.{tells_due}
-use Rattle.rpl_types.specs.Judged.{Refusal as NodeRefusal, judged, refusal}
+use Rattle.rpl_types.specs.Judged.{TypeRefusal as NodeRefusal, rules_judged, type_refusal}
 use Rattle.rw_base.specs.Answers.{IsWhy}
 use Rattle.rpl_code.specs.Answers.{refusal_of as refusal_of_code}
 use Rattle.rpl_code.specs.Reading.{read}
@@ -48,7 +48,7 @@ pub told_status : (why : Refusal) (reason : Reason) → reason_of why ≡ Some r
 told_status (Model fault) reason tells = told_by (λ bad. BadModel bad) 6 (λ bad. refl) (refusal_of fault) reason tells
 told_status (Grammar fault) reason tells = told_by (λ bad. BadPolicy (BadRules (BadGrammar bad))) 7 (λ bad. refl) (refusal_of_grammar fault) reason tells
 told_status (Types kind declaration node) reason tells =
-    let same : BadPolicy (BadRules (BadNode (refusal kind declaration node))) ≡ reason = cc in ap status_by same
+    let same : BadPolicy (BadRules (BadNode (type_refusal kind declaration node))) ≡ reason = cc in ap status_by same
 told_status (Code fault) reason tells = told_by (λ bad. BadPolicy (BadBlocks (Unread bad))) 9 (λ bad. refl) (refusal_of_code fault) reason tells
 told_status (BlockAt kind block place) reason tells =
     let same : BadPolicy (BadBlocks (Misfit (block_refusal kind block place))) ≡ reason = cc in ap status_by same
@@ -104,7 +104,7 @@ judged_err rules (Err refused) why is = cc
 
 pub refused_rules : (basin : Draft) (text : List ℕ) (rules : List Declared) (why : NodeRefusal) → IsReading text (Ok rules)
     → checked basin rules ≡ Err why → RefusesNode basin text why
-refused_rules basin text rules why spells is = record { rules = rules; spells = spells; refused = judged_err rules (judged basin rules) why is }
+refused_rules basin text rules why spells is = record { rules = rules; spells = spells; refused = judged_err rules (rules_judged basin rules) why is }
 
 -- and what is accepted
 abbrev rules_with : List Declared → List NodeTypes → Checked
@@ -118,11 +118,11 @@ judged_ok rules (Err refused) all is = absurd cc
 pub accepted_rules : (basin : Draft) (text : List ℕ) (rules : List Declared) (all : Checked) → IsReading text (Ok rules)
     → checked basin rules ≡ Ok all → IsRulesetOf basin text all.rules
 accepted_rules basin text rules all spells is =
-    let same = judged_ok rules (judged basin rules) all is in
+    let same = judged_ok rules (rules_judged basin rules) all is in
     record {
       spells = subst (λ rs. IsReading text (Ok rs)) same.0 spells;
       types = all.types;
-      typed = subst (λ rs. judged basin rs ≡ Ok all.types) same.0 same.1;
+      typed = subst (λ rs. rules_judged basin rs ≡ Ok all.types) same.0 same.1;
     }
 
 -- the code that is accepted, and why code is refused

@@ -14,7 +14,7 @@ use Rattle.rpl_verify.specs.Fits.{count_alike}
 use Rattle.rpl_verify.specs.Verified.{function_head, rules_from}
 use Rattle.rpl_verify.proofs.Common.{rule_from}
 use Rattle.rpl_verify.proofs.VerifiedFacts.{each as budget_each, length-rules, rule_is}
-use Rattle.rpl_compile.specs.Budgets.{budgets_from, budgets_of}
+use Rattle.rpl_compile.specs.Budgets.{budgets_from, code_budgets_of}
 use Rattle.rpl_compile.specs.Translate.{Callee, blocks_from, predefined_callees, translate}
 use Rattle.rw_top.specs.Budgets.{budget_in, check_text}
 use Rattle.rw_top.specs.Policy.{PolicyFile, Ruleset, Code, IsPolicyFileOf}
@@ -108,21 +108,21 @@ budget_at rules number (suc k) (d ∷ ds) lt =
     budget_at rules (number + 1) k ds (omega (arith, lt)) ∙ ap (λ n. Some (budget_of rules n)) z
 
 budget_is : (rules : List Declared) (r : ℕ) (o : Option ℕ) → rule_from 1 (translate rules) r ≡ o
-    → option_map (budget_of rules) o ≡ option_and_then (numbered (budgets_of rules)) o
+    → option_map (budget_of rules) o ≡ option_and_then (numbered (code_budgets_of rules)) o
 budget_is rules r None is = refl
 budget_is rules r (Some n) is =
     let within = its_block (translate rules) r n is in
     let many = blocks_each predefined_callees 1 rules in
     let z : 1 + (n - 1) ≡ n = omega (arith, within.0) in
-    sym (numbered-known (budgets_of rules) n within.0
+    sym (numbered-known (code_budgets_of rules) n within.0
     ∙ budget_at rules 1 (n - 1) rules (omega (arith, within.0, within.1, many)) ∙ ap (λ m. Some (budget_of rules m)) z)
 
-budgets_alike : (rules : List Declared) (r : ℕ) → budget_in (Ruleset rules) r ≡ budget_in (Code (translate rules) (budgets_of rules)) r
+budgets_alike : (rules : List Declared) (r : ℕ) → budget_in (Ruleset rules) r ≡ budget_in (Code (translate rules) (code_budgets_of rules)) r
 budgets_alike rules r =
     ap (option_map (budget_of rules)) (sym (block_is predefined_callees 1 1 rules r refl))
     ∙ budget_is rules r (rule_from 1 (translate rules) r) refl
 
-pub alike : (rules : List Declared) → check_text (Ruleset rules) ≡ check_text (Code (translate rules) (budgets_of rules))
+pub alike : (rules : List Declared) → check_text (Ruleset rules) ≡ check_text (Code (translate rules) (code_budgets_of rules))
 alike rules =
     let rules_are = rules_alike predefined_callees 1 rules in
     let functions_are = functions_alike predefined_callees 1 rules in

@@ -4,7 +4,7 @@ use Rattle.rw_base.proofs.Common.{length-append, length-set, nat_le}
 use Rattle.rw_base.specs.Answers.{unless_refused}
 use Rattle.rw_model.specs.Draft.{Draft}
 use Rattle.rw_inputs.specs.declared.wrong.Wrong.{Wrong}
-use Rattle.rw_inputs.specs.EditRows.{at_row, batch_behind, batches_with, edits_of, follows, four_fields, is_edit_header, more_batches, opened, read_batch, read_batches, read_edit, with_edit, wrong_among}
+use Rattle.rw_inputs.specs.EditRows.{at_row, batch_behind, batches_with, edits_of, batch_follows, four_fields, is_edit_header, more_batches, batches_opened, read_batch, read_batches, read_edit, with_edit, wrong_among}
 use Rattle.rw_inputs.specs.Edits.{Batch}
 use Rattle.rw_inputs.specs.Number.{read_number}
 use Rattle.rw_inputs.specs.Records.{Fields, records_of}
@@ -29,10 +29,10 @@ behind batch number false w x is = absurd cc
 
 at_most : (last number : ℕ) (read : Option ℕ) → batch_behind last read ≡ Ok number → number ≤ 64
 at_most last number None is = absurd cc
-at_most last number (Some batch) is = behind batch number (follows last batch) _ _ is
+at_most last number (Some batch) is = behind batch number (batch_follows last batch) _ _ is
 
 -- one row more
-length_opened : (batches : List Batch) (number : ℕ) → length batches ≤ 64 → number ≤ 64 → length (opened batches number) ≤ 64
+length_opened : (batches : List Batch) (number : ℕ) → length batches ≤ 64 → number ≤ 64 → length (batches_opened batches number) ≤ 64
 length_opened batches number few small = by (nat_le number (length batches)) refl
   where
     by : (there : Bool) → nat_le number (length batches) ≡ there → length (if there then batches else batches ++ [] ∷ []) ≤ 64
@@ -50,7 +50,7 @@ few_with basin row batches more (Some fields) few is =
     let number = after (read_batch (length batches) fields.0) _ more is in
     let edit = after (read_edit basin fields.1 fields.2 fields.3) _ more number.2 in
     let same = admitted (wrong_among row batches number.0 edit.0) (with_edit batches number.0 edit.0) more edit.2 in
-    let many : length (with_edit batches number.0 edit.0) ≡ length (opened batches number.0) = length-set (opened batches number.0) _ _ in
+    let many : length (with_edit batches number.0 edit.0) ≡ length (batches_opened batches number.0) = length-set (batches_opened batches number.0) _ _ in
     let most = length_opened batches number.0 few (at_most (length batches) number.0 (read_number fields.0) number.1) in
     subst (λ bs. length bs ≤ 64) same (omega (arith, many, most))
 

@@ -2,7 +2,7 @@
 use Rattle.std.specs.Prelude.{ℤ, Option}
 use Rattle.rw_top.proofs.Common.{Bool, Declared, Err, InputRefusal, IsReading, List, Ok, Reads, Refuses, ap, false, policy_status, refl, sym, true, ℕ, ◌∙◌, ◌≡◌}
 use Rattle.rpl_parse.proofs.CutFacts.{one_reading_holds}
-use Rattle.rpl_types.specs.Judged.{judged}
+use Rattle.rpl_types.specs.Judged.{rules_judged}
 use Rattle.rw_model.specs.Draft.{Draft}
 use Rattle.rw_inputs.specs.Inputs.{Inputs, value_at}
 use Rattle.rpl_code.specs.declared.block.Block.{Block}
@@ -34,7 +34,7 @@ rules_clash : (basin : Draft) (text : List ℕ) (rules : List Declared) (why : R
 rules_clash basin text rules (BadGrammar why) h k = let same = one_reading_holds text (Ok rules) (Err why) h.spells k in cc
 rules_clash basin text rules (BadNode why) h k =
     let same = one_ruleset text rules k.rules h.spells k.spells in
-    let both : Ok h.types ≡ Err why = sym h.typed ∙ ap (judged basin) same ∙ k.refused in cc
+    let both : Ok h.types ≡ Err why = sym h.typed ∙ ap (rules_judged basin) same ∙ k.refused in cc
 
 -- nor is code
 code_clash : (basin : Draft) (text : List ℕ) (blocks : List Block) (budgets : List Budget) (why : BadCode)

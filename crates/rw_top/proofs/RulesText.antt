@@ -15,11 +15,11 @@ use Rattle.rw_run.proofs.Common.{IsRun, Log, Policy}
 use Rattle.rw_run.specs.Next.{no_rules}
 use Rattle.rw_run.specs.Policy.{FireAlike}
 use Rattle.rpl_code.specs.declared.block.Block.{Block}
-use Rattle.rpl_compile.specs.Budgets.{budgets_of}
+use Rattle.rpl_compile.specs.Budgets.{code_budgets_of}
 use Rattle.rpl_compile.specs.Translate.{translate}
 use Rattle.rpl_policy.specs.Firings.{AreVerified}
 use Rattle.rpl_policy.specs.Policy.{policy_of_code, policy_of_rules}
-use Rattle.rpl_types.specs.Judged.{Refusal as NodeRefusal}
+use Rattle.rpl_types.specs.Judged.{TypeRefusal as NodeRefusal}
 use Rattle.rpl_types.specs.Nodes.{Types}
 use Rattle.rpl_verify.specs.Budget.{AreAccepted}
 use Rattle.rpl_verify.specs.Verified.{Accepted}
@@ -66,9 +66,9 @@ by_code basin code inputs run accepted firings comes = record {
 
 -- by a ruleset
 pub by_ruleset : (basin : Draft) (rules : List Declared) (blocks : List Block) (inputs : Inputs) (run : Run)
-    → blocks ≡ translate rules → AreAccepted basin (translate rules) (budgets_of rules)
+    → blocks ≡ translate rules → AreAccepted basin (translate rules) (code_budgets_of rules)
     → ((log : Log) → IsRun basin (policy_of_code basin (translate rules)) (givens basin inputs) log → IsRun basin (policy_of_rules basin rules) (givens basin inputs) log)
-    → ((log : Log) → IsRun basin (policy_of_rules basin rules) (givens basin inputs) log → AreVerified basin (translate rules) (budgets_of rules) log)
+    → ((log : Log) → IsRun basin (policy_of_rules basin rules) (givens basin inputs) log → AreVerified basin (translate rules) (code_budgets_of rules) log)
     → ComesTo basin (policy_of_code basin blocks) inputs run → ComesBy basin (Ruleset rules) inputs run
 by_ruleset basin rules blocks inputs run same accepted means firings comes =
     let its : ComesTo basin (policy_of_code basin (translate rules)) inputs run =
@@ -78,16 +78,16 @@ by_ruleset basin rules blocks inputs run same accepted means firings comes =
       log = its.log;
       whole = whole;
       is = its.is;
-      verified = record { budgets = budgets_of rules; accepted = accepted; firings = firings its.log whole };
+      verified = record { budgets = code_budgets_of rules; accepted = accepted; firings = firings its.log whole };
     }
 
 -- the code that is compiled of it
 pub code_of_ruleset : (basin : Draft) (rules : List Declared) (code : Accepted) → code.blocks ≡ translate rules
-    → AreAccepted basin (translate rules) (budgets_of rules)
+    → AreAccepted basin (translate rules) (code_budgets_of rules)
     → ((inputs : Inputs) (log : Log) → IsRun basin (policy_of_code basin (translate rules)) (givens basin inputs) log
     → IsRun basin (policy_of_rules basin rules) (givens basin inputs) log)
     → ((inputs : Inputs) (log : Log) → IsRun basin (policy_of_rules basin rules) (givens basin inputs) log
-    → AreVerified basin (translate rules) (budgets_of rules) log)
+    → AreVerified basin (translate rules) (code_budgets_of rules) log)
     → IsCodeOf basin (Ruleset rules) code
 code_of_ruleset basin rules code same accepted means firings = record {
   comes = λ inputs run'. by_ruleset basin rules code.blocks inputs run' same accepted (means inputs) (firings inputs);

@@ -3,7 +3,7 @@ use Rattle.rw_top.proofs.Common.{Command, Declared, File, FilesRead, Holds, IsSo
 use Rattle.rw_base.proofs.Common.{Bool, IsSome, arith, ◌&&◌}
 use Rattle.rw_inputs.specs.Inputs.{Inputs}
 use Rattle.rw_model.proofs.Common.{Draft}
-use Rattle.rw_report.specs.Outcome.{Outcome, outcome_by, outcome_of}
+use Rattle.rw_report.specs.Outcome.{RunOutcome, outcome_by, outcome_of}
 use Rattle.rw_run.proofs.Common.{Log}
 use Rattle.rw_run.specs.RunOf.{IsRunOf}
 use Rattle.rw_run.specs.declared.run.Run.{Run}
@@ -71,7 +71,7 @@ sample_by outcomes basin policy inputs seed run text comes kept is = record {
   log = comes.log;
   run = comes.whole;
   verified = comes.verified;
-  text_is = is ∙ ap (λ (told : Outcome). sample_line basin seed told) (outcomes basin comes.log run comes.is kept);
+  text_is = is ∙ ap (λ (told : RunOutcome). sample_line basin seed told) (outcomes basin comes.log run comes.is kept);
 }
 
 -- of the files of a command

@@ -3,7 +3,7 @@ use Rattle.std.specs.Prelude.{◌≡◌, ℕ, suc, ◌==◌, List, [], ◌∷◌
 use Rattle.rw_words.specs.declared.job.Job.{Job}
 use Rattle.rw_words.specs.declared.job.Job.TheVariants.{Simulate, Check, Compile, Run, Why, Sample}
 use Rattle.rw_words.specs.Command.{Command, asked_command as asked_by, command_seen}
-use Rattle.rw_words.specs.Plain.{plain}
+use Rattle.rw_words.specs.Plain.{plain_command}
 use Rattle.rw_top.specs.declared.refusal.File.{File}
 use Rattle.rw_top.specs.declared.refusal.File.TheVariants.{Model, Policy, Inputs, Edits}
 use Rattle.rw_top.specs.declared.extras.Extras.{Extras}
@@ -120,7 +120,7 @@ AskOne words P = (command : Command) × AskForCommand words command × P command
 
 -- the run of a model from inputs
 abbrev pub simulation_of : List ℕ → List ℕ → Command
-simulation_of model inputs = plain Simulate (model ∷ inputs ∷ [])
+simulation_of model inputs = plain_command Simulate (model ∷ inputs ∷ [])
 
 -- the command that was read, in these terms
 abbrev pub command_said : Named → Command

@@ -4,7 +4,7 @@ use Rattle.std.specs.List.{starts_with}
 use Rattle.rw_model.specs.Draft.{Draft}
 use Rattle.rpl_tree.specs.Tree.{Declared}
 use Rattle.rpl_parse.specs.Declarations.{GrammarRefusal, IsReading}
-use Rattle.rpl_types.specs.Judged.{Refusal, judged}
+use Rattle.rpl_types.specs.Judged.{TypeRefusal, rules_judged}
 use Rattle.rpl_types.specs.Nodes.{Types}
 use Rattle.rpl_code.specs.declared.block.Block.{Block}
 use Rattle.rpl_code.specs.Reading.{CodeRefusal, read}
@@ -22,19 +22,19 @@ is_code text = bytes_eq text (codes "CODE 1") || starts_with (λ a b. a == b) te
 -- why it is no ruleset for the basin: it spells none, or what is wrong at which node of a declaration
 pub data RulesRefusal : Type 0 where
   BadGrammar : GrammarRefusal → RulesRefusal
-  BadNode : Refusal → RulesRefusal
+  BadNode : TypeRefusal → RulesRefusal
 
 -- the text spells these rules, and they are accepted
 pub record IsRulesetOf (basin : Draft) (text : List ℕ) (rules : List Declared) : Type 0 where
   pub spells : IsReading text (Ok rules)
   pub types : List Types
-  pub typed : judged basin rules ≡ Ok types
+  pub typed : rules_judged basin rules ≡ Ok types
 
 -- the text spells rules that are refused
-pub record RefusesNode (basin : Draft) (text : List ℕ) (why : Refusal) : Type 0 where
+pub record RefusesNode (basin : Draft) (text : List ℕ) (why : TypeRefusal) : Type 0 where
   pub rules : List Declared
   pub spells : IsReading text (Ok rules)
-  pub refused : judged basin rules ≡ Err why
+  pub refused : rules_judged basin rules ≡ Err why
 
 -- the text is refused for this
 abbrev pub RefusesRules : Draft → List ℕ → RulesRefusal → Type 0

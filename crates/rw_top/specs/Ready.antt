@@ -6,7 +6,7 @@ use Rattle.rw_inputs.specs.Edits.{Batch, IsBatch}
 use Rattle.rw_inputs.specs.Inputs.{IsInputsOf}
 use Rattle.rw_model.specs.Draft.{Draft, IsSlot}
 use Rattle.rpl_tree.specs.Seen.{rules_of}
-use Rattle.rpl_types.specs.Judged.{judged}
+use Rattle.rpl_types.specs.Judged.{rules_judged}
 use Rattle.rpl_verify.specs.Verified.{verified}
 use Rattle.rw_words.specs.declared.job.Job.{Job}
 use Rattle.rw_top.specs.declared.files.Behind.{Behind}
@@ -22,7 +22,7 @@ use Rattle.rw_top.specs.Seen.{policy_of}
 
 -- a policy was judged with the basin, or verified for it, and accepted
 abbrev pub IsFit : Draft → Held → Type 0
-IsFit basin (Held.Ruleset typed) = IsOk (judged basin (rules_of typed.rules))
+IsFit basin (Held.Ruleset typed) = IsOk (rules_judged basin (rules_of typed.rules))
 IsFit basin (Held.Code code) = verified basin code.blocks ≡ Ok code
 
 -- the policy that was made of a text, which is read as code or as a ruleset, is the one that it spells, and is accepted

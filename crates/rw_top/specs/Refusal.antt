@@ -13,7 +13,7 @@ use Rattle.rw_inputs.specs.EditRows.{edits_of}
 use Rattle.rw_inputs.specs.Reading.{Refuses}
 use Rattle.rw_inputs.specs.Refusal.{InputRefusal, refused_at}
 use Rattle.rpl_parse.specs.Parsing.{refusal_of as refusal_of_grammar}
-use Rattle.rpl_types.specs.Judged.{refusal}
+use Rattle.rpl_types.specs.Judged.{type_refusal}
 use Rattle.rpl_code.specs.Answers.{refusal_of as refusal_of_code}
 use Rattle.rpl_verify.specs.Fits.{refusal as block_refusal}
 use Rattle.rw_top.specs.Command.{path_of}
@@ -45,7 +45,7 @@ status_of (TooLong file) = 10
 abbrev pub reason_of : Refusal → Option Reason
 reason_of (Model fault) = option_map (λ why. BadModel why) (refusal_of fault)
 reason_of (Grammar fault) = option_map (λ why. BadPolicy (BadRules (BadGrammar why))) (refusal_of_grammar fault)
-reason_of (Types kind declaration node) = Some (BadPolicy (BadRules (BadNode (refusal kind declaration node))))
+reason_of (Types kind declaration node) = Some (BadPolicy (BadRules (BadNode (type_refusal kind declaration node))))
 reason_of (Code fault) = option_map (λ why. BadPolicy (BadBlocks (Unread why))) (refusal_of_code fault)
 reason_of (Block kind block place) = Some (BadPolicy (BadBlocks (Misfit (block_refusal kind block place))))
 reason_of (Inputs kind row column) = Some (BadInputs (refused_at kind row column))

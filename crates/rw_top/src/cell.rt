@@ -3,7 +3,7 @@ ghost use Rattle.std.specs.Prelude.{◌≡◌, ◌≤◌, ◌<◌, ◌^◌, true
 ghost use Rattle.std.specs.List.{list_all};
 ghost use Rattle.std.specs.Option.{ForSome};
 ghost use Rattle.std.specs.Str.{is_utf8};
-ghost use Rattle.rw_inputs.specs.Number.{is_digit, is_number, number_after, position_of, read_number};
+ghost use Rattle.rw_inputs.specs.Number.{is_digit, is_number_text, number_after, byte_position, read_number};
 ghost use Rattle.rw_inputs.specs.Row.{slot_of_names, slot_of_text};
 ghost use Rattle.rw_model.specs.Draft.{Draft, IsSlot};
 ghost use Rattle.rw_words.specs.Command.{cell_seen};
@@ -38,14 +38,14 @@ fn has_digits_alone(text: &[u8]) -> bool
 }
 
 fn is_number(text: &[u8]) -> bool
-    ensures { result ≡ is_number text.now }
+    ensures { result ≡ is_number_text text.now }
 {
     (1 <= text.len() && text.len() <= DIGITS_MAX) && has_digits_alone(text)
 }
 
 // The number that the digits spell.
 fn number_of(digits: &[u8]) -> u64
-    requires { IsTrue (is_number digits.now) }
+    requires { IsTrue (is_number_text digits.now) }
     ensures number { result ≡ number_after 0 digits.now }
     ensures small { result < 10 ^ 18 }
 {
@@ -73,7 +73,7 @@ fn step_of_text(basin: &Basin, text: &[u8]) -> Option<u16>
 
 // The first place of the byte, counted from 0.
 fn position_of(byte: u8, text: &[u8]) -> Option<usize>
-    ensures place { result ≡ position_of byte text.now }
+    ensures place { result ≡ byte_position byte text.now }
     ensures within { ForSome result (λ place. place < length text.now) }
 {
     for (place, other) in text.iter().enumerate() {

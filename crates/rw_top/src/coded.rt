@@ -2,7 +2,7 @@
 ghost use Rattle.std.specs.Prelude.{◌≡◌, IfOk, IsOk, Ok};
 ghost use Rattle.rw_model.specs.Draft.{Draft};
 ghost use Rattle.rpl_tree.specs.Seen.{rules_of};
-ghost use Rattle.rpl_types.specs.Judged.{judged};
+ghost use Rattle.rpl_types.specs.Judged.{rules_judged};
 ghost use Rattle.rpl_verify.specs.Verified.{Accepted, verified};
 ghost use Rattle.rw_top.specs.Policy.{Ruleset, Code};
 ghost use Rattle.rw_top.specs.RunText.{IsCodeOf};
@@ -34,7 +34,7 @@ pub(crate) fn code_of_rules(
     typed: &Typed,
     basin: &Basin,
 ) -> Result<Verified, NoMemory>
-    requires { IsOk (judged basin.now (rules_of typed.now.rules)) }
+    requires { IsOk (rules_judged basin.now (rules_of typed.now.rules)) }
     ensures fits { IfOk result (λ code. verified basin.now code.blocks ≡ Ok code) }
     ensures runs { IfOk result (IsCodeOf basin.now (Ruleset (rules_of typed.now.rules))) }
 {

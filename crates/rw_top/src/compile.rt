@@ -2,7 +2,7 @@ ghost use Rattle.std.specs.Prelude.{◌≡◌, IfOk, IsOk};
 ghost use Rattle.rpl_code.specs.Spelling.{spelt};
 ghost use Rattle.rpl_compile.specs.Translate.{translate};
 ghost use Rattle.rpl_tree.specs.Seen.{rules_of};
-ghost use Rattle.rpl_types.specs.Judged.{judged};
+ghost use Rattle.rpl_types.specs.Judged.{rules_judged};
 ghost use Rattle.rw_top.specs.Policy.{code_in_file};
 ghost use Rattle.rw_top.specs.Ready.{IsFit};
 ghost use Rattle.rw_top.specs.Seen.{policy_of};
@@ -17,7 +17,7 @@ use std::alloc::Global;
 
 // The text of the code of a ruleset that is accepted for the basin.
 fn ruleset_text(alloc: Global, typed: &Typed, basin: &Basin) -> Result<Vec<u8>, NoMemory>
-    requires { IsOk (judged basin.now (rules_of typed.now.rules)) }
+    requires { IsOk (rules_judged basin.now (rules_of typed.now.rules)) }
     ensures { IfOk result (λ text. text.items ≡ spelt (translate (rules_of typed.now.rules))) }
 {
     let code = compile(alloc, typed, basin)?;

@@ -12,7 +12,7 @@ ghost use Rattle.rpl_types.specs.Refused.{refusal_of};
 ghost use Rattle.rpl_verify.specs.Verified.{refusal_of as refusal_of_verify};
 ghost use Rattle.rw_inputs.specs.Reading.{Reads};
 ghost use Rattle.rw_model.specs.Draft.{Draft};
-ghost use Rattle.rw_model_toml.specs.Fault.{IsWhy};
+ghost use Rattle.rw_model_toml.specs.Fault.{IsModelWhy};
 ghost use Rattle.rw_model_toml.specs.Model.{model_of};
 ghost use Rattle.rw_top.specs.Policy.{RefusesBlock, RefusesNode, is_code};
 ghost use Rattle.rw_top.specs.Ready.{AreMadeOf, IsMadeOf};
@@ -32,7 +32,7 @@ use rw_model_toml::{ModelFault, read_model};
 use std::alloc::Global;
 
 fn refusal_of_model(_text: &[u8], fault: ModelFault) -> Refusal
-    requires { IsWhy (model_of _text.now) fault }
+    requires { IsModelWhy (model_of _text.now) fault }
     ensures { IsModelRefusal _text.now result }
 {
     match fault {

@@ -18,7 +18,7 @@ ghost use Rattle.rpl_tree.specs.Tree.{Declared};
 ghost use Rattle.rpl_parse.specs.Bounds.{function_count, rule_count};
 ghost use Rattle.rpl_types.specs.HasType.{IsTyped};
 ghost use Rattle.rpl_verify.specs.Budget.{AreAccepted};
-ghost use Rattle.rpl_compile.specs.Budgets.{budgets_of};
+ghost use Rattle.rpl_compile.specs.Budgets.{code_budgets_of};
 ghost use Rattle.rpl_compile.specs.Translate.{translate};
 ghost use Rattle.rw_top.specs.Budgets.{budget_in, check_text, rules_in};
 ghost use Rattle.rw_top.specs.Call.{Call};
@@ -212,8 +212,9 @@ pub fn checked_policies()
         → IsSome (budget_in policy rule) }
     ensures code { (basin : Draft) (rules : List Declared) → IsTyped basin rules
         → rule_count rules ≤ 200 → function_count rules ≤ 200
-        → AreAccepted basin (translate rules) (budgets_of rules)
-        × (check_text (Ruleset rules) ≡ check_text (Code (translate rules) (budgets_of rules))) }
+        → AreAccepted basin (translate rules) (code_budgets_of rules)
+        × (check_text (Ruleset rules)
+        ≡ check_text (Code (translate rules) (code_budgets_of rules))) }
 {
     compiled_budgets();
 }

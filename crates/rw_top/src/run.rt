@@ -5,7 +5,7 @@ ghost use Rattle.rw_inputs.specs.Inputs.{Inputs as Rows, IsInputsOf};
 ghost use Rattle.rw_method.specs.Catalogue.{AreInOrder};
 ghost use Rattle.rw_rules.specs.Rules.{policy_in};
 ghost use Rattle.rpl_tree.specs.Seen.{rules_of};
-ghost use Rattle.rpl_types.specs.Judged.{judged};
+ghost use Rattle.rpl_types.specs.Judged.{rules_judged};
 ghost use Rattle.rpl_verify.specs.Verified.{verified};
 ghost use Rattle.rw_top.specs.Policy.{Ruleset, Code};
 ghost use Rattle.rw_top.specs.Ready.{IsFit};
@@ -98,7 +98,7 @@ fn run_by_ruleset<L: Ledger>(
     inputs: &Inputs,
     steps: &mut Steps<L>,
 ) -> Result<Run, NoMemory>
-    requires fits { IsOk (judged setup.now.basin.now (rules_of typed.now.rules)) }
+    requires fits { IsOk (rules_judged setup.now.basin.now (rules_of typed.now.rules)) }
     requires order { AreInOrder
         (map (λ b. code (b.vtable, b.value)) setup.now.methods.now.methods.items) }
     requires inputs { IsInputsOf setup.now.basin.now inputs.now }

@@ -43,9 +43,11 @@ fn write_section<K: Sink, L: Ledger>(
     requires sheet { sheet.old.basin ≡ setup.now.basin.now }
     ensures out { (before : Option Rows) → MatchResult result
         (AppendsOne (IsRulesText setup.now.basin.now (policy_of policy.now) extras)
-        number (record { before = before; inputs = inputs.now }) (change (K.seen out.old) (K.seen out.new)))
+        number (record { before = before; inputs = inputs.now })
+        (change (K.seen out.old) (K.seen out.new)))
         (StopsAtOne (IsRulesText setup.now.basin.now (policy_of policy.now) extras)
-        number (record { before = before; inputs = inputs.now }) (change (K.seen out.old) (K.seen out.new))) }
+        number (record { before = before; inputs = inputs.now })
+        (change (K.seen out.old) (K.seen out.new))) }
     ensures sheet { sheet.new.basin ≡ sheet.old.basin }
 {
     let end = match tell_by_policy(alloc, setup, policy, extras, number, inputs, steps, sheet) {
@@ -103,9 +105,11 @@ fn write_from<K: Sink, L: Ledger>(
     requires sheet { sheet.old.basin ≡ setup.now.basin.now }
     ensures { (before : Option Rows) → MatchResult result
         (AppendsAll (IsRulesText setup.now.basin.now (policy_of policy.now) extras)
-        number (record { before = before; inputs = inputs }) batches.now (change (K.seen out.old) (K.seen out.new)))
+        number (record { before = before; inputs = inputs }) batches.now
+        (change (K.seen out.old) (K.seen out.new)))
         (StopsAmong (IsRulesText setup.now.basin.now (policy_of policy.now) extras)
-        number (record { before = before; inputs = inputs }) batches.now (change (K.seen out.old) (K.seen out.new))) }
+        number (record { before = before; inputs = inputs }) batches.now
+        (change (K.seen out.old) (K.seen out.new))) }
 {
     let end = match write_section(
         alloc, setup, policy, extras, number, &inputs, steps, sheet, out,

@@ -7,7 +7,7 @@ use Rattle.clap.specs.Simple.{Shape, built, entered, label_of, names_of, new_sha
 use Rattle.clap.specs.Walk.{Held, Names, Row, Rule, Walk, answers_to, arg_by_index, finished, idle, nothing_held, settled, to_positional, value, walk, walk_from, walked}
 use Rattle.rw_words.specs.Command.{Command, command_in, command_named, asked_command, is_empty, taken_words}
 use Rattle.rw_words.specs.Job.{Text, job_name}
-use Rattle.rw_words.specs.Plain.{IsPath, PlainWords, of_cell, plain}
+use Rattle.rw_words.specs.Plain.{IsPath, PlainWords, of_cell, plain_command}
 use Rattle.rw_words.specs.Program.{program}
 use Rattle.rw_words.specs.Seed.{seed_of_text}
 use Rattle.rw_words.specs.declared.job.Job.{Job}
@@ -244,7 +244,7 @@ sample_last seed p = refl
 
 -- what is found of a word that spells the seed
 sample_found : (seed : ℕ) (p : Text) → seed_of_text p ≡ Some seed
-    → option_and_then command_named (found_by (Sample seed) (end (shape_of_job (Sample seed)) nothing_held 1 (p ∷ []))) ≡ Some (plain (Sample seed) [])
+    → option_and_then command_named (found_by (Sample seed) (end (shape_of_job (Sample seed)) nothing_held 1 (p ∷ []))) ≡ Some (plain_command (Sample seed) [])
 sample_found seed p is =
     let rows = finished (shape_of_job (Sample seed)).rules (end (shape_of_job (Sample seed)) nothing_held 1 (p ∷ [])).held in
     ap (λ (found : Option ℕ). option_and_then (command_in rows) (option_map (λ number. Sample number) found)) is
@@ -254,13 +254,13 @@ two p q first second = path_more p (q ∷ []) first (path_more q [] second tt)
 
 pub plain_words : PlainWords
 plain_words = record {
-  run = λ p q r first second third. asks Run (p ∷ q ∷ r ∷ []) (plain Run (p ∷ q ∷ r ∷ [])) refl (path_more p (q ∷ r ∷ []) first (two q r second third))
+  run = λ p q r first second third. asks Run (p ∷ q ∷ r ∷ []) (plain_command Run (p ∷ q ∷ r ∷ [])) refl (path_more p (q ∷ r ∷ []) first (two q r second third))
       (refl, refl, (refl, refl, (refl, refl, tt))) (run_last p q r) refl;
-  simulate = λ p q first second. asks Simulate (p ∷ q ∷ []) (plain Simulate (p ∷ q ∷ [])) refl (two p q first second) (refl, refl, (refl, refl, tt)) (simulate_last p q) refl;
-  check = λ p q first second. asks Check (p ∷ q ∷ []) (plain Check (p ∷ q ∷ [])) refl (two p q first second) (refl, refl, (refl, refl, tt)) (check_last p q) refl;
-  compile = λ p q first second. asks Compile (p ∷ q ∷ []) (plain Compile (p ∷ q ∷ [])) refl (two p q first second) (refl, refl, (refl, refl, tt)) (compile_last p q) refl;
-  why = λ p q r s t first second third fourth fifth. asks Why (p ∷ q ∷ r ∷ s ∷ t ∷ []) (of_cell s t (plain Why (p ∷ q ∷ r ∷ []))) refl
+  simulate = λ p q first second. asks Simulate (p ∷ q ∷ []) (plain_command Simulate (p ∷ q ∷ [])) refl (two p q first second) (refl, refl, (refl, refl, tt)) (simulate_last p q) refl;
+  check = λ p q first second. asks Check (p ∷ q ∷ []) (plain_command Check (p ∷ q ∷ [])) refl (two p q first second) (refl, refl, (refl, refl, tt)) (check_last p q) refl;
+  compile = λ p q first second. asks Compile (p ∷ q ∷ []) (plain_command Compile (p ∷ q ∷ [])) refl (two p q first second) (refl, refl, (refl, refl, tt)) (compile_last p q) refl;
+  why = λ p q r s t first second third fourth fifth. asks Why (p ∷ q ∷ r ∷ s ∷ t ∷ []) (of_cell s t (plain_command Why (p ∷ q ∷ r ∷ []))) refl
       (path_more p (q ∷ r ∷ s ∷ t ∷ []) first (path_more q (r ∷ s ∷ t ∷ []) second (path_more r (s ∷ t ∷ []) third (two s t fourth fifth))))
       (refl, refl, (refl, refl, (refl, refl, (refl, refl, (refl, refl, tt))))) (why_last p q r s t) refl;
-  sample = λ p seed first is. asks (Sample seed) (p ∷ []) (plain (Sample seed) []) refl (path_more p [] first tt) (refl, refl, tt) (sample_last seed p) (sample_found seed p is);
+  sample = λ p seed first is. asks (Sample seed) (p ∷ []) (plain_command (Sample seed) []) refl (path_more p [] first tt) (refl, refl, tt) (sample_last seed p) (sample_found seed p is);
 }

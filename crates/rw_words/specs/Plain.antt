@@ -12,8 +12,8 @@ pub record IsPath (word : Text) : Type 0 where
   pub some : 1 ≤ length word
   pub no_option : slice_index word 0 ≢ 45
 
-abbrev pub plain : Job → List Text → Command
-plain job paths = record {
+abbrev pub plain_command : Job → List Text → Command
+plain_command job paths = record {
   job = job;
   paths = paths;
   cell = None;
@@ -31,15 +31,15 @@ of_cell slot step command = record command { cell = Some (cell_words slot step) 
 -- the name of a job and its paths, and the words behind them, ask for it
 pub record PlainWords : Type 0 where
   pub run : (model policy inputs : Text) → IsPath model → IsPath policy → IsPath inputs
-      → asked_command (job_name Run ∷ model ∷ policy ∷ inputs ∷ []) ≡ Some (plain Run (model ∷ policy ∷ inputs ∷ []))
+      → asked_command (job_name Run ∷ model ∷ policy ∷ inputs ∷ []) ≡ Some (plain_command Run (model ∷ policy ∷ inputs ∷ []))
   pub simulate : (model inputs : Text) → IsPath model → IsPath inputs
-      → asked_command (job_name Simulate ∷ model ∷ inputs ∷ []) ≡ Some (plain Simulate (model ∷ inputs ∷ []))
+      → asked_command (job_name Simulate ∷ model ∷ inputs ∷ []) ≡ Some (plain_command Simulate (model ∷ inputs ∷ []))
   pub check : (model policy : Text) → IsPath model → IsPath policy
-      → asked_command (job_name Check ∷ model ∷ policy ∷ []) ≡ Some (plain Check (model ∷ policy ∷ []))
+      → asked_command (job_name Check ∷ model ∷ policy ∷ []) ≡ Some (plain_command Check (model ∷ policy ∷ []))
   pub compile : (model rules : Text) → IsPath model → IsPath rules
-      → asked_command (job_name Compile ∷ model ∷ rules ∷ []) ≡ Some (plain Compile (model ∷ rules ∷ []))
+      → asked_command (job_name Compile ∷ model ∷ rules ∷ []) ≡ Some (plain_command Compile (model ∷ rules ∷ []))
   pub why : (model policy inputs slot step : Text) → IsPath model → IsPath policy → IsPath inputs → IsPath slot → IsPath step
       → asked_command (job_name Why ∷ model ∷ policy ∷ inputs ∷ slot ∷ step ∷ [])
-      ≡ Some (of_cell slot step (plain Why (model ∷ policy ∷ inputs ∷ [])))
+      ≡ Some (of_cell slot step (plain_command Why (model ∷ policy ∷ inputs ∷ [])))
   pub sample : (text : Text) (seed : ℕ) → IsPath text → seed_of_text text ≡ Some seed
-      → asked_command (job_name (Sample seed) ∷ text ∷ []) ≡ Some (plain (Sample seed) [])
+      → asked_command (job_name (Sample seed) ∷ text ∷ []) ≡ Some (plain_command (Sample seed) [])

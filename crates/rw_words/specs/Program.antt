@@ -8,8 +8,8 @@ use Rattle.rw_words.specs.declared.job.Job.{Job}
 use Rattle.rw_words.specs.declared.job.Job.TheVariants.{Run, Simulate, Check, Compile, Why, Sample}
 
 -- a word that has to be there
-abbrev pub required : Text → Rule
-required name = record (new_rule name) { required = true; action = Some Set }
+abbrev pub required_word : Text → Rule
+required_word name = record (new_rule name) { required = true; action = Some Set }
 
 -- an option, with the name by which it is given
 abbrev pub option : ArgAction → Text → Rule
@@ -22,8 +22,8 @@ with_rules app (rule ∷ rest) = with_rules (with_rule app rule) rest
 -- what is told of a command
 abbrev pub usage_of : Job → App
 usage_of job =
-    let paths = with_rules (new_app (job_name job)) (map required (paths_of job)) in
-    let words = with_rules paths (map required (others_of job)) in
+    let paths = with_rules (new_app (job_name job)) (map required_word (paths_of job)) in
+    let words = with_rules paths (map required_word (others_of job)) in
     let options = with_rules words (map (option Set) (job_options job)) in
     with_rules options (map (option SetTrue) (flags_of job))
 

@@ -12,9 +12,9 @@ abbrev pub are_digits : Text → Bool
 are_digits text = (nat_le 1 (length text) && nat_le (length text) 20) && list_all is_digit text
 
 -- the number that digits spell behind those that spell n
-abbrev pub number_after : ℕ → Text → ℕ
-number_after n [] = n
-number_after n (digit ∷ digits) = number_after (n * 10 + (digit - 48)) digits
+abbrev pub seed_number_after : ℕ → Text → ℕ
+seed_number_after n [] = n
+seed_number_after n (digit ∷ digits) = seed_number_after (n * 10 + (digit - 48)) digits
 
 -- a number of at most 2^64 - 1
 abbrev pub seed_within : ℕ → Option ℕ
@@ -22,4 +22,4 @@ seed_within number = if nat_le number 18446744073709551615 then Some number else
 
 -- the seed that a text spells, if it spells one
 abbrev pub seed_of_text : Text → Option ℕ
-seed_of_text text = if are_digits text then seed_within (number_after 0 text) else None
+seed_of_text text = if are_digits text then seed_within (seed_number_after 0 text) else None

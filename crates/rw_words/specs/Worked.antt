@@ -2,7 +2,7 @@
 use Rattle.std.specs.Prelude.{◌≡◌, ◌==◌, List, ℕ, [], ◌∷◌, codes, true, None, Some, if◌then◌else◌}
 use Rattle.rw_words.specs.Command.{Command, asked_command}
 use Rattle.rw_words.specs.Job.{Text}
-use Rattle.rw_words.specs.Plain.{of_cell, plain}
+use Rattle.rw_words.specs.Plain.{of_cell, plain_command}
 use Rattle.rw_words.specs.declared.job.Job.TheVariants.{Run, Simulate, Check, Compile, Why, Sample}
 use Rattle.rw_words.specs.declared.order.Order.TheVariants.{Newest}
 
@@ -21,19 +21,19 @@ words_in_line (c ∷ rest) = if c == 32 then [] ∷ words_in_line rest else befo
 
 -- `run m p i`
 abbrev pub runs : Command
-runs = plain Run (codes "m" ∷ codes "p" ∷ codes "i" ∷ [])
+runs = plain_command Run (codes "m" ∷ codes "p" ∷ codes "i" ∷ [])
 
 -- `simulate m i`
 abbrev pub simulate_line : Command
-simulate_line = plain Simulate (codes "m" ∷ codes "i" ∷ [])
+simulate_line = plain_command Simulate (codes "m" ∷ codes "i" ∷ [])
 
 -- `why m p i s` of a timestep
 abbrev pub whys : Text → Command
-whys step = of_cell (codes "s") step (plain Why (codes "m" ∷ codes "p" ∷ codes "i" ∷ []))
+whys step = of_cell (codes "s") step (plain_command Why (codes "m" ∷ codes "p" ∷ codes "i" ∷ []))
 
 -- `sample` of a seed
 abbrev pub samples : ℕ → Command
-samples seed = plain (Sample seed) []
+samples seed = plain_command (Sample seed) []
 
 -- with a file of edits
 abbrev pub edited : Text → Command → Command
@@ -63,8 +63,8 @@ Nothing line = asked_command (words_in_line line) ≡ None
 pub record AskWithOptions : Type 0 where
   pub run : LineAsksFor (codes "run m p i") runs
   pub simulate : LineAsksFor (codes "simulate m i") simulate_line
-  pub check : LineAsksFor (codes "check m p") (plain Check (codes "m" ∷ codes "p" ∷ []))
-  pub compile : LineAsksFor (codes "compile m r") (plain Compile (codes "m" ∷ codes "r" ∷ []))
+  pub check : LineAsksFor (codes "check m p") (plain_command Check (codes "m" ∷ codes "p" ∷ []))
+  pub compile : LineAsksFor (codes "compile m r") (plain_command Compile (codes "m" ∷ codes "r" ∷ []))
   pub why : LineAsksFor (codes "why m p i s 1") (whys (codes "1"))
   pub why_ended : LineAsksFor (codes "why -- m p i s -1") (whys (codes "-1"))
   pub sample : LineAsksFor (codes "sample 0") (samples 0)
@@ -87,17 +87,17 @@ pub record AskWithOptions : Type 0 where
   pub attached_equals : LineAsksFor (codes "run m p i --edits==") (edited (codes "=") runs)
   pub hyphen_of_edits : LineAsksFor (codes "run m p i --edits -") (edited (codes "-") runs)
   -- `-` alone is a path
-  pub hyphen : LineAsksFor (codes "simulate - i") (plain Simulate (codes "-" ∷ codes "i" ∷ []))
+  pub hyphen : LineAsksFor (codes "simulate - i") (plain_command Simulate (codes "-" ∷ codes "i" ∷ []))
   -- behind `--` no word is an option
-  pub ended : LineAsksFor (codes "simulate -- --flags -x") (plain Simulate (codes "--flags" ∷ codes "-x" ∷ []))
+  pub ended : LineAsksFor (codes "simulate -- --flags -x") (plain_command Simulate (codes "--flags" ∷ codes "-x" ∷ []))
   pub ended_between : LineAsksFor (codes "simulate --flags m -- --trace")
-      (flagged (plain Simulate (codes "m" ∷ codes "--trace" ∷ [])))
+      (flagged (plain_command Simulate (codes "m" ∷ codes "--trace" ∷ [])))
   pub ended_last : LineAsksFor (codes "simulate m i --") simulate_line
-  pub ended_twice : LineAsksFor (codes "simulate -- -- i") (plain Simulate (codes "--" ∷ codes "i" ∷ []))
+  pub ended_twice : LineAsksFor (codes "simulate -- -- i") (plain_command Simulate (codes "--" ∷ codes "i" ∷ []))
   -- the name of a command is a path behind another
-  pub command_again : LineAsksFor (codes "simulate run check") (plain Simulate (codes "run" ∷ codes "check" ∷ []))
+  pub command_again : LineAsksFor (codes "simulate run check") (plain_command Simulate (codes "run" ∷ codes "check" ∷ []))
   -- a path holds what it holds
-  pub equals : LineAsksFor (codes "simulate a=b i") (plain Simulate (codes "a=b" ∷ codes "i" ∷ []))
+  pub equals : LineAsksFor (codes "simulate a=b i") (plain_command Simulate (codes "a=b" ∷ codes "i" ∷ []))
 
 pub record AskForNothing : Type 0 where
   pub none : asked_command [] ≡ None

@@ -1,14 +1,14 @@
 ghost use Rattle.std.specs.Prelude.{◌≡◌, IfOk, false, map};
 ghost use Rattle.clap.specs.Words.{app_of, rule_of};
 ghost use Rattle.clap.specs.declared.builder.command.Command.TheViews.{out-Command};
-ghost use Rattle.rw_words.specs.Program.{bare, option, program, required, usage_of, with_rules};
+ghost use Rattle.rw_words.specs.Program.{bare, option, program, required_word, usage_of, with_rules};
 
 use crate::Job;
 use clap::{Arg, ArgAction, Command};
 use std::alloc::{AllocError, Global};
 
 fn required<'a>(alloc: Global, name: &'a str) -> Arg<'a>
-    ensures rule { rule_of result ≡ required name.entry.now }
+    ensures rule { rule_of result ≡ required_word name.entry.now }
     ensures local { result.global ≡ false }
 {
     Arg::new(alloc, name).required(true).action(ArgAction::Set)
@@ -29,7 +29,7 @@ fn with_words<'a>(
 ) -> Result<Command<'a>, AllocError>
     requires local { (out-Command command).has_globals ≡ false }
     ensures { IfOk result (λ c. (app_of c ≡ with_rules (app_of command.entry)
-        (map required (map (λ name. name.now) names.entry.now)))
+        (map required_word (map (λ name. name.now) names.entry.now)))
         × ((out-Command c).has_globals ≡ false)) }
 {
     let mut told = command;

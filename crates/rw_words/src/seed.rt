@@ -1,7 +1,7 @@
 // The seed of a sample, as a word spells it.
 ghost use Rattle.std.specs.Prelude.{◌≡◌, IsTrue};
 ghost use Rattle.std.specs.List.{list_all};
-ghost use Rattle.rw_words.specs.Seed.{are_digits, is_digit, number_after, seed_of_text};
+ghost use Rattle.rw_words.specs.Seed.{are_digits, is_digit, seed_number_after, seed_of_text};
 
 // The greatest number of digits of a seed.
 const DIGITS_MAX: usize = 20;
@@ -32,7 +32,7 @@ fn are_digits(text: &[u8]) -> bool
 // The number that the digits spell.
 fn number_of(digits: &[u8]) -> u128
     requires { IsTrue (are_digits digits.now) }
-    ensures { result ≡ number_after 0 digits.now }
+    ensures { result ≡ seed_number_after 0 digits.now }
 {
     let mut number = 0u128;
     for digit in digits {

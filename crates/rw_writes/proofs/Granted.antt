@@ -6,7 +6,7 @@ use Rattle.rw_run.proofs.Common.{Asked, Cells, end_in, is_written}
 use Rattle.rw_run.specs.Next.{asked_by_rule, asked_of_rule, is_put_again, last_ones}
 use Rattle.rw_run.specs.Policy.{CanAsk}
 use Rattle.rw_dispatch.specs.Writes.{AreWrites, CanWrite}
-use Rattle.rw_writes.specs.Writes.{written_of}
+use Rattle.rw_writes.specs.Writes.{written_puts}
 
 -- ---- what a rule asks for
 
@@ -38,5 +38,5 @@ last_write basin P (put ∷ puts) all = by (is_put_again basin put puts) (last_w
     by true rest = rest
     by false rest = All-cons P put (last_ones basin puts) (All-head P put puts all) rest
 
-pub all_written : (basin : Draft) (cells : Cells) (P : Asked → Type 0) (puts : List Asked) → All P puts → All P (written_of basin cells puts)
+pub all_written : (basin : Draft) (cells : Cells) (P : Asked → Type 0) (puts : List Asked) → All P puts → All P (written_puts basin cells puts)
 all_written basin cells P puts all = All-filter (λ (put : Asked). is_written (end_in cells put)) P (last_ones basin puts) (last_write basin P puts all)

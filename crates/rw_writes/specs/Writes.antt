@@ -15,15 +15,15 @@ pub record Writes : Type 0 where
   pub written : List Asked
 
 -- without those that are put again later, those that the put rules write
-abbrev pub written_of : Draft → Cells → List Asked → List Asked
-written_of basin cells puts = puts_written cells (last_ones basin puts)
+abbrev pub written_puts : Draft → Cells → List Asked → List Asked
+written_puts basin cells puts = puts_written cells (last_ones basin puts)
 
 -- those of a rule's puts that are written
 abbrev pub writes_of : Draft → Cells → ℕ → ℕ → List RulePut → List Asked
-writes_of basin cells rule step puts = written_of basin cells (asked_of_rule basin rule step puts)
+writes_of basin cells rule step puts = written_puts basin cells (asked_of_rule basin rule step puts)
 
 -- so many are written, and there is room for the puts of any firing
-pub record HasRoom (written asked kept : ℕ) : Type 0 where
+pub record HasPutRoom (written asked kept : ℕ) : Type 0 where
   pub few : written ≤ PUTS_MAX
   pub for_asked : PUTS_MAX ≤ asked
   pub for_written : PUTS_MAX ≤ kept

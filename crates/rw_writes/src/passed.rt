@@ -4,7 +4,7 @@ ghost use Rattle.rw_dispatch.specs.Writes.{AreWrites, CanWrite};
 ghost use Rattle.rw_series.specs.Series.{held};
 ghost use Rattle.rw_run.specs.Dispatch.{end_in, is_written};
 ghost use Rattle.rw_run.specs.Next.{is_put_again};
-ghost use Rattle.rw_writes.specs.Writes.{written_of};
+ghost use Rattle.rw_writes.specs.Writes.{written_puts};
 
 use rw_model::{Basin, PutEnd, put_end};
 use rw_run::Write;
@@ -46,9 +46,9 @@ fn keep_one(
     ensures room { written.new.cap ≡ written.old.cap }
     ensures more { length written.new.items ≤ length written.old.items + 1 }
     ensures kept { written.new.items
-        ++ written_of basin.now (held series.now) later.now
+        ++ written_puts basin.now (held series.now) later.now
         ≡ written.old.items
-        ++ written_of basin.now (held series.now) (write.now ∷ later.now) }
+        ++ written_puts basin.now (held series.now) (write.now ∷ later.now) }
 {
     if is_put_again(basin, write, later) {
         return;
@@ -78,7 +78,7 @@ pub(crate) fn keep_written(
     ensures room { written.new.cap ≡ written.old.cap }
     ensures few { length written.new.items ≤ length asked.now }
     ensures kept { written.new.items
-        ≡ written_of basin.now (held series.now) asked.now }
+        ≡ written_puts basin.now (held series.now) asked.now }
 {
     written.clear();
     for place in 0..asked.len() {

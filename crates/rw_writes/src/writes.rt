@@ -32,7 +32,7 @@ impl Model for Writes {
 
     ghost view = { λ w. record { asked = w.asked.items; written = w.written.items } };
 
-    ghost invariant = { λ w. specs.HasRoom (length w.written.items) w.asked.cap w.written.cap };
+    ghost invariant = { λ w. specs.HasPutRoom (length w.written.items) w.asked.cap w.written.cap };
 }
 
 impl Writes {

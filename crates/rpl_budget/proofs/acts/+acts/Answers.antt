@@ -1,7 +1,7 @@
 use Rattle.std.proofs.Common.{◌∷◌, ap, ap₂, sym, ◌∙◌}
 use Rattle.rpl_tree.specs.Seen.{act_of, acts_in, tree_of}
-use Rattle.rpl_budget.specs.Pass.{Measured, bound, branched, pass, pass_act, pass_acts}
-use Rattle.rpl_budget.specs.Seen.{functions_of, kind_seen, measured_seen, names_of}
+use Rattle.rpl_budget.specs.Pass.{Measured, measured_binding, load_of_branches, pass, pass_act, pass_acts}
+use Rattle.rpl_budget.specs.Seen.{functions_of, tree_kind_seen, measured_seen, names_of}
 use Rattle.rpl_budget.proofs.Viewed.{act_of_branch, act_of_with}
 use Rattle.rpl_budget.proofs.acts.+acts.Goals as goal
 
@@ -14,8 +14,8 @@ act-returns-in_ok-second-in-If-clause-found t c =
     let found = first.found ∙ ap₂ (λ ns ss. pass_acts functions (names_of ns) (acts_in ss)) test.names c.deref.ensures.value in
     let other = c.in_ok-second-in-If.ensures.found
     ∙ ap₂ (λ ns ss. pass_acts functions (names_of ns) (acts_in ss)) (first.names ∙ test.names) c.deref-in-If.ensures.value in
-    c.branched.ensures ∙ ap (λ (m : Measured). branched m.load c.in_ok-first-in-If.first c.in_ok-second-in-If.second) test.found
-    ∙ ap₂ (branched (pass functions names (tree_of c.in-If.condition)).load) found other
+    c.branched.ensures ∙ ap (λ (m : Measured). load_of_branches m.load c.in_ok-first-in-If.first c.in_ok-second-in-If.second) test.found
+    ∙ ap₂ (load_of_branches (pass functions names (tree_of c.in-If.condition)).load) found other
     ∙ ap (pass_act functions names) (sym (act_of_branch c.in-If.condition c.in-If.yes c.in-If.no) ∙ ap act_of (sym c.in-If.is))
 
 pub act-returns-in_ok-inside-in-With-clause-found : goal.act-returns-in_ok-inside-in-With-clause-found
@@ -23,10 +23,10 @@ act-returns-in_ok-inside-in-With-clause-found t c =
     let functions = functions_of c.args.known.now in
     let names = names_of c.args.names.now in
     let value = c.in_ok-value-in-With in
-    let kind = kind_seen value.value.kind in
+    let kind = tree_kind_seen value.value.kind in
     let found = c.in_ok-inside-in-With.ensures.found
     ∙ ap (λ x. pass_acts functions ((x, kind) ∷ names_of c.pass-in-With.new.names) (acts_in c.deref-in-With-2.result.now)) c.deref-in-With.ensures.value
     ∙ ap₂ (λ ns ss. pass_acts functions ((c.in-With.name.items, kind) ∷ names_of ns) (acts_in ss)) value.ensures.names c.deref-in-With-2.ensures.value in
-    c.bound.ensures ∙ ap (bound (measured_seen value.value)) found
-    ∙ ap (λ (m : Measured). bound m (pass_acts functions ((c.in-With.name.items, m.kind) ∷ names) (acts_in c.in-With.body.items))) value.ensures.found
+    c.bound.ensures ∙ ap (measured_binding (measured_seen value.value)) found
+    ∙ ap (λ (m : Measured). measured_binding m (pass_acts functions ((c.in-With.name.items, m.kind) ∷ names) (acts_in c.in-With.body.items))) value.ensures.found
     ∙ ap (pass_act functions names) (sym (act_of_with c.in-With.name c.in-With.value c.in-With.body) ∙ ap act_of (sym c.in-With.is))

@@ -1,7 +1,7 @@
 use Rattle.std.proofs.Common.{◌∙◌, ap, ap₂, subst, sym}
 use Rattle.rpl_tree.proofs.Common.{Tree, call, choice, each, two, tree_of, trees_in, tree_of_call}
 use Rattle.rpl_compile.specs.Seen.{callees_of, written_of}
-use Rattle.rpl_compile.specs.Writes.{Writes}
+use Rattle.rpl_compile.specs.Writes.{WritesKind}
 use Rattle.rpl_compile.specs.Written.{compiled}
 use Rattle.rpl_compile.proofs.expression.+code.Goals as goal
 
@@ -10,18 +10,18 @@ code-returns-in-Call t c =
     let same = ap₂ call c.deref-in-Call.ensures.value (ap trees_in c.deref-in-Call-2.ensures.value)
     ∙ sym (tree_of_call c.in-Call.name c.in-Call.args) in
     rw c.in-Call.is
-    (subst (λ (x : Tree). Writes c.call.new.w c.call.result (compiled (callees_of c.args.known.now) (written_of c.args.w.now) x)) same c.call.ensures)
+    (subst (λ (x : Tree). WritesKind c.call.new.w c.call.result (compiled (callees_of c.args.known.now) (written_of c.args.w.now) x)) same c.call.ensures)
 
 pub code-returns-in-If : goal.code-returns-in-If
 code-returns-in-If t c =
     rw c.in-If.is
-    (subst (λ (x : Tree). Writes c.choice.new.w c.choice.result (compiled (callees_of c.args.known.now) (written_of c.args.w.now) x))
+    (subst (λ (x : Tree). WritesKind c.choice.new.w c.choice.result (compiled (callees_of c.args.known.now) (written_of c.args.w.now) x))
     (λ i. choice (tree_of (c.deref-in-If.ensures i)) (tree_of (c.deref-in-If-2.ensures i)) (tree_of (c.deref-in-If-3.ensures i))) c.choice.ensures)
 
 pub code-returns-in-For : goal.code-returns-in-For
 code-returns-in-For t c =
     rw c.in-For.is
-    (subst (λ (x : Tree). Writes c.each.new.w c.each.result (compiled (callees_of c.args.known.now) (written_of c.args.w.now) x))
+    (subst (λ (x : Tree). WritesKind c.each.new.w c.each.result (compiled (callees_of c.args.known.now) (written_of c.args.w.now) x))
     (λ i. each (c.deref-in-For.ensures.value i) (tree_of (c.deref-in-For-2.ensures i)) (c.deref-in-For-3.ensures.value i) (tree_of
     (c.deref-in-For-4.ensures i)) (tree_of (c.deref-in-For-5.ensures i)))
     c.each.ensures)
@@ -29,5 +29,5 @@ code-returns-in-For t c =
 pub code-returns-in-Two : goal.code-returns-in-Two
 code-returns-in-Two t c =
     rw c.in-Two.is
-    (subst (λ (x : Tree). Writes c.two.new.w c.two.result (compiled (callees_of c.args.known.now) (written_of c.args.w.now) x))
+    (subst (λ (x : Tree). WritesKind c.two.new.w c.two.result (compiled (callees_of c.args.known.now) (written_of c.args.w.now) x))
     (λ i. two c.in-Two.word (tree_of (c.deref-in-Two.ensures i)) (tree_of (c.deref-in-Two-2.ensures i))) c.two.ensures)

@@ -2,7 +2,7 @@ use Rattle.std.proofs.Common.{◌∙◌, ap, ap₂, subst, sym, List, ℕ}
 use Rattle.rpl_tree.proofs.Common.{Acts, branch, with_name, acts_in, tree_of}
 use Rattle.rpl_types.proofs.Viewed.{act_of_branch, act_of_with}
 use Rattle.rpl_compile.specs.Seen.{callees_of, written_of}
-use Rattle.rpl_compile.specs.Writes.{Leaves}
+use Rattle.rpl_compile.specs.Writes.{LeavesWritten}
 use Rattle.rpl_compile.specs.Written.{Written, compiled_act, compiled_acts, without_name}
 use Rattle.rpl_compile.proofs.Acts.{branch_written}
 use Rattle.rpl_compile.proofs.statement.+statements.Goals as goal
@@ -12,7 +12,7 @@ write_statement-returns-in_ok-statements-in-If-2 t c =
     let same = ap₂ (branch (tree_of c.in-If.condition)) (ap acts_in c.deref.ensures.value) (ap acts_in c.deref-in-If.ensures.value)
     ∙ sym (act_of_branch c.in-If.condition c.in-If.yes c.in-If.no) in
     rw c.in-If.is
-    (subst (λ (x : Written). Leaves c.end_second.new.w c.end_second.result x)
+    (subst (λ (x : Written). LeavesWritten c.end_second.new.w c.end_second.result x)
     (branch_written (callees_of c.args.known.now) (written_of c.args.w.now) _ _ _ _ (tree_of c.in-If.condition)
     (acts_in c.deref.result.now) (acts_in c.deref-in-If.result.now) _ _
     c.in_ok-branch-in-If.ensures.written c.in_ok-branch-in-If.ensures.place c.in_ok-statements-in-If.ensures c.in_ok-jump-in-If.ensures.written

@@ -1,5 +1,5 @@
 use Rattle.rw_base.proofs.Common.{rules, arith, map, map-append}
-use Rattle.rpl_parse.specs.Tokens.{seen, lined_of}
+use Rattle.rpl_parse.specs.Tokens.{token_seen, lined_of}
 use Rattle.rpl_parse.proofs.ScanFacts.{all_read, bad_read, gap_read, token_read}
 use Rattle.rpl_parse.proofs.scan.tokens_of.Goals as goal
 use Rattle.rpl_parse.proofs.scan.tokens_of.Goals.{in-Gap, in-Token+in_ok-pushed-in-Token}
@@ -27,7 +27,7 @@ loop-turn-preserved c =
             line = omega (arith, w.at-is, pos, w.line-is, w.line_behind-line.ensures.within, c.loop-turn.invariant.line);
           }
       | in-Token+in_ok-pushed-in-Token w ↦
-          let go = token_read c.args.text.now ts c.loop-turn.line c.loop-turn.at c.loop-turn.invariant.same (seen c.args.text.now w.in-Token.token) w.in-Token.n w.in-Token.ensures.0 w.in-Token.ensures.1 (search (rules, arith)) in
+          let go = token_read c.args.text.now ts c.loop-turn.line c.loop-turn.at c.loop-turn.invariant.same (token_seen c.args.text.now w.in-Token.token) w.in-Token.n w.in-Token.ensures.0 w.in-Token.ensures.1 (search (rules, arith)) in
           let pos = w.in-Token.ensures.1 in
           record {
             same = rw (w.tokens-is, w.line-is, w.at-is, w.in_ok-pushed-in-Token.ensures.ok, map-append (lined_of c.args.text.now) c.loop-turn.tokens.items _) go;

@@ -1,14 +1,14 @@
 use Rattle.rw_base.proofs.Common.{arith, ◌∙◌, sym, ◌∷◌, [], length, map, map-append, length-map}
 use Rattle.rpl_tree.specs.Seen.{act_of}
-use Rattle.rpl_parse.specs.ReadingActs.{act_at, done, step}
+use Rattle.rpl_parse.specs.ReadingActs.{act_at, done, read_step}
 use Rattle.rpl_parse.specs.declared.token.TokenAt.{TokenAt}
-use Rattle.rpl_parse.specs.Tokens.{toks, seen}
+use Rattle.rpl_parse.specs.Tokens.{toks, token_seen}
 use Rattle.rpl_parse.proofs.Faults.{fails_on}
 use Rattle.rpl_parse.proofs.TurnsActs.{acts_stop, acts_fail, acts_go, acts_is, acts_fault}
 use Rattle.rpl_parse.proofs.statement.+acts.Goals as goal
 
 pub statements-loop-turn-init : goal.statements-loop-turn-init
-statements-loop-turn-init t c = record { same = rw c.new-acts.ensures.items (acts_is c.args.limit _ (toks c.args.text.now c.args.tokens.now) (let l = length-map c.args.tokens.now (λ (t : TokenAt). seen c.args.text.now t.token) in omega (arith, l))); within = omega arith }
+statements-loop-turn-init t c = record { same = rw c.new-acts.ensures.items (acts_is c.args.limit _ (toks c.args.text.now c.args.tokens.now) (let l = length-map c.args.tokens.now (λ (t : TokenAt). token_seen c.args.text.now t.token) in omega (arith, l))); within = omega arith }
 
 pub statements-returns-in_default : goal.statements-returns-in_default
 statements-returns-in_default t c =
@@ -26,5 +26,5 @@ pub statements-loop-turn-preserved : goal.statements-loop-turn-preserved
 statements-loop-turn-preserved t c =
     let a = done (map act_of c.loop-turn.acts.items) c.loop-turn.most (toks c.args.text.now c.loop-turn.rest.now) in
     let h = rw c.in-Some.is at c.in_ok-act.ensures in
-    let go = acts_go (act_at c.args.limit) (length c.args.tokens.now) c.loop-turn._turn a (step (act_of c.in-Some.act) c.in-Some.deep (toks c.args.text.now c.in-Some.after.now)) c.loop-turn-test.true h.0 in
+    let go = acts_go (act_at c.args.limit) (length c.args.tokens.now) c.loop-turn._turn a (read_step (act_of c.in-Some.act) c.in-Some.deep (toks c.args.text.now c.in-Some.after.now)) c.loop-turn-test.true h.0 in
     record { same = rw (c.in_ok-pushed.ensures.ok, map-append act_of c.loop-turn.acts.items (c.in-Some.act ∷ []), c.max_of-most.ensures) (sym go ∙ c.loop-turn.invariant.same); within = let w = h.1 in omega (arith, c.max_of-most.ensures, w, c.loop-turn.invariant.within) }

@@ -1,4 +1,4 @@
-use Rattle.rpl_compile.specs.Budgets.{budgets_of}
+use Rattle.rpl_compile.specs.Budgets.{code_budgets_of}
 use Rattle.rpl_compile.specs.Translate.{translate}
 use Rattle.rpl_policy.proofs.RulesetPolicy.{fire_alike}
 use Rattle.rpl_policy.proofs.law.rules_keep_promises.Goals as goal
@@ -8,4 +8,4 @@ returns-clause-alike c = λ basin rules typed few fewer. fire_alike basin rules 
 
 pub returns-clause-promises : goal.returns-clause-promises
 returns-clause-promises c = λ basin rules typed few fewer.
-    c.code_keeps_promises.ensures basin (translate rules) (budgets_of rules) (c.compiled_budgets.ensures basin rules typed few fewer)
+    c.code_keeps_promises.ensures basin (translate rules) (code_budgets_of rules) (c.compiled_budgets.ensures basin rules typed few fewer)

@@ -3,7 +3,7 @@ use Rattle.std.proofs.lemmas.List.{length-drop}
 use Rattle.rpl_budget.specs.Seen.{budget_seen}
 use Rattle.rpl_tree.specs.Seen.{declared_of}
 use Rattle.rpl_types.specs.Declarations.{node_refusal}
-use Rattle.rpl_types.specs.Judged.{refusal, with_budget}
+use Rattle.rpl_types.specs.Judged.{type_refusal, with_budget}
 use Rattle.rpl_types.specs.Seen.{callable_of, signatures_of}
 use Rattle.rpl_types.proofs.Counting.{as_many, its_budget, no_cost}
 use Rattle.rpl_types.proofs.InTurn.{goes_on, stops}
@@ -33,7 +33,7 @@ returns-in-Err c = (
       stops c.args.basin.now rules (place + 1) (signatures_of c.loop-place.earlier.items) (declared_of c.index-declarations-place.result)
       (map declared_of (drop (place + 1) declarations)) (map declared_of (drop place declarations)) (budget_seen (get_or c.args.costs.now place no_cost)) _ _
       (ap (map declared_of) step) its c.loop-place.invariant why.kind why.node (known ∙ c.in-Err.ensures.0 (node_refusal why.kind why.node) told.1)
-      ∙ ap (λ k. Err (refusal why.kind k why.node)) (sym told.0),
+      ∙ ap (λ k. Err (type_refusal why.kind k why.node)) (sym told.0),
   c.fault_at.ensures.memory,
 )
 

@@ -1,6 +1,6 @@
 use Rattle.rw_base.proofs.Common.{◌+◌, [], ◌∷◌, ◌++◌, map, drop, refl, ap, ◌∙◌, arith, drop_all}
 use Rattle.rpl_verify.specs.Places.{spots}
-use Rattle.rpl_verify.specs.Notes.{budget_seen, note_of}
+use Rattle.rpl_verify.specs.Notes.{numbers_seen, note_of}
 use Rattle.rpl_verify.specs.Steps.{scope_in}
 use Rattle.rpl_verify.specs.Walked.{declares}
 use Rattle.rpl_verify.proofs.WalkFacts.{next_is, spots_at}
@@ -20,7 +20,7 @@ loop-place-preserved c =
     let l = c.loop-place in
     let lines = c.args.lines.now in
     let i = c.index-lines-place.result in
-    let budgets = map budget_seen c.args.budgets.now in
+    let budgets = map numbers_seen c.args.budgets.now in
     let scope = scope_in c.args.basin.now c.args.blocks.now c.args.number c.args.head.now c.args.locals.now (spots lines) in
     let noted = c.in_ok-push.ensures.items ∙ ap (λ n. l.notes.items ++ n ∷ []) (c.place_note.ensures c.args.basin.now c.args.number c.args.head.now (spots lines)) in
     left_on scope (noting scope budgets) lines l.place l.walk c.judge.new.walk l.notes.items c.push.new.self.items (note_of scope budgets l.walk.before i) i (drop (l.place + 1) lines) (drop l.place lines)
@@ -30,7 +30,7 @@ pub returns : goal.returns
 returns c =
     let l = c.loop-place in
     let lines = c.args.lines.now in
-    let budgets = map budget_seen c.args.budgets.now in
+    let budgets = map numbers_seen c.args.budgets.now in
     let scope = scope_in c.args.basin.now c.args.blocks.now c.args.number c.args.head.now c.args.locals.now (spots lines) in
     let t = c.loop-place-test.false in
     let noted = c.in_ok-push-2.ensures.items ∙ ap (λ n. l.notes.items ++ n ∷ []) (c.end_note.ensures scope budgets c.words_of_all-local_words.ensures) in

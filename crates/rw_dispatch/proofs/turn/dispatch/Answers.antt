@@ -1,7 +1,7 @@
 use Rattle.rw_dispatch.proofs.Common.{ap, held, subst, sym, ◌∙◌}
 use Rattle.rw_run.specs.Dispatch.{answered, dispatched, looks_of}
 use Rattle.rw_run.specs.Log.{written_by}
-use Rattle.rw_dispatch.specs.Answer.{Tells, answer_of, asked_in}
+use Rattle.rw_dispatch.specs.Answer.{Tells, answer_of, asked_by_solution}
 use Rattle.rw_dispatch.specs.Stage.{stage}
 use Rattle.rw_dispatch.proofs.CanPuts.{puts-seen, solved-seen}
 use Rattle.rw_dispatch.proofs.Waking.{can_all, leaves_written, writes_of}
@@ -20,7 +20,7 @@ make-requires-clause-can g c =
     let cells = held c.args.series.now in
     let looked = looks_of basin cells object step in
     can_all basin looked object step (answered basin cells looked object step c.solve-solved.result)
-    c.answer-end.result (asked_in c.solve-solved.result) c.answer-end.new.written c.as_slice-writes.result.now
+    c.answer-end.result (asked_by_solution c.solve-solved.result) c.answer-end.new.written c.as_slice-writes.result.now
     (c.answer-end.ensures.answer cells looked c.see-kind.ensures.seen) c.answer-end.ensures.left
     (c.as_slice-writes.ensures ∙ c.answer-end.ensures.writes) c.requires.turn
 
@@ -32,7 +32,7 @@ wake_written-requires-clause-can g c =
     let cells = held c.args.series.now in
     let looked = looks_of basin cells object step in
     can_all basin looked object step (answered basin cells looked object step c.solve-solved.result)
-    c.answer-end.result (asked_in c.solve-solved.result) c.answer-end.new.written c.as_slice-writes.result.now
+    c.answer-end.result (asked_by_solution c.solve-solved.result) c.answer-end.new.written c.as_slice-writes.result.now
     (c.answer-end.ensures.answer cells looked c.see-kind.ensures.seen) c.answer-end.ensures.left
     (c.as_slice-writes.ensures ∙ c.answer-end.ensures.writes) c.requires.turn
 
@@ -61,9 +61,9 @@ returns-clause-leaves g c =
     let tells = c.answer-end.ensures.answer cells looked c.see-kind.ensures.seen in
     let event = answered basin cells looked object step c.solve-solved.result in
     let same = ap (answered basin cells looked object step) solved in
-    leaves_written basin looked object step (dispatched basin cells object step) (answer_of c.answer-end.result (asked_in c.solve-solved.result) c.answer-end.new.written)
+    leaves_written basin looked object step (dispatched basin cells object step) (answer_of c.answer-end.result (asked_by_solution c.solve-solved.result) c.answer-end.new.written)
     c.as_slice-writes.result.now (stage c.args.series.now c.args.queue.now) (stage c.make.new.series c.wake_written.new.self)
     (sym same ∙ tells.is)
-    (writes_of basin looked object step event c.answer-end.result (asked_in c.solve-solved.result) c.answer-end.new.written c.as_slice-writes.result.now
+    (writes_of basin looked object step event c.answer-end.result (asked_by_solution c.solve-solved.result) c.answer-end.new.written c.as_slice-writes.result.now
     tells c.answer-end.ensures.left (c.as_slice-writes.ensures ∙ c.answer-end.ensures.writes) ∙ ap written_by same)
     c.make.ensures.cells c.wake_written.ensures.woken

@@ -5,7 +5,7 @@ use Rattle.rw_run.specs.Log.{asked_in as asked_in_event, written_by}
 use Rattle.rw_dispatch.specs.Writes.{AreWrites}
 use Rattle.rw_dispatch.proofs.Asking.{asked_told}
 use Rattle.rw_dispatch.proofs.Makes.{all_write}
-use Rattle.rw_dispatch.specs.Answer.{asked_in}
+use Rattle.rw_dispatch.specs.Answer.{asked_by_solution}
 use Rattle.rw_dispatch.proofs.CanPuts.{puts-seen, solved-seen}
 use Rattle.rw_dispatch.proofs.Waking.{can_all, writes_of}
 use Rattle.rw_dispatch.proofs.turn.judge_dispatch.Goals as goal
@@ -25,7 +25,7 @@ returns-clause-ends g c =
     let solved = solved-seen basin cells object step c.see-kind.result.now c.see-kind.new.view c.solve-work.result
     c.see-kind.ensures.kind c.see-kind.ensures.seen c.solve-work.ensures in
     record {
-      asked = asked_in c.solve-work.result;
+      asked = asked_by_solution c.solve-work.result;
       written = c.answer-end.new.written;
       is = ap (answered basin cells looked object step) (sym solved) ∙ (c.answer-end.ensures.answer cells looked c.see-kind.ensures.seen).is;
     }
@@ -42,7 +42,7 @@ returns-clause-work g c =
     let step = c.args.step.0 in
     let cells = held c.args.series.now in
     let looked = looks_of basin cells object step in
-    let puts = asked_in c.solve-work.result in
+    let puts = asked_by_solution c.solve-work.result in
     let solved = solved-seen basin cells object step c.see-kind.result.now c.see-kind.new.view c.solve-work.result
     c.see-kind.ensures.kind c.see-kind.ensures.seen c.solve-work.ensures in
     let event = answered basin cells looked object step in

@@ -1,7 +1,7 @@
 use Rattle.rw_dispatch.proofs.Common.{None, ap, arith, held, length, rules, slice_index_or, ◌<◌, ◌∙◌}
 use Rattle.std.proofs.Math.ListN.{length-set}
 use Rattle.rw_run.specs.Dispatch.{bounds_in_place, content_in}
-use Rattle.rw_dispatch.specs.Seeing.{bounds_of_slot, content_of}
+use Rattle.rw_dispatch.specs.Seeing.{bounds_of_slot, content_at_slot}
 use Rattle.rw_dispatch.proofs.Filling.{content_there, filled-all, filled-more, number_known, number_there}
 use Rattle.rw_dispatch.proofs.view.see_slots.Goals as goal
 
@@ -26,7 +26,7 @@ loop-place-preserved c =
     record {
       contents = seen.content ∙ filled-more (content_in basin (held c.args.series.now) c.args.object.0 c.args.step.0) c.args.now.now place c.loop-place.now _
           (search rules) was.contents
-          (same ∙ ap (content_of (held c.args.series.now) c.args.step.0) number);
+          (same ∙ ap (content_at_slot (held c.args.series.now) c.args.step.0) number);
       bounds = seen.bounds ∙ filled-more (bounds_in_place basin c.args.object.0) c.args.bounds.now place c.loop-place.bounds _
           (search rules) was.bounds (ap (bounds_of_slot basin) number);
       contents_all = ap length seen.content ∙ length-set c.loop-place.now place _ ∙ was.contents_all;
@@ -52,7 +52,7 @@ loop-late-preserved c =
     record {
       contents = seen.content ∙ filled-more (content_in basin (held c.args.series.now) c.args.object.0 c.args.step.0) c.args.now.now late c.loop-late.now _
           (search rules) was.contents
-          (same ∙ ap (content_of (held c.args.series.now) c.args.step.0) number);
+          (same ∙ ap (content_at_slot (held c.args.series.now) c.args.step.0) number);
       bounds = seen.bounds ∙ filled-more (bounds_in_place basin c.args.object.0) c.args.bounds.now late c.loop-late.bounds _
           (search rules) was.bounds (ap (bounds_of_slot basin) number);
       contents_all = ap length seen.content ∙ length-set c.loop-late.now late _ ∙ was.contents_all;

@@ -1,5 +1,5 @@
 use Rattle.rw_base.proofs.Common.{◌≡◌, ◌+◌, ◌<◌, ◌≤◌, ◌&&◌, length, Some, None, if◌then◌else◌, ap, ◌∙◌, arith, nat_le}
-use Rattle.rw_inputs.specs.Column.{given_values, value_in}
+use Rattle.rw_inputs.specs.Column.{given_values, value_in_column}
 use Rattle.rw_inputs.proofs.Pairs.{more-given}
 use Rattle.rw_inputs.proofs.column.keep.Goals as goal
 
@@ -15,4 +15,4 @@ pub returns : goal.returns
 returns c step =
     let here : c.loop-before.before ≡ c.args.last = omega arith in
     c.loop-before.invariant step
-    ∙ ap (λ last. if nat_le c.args.first step && nat_le step last then (if c.args.kept then Some c.args.value else None) else value_in (given_values c.args.given.now c.args.values.now) step) here
+    ∙ ap (λ last. if nat_le c.args.first step && nat_le step last then (if c.args.kept then Some c.args.value else None) else value_in_column (given_values c.args.given.now c.args.values.now) step) here

@@ -1,9 +1,9 @@
 use Rattle.std.proofs.Common.{◌≡◌, ◌+◌, drop, codes}
 use Rattle.toml.specs.View.{items_view}
 use Rattle.rw_model_toml.specs.Model.{in_turn}
-use Rattle.rw_model_toml.specs.Told.{bound_of}
+use Rattle.rw_model_toml.specs.Told.{bound_read}
 use Rattle.rw_model_toml.proofs.bound_table.add_bounds.Given as goal
 
 abbrev pub invariant-loop-place : goal.invariant-loop-place
 invariant-loop-place l =
-    in_turn bound_of (codes "bound") (l.place + 1) (items_view (drop l.place l.items)) l.builder ≡ in_turn bound_of (codes "bound") 1 (items_view l.items) l.fn.builder
+    in_turn bound_read (codes "bound") (l.place + 1) (items_view (drop l.place l.items)) l.builder ≡ in_turn bound_read (codes "bound") 1 (items_view l.items) l.fn.builder

@@ -1,12 +1,12 @@
 use Rattle.std.proofs.Common.{◌≡◌, ◌+◌, drop}
 use Rattle.toml.specs.View.{items_view}
 use Rattle.rw_model.specs.Kept.{numbers_of}
-use Rattle.rw_model_toml.specs.ListOf.{list_of}
-use Rattle.rw_model_toml.specs.Told.{slot_in}
+use Rattle.rw_model_toml.specs.ListOf.{list_read}
+use Rattle.rw_model_toml.specs.Told.{slot_read}
 use Rattle.rw_model_toml.proofs.Lists.{after}
 use Rattle.rw_model_toml.proofs.link_table.read_slots.Given as goal
 
 abbrev pub invariant-loop-place : goal.invariant-loop-place
 invariant-loop-place l =
-    after (numbers_of l.slots.items) (list_of (slot_in l.builder.objects) l.path (l.place + 1) (items_view (drop l.place l.items)))
-    ≡ list_of (slot_in l.builder.objects) l.path 1 (items_view l.items)
+    after (numbers_of l.slots.items) (list_read (slot_read l.builder.objects) l.path (l.place + 1) (items_view (drop l.place l.items)))
+    ≡ list_read (slot_read l.builder.objects) l.path 1 (items_view l.items)

@@ -1,11 +1,11 @@
 use Rattle.std.proofs.Common.{◌∙◌, codes}
-use Rattle.rw_model_toml.specs.Kinds.{kind_of}
+use Rattle.rw_model_toml.specs.Kinds.{kind_read}
 use Rattle.rw_base.proofs.Tests.{unless}
 use Rattle.rw_model_toml.proofs.Words.{other-word}
 use Rattle.rw_model_toml.proofs.object_kind.read_kind.Goals as goal
 
 pub returns-in_ok-key_path-in_default : goal.returns-in_ok-key_path-in_default
-unfolding kind_of
+unfolding kind_read
 returns-in_ok-key_path-in_default c = (
   λ refusal is.
       unless _ _ _ (other-word (codes "data") c.args.word.now c.in_default.not-data)

@@ -1,6 +1,6 @@
 use Rattle.std.proofs.Common.{◌≡◌, drop}
-use Rattle.rw_model_toml.specs.StartText.{fits}
+use Rattle.rw_model_toml.specs.StartText.{fits_forms}
 use Rattle.rw_model_toml.proofs.start_text.fits.Given as goal
 
 abbrev pub invariant-loop-place : goal.invariant-loop-place
-invariant-loop-place l = fits (drop l.place l.form) (drop l.place l.text) ≡ fits l.form l.text
+invariant-loop-place l = fits_forms (drop l.place l.form) (drop l.place l.text) ≡ fits_forms l.form l.text

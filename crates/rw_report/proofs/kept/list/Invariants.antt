@@ -1,10 +1,10 @@
 use Rattle.std.proofs.Common.{◌≡◌}
 use Rattle.rw_series.specs.Series.{held}
 use Rattle.rw_report.specs.Section.{values_in}
-use Rattle.rw_report.specs.Sheet.{listed}
+use Rattle.rw_report.specs.Sheet.{values_listed}
 use Rattle.rw_report.proofs.kept.list.Given as goal
 
 -- the values so far are those of the slots
 abbrev pub invariant-loop-before : goal.invariant-loop-before
 invariant-loop-before l =
-    l.values.items ≡ listed (λ slot. values_in (held l.fn.series) slot l.fn.step.0) l.before
+    l.values.items ≡ values_listed (λ slot. values_in (held l.fn.series) slot l.fn.step.0) l.before

@@ -4,7 +4,7 @@ use Rattle.rw_series.specs.Series.{held}
 use Rattle.rw_series.specs.declared.look.Look.{Look}
 use Rattle.rw_run.specs.Next.{ended}
 use Rattle.rpl_machine.specs.Fired.{fire_seen}
-use Rattle.rpl_machine.specs.Steps.{value_in}
+use Rattle.rpl_machine.specs.Steps.{value_in_series}
 use Rattle.rpl_policy.proofs.Asking.{code_asks}
 use Rattle.rpl_policy.proofs.FramedCode.{code_silent}
 use Rattle.rw_rules.specs.Firing.{most_looks}
@@ -13,14 +13,14 @@ use Rattle.rw_rules.proofs.firing.fire.Goals as goal
 
 pub judge-requires-clause-can : goal.judge-requires-clause-can
 judge-requires-clause-can g c =
-    code_asks c.args.policy.now.blocks c.args.basin.now c.args.r.0 c.args.t.0 (value_in c.args.series.now) (fire_seen c.fire-fired.result) c.fire-fired.ensures.fires
+    code_asks c.args.policy.now.blocks c.args.basin.now c.args.r.0 c.args.t.0 (value_in_series c.args.series.now) (fire_seen c.fire-fired.result) c.fire-fired.ensures.fires
 
 pub judge-requires-clause-few : goal.judge-requires-clause-few
 judge-requires-clause-few g c =
     few_puts c.args.basin.now c.args.policy.now (c.answered_code_is_safe.ensures.safe c.args.basin.now c.args.policy.now.blocks c.args.policy.now c.requires.turn.accepted)
     (c.accepted_code.ensures.within c.args.basin.now c.args.policy.now.blocks c.args.policy.now.budgets
     (c.answered_code_is_safe.ensures.accepted c.args.basin.now c.args.policy.now.blocks c.args.policy.now c.requires.turn.accepted))
-    c.args.r.0 c.args.t.0 (value_in c.args.series.now) (fire_seen c.fire-fired.result) c.fire-fired.ensures.fires
+    c.args.r.0 c.args.t.0 (value_in_series c.args.series.now) (fire_seen c.fire-fired.result) c.fire-fired.ensures.fires
 
 pub returns : goal.returns
 returns g c = record {
@@ -30,9 +30,9 @@ returns g c = record {
       (few_looks c.args.basin.now c.args.policy.now (c.answered_code_is_safe.ensures.safe c.args.basin.now c.args.policy.now.blocks c.args.policy.now c.requires.turn.accepted)
       (c.accepted_code.ensures.within c.args.basin.now c.args.policy.now.blocks c.args.policy.now.budgets
       (c.answered_code_is_safe.ensures.accepted c.args.basin.now c.args.policy.now.blocks c.args.policy.now c.requires.turn.accepted))
-      c.args.r.0 c.args.t.0 (value_in c.args.series.now) (fire_seen c.fire-fired.result) c.fire-fired.ensures.fires);
+      c.args.r.0 c.args.t.0 (value_in_series c.args.series.now) (fire_seen c.fire-fired.result) c.fire-fired.ensures.fires);
   puts =
-      let silent = code_silent c.args.policy.now.blocks c.args.basin.now c.args.r.0 c.args.t.0 (value_in c.args.series.now) (fire_seen c.fire-fired.result) c.fire-fired.ensures.fires in
+      let silent = code_silent c.args.policy.now.blocks c.args.basin.now c.args.r.0 c.args.t.0 (value_in_series c.args.series.now) (fire_seen c.fire-fired.result) c.fire-fired.ensures.fires in
       record {
         asked = c.judge.ensures.asked
             ∙ asked_told c.args.basin.now (held c.args.series.now) c.args.r.0 c.args.t.0 (fire_seen c.fire-fired.result) (fire_seen c.fire-fired.result).end refl silent;

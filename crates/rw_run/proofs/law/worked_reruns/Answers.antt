@@ -7,7 +7,7 @@ use Rattle.rw_run.specs.Log.{Log, cells_of}
 use Rattle.rw_run.specs.Reuse.{IsReused}
 use Rattle.rw_run.specs.Runs.{placed}
 use Rattle.rw_run.specs.Step.{before_opening, looked_at}
-use Rattle.rw_run.specs.Worked.{basin_of, both_days_run, faulty_run, five, given_once, given_seven_run, needy_run, raised_twice, seven}
+use Rattle.rw_run.specs.Worked.{data_object_basin, both_days_run, faulty_run, five, given_once, given_seven_run, needy_run, raised_twice, seven}
 use Rattle.rw_run.proofs.law.worked_reruns.Goals as goal
 
 pub returns-clause-earlier : goal.returns-clause-earlier
@@ -50,7 +50,7 @@ number_in None = 9
 number_in (Some content) = content.number
 
 abbrev days : Draft
-days = basin_of HighFirst 2
+days = data_object_basin HighFirst 2
 
 -- ---- the first day is run again, and the second is reused
 

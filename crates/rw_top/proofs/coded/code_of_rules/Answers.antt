@@ -1,9 +1,9 @@
 use Rattle.rw_top.proofs.Common.{ap, subst, ◌∙◌}
 use Rattle.rw_inputs.specs.Givens.{givens}
-use Rattle.rpl_parse.specs.Bounds.{AreBounded}
+use Rattle.rpl_parse.specs.Bounds.{AreLimited}
 use Rattle.rpl_tree.specs.Seen.{rules_of}
 use Rattle.rpl_tree.specs.declared.rules.ParsedRules.{ParsedRules}
-use Rattle.rpl_types.specs.Judged.{judged}
+use Rattle.rpl_types.specs.Judged.{rules_judged}
 use Rattle.rpl_verify.specs.Verified.{verified}
 use Rattle.rw_top.proofs.RulesText.{code_of_ruleset, types_of}
 use Rattle.rw_top.proofs.coded.code_of_rules.Goals as goal
@@ -15,10 +15,10 @@ pub returns-clause-runs : goal.returns-clause-runs
 returns-clause-runs c =
     let basin = c.args.basin.now in
     let rules = rules_of c.args.typed.now.rules in
-    let types = types_of (judged basin rules) c.requires in
+    let types = types_of (rules_judged basin rules) c.requires in
     let typed = c.accepted.ensures basin rules types.0 types.1 in
-    let bounded : AreBounded rules =
-    subst (λ (r : ParsedRules). AreBounded (rules_of r)) c.rules-rules.ensures.rules
+    let bounded : AreLimited rules =
+    subst (λ (r : ParsedRules). AreLimited (rules_of r)) c.rules-rules.ensures.rules
     (c.bounds.ensures.all c.rules-rules.result.now c.rules-rules.ensures.ruleset) in
     code_of_ruleset basin rules c.in_ok-code.code c.in_ok-code.ensures.code
     (c.compiled_budgets.ensures basin rules typed bounded.rules bounded.functions)

@@ -1,11 +1,11 @@
 use Rattle.rw_base.proofs.Common.{get_or_read, length, rules, slice_index_or, Some, subst, sym, true, ◌<◌, ◌∙◌, ◌≡◌}
-use Rattle.rw_agenda.specs.CellIndex.{is_watching, position_of}
+use Rattle.rw_agenda.specs.CellIndex.{is_watching, index_position}
 use Rattle.rw_agenda.proofs.Watches.{watching_now, watching_still}
 use Rattle.rw_agenda.proofs.cell_index.CellIndex.watch.Goals as goal
 
 pub returns-clause-watching : goal.returns-clause-watching
 returns-clause-watching c =
-    let at : position_of c.self.inside.slots c.self.inside.steps c.args.cell ≡ Some c.in-Some.place = sym c.position_of.ensures.is ∙ c.in-Some.is in
+    let at : index_position c.self.inside.slots c.self.inside.steps c.args.cell ≡ Some c.in-Some.place = sym c.position_of.ensures.is ∙ c.in-Some.is in
     let near : c.in-Some.place < length c.self.inside.newest.items = search rules in
     let saw : c.index-newest.result.now ≡ slice_index_or c.self.inside.newest.items c.in-Some.place 0 =
     get_or_read c.self.inside.newest.items c.in-Some.place c.index-newest.result.now near c.index-newest.ensures 0 in

@@ -1,7 +1,7 @@
 use Rattle.rw_base.proofs.Common.{Some, ap, false, refl, rules, subst, sym, ◌∙◌, ◌≡◌}
 use Rattle.rw_series.specs.Series.{held}
 use Rattle.rw_run.specs.Next.{is_changed}
-use Rattle.rpl_machine.specs.Fired.{cells_of, fire_seen}
+use Rattle.rpl_machine.specs.Fired.{look_cells, fire_seen}
 use Rattle.rw_rules.proofs.Kept.{just_seen, shows_more}
 use Rattle.rw_rules.proofs.Made.{looked_after}
 use Rattle.rw_rules.proofs.rules.Rules.fire.Goals as goal
@@ -24,7 +24,7 @@ returns-clause-keeps g c = record {
   indexed = λ indexed.
       c.index_stays.ensures.fired c.self.inside.agenda c.fired.new.self (held c.args.series.now) c.args.r.0 c.fire-fired.result.looked.now (search rules)
       (search rules)
-      (subst (λ looks. is_changed (held c.args.series.now) (Some looks) ≡ false) c.fire-fired.ensures.looked (just_seen (held c.args.series.now) (cells_of c.fire-fired.result.looked.now)))
+      (subst (λ looks. is_changed (held c.args.series.now) (Some looks) ≡ false) c.fire-fired.ensures.looked (just_seen (held c.args.series.now) (look_cells c.fire-fired.result.looked.now)))
       c.fired.ensures.rules c.fired.ensures.marked;
   shows = λ log firing same looked shows. shows_more c.args.policy.now c.args.self.now (record { agenda = c.fired.new.self; asked = c.fire-fired.new.writes.asked; written = c.fire-fired.new.writes.written }) c.args.r.0 c.fire-fired.result.looked.now log firing c.requires.turn.first (search rules) same looked shows;
 }
