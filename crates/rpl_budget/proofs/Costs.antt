@@ -1,7 +1,10 @@
 -- What each form costs at one price, by what its parts cost, where each number stops above the limit.
 use Rattle.rw_base.proofs.Common.{◌≡◌, ℕ, ◌+◌, ◌*◌, max, Bool, true, false, List, ◌∷◌, refl, ap, ◌∙◌, subst, if◌then◌else◌}
 use Rattle.rpl_tree.specs.declared.words.TwoWord.TheVariants as W
-use Rattle.rpl_tree.proofs.Common.{Budget, capped, limits, Costed, Price, costed_heads, most, most_arguments, most_named, most_of, most_of_act, most_of_acts, most_of_body, price_of_looks, price_of_puts, price_of_steps, to_widen, Head, Names, count_of, kind_named, takes_named, tree_kind, Tree, Trees, tree, bind, call, choice, each, list, mapped, name, two, Acts, with_name, Kind, element_of, is_same_kind, room_of, weight}
+use Rattle.rpl_tree.proofs.Common.{Budget, capped, limits, Costed, Price, costed_heads, most, most_arguments, most_named, most_of, most_of_act}
+use Rattle.rpl_tree.proofs.Common.{most_of_acts, most_of_body, price_of_looks, price_of_puts, price_of_steps, to_widen, Head, Names, count_of}
+use Rattle.rpl_tree.proofs.Common.{kind_named, takes_named, tree_kind, Tree, Trees, tree, bind, call, choice, each, list, mapped, name, two, Acts}
+use Rattle.rpl_tree.proofs.Common.{with_name, Kind, element_of, is_same_kind, room_of, weight}
 use Rattle.rpl_budget.specs.Pass.{Priced, priced_heads}
 use Rattle.rpl_budget.specs.Loads.{widening_weight}
 use Rattle.rpl_budget.proofs.Exact.{costed, heads_same}
@@ -103,7 +106,8 @@ module _ (lane : Lane) (functions : List Priced) where
   choice_cost names c y n =
       by_heads (Choice names c y n)
       (Sums.choice lane.limit (of names c) (of names y) (of names n) _ _ _ _ _ _
-      (widened (tree_kind H names (choice c y n)) (tree_kind H names y)) (widened (tree_kind H names (choice c y n)) (tree_kind H names n)) (lane.stop 3))
+      (widened (tree_kind H names (choice c y n)) (tree_kind H names y)) (widened (tree_kind H names (choice c y n)) (tree_kind H names n))
+      (lane.stop 3))
 
   abbrev Bind : Names → List ℕ → Tree → Tree → List Head → Type 0
   Bind names x e b h =

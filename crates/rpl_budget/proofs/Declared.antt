@@ -1,8 +1,12 @@
 -- The budgets of all declarations by one pass are those that are defined.
 use Rattle.std.proofs.Common.{◌≡◌, ℕ, ◌+◌, max, List, [], ◌∷◌, refl, sym, ap, ap₂, ◌∙◌, subst, arith}
-use Rattle.rpl_tree.proofs.Common.{Budget, budget, capped, limits, Costed, costed_heads, costs_from, most_of_acts, most_of_body, param_names, price_of_looks, price_of_puts, price_of_steps, Head, Names, kind_of_type, acts_local_kinds, local_kinds, param_kinds, Tree, Acts, Declared, Parameter, TypeName, rule, function, Kind, weight, weights, height, height_of_acts, words_from}
+use Rattle.rpl_tree.proofs.Common.{Budget, budget, capped, limits, Costed, costed_heads, costs_from, most_of_acts, most_of_body, param_names}
+use Rattle.rpl_tree.proofs.Common.{price_of_looks, price_of_puts, price_of_steps, Head, Names, kind_of_type, acts_local_kinds, local_kinds}
+use Rattle.rpl_tree.proofs.Common.{param_kinds, Tree, Acts, Declared, Parameter, TypeName, rule, function, Kind, weight, weights, height}
+use Rattle.rpl_tree.proofs.Common.{height_of_acts, words_from}
 use Rattle.rpl_budget.specs.Budgets.{budgets_of, side_by_side}
-use Rattle.rpl_budget.specs.Pass.{Priced, call_budget, declared_budget, function_budget, priced_heads, pass, passed_from, predefined_priced, budget_of_load, room_for}
+use Rattle.rpl_budget.specs.Pass.{Priced, call_budget, declared_budget, function_budget, priced_heads, pass, passed_from, predefined_priced}
+use Rattle.rpl_budget.specs.Pass.{budget_of_load, room_for}
 use Rattle.rpl_budget.proofs.Costs as Costs
 use Rattle.rpl_budget.proofs.Costs.{counting, looking, putting}
 use Rattle.rpl_budget.proofs.Exact.{costed, heads_same, stopped, stopped_budget}
@@ -34,7 +38,8 @@ module _ (functions : List Priced) where
   rule_is : (body : Acts) → declared_budget (stopped functions) (rule [] body) ≡ stopped_budget (exact_rule body)
   rule_is body =
       ap budget_of_load (acts_are functions [] body)
-      ∙ by_heads (λ h. budget_of_load (acts_found functions [] body) ≡ budget (capped limits.count (exact_rule body).count) (capped limits.looks (exact_rule body).looks)
+      ∙ by_heads (λ h. budget_of_load (acts_found functions [] body)
+      ≡ budget (capped limits.count (exact_rule body).count) (capped limits.looks (exact_rule body).looks)
       (capped limits.puts (exact_rule body).puts) (capped limits.words (rule_words body h)))
       (same_budget refl refl refl (omega arith))
 
@@ -88,7 +93,8 @@ passed functions (function called_so params result body ∷ rest) =
     let takes = param_kinds params in
     let kind = kind_of_type result in
     let inside = exact_function functions params result body in
-    let known : Budget → Priced = λ most. record { head = record { name = called_so; takes = takes; result = kind }; room = room_for takes; most = most } in
+    let known : Budget → Priced =
+    λ most. record { head = record { name = called_so; takes = takes; result = kind }; room = room_for takes; most = most } in
     ap (λ (b : Budget). b ∷ passed_from (known (call_budget (room_for takes) b) ∷ stopped functions) rest) (function_is functions params result body)
     ∙ ap (λ (most : Budget). stopped_budget inside ∷ passed_from (known most ∷ stopped functions) rest) (call_is functions params result body)
     ∙ ap (λ bs. stopped_budget inside ∷ bs) (passed (known (exact_call functions params result body) ∷ functions) rest)

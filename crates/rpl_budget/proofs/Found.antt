@@ -1,5 +1,6 @@
 -- Of the entries that pass a test, the last of a list is the first of the list in reverse.
-use Rattle.rw_base.proofs.Common.{◌≡◌, ℕ, Bool, List, [], ◌∷◌, ◌++◌, reverse, Some, bytes_eq, unwrap_or, refl, sym, ap, ◌∙◌, if◌then◌else◌, reverse-append}
+use Rattle.rw_base.proofs.Common.{◌≡◌, ℕ, Bool, List, [], ◌∷◌, ◌++◌, reverse, Some, bytes_eq, unwrap_or, refl, sym, ap, ◌∙◌, if◌then◌else◌}
+use Rattle.rw_base.proofs.Common.{reverse-append}
 use Rattle.rpl_tree.specs.Kinds.{kind_named}
 use Rattle.rpl_scope.specs.Scope.{first_named}
 use Rattle.rpl_budget.specs.declared.kind.TreeKind.{TreeKind}
@@ -47,4 +48,5 @@ latest x [] = refl
 latest x (f ∷ functions) = ap (λ found. if bytes_eq f.head.name x then f else found) (latest x functions)
 
 pub function_found : (x : List ℕ) (functions : List Priced) → last_function x no_function functions ≡ priced_named (reverse functions) x
-function_found x functions = last_is_first (λ (f : Priced). bytes_eq f.head.name x) (λ (f : Priced). f) no_function functions ∙ latest x (reverse functions)
+function_found x functions =
+    last_is_first (λ (f : Priced). bytes_eq f.head.name x) (λ (f : Priced). f) no_function functions ∙ latest x (reverse functions)

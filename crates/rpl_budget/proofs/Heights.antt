@@ -1,6 +1,8 @@
 -- How high each form stands, and what its locals take, by its parts, where each number stops above the limit.
 use Rattle.std.proofs.Common.{◌≡◌, ℕ, ◌+◌, ◌*◌, max, List, [], ◌∷◌, ◌++◌, sym, ap, ◌∙◌, subst, arith}
-use Rattle.rpl_tree.proofs.Common.{capped, limits, Costed, costed_heads, most_named, Head, Names, result_named, takes_named, tree_kind, Tree, Trees, tree, bind, call, choice, each, mapped, Acts, with_name, Kind, element_of, room_of, weight, weights, height, height_of_act, height_of_acts, height_of_arguments}
+use Rattle.rpl_tree.proofs.Common.{capped, limits, Costed, costed_heads, most_named, Head, Names, result_named, takes_named, tree_kind, Tree, Trees}
+use Rattle.rpl_tree.proofs.Common.{tree, bind, call, choice, each, mapped, Acts, with_name, Kind, element_of, room_of, weight, weights, height}
+use Rattle.rpl_tree.proofs.Common.{height_of_act, height_of_acts, height_of_arguments}
 use Rattle.rpl_budget.specs.Pass.{Priced, priced_heads}
 use Rattle.rpl_budget.proofs.Exact.{costed, heads_same}
 
@@ -135,7 +137,8 @@ module _ (functions : List Priced) where
   -- a second value that is made while the first one waits
   abbrev Second : Names → Tree → Tree → List Head → Type 0
   Second names l r h =
-      max (T names l) (max (cap (weight (tree_kind h names l) + T names r)) 0) ≡ cap (max (height F names l) (weight (tree_kind H names l) + height F names r))
+      max (T names l) (max (cap (weight (tree_kind h names l) + T names r)) 0)
+      ≡ cap (max (height F names l) (weight (tree_kind H names l) + height F names r))
 
   pub second_height : (names : Names) (l r : Tree) → Second names l r (priced_heads functions)
   second_height names l r = by_heads (Second names l r) (omega arith)

@@ -1,6 +1,7 @@
 -- There are as many budgets as declarations, each in its place.
 use Rattle.rw_base.proofs.Common.{◌≡◌, ℕ, zero, suc, ◌+◌, ◌-◌, ◌<◌, List, [], ◌∷◌, Some, length, refl, ap, ◌∙◌, arith, slice_get, slice_index}
-use Rattle.rpl_tree.proofs.Common.{Declared, rule, function, Budget, budget, budget_of, capped, limits, Costed, Price, costs, costs_from, price_of_looks, price_of_puts, price_of_steps, words_of_rules, words_from}
+use Rattle.rpl_tree.proofs.Common.{Declared, rule, function, Budget, budget, budget_of, capped, limits, Costed, Price, costs, costs_from}
+use Rattle.rpl_tree.proofs.Common.{price_of_looks, price_of_puts, price_of_steps, words_of_rules, words_from}
 use Rattle.rpl_budget.specs.Budgets.{budgets_of, side_by_side}
 
 costs_length : (price : Price) (rules : List Declared) (functions : List Costed) → length (costs_from price functions rules) ≡ length rules
@@ -45,5 +46,6 @@ budgets_length rules =
 pub budget_at : (rules : List Declared) (k : ℕ) → k < length rules → slice_get (budgets_of rules) k ≡ Some (budget_of rules (k + 1))
 budget_at rules k lt =
     let before : k ≡ k + 1 - 1 = omega arith in
-    in_place (costs price_of_steps rules) (costs price_of_looks rules) (costs price_of_puts rules) (words_of_rules rules) k (omega (arith, lt, budgets_length rules))
+    in_place (costs price_of_steps rules) (costs price_of_looks rules) (costs price_of_puts rules) (words_of_rules rules) k
+    (omega (arith, lt, budgets_length rules))
     ∙ ap (λ j. Some (four_at (costs price_of_steps rules) (costs price_of_looks rules) (costs price_of_puts rules) (words_of_rules rules) j)) before

@@ -4,10 +4,16 @@ use Rattle.rpl_tree.specs.declared.words.OneWord.{OneWord}
 use Rattle.rpl_tree.specs.declared.words.OneWord.TheVariants as O
 use Rattle.rpl_tree.specs.declared.words.TwoWord.{TwoWord}
 use Rattle.rpl_tree.specs.declared.words.TwoWord.TheVariants as W
-use Rattle.rpl_tree.proofs.Common.{Budget, capped, limits, Costed, most, most_arguments, most_of, most_of_act, most_of_acts, Head, Names, count_of, first_kind, result_named, takes_named, tree_kind, two_kind, act_local_kinds, acts_local_kinds, all_local_kinds, local_kinds, Tree, Trees, literal, truth, now, slot, name, call, brackets, list, choice, bind, each, mapped, one, two, convert, at, no_trees, tree, Act, Acts, assign, branch, with_name, no_acts, act, Kind, element_of, numbers_kind, room_of, weights, height, height_of_act, height_of_acts, height_of_all, height_of_arguments}
+use Rattle.rpl_tree.proofs.Common.{Budget, capped, limits, Costed, most, most_arguments, most_of, most_of_act, most_of_acts, Head, Names, count_of}
+use Rattle.rpl_tree.proofs.Common.{first_kind, result_named, takes_named, tree_kind, two_kind, act_local_kinds, acts_local_kinds, all_local_kinds}
+use Rattle.rpl_tree.proofs.Common.{local_kinds, Tree, Trees, literal, truth, now, slot, name, call, brackets, list, choice, bind, each, mapped, one}
+use Rattle.rpl_tree.proofs.Common.{two, convert, at, no_trees, tree, Act, Acts, assign, branch, with_name, no_acts, act, Kind, element_of}
+use Rattle.rpl_tree.proofs.Common.{numbers_kind, room_of, weights, height, height_of_act, height_of_acts, height_of_all, height_of_arguments}
 use Rattle.rpl_budget.specs.declared.load.Load.{Load}
 use Rattle.rpl_budget.specs.Loads.{load_both, load, looked, one_put, steps}
-use Rattle.rpl_budget.specs.Pass.{Measured, Priced, argument, measured_binding, load_of_branches, load_of_call, measured_choice, measured_element, priced_named, priced_heads, known_load, measured_list, mapped_over, measured, one_load, operation_weight, pass, pass_act, pass_acts, pass_all, pass_arguments, load_of_loop, two_load, room_for}
+use Rattle.rpl_budget.specs.Pass.{Measured, Priced, argument, measured_binding, load_of_branches, load_of_call, measured_choice, measured_element}
+use Rattle.rpl_budget.specs.Pass.{priced_named, priced_heads, known_load, measured_list, mapped_over, measured, one_load, operation_weight, pass}
+use Rattle.rpl_budget.specs.Pass.{pass_act, pass_acts, pass_all, pass_arguments, load_of_loop, two_load, room_for}
 use Rattle.rpl_budget.proofs.Exact.{costed, most_of_all, most_same, result_same, room_same, stopped, stopped_budget, takes_same}
 use Rattle.rpl_budget.proofs.Sums as Sums
 use Rattle.rpl_budget.proofs.Costs as Costs
@@ -86,7 +92,11 @@ module _ (functions : List Priced) where
       let inside : Names = (a, tree_kind H names f) ∷ (x, element_of (tree_kind H names l)) ∷ names in
       same_load (Costs.each_cost counting functions names x l a f b) (Costs.each_cost looking functions names x l a f b)
       (Costs.each_cost putting functions names x l a f b) (Heights.each_height functions names x l a f b)
-      (omega (arith, weights-append (local_kinds H names l) (local_kinds H names f ++ local_kinds H inside b), weights-append (local_kinds H names f) (local_kinds H inside b)))
+      (omega (
+        arith,
+        weights-append (local_kinds H names l) (local_kinds H names f ++ local_kinds H inside b),
+        weights-append (local_kinds H names f) (local_kinds H inside b),
+      ))
 
   mapped_is : (names : Names) (x : List ℕ) (l b : Tree)
       → mapped_over (found names l) (found ((x, element_of (tree_kind H names l)) ∷ names) b) ≡ found_load names (mapped x l b)
@@ -121,7 +131,8 @@ module _ (functions : List Priced) where
       (omega (arith, weights-append (local_kinds H names l) (local_kinds H names r)))
 
   both_locals : (names : Names) (l r : Tree) →
-      capped limits.words (capped limits.words (weights (local_kinds H names l)) + capped limits.words (capped limits.words (weights (local_kinds H names r)) + 0))
+      capped limits.words (capped limits.words (weights (local_kinds H names l))
+      + capped limits.words (capped limits.words (weights (local_kinds H names r)) + 0))
       ≡ capped limits.words (weights (local_kinds H names l ++ local_kinds H names r))
   both_locals names l r = omega (arith, weights-append (local_kinds H names l) (local_kinds H names r))
 
@@ -196,7 +207,8 @@ module _ (functions : List Priced) where
         ∙ ap (λ result. call_of result known.room known.most args) (result_same functions f)
         ∙ ap (λ room. call_of (result_named H f) room known.most args) (room_same functions f)
         ∙ ap (λ most. call_of (result_named H f) (room_for (takes_named H f)) most args) (most_same functions f)
-        ∙ ap (call_of (result_named H f) (room_for (takes_named H f)) (stopped_budget (most_of_all functions f))) (arguments_are names (takes_named H f) ts)
+        ∙ ap (call_of (result_named H f) (room_for (takes_named H f)) (stopped_budget (most_of_all functions f)))
+        (arguments_are names (takes_named H f) ts)
         ∙ call_is names f ts
     pass_is names (brackets t) = pass_is names t
     pass_is names (list ts) = ap (measured_list (count_of ts)) (all_are names ts) ∙ list_is names ts
@@ -204,17 +216,24 @@ module _ (functions : List Priced) where
         ap (λ m. measured_choice m (pass (stopped functions) names y) (pass (stopped functions) names n)) (pass_is names c)
         ∙ ap₂ (measured_choice (found names c)) (pass_is names y) (pass_is names n) ∙ choice_is names c y n
     pass_is names (bind x e b) =
-        ap (λ (m : Measured). let body = pass (stopped functions) ((x, m.kind) ∷ names) b in measured body.kind (measured_binding m body.load)) (pass_is names e)
+        ap (λ (m : Measured). let body = pass (stopped functions) ((x, m.kind) ∷ names) b in measured body.kind (measured_binding m body.load))
+        (pass_is names e)
         ∙ ap (λ (m : Measured). measured m.kind (measured_binding (found names e) m.load)) (pass_is ((x, tree_kind H names e) ∷ names) b)
         ∙ ap (measured (tree_kind H names (bind x e b))) (bind_is names x e b)
     pass_is names (each x l a f b) =
-        ap (λ (m : Measured). let first = pass (stopped functions) names f in measured first.kind (load_of_loop m first (pass (stopped functions) ((a, first.kind) ∷ (x, element_of m.kind) ∷ names) b))) (pass_is names l)
-        ∙ ap (λ (m : Measured). measured m.kind (load_of_loop (found names l) m (pass (stopped functions) ((a, m.kind) ∷ (x, element_of (tree_kind H names l)) ∷ names) b))) (pass_is names f)
-        ∙ ap (λ (m : Measured). measured (tree_kind H names f) (load_of_loop (found names l) (found names f) m)) (pass_is ((a, tree_kind H names f) ∷ (x, element_of (tree_kind H names l)) ∷ names) b)
+        ap (λ (m : Measured). let first = pass (stopped functions) names f in
+        measured first.kind (load_of_loop m first (pass (stopped functions) ((a, first.kind) ∷ (x, element_of m.kind) ∷ names) b)))
+        (pass_is names l)
+        ∙ ap (λ (m : Measured). measured m.kind (load_of_loop (found names l) m
+        (pass (stopped functions) ((a, m.kind) ∷ (x, element_of (tree_kind H names l)) ∷ names) b))) (pass_is names f)
+        ∙ ap (λ (m : Measured). measured (tree_kind H names f) (load_of_loop (found names l) (found names f) m))
+        (pass_is ((a, tree_kind H names f) ∷ (x, element_of (tree_kind H names l)) ∷ names) b)
         ∙ ap (measured (tree_kind H names f)) (each_is names x l a f b)
     pass_is names (mapped x l b) =
-        ap (λ (m : Measured). measured (numbers_kind (room_of m.kind)) (mapped_over m (pass (stopped functions) ((x, element_of m.kind) ∷ names) b))) (pass_is names l)
-        ∙ ap (λ (m : Measured). measured (numbers_kind (room_of (tree_kind H names l))) (mapped_over (found names l) m)) (pass_is ((x, element_of (tree_kind H names l)) ∷ names) b)
+        ap (λ (m : Measured). measured (numbers_kind (room_of m.kind)) (mapped_over m (pass (stopped functions) ((x, element_of m.kind) ∷ names) b)))
+        (pass_is names l)
+        ∙ ap (λ (m : Measured). measured (numbers_kind (room_of (tree_kind H names l))) (mapped_over (found names l) m))
+        (pass_is ((x, element_of (tree_kind H names l)) ∷ names) b)
         ∙ ap (measured (numbers_kind (room_of (tree_kind H names l)))) (mapped_is names x l b)
     pass_is names (one word e) =
         ap (λ (m : Measured). measured (tree_kind H names (one word e)) (one_load word e m.load)) (pass_is names e)
@@ -275,7 +294,8 @@ module _ (functions : List Priced) where
     act_is names (assign o s ahead e) =
         ap (λ (m : Measured). load_both m.load one_put) (pass_is names e) ∙ assign_is names o s ahead e
     act_is names (branch c first second) =
-        ap (λ (m : Measured). load_of_branches m.load (pass_acts (stopped functions) names first) (pass_acts (stopped functions) names second)) (pass_is names c)
+        ap (λ (m : Measured). load_of_branches m.load (pass_acts (stopped functions) names first) (pass_acts (stopped functions) names second))
+        (pass_is names c)
         ∙ ap₂ (load_of_branches (found_load names c)) (acts_are names first) (acts_are names second)
         ∙ branch_is names c first second
     act_is names (with_name x e body) =

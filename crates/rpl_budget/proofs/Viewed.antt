@@ -1,7 +1,8 @@
 -- The plain trees of statements, by the elements of their vectors, and how many elements a list of trees has.
 use Rattle.rw_base.proofs.Common.{◌≡◌, ℕ, List, [], ◌∷◌, length, refl, ap, ap₂, ◌∙◌, Vec, Global, arith, Count}
 use Rattle.rpl_tree.specs.declared.expression.Expr.{Expr}
-use Rattle.rpl_tree.specs.declared.statement.Statement.{Statement, Row_of-Statement, end_of-Statement, more_of-Statement, items-the_row-Statement, items_hidden-the_row-Statement-0}
+use Rattle.rpl_tree.specs.declared.statement.Statement.{Statement, Row_of-Statement, end_of-Statement, more_of-Statement, items-the_row-Statement}
+use Rattle.rpl_tree.specs.declared.statement.Statement.{items_hidden-the_row-Statement-0}
 use Rattle.rpl_tree.specs.declared.statement.Statement.TheVariants.{If as Branched, If', With, With'}
 use Rattle.rpl_tree.proofs.Common.{count_of, tree_of, trees_in, act_of, acts_in, acts_of, act, branch, with_name}
 

@@ -29,11 +29,13 @@ two agenda cells one other are h g rule looks unmarked is =
 -- the first looked at nothing, and the second hasn't fired
 pub after_first : (agenda : Agenda) (cells : Cells) (room : ℕ) → agenda.rules ≡ record { room = room; looked = Some [] } ∷ unfired 0 ∷ []
     → IsIndex cells (looked_by agenda) (is_marked agenda)
-after_first agenda cells room are = two agenda cells (record { room = room; looked = Some [] }) (unfired 0) are (nothing_holds cells) (unfired_holds cells)
+after_first agenda cells room are =
+    two agenda cells (record { room = room; looked = Some [] }) (unfired 0) are (nothing_holds cells) (unfired_holds cells)
 
 -- both looked at nothing
 pub after_both : (agenda : Agenda) (cells : Cells) (room other : ℕ)
     → agenda.rules ≡ record { room = room; looked = Some [] } ∷ record { room = other; looked = Some [] } ∷ []
     → IsIndex cells (looked_by agenda) (is_marked agenda)
 after_both agenda cells room other are =
-    two agenda cells (record { room = room; looked = Some [] }) (record { room = other; looked = Some [] }) are (nothing_holds cells) (nothing_holds cells)
+    two agenda cells (record { room = room; looked = Some [] }) (record { room = other; looked = Some [] }) are (nothing_holds cells)
+    (nothing_holds cells)

@@ -1,5 +1,7 @@
 -- A text that is read is what is written of the code that it is read as.
-use Rattle.rw_base.proofs.Common.{◌≡◌, ℕ, List, [], ◌∷◌, ◌++◌, refl, sym, ap, ap₂, subst, ◌∙◌, append_assoc, ◌+◌, ◌<◌, ◌≤◌, ◌^◌, arith, Result, Ok, Err, Bool, true, false, ◌&&◌, ◌==◌, if◌then◌else◌, Option, Some, None, length, map, flat_map, codes, is_ok, AllByRecursion, bytes_eq, bytes_eq-Decides, and_parts, false≢true}
+use Rattle.rw_base.proofs.Common.{◌≡◌, ℕ, List, [], ◌∷◌, ◌++◌, refl, sym, ap, ap₂, subst, ◌∙◌, append_assoc, ◌+◌, ◌<◌, ◌≤◌, ◌^◌, arith, Result, Ok}
+use Rattle.rw_base.proofs.Common.{Err, Bool, true, false, ◌&&◌, ◌==◌, if◌then◌else◌, Option, Some, None, length, map, flat_map, codes, is_ok}
+use Rattle.rw_base.proofs.Common.{AllByRecursion, bytes_eq, bytes_eq-Decides, and_parts, false≢true}
 use Rattle.rpl_code.specs.declared.kind.ValueKind.{ValueKind}
 use Rattle.rpl_code.specs.declared.instruction.Instruction.{Instruction}
 use Rattle.rpl_code.specs.declared.block.BlockHead.{BlockHead}
@@ -11,7 +13,8 @@ use Rattle.rpl_code.specs.Bounds.{AreKinds, IsInstruction, IsHead, IsBlock, IsCo
 use Rattle.rpl_code.specs.Parting.{parted, in_front}
 use Rattle.rpl_code.specs.Words.{if_so}
 use Rattle.rpl_code.specs.Spelling.{texts_joined, instruction_line, head_line, locals_line, block_lines, lines_ended, spelt}
-use Rattle.rpl_code.specs.Reading.{Stage, top, between, headed, inside, stage_behind, said_by, may_say, may_end, said_at, CodeRefusal, bad_line, truncated, all_said, and_then_all, unless_bad, locals_said, lines_said, blocks_said, result_of, read}
+use Rattle.rpl_code.specs.Reading.{Stage, top, between, headed, inside, stage_behind, said_by, may_say, may_end, said_at, CodeRefusal, bad_line}
+use Rattle.rpl_code.specs.Reading.{truncated, all_said, and_then_all, unless_bad, locals_said, lines_said, blocks_said, result_of, read}
 use Rattle.rpl_code.proofs.WordsBack.{if_so_back, then_back, joined_parted}
 use Rattle.rpl_code.proofs.LinesBack.{IsSaid, line_said, line_back}
 
@@ -148,7 +151,8 @@ inside_goes : (i : Instruction) (says : List Said) → IsInstruction i → Insid
 inside_goes i says h rest = record { lines = ap (λ ls. instruction_line i ∷ ls) rest.lines; instructions = (h, rest.instructions); each = rest.each }
 
 declares : (kinds : List ValueKind) (says : List Said) → AreKinds kinds → Inside says → Declared (S.Locals kinds ∷ says)
-declares kinds says h rest = record { lines = ap (λ ls. locals_line kinds ∷ ls) rest.lines; locals = h; instructions = rest.instructions; each = rest.each }
+declares kinds says h rest =
+    record { lines = ap (λ ls. locals_line kinds ∷ ls) rest.lines; locals = h; instructions = rest.instructions; each = rest.each }
 
 grouped : (says : List Said) (stage : Stage) → AllByRecursion IsSaid says → Follows stage says → length says < 2 ^ 32 → Grouped stage says
 grouped [] top h f few = tt
@@ -199,7 +203,8 @@ abbrev pub none_but : List Block → Result (List Block) CodeRefusal
 none_but blocks = Ok blocks
 
 -- what was read has lines that say it
-lines_of : (answer : Answer) (blocks : List Block) → result_of answer ≡ none_but blocks → (says : List Said) × (answer ≡ ok says) × (blocks_said says ≡ blocks)
+lines_of : (answer : Answer) (blocks : List Block) → result_of answer ≡ none_but blocks
+    → (says : List Said) × (answer ≡ ok says) × (blocks_said says ≡ blocks)
 lines_of (Ok says) blocks e = (says, refl, ap (blocks_or blocks) e)
 lines_of (Err refusal) blocks e = absurd (false≢true (ap is_ok e))
 
@@ -214,7 +219,9 @@ text_back text [] is few = not_whole is.follows
 text_back text (S.Heading ∷ rest) is few =
     let blocks : Blocks rest = grouped rest between is.each.1 is.follows.1 (omega (arith, few)) in
     record {
-      is = sym (joined_parted 10 text) ∙ ap (texts_joined 10) is.lines ∙ ended_joined (map line_said (S.Heading ∷ rest)) ∙ ap (λ ls. lines_ended (codes "CODE 1" ∷ ls)) blocks.lines;
+      is =
+          sym (joined_parted 10 text) ∙ ap (texts_joined 10) is.lines ∙ ended_joined (map line_said (S.Heading ∷ rest))
+          ∙ ap (λ ls. lines_ended (codes "CODE 1" ∷ ls)) blocks.lines;
       code = record { each = blocks.each; numbers = omega (arith, few, blocks_fewer rest) };
     }
 text_back text (S.Opening head ∷ rest) is few = not_whole is.follows.0

@@ -6,7 +6,8 @@ use Rattle.rpl_code.specs.declared.said.Said.{Said}
 use Rattle.rpl_code.specs.declared.said.Said.TheVariants as S
 use Rattle.rpl_code.specs.Bounds.{IsInstruction, IsBlock, IsCode}
 use Rattle.rpl_code.specs.Spelling.{instruction_line, head_line, locals_line, block_lines, code_lines, spelt}
-use Rattle.rpl_code.specs.Reading.{Stage, top, between, headed, inside, stage_behind, may_say, said_at, all_said, and_then_all, unless_bad, lines_said, blocks_said, result_of, read}
+use Rattle.rpl_code.specs.Reading.{Stage, top, between, headed, inside, stage_behind, may_say, said_at, all_said, and_then_all, unless_bad}
+use Rattle.rpl_code.specs.Reading.{lines_said, blocks_said, result_of, read}
 use Rattle.rpl_code.proofs.Parted.{Lacks, parted_ended}
 use Rattle.rpl_code.proofs.LinesRead.{Shows, instruction_shows, locals_show, head_shows, end_shows}
 
@@ -78,7 +79,8 @@ block_said : (b : Block) (parts : List (List ℕ)) (rest : List Said)
 block_said b parts rest h more said =
     let lines = map instruction_line b.lines ++ codes "END" ∷ parts in
     let says = map S.Instruction b.lines ++ S.Ending ∷ rest in
-    next_said between (head_line b.head) (locals_line b.locals ∷ lines) (S.Opening b.head) (S.Locals b.locals ∷ says) (head_shows b.head h.head) refl tt
+    next_said between (head_line b.head) (locals_line b.locals ∷ lines) (S.Opening b.head) (S.Locals b.locals ∷ says)
+    (head_shows b.head h.head) refl tt
     (next_said headed (locals_line b.locals) lines (S.Locals b.locals) says (locals_show b.locals h.locals) refl
     (more_behind b.lines (codes "END" ∷ parts) tt)
     (instructions_said b.lines parts rest h.lines more said))
@@ -117,7 +119,8 @@ blocks_back (b ∷ bs) = rw (lines_back b.lines (blocks_say bs), blocks_behind b
 -- ---- the whole text
 
 block_parts_are : (b : Block) (parts : List (List ℕ)) → block_lines b ++ parts ≡ block_parts b parts
-block_parts_are b parts = ap (λ lines. head_line b.head ∷ locals_line b.locals ∷ lines) (append_assoc (map instruction_line b.lines) (codes "END" ∷ []) parts)
+block_parts_are b parts =
+    ap (λ lines. head_line b.head ∷ locals_line b.locals ∷ lines) (append_assoc (map instruction_line b.lines) (codes "END" ∷ []) parts)
 
 parts_are : (bs : List Block) → flat_map block_lines bs ++ [] ∷ [] ≡ blocks_parts bs
 parts_are [] = refl

@@ -9,7 +9,8 @@ ended_append (x ∷ xs) ys = ap (λ rest. x ++ 10 ∷ rest) (ended_append xs ys)
 
 -- more lines behind those that were written
 pub further : (text new : List ℕ) (xs ys : List (List ℕ)) → new ≡ text ++ lines_ended xs → new ++ lines_ended ys ≡ text ++ lines_ended (xs ++ ys)
-further text new xs ys e = ap (λ t. t ++ lines_ended ys) e ∙ append_assoc text (lines_ended xs) (lines_ended ys) ∙ ap (λ rest. text ++ rest) (sym (ended_append xs ys))
+further text new xs ys e =
+    ap (λ t. t ++ lines_ended ys) e ∙ append_assoc text (lines_ended xs) (lines_ended ys) ∙ ap (λ rest. text ++ rest) (sym (ended_append xs ys))
 
 seven : (a h n l e z : List ℕ) → (((((a ++ h) ++ n) ++ l) ++ n) ++ e) ++ z ≡ a ++ (h ++ (n ++ (l ++ (n ++ (e ++ z)))))
 seven a h n l e z = simp append_assoc refl

@@ -1,5 +1,6 @@
 -- A line that is read is what is written of what it was read as.
-use Rattle.rw_base.proofs.Common.{◌≡◌, ℕ, List, [], ◌∷◌, refl, sym, ap, ap₂, subst, ◌∙◌, Option, Some, option_map, codes, AllByRecursion, bytes_eq, decimal, signed_decimal, bytes_eq-Decides}
+use Rattle.rw_base.proofs.Common.{◌≡◌, ℕ, List, [], ◌∷◌, refl, sym, ap, ap₂, subst, ◌∙◌, Option, Some, option_map, codes, AllByRecursion, bytes_eq}
+use Rattle.rw_base.proofs.Common.{decimal, signed_decimal, bytes_eq-Decides}
 use Rattle.rpl_code.specs.declared.instruction.Instruction.{Instruction}
 use Rattle.rpl_code.specs.declared.instruction.Instruction.TheVariants as I
 use Rattle.rpl_code.specs.declared.block.BlockHead.TheVariants.{Rule, Function}
@@ -10,7 +11,8 @@ use Rattle.rpl_code.specs.Parting.{parted}
 use Rattle.rpl_code.specs.Words.{if_so, entry_at, number_in, count_in, length_in, quantity_in, truth_in, name_in, slot_spelt, kind_in, kinds_in}
 use Rattle.rpl_code.specs.Spelling.{texts_joined, kind_text, kinds_text, slot_text, truth_text, word_of, operands_of}
 use Rattle.rpl_code.specs.Reading.{alone, with_one, with_two, instruction_of, function_line, put_line, said_by}
-use Rattle.rpl_code.proofs.WordsBack.{none_some, if_so_back, mapped_back, then_back, entry_back, joined_parted, number_back, count_back, length_back, quantity_back, truth_back, name_back, AreNames, slot_back, kind_back, kinds_back}
+use Rattle.rpl_code.proofs.WordsBack.{none_some, if_so_back, mapped_back, then_back, entry_back, joined_parted, number_back, count_back, length_back}
+use Rattle.rpl_code.proofs.WordsBack.{quantity_back, truth_back, name_back, AreNames, slot_back, kind_back, kinds_back}
 
 -- the words of a line that says this
 abbrev pub words_said : Said → List (List ℕ)
@@ -35,7 +37,67 @@ Spoken words says = (words ≡ words_said says) × IsSaid says
 -- ---- lines of one word
 
 alone_spoken : AllByRecursion (λ (row : (List ℕ) × Said). Spoken (row.0 ∷ []) row.1) alone
-alone_spoken = ((refl, tt), ((refl, tt), ((refl, tt), ((refl, tt), ((refl, tt), ((refl, tt), ((refl, tt), ((refl, tt), ((refl, tt), ((refl, tt), ((refl, tt), ((refl, tt), ((refl, tt), ((refl, tt), ((refl, tt), ((refl, tt), ((refl, tt), ((refl, tt), ((refl, tt), ((refl, tt), ((refl, tt), ((refl, tt), ((refl, tt), ((refl, tt), ((refl, tt), ((refl, tt), ((refl, tt), ((refl, tt), tt))))))))))))))))))))))))))))
+alone_spoken = (
+  (refl, tt),
+  (
+    (refl, tt),
+    (
+      (refl, tt),
+      (
+        (refl, tt),
+        (
+          (refl, tt),
+          (
+            (refl, tt),
+            (
+              (refl, tt),
+              (
+                (refl, tt),
+                (
+                  (refl, tt),
+                  (
+                    (refl, tt),
+                    (
+                      (refl, tt),
+                      (
+                        (refl, tt),
+                        (
+                          (refl, tt),
+                          (
+                            (refl, tt),
+                            (
+                              (refl, tt),
+                              (
+                                (refl, tt),
+                                (
+                                  (refl, tt),
+                                  (
+                                    (refl, tt),
+                                    (
+                                      (refl, tt),
+                                      (
+                                        (refl, tt),
+                                        ((refl, tt), ((refl, tt), ((refl, tt), ((refl, tt), ((refl, tt), ((refl, tt), ((refl, tt), ((refl, tt), tt)))))))),
+                                      ),
+                                    ),
+                                  ),
+                                ),
+                              ),
+                            ),
+                          ),
+                        ),
+                      ),
+                    ),
+                  ),
+                ),
+              ),
+            ),
+          ),
+        ),
+      ),
+    ),
+  ),
+)
 
 -- ---- lines of two words
 
@@ -86,7 +148,8 @@ with_one_speak = (
       (
         made_back (codes "bool") I.Bool truth_text (λ b. Unit {0}) truth_in (λ b one e. (truth_back b one e, tt)) (λ b h. (refl, tt)),
         (
-          made_back (codes "slot") (λ names. I.Slot names.0 names.1) (λ names. slot_text names.0 names.1) AreNames slot_spelt slot_back (λ names h. (refl, h)),
+          made_back (codes "slot") (λ names. I.Slot names.0 names.1) (λ names. slot_text names.0 names.1) AreNames slot_spelt slot_back
+              (λ names h. (refl, h)),
           (
             count_speaks (codes "load") I.Load (λ n h. (refl, h)),
             (
@@ -145,7 +208,9 @@ function_speaks one two says e =
 
 put_speaks : SpeaksTwo (codes "put") put_line
 put_speaks one two says e =
-    let first = then_back (λ (names : (List ℕ) × (List ℕ)). option_map (λ n. S.Instruction (I.Put names.0 names.1 n)) (number_in 0 255 two)) (slot_spelt one) says e in
+    let first =
+    then_back (λ (names : (List ℕ) × (List ℕ)). option_map (λ n. S.Instruction (I.Put names.0 names.1 n)) (number_in 0 255 two))
+    (slot_spelt one) says e in
     let second = mapped_back (λ n. S.Instruction (I.Put first.0.0 first.0.1 n)) (number_in 0 255 two) says first.2 in
     let names = slot_back first.0 one first.1 in
     let ahead = number_back 0 255 second.0 two second.1 in (

@@ -1,5 +1,6 @@
 -- What is written of a line is read as the same.
-use Rattle.rw_base.proofs.Common.{◌≡◌, ℕ, List, [], ◌∷◌, Bool, true, false, refl, ap, ◌∙◌, ◌<◌, ◌≤◌, ◌^◌, arith, ℤ, pos, negsuc, suc, ◌==◌, Some, map, codes, AllByRecursion, list_all, decimal, signed_decimal, ints, and_parts, ltb-true}
+use Rattle.rw_base.proofs.Common.{◌≡◌, ℕ, List, [], ◌∷◌, Bool, true, false, refl, ap, ◌∙◌, ◌<◌, ◌≤◌, ◌^◌, arith, ℤ, pos, negsuc, suc, ◌==◌, Some, map}
+use Rattle.rw_base.proofs.Common.{codes, AllByRecursion, list_all, decimal, signed_decimal, ints, and_parts, ltb-true}
 use Rattle.std.specs.Prelude.{ltb}
 use Rattle.rw_base.specs.Quantity.{IsQuantity}
 use Rattle.rpl_code.specs.declared.kind.ValueKind.{ValueKind}
@@ -12,10 +13,12 @@ use Rattle.rpl_code.specs.declared.said.Said.{Said}
 use Rattle.rpl_code.specs.declared.said.Said.TheVariants as S
 use Rattle.rpl_code.specs.Bounds.{IsCodeName, IsCodeKind, AreKinds, IsInstruction, IsHead}
 use Rattle.rpl_code.specs.Parting.{parted}
-use Rattle.rpl_code.specs.Spelling.{each_after, texts_joined, kind_text, kinds_text, slot_text, truth_text, word_of, operands_of, instruction_line, head_line, locals_line}
+use Rattle.rpl_code.specs.Spelling.{each_after, texts_joined, kind_text, kinds_text, slot_text, truth_text, word_of, operands_of, instruction_line}
+use Rattle.rpl_code.specs.Spelling.{head_line, locals_line}
 use Rattle.rpl_code.specs.Reading.{said_by}
 use Rattle.rpl_code.proofs.Parted.{Lacks, Above, all_append, lacks_above, above_less, parted_joined}
-use Rattle.rpl_code.proofs.WordsRead.{decimal_above, number_is, count_is, length_is, quantity_is, truth_is, name_above, name_is, slot_is, kind_is, kinds_are}
+use Rattle.rpl_code.proofs.WordsRead.{decimal_above, number_is, count_is, length_is, quantity_is, truth_is, name_above, name_is, slot_is, kind_is}
+use Rattle.rpl_code.proofs.WordsRead.{kinds_are}
 
 -- ---- no blank and no line feed stands in a word
 
@@ -166,7 +169,8 @@ lacks_each (text ∷ texts) ink = (lacks_above 32 32 text (omega arith) ink.0, l
 
 after_lacks : (texts : List (List ℕ)) → AreInk texts → Lacks 10 (each_after 32 texts)
 after_lacks [] ink = tt
-after_lacks (text ∷ texts) ink = (refl, all_append (λ b. (b == 10) ≡ false) text _ (lacks_above 32 10 text (omega arith) ink.0) (after_lacks texts ink.1))
+after_lacks (text ∷ texts) ink =
+    (refl, all_append (λ b. (b == 10) ≡ false) text _ (lacks_above 32 10 text (omega arith) ink.0) (after_lacks texts ink.1))
 
 pub line_lacks : (text : List ℕ) (texts : List (List ℕ)) → AreInk (text ∷ texts) → Lacks 10 (texts_joined 32 (text ∷ texts))
 line_lacks text texts ink = all_append (λ b. (b == 10) ≡ false) text _ (lacks_above 32 10 text (omega arith) ink.0) (after_lacks texts ink.1)
@@ -227,14 +231,17 @@ pub record Shows (line : List ℕ) (says : Said) : Type 0 where
   pub said : said_by (parted 32 line) ≡ Some says
   pub whole : Lacks 10 line
 
-shows : (word : List ℕ) (words : List (List ℕ)) (says : Said) → AreInk (word ∷ words) → said_by (word ∷ words) ≡ Some says → Shows (texts_joined 32 (word ∷ words)) says
+shows : (word : List ℕ) (words : List (List ℕ)) (says : Said) → AreInk (word ∷ words) → said_by (word ∷ words) ≡ Some says
+    → Shows (texts_joined 32 (word ∷ words)) says
 shows word words says ink is = record { said = ap said_by (line_parted word words ink) ∙ is; whole = line_lacks word words ink }
 
 pub instruction_shows : (i : Instruction) → IsInstruction i → Shows (instruction_line i) (S.Instruction i)
 instruction_shows i h = shows (word_of i) (operands_of i) (S.Instruction i) (word_ink i, operands_ink i h) (instruction_said i h)
 
 pub locals_show : (kinds : List ValueKind) → AreKinds kinds → Shows (locals_line kinds) (S.Locals kinds)
-locals_show kinds h = shows (codes "LOCALS") (kinds_text kinds ∷ []) (S.Locals kinds) (ink_of (codes "LOCALS") refl, (kinds_ink kinds h, tt)) (rw (kinds_are kinds h) refl)
+locals_show kinds h =
+    shows (codes "LOCALS") (kinds_text kinds ∷ []) (S.Locals kinds) (ink_of (codes "LOCALS") refl, (kinds_ink kinds h, tt))
+    (rw (kinds_are kinds h) refl)
 
 pub head_shows : (head : BlockHead) → IsHead head → Shows (head_line head) (S.Opening head)
 head_shows Rule h = record { said = refl; whole = (refl, (refl, (refl, (refl, tt)))) }

@@ -1,5 +1,6 @@
 -- What lines come to, where it is known how they were cut.
-use Rattle.rw_base.proofs.Common.{◌≡◌, ℕ, List, [], ◌∷◌, refl, ap, ◌∙◌, Bool, true, nat_lt, Option, Some, None, list_all, AllByRecursion, IsAscii, IsUtf8, IsUtf8-from_ascii, IsAscii-nil, IsAscii-cons, and_parts, ltb-true}
+use Rattle.rw_base.proofs.Common.{◌≡◌, ℕ, List, [], ◌∷◌, refl, ap, ◌∙◌, Bool, true, nat_lt, Option, Some, None, list_all, AllByRecursion, IsAscii}
+use Rattle.rw_base.proofs.Common.{IsUtf8, IsUtf8-from_ascii, IsAscii-nil, IsAscii-cons, and_parts, ltb-true}
 use Rattle.rpl_code.specs.declared.said.Said.{Said}
 use Rattle.rpl_code.specs.Parting.{parted}
 use Rattle.rpl_code.specs.Words.{entry_at}
@@ -45,4 +46,5 @@ four_words word one two (three ∷ words) more = refl
 pub too_many : (word others one two three behind : List ℕ) → parted 32 others ≡ one ∷ parted 32 two → parted 32 two ≡ three ∷ parted 32 behind
     → said_by (word ∷ parted 32 others) ≡ None
 too_many word others one two three behind first second =
-    ap (λ words. said_by (word ∷ words)) (first ∙ ap (λ words. one ∷ words) second) ∙ four_words word one three (parted 32 behind) (parted_more 32 behind)
+    ap (λ words. said_by (word ∷ words)) (first ∙ ap (λ words. one ∷ words) second)
+    ∙ four_words word one three (parted 32 behind) (parted_more 32 behind)

@@ -1,5 +1,7 @@
 -- What a word is read as, where it is known whether digits stand there and which.
-use Rattle.rw_base.proofs.Common.{◌≡◌, ℕ, List, refl, sym, ap, subst, ◌∙◌, ◌<◌, ◌≤◌, ◌^◌, arith, Option, Some, None, Result, Err, Ok, is_ok, false, bytes_eq, IsUtf8, IsAscii, bytes_eq-Decides, ParsesUnsigned, decimal_injective, parse-decimal, IsAscii-decimal, IsUtf8-from_ascii, false≢true, decimal}
+use Rattle.rw_base.proofs.Common.{◌≡◌, ℕ, List, refl, sym, ap, subst, ◌∙◌, ◌<◌, ◌≤◌, ◌^◌, arith, Option, Some, None, Result, Err, Ok, is_ok, false}
+use Rattle.rw_base.proofs.Common.{bytes_eq, IsUtf8, IsAscii, bytes_eq-Decides, ParsesUnsigned, decimal_injective, parse-decimal, IsAscii-decimal}
+use Rattle.rw_base.proofs.Common.{IsUtf8-from_ascii, false≢true, decimal}
 use Rattle.rpl_code.specs.Words.{number_in}
 use Rattle.rpl_code.proofs.WordsRead.{number_is}
 use Rattle.rpl_code.proofs.WordsBack.{number_back}
@@ -12,7 +14,8 @@ none_but (Some x) never = absurd (never x refl)
 pub number_spelt : (least most n : ℕ) (word : List ℕ) → word ≡ decimal n → n < 2 ^ 64 → least ≤ n → n ≤ most → number_in least most word ≡ Some n
 number_spelt least most n word is small low high = ap (number_in least most) is ∙ number_is least most n low high small
 
-pub number_outside : (least most n : ℕ) (word : List ℕ) → word ≡ decimal n → n < 2 ^ 64 → most < 2 ^ 64 → (least ≤ n → n ≤ most → ⊥) → number_in least most word ≡ None
+pub number_outside : (least most n : ℕ) (word : List ℕ) → word ≡ decimal n → n < 2 ^ 64 → most < 2 ^ 64 → (least ≤ n → n ≤ most → ⊥)
+    → number_in least most word ≡ None
 number_outside least most n word is small greatest outside = none_but (number_in least most word)
     (λ m e. let back = number_back least most m word e in
     let same : m ≡ n = decimal_injective m n (omega (arith, greatest, back.2)) small (sym back.0 ∙ is) in

@@ -1,5 +1,7 @@
 -- A text that was joined is parted again, and a text that was parted is joined again.
-use Rattle.rw_base.proofs.Common.{◌≡◌, ℕ, List, [], ◌∷◌, ◌++◌, true, false, refl, sym, ap, subst, ◌∙◌, append-nil, ◌+◌, ◌-◌, ◌<◌, ◌≤◌, arith, length, get_or, take, drop, drop-cons, length-drop, add-one, take-append-drop, take_all, ◌==◌, AllByRecursion, eq-eqb, ne_eqb}
+use Rattle.rw_base.proofs.Common.{◌≡◌, ℕ, List, [], ◌∷◌, ◌++◌, true, false, refl, sym, ap, subst, ◌∙◌, append-nil, ◌+◌, ◌-◌, ◌<◌, ◌≤◌, arith, length}
+use Rattle.rw_base.proofs.Common.{get_or, take, drop, drop-cons, length-drop, add-one, take-append-drop, take_all, ◌==◌, AllByRecursion, eq-eqb}
+use Rattle.rw_base.proofs.Common.{ne_eqb}
 use Rattle.rpl_code.specs.Parting.{parted}
 use Rattle.rpl_code.specs.Spelling.{texts_joined, lines_ended}
 
@@ -36,7 +38,8 @@ pub parted_at : (c : ℕ) (text rest : List ℕ) → Lacks c text → parted c (
 parted_at c [] rest lacks = rw (same_byte c) refl
 parted_at c (b ∷ bs) rest lacks = rw (lacks.0, parted_at c bs rest lacks.1) refl
 
-pub parted_joined : (c : ℕ) (text : List ℕ) (texts : List (List ℕ)) → AllByRecursion (Lacks c) (text ∷ texts) → parted c (texts_joined c (text ∷ texts)) ≡ text ∷ texts
+pub parted_joined : (c : ℕ) (text : List ℕ) (texts : List (List ℕ)) → AllByRecursion (Lacks c) (text ∷ texts)
+    → parted c (texts_joined c (text ∷ texts)) ≡ text ∷ texts
 parted_joined c text [] lacks = ap (parted c) (append-nil text) ∙ parted_whole c text lacks.0
 parted_joined c text (next ∷ texts) lacks =
     parted_at c text (texts_joined c (next ∷ texts)) lacks.0 ∙ ap (λ rest. text ∷ rest) (parted_joined c next texts lacks.1)

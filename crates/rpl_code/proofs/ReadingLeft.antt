@@ -1,5 +1,6 @@
 -- What is left of a text is read as the whole of it would be.
-use Rattle.rw_base.proofs.Common.{◌≡◌, ℕ, List, [], ◌∷◌, ◌++◌, refl, sym, ap, subst, ◌∙◌, ◌+◌, append-nil, ◌&&◌, if◌then◌else◌, true, None, Result, Ok, Err, is_ok, MatchResult, bytes_eq, false≢true}
+use Rattle.rw_base.proofs.Common.{◌≡◌, ℕ, List, [], ◌∷◌, ◌++◌, refl, sym, ap, subst, ◌∙◌, ◌+◌, append-nil, ◌&&◌, if◌then◌else◌, true, None, Result}
+use Rattle.rw_base.proofs.Common.{Ok, Err, is_ok, MatchResult, bytes_eq, false≢true}
 use Rattle.rw_base.specs.Answers.{Answers}
 use Rattle.rpl_code.specs.declared.block.Block.{Block}
 use Rattle.rpl_code.specs.declared.progress.Progress.{Progress}
@@ -16,13 +17,15 @@ use Rattle.rpl_code.specs.Progress.{stage_of, blocks_begun, code_with, reading_w
 use Rattle.rpl_code.proofs.WordsBack.{IsMore, parted_more}
 
 -- the loop's turn: with the parts of a text behind the line
-pub reads_on : (blocks : List Block) (progress : Progress) (n : ℕ) (left line rest : List ℕ) (blocks_after : List Block) (after : Progress) (whole : Result (List Block) CodeRefusal)
+pub reads_on : (blocks : List Block) (progress : Progress) (n : ℕ) (left line rest : List ℕ) (blocks_after : List Block) (after : Progress)
+    (whole : Result (List Block) CodeRefusal)
     → parted 10 left ≡ line ∷ parted 10 rest → TakesLine blocks progress line blocks_after after
     → reading_with blocks progress n (parted 10 left) ≡ whole → reading_with blocks_after after (n + 1) (parted 10 rest) ≡ whole
 reads_on blocks progress n left line rest blocks_after after whole e takes is =
     by_parts (parted 10 rest) (parted_more 10 rest) (sym (ap (reading_with blocks progress n) e) ∙ is)
   where
-    by_parts : (parts : List (List ℕ)) → IsMore parts → reading_with blocks progress n (line ∷ parts) ≡ whole → reading_with blocks_after after (n + 1) parts ≡ whole
+    by_parts : (parts : List (List ℕ)) → IsMore parts → reading_with blocks progress n (line ∷ parts) ≡ whole
+        → reading_with blocks_after after (n + 1) parts ≡ whole
     by_parts [] more h = absurd more
     by_parts (part ∷ parts) more h = takes n part parts ∙ h
 
@@ -43,7 +46,8 @@ pub reads_all : (blocks : List Block) (progress : Progress) (n : ℕ) (left : Li
     → parted 10 left ≡ left ∷ [] → (may_end (stage_of progress) && bytes_eq left []) ≡ true
     → reading_with blocks progress n (parted 10 left) ≡ whole → whole ≡ Ok blocks
 reads_all blocks progress n left whole e ends is =
-    sym is ∙ ap (reading_with blocks progress n) e ∙ ap (λ t. code_with blocks progress (if t then Ok [] else Err truncated)) ends ∙ ap Ok (nothing_more progress ends)
+    sym is ∙ ap (reading_with blocks progress n) e ∙ ap (λ t. code_with blocks progress (if t then Ok [] else Err truncated)) ends
+    ∙ ap Ok (nothing_more progress ends)
   where
     nothing_more : (progress : Progress) → (may_end (stage_of progress) && bytes_eq left []) ≡ true → blocks ++ blocks_begun progress [] ≡ blocks
     nothing_more P.Top h = append-nil blocks

@@ -1,11 +1,15 @@
 -- A word that is read is what is written of what it was read as.
-use Rattle.rw_base.proofs.Common.{◌≡◌, ℕ, zero, suc, List, [], ◌∷◌, ◌++◌, Bool, true, false, refl, sym, ap, ap₂, subst, ◌∙◌, append-nil, ◌≤◌, arith, ℤ, pos, ◌==◌, ◌&&◌, if◌then◌else◌, nat_le, Option, Some, None, is_some, unwrap_or, option_map, option_and_then, map, codes, neg_ℤ, AllByRecursion, bytes_eq, digits_value, decimal, signed_decimal, bytes_eq-Decides, eqb-true, leb-true, and_parts, false≢true, ints}
+use Rattle.rw_base.proofs.Common.{◌≡◌, ℕ, zero, suc, List, [], ◌∷◌, ◌++◌, Bool, true, false, refl, sym, ap, ap₂, subst, ◌∙◌, append-nil, ◌≤◌, arith}
+use Rattle.rw_base.proofs.Common.{ℤ, pos, ◌==◌, ◌&&◌, if◌then◌else◌, nat_le, Option, Some, None, is_some, unwrap_or, option_map, option_and_then, map}
+use Rattle.rw_base.proofs.Common.{codes, neg_ℤ, AllByRecursion, bytes_eq, digits_value, decimal, signed_decimal, bytes_eq-Decides, eqb-true, leb-true}
+use Rattle.rw_base.proofs.Common.{and_parts, false≢true, ints}
 use Rattle.rw_base.specs.Quantity.{IsQuantity}
 use Rattle.rpl_code.specs.declared.kind.ValueKind.{ValueKind}
 use Rattle.rpl_code.specs.Names.{is_code_name}
 use Rattle.rpl_code.specs.Bounds.{IsNumber, IsLength, IsCodeName, IsCodeKind, AreKinds}
 use Rattle.rpl_code.specs.Parting.{parted, in_front}
-use Rattle.rpl_code.specs.Words.{if_so, entry_at, number_in, count_in, length_in, quantity_in, truths, plain_kinds, list_kinds, truth_in, name_in, slot_spelt, slot_of, kind_in, kind_spelt, kinds_in, each_kind}
+use Rattle.rpl_code.specs.Words.{if_so, entry_at, number_in, count_in, length_in, quantity_in, truths, plain_kinds, list_kinds, truth_in, name_in}
+use Rattle.rpl_code.specs.Words.{slot_spelt, slot_of, kind_in, kind_spelt, kinds_in, each_kind}
 use Rattle.rpl_code.specs.Spelling.{texts_joined, kind_text, kinds_text, slot_text, truth_text}
 
 -- ---- what an answer tells of its parts
@@ -104,7 +108,8 @@ negative_back (suc n) b bs z minus digits low high e = (
 )
 
 quantity_by : (t : Bool) (b : ℕ) (bs : List ℕ) (z : ℤ) → (b == 45) ≡ t
-    → (if t then option_map (λ n. neg_ℤ (pos n)) (number_in 1 100000000000000000 bs) else option_map pos (number_in 0 100000000000000000 (b ∷ bs))) ≡ Some z
+    → (if t then option_map (λ n. neg_ℤ (pos n)) (number_in 1 100000000000000000 bs) else option_map pos
+    (number_in 0 100000000000000000 (b ∷ bs))) ≡ Some z
     → ((b ∷ bs) ≡ signed_decimal z) × IsQuantity z
 quantity_by true b bs z same e =
     let found = mapped_back (λ n. neg_ℤ (pos n)) (number_in 1 100000000000000000 bs) z e in
@@ -152,14 +157,19 @@ slot_back names text e = let back = slot_of_back (parted 46 text) names e in (sy
 kind_of_back : (texts : List (List ℕ)) (kind : ValueKind) → kind_spelt texts ≡ Some kind → (texts_joined 42 texts ≡ kind_text kind) × IsCodeKind kind
 kind_of_back [] kind e = none_some kind e
 kind_of_back (letter ∷ []) kind e =
-    entry_back (λ word k. (texts_joined 42 (word ∷ []) ≡ kind_text k) × IsCodeKind k) plain_kinds letter kind ((refl, tt), ((refl, tt), ((refl, tt), ((refl, tt), tt)))) e
+    entry_back (λ word k. (texts_joined 42 (word ∷ []) ≡ kind_text k) × IsCodeKind k) plain_kinds letter kind
+    ((refl, tt), ((refl, tt), ((refl, tt), ((refl, tt), tt)))) e
 kind_of_back (letter ∷ digits ∷ []) kind e =
     let found = then_back (λ (of_most : ℕ → ValueKind). option_map of_most (length_in digits)) (entry_at list_kinds letter) kind e in
     let most = mapped_back found.0 (length_in digits) kind found.2 in
     let back = length_back most.0 digits most.1 in
-    let made = entry_back (λ word (of_most : ℕ → ValueKind). (m : ℕ) → IsLength m → (texts_joined 42 (word ∷ decimal m ∷ []) ≡ kind_text (of_most m)) × IsCodeKind (of_most m))
-    list_kinds letter found.0
-    ((λ m h. (ap (λ text. codes "N*" ++ text) (append-nil (decimal m)), h)), ((λ m h. (ap (λ text. codes "S*" ++ text) (append-nil (decimal m)), h)), tt))
+    let made =
+    entry_back (λ word (of_most : ℕ → ValueKind). (m : ℕ) → IsLength m
+    → (texts_joined 42 (word ∷ decimal m ∷ []) ≡ kind_text (of_most m)) × IsCodeKind (of_most m))
+    list_kinds letter found.0 (
+      (λ m h. (ap (λ text. codes "N*" ++ text) (append-nil (decimal m)), h)),
+      ((λ m h. (ap (λ text. codes "S*" ++ text) (append-nil (decimal m)), h)), tt),
+    )
     found.1 most.0 back.1 in
     (ap (λ text. texts_joined 42 (letter ∷ text ∷ [])) back.0 ∙ made.0 ∙ ap kind_text most.2, subst IsCodeKind most.2 made.1)
 kind_of_back (letter ∷ digits ∷ other ∷ texts) kind e = none_some kind e

@@ -1,5 +1,8 @@
 -- What is written of a word is read as the same.
-use Rattle.rw_base.proofs.Common.{◌≡◌, ℕ, suc, List, [], ◌∷◌, ◌++◌, Bool, true, false, refl, ap, ◌∙◌, ◌<◌, ◌≤◌, ◌^◌, ◌+◌, ◌%◌, arith, ℤ, pos, negsuc, ◌&&◌, nat_le, Some, option_map, ◌||◌, length, map, codes, neg_ℤ, AllByRecursion, list_all, bytes_eq, decimal, signed_decimal, decimal_is_IsNumeral, decimal_by_steps, bytes_eq-Decides, ne_eqb, le-leb, and_parts, nat_tests, ints}
+use Rattle.rw_base.proofs.Common.{◌≡◌, ℕ, suc, List, [], ◌∷◌, ◌++◌, Bool, true, false, refl, ap, ◌∙◌, ◌<◌, ◌≤◌, ◌^◌, ◌+◌, ◌%◌, arith, ℤ, pos, negsuc}
+use Rattle.rw_base.proofs.Common.{◌&&◌, nat_le, Some, option_map, ◌||◌, length, map, codes, neg_ℤ, AllByRecursion, list_all, bytes_eq, decimal}
+use Rattle.rw_base.proofs.Common.{signed_decimal, decimal_is_IsNumeral, decimal_by_steps, bytes_eq-Decides, ne_eqb, le-leb, and_parts, nat_tests}
+use Rattle.rw_base.proofs.Common.{ints}
 use Rattle.std.specs.Fmt.{digits}
 use Rattle.rw_base.specs.Quantity.{IsQuantity}
 use Rattle.rpl_code.specs.declared.kind.ValueKind.{ValueKind}

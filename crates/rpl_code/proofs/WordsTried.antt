@@ -1,5 +1,7 @@
 -- What words come to, where it is known how they were cut.
-use Rattle.rw_base.proofs.Common.{◌≡◌, ◌⊎◌, inl, inr, ℕ, List, [], ◌∷◌, ◌++◌, refl, sym, ap, ap₂, subst, ◌∙◌, append-nil, ◌<◌, arith, length, Bool, true, false, ◌&&◌, ◌||◌, nat_le, Option, Some, None, is_some, Result, Ok, Err, option_map, option_and_then, list_all, IsErrAnd, IsAscii, IsUtf8, IsUtf8-from_ascii, IsAscii-nil, IsAscii-cons, and_parts, false≢true, nat_tests}
+use Rattle.rw_base.proofs.Common.{◌≡◌, ◌⊎◌, inl, inr, ℕ, List, [], ◌∷◌, ◌++◌, refl, sym, ap, ap₂, subst, ◌∙◌, append-nil, ◌<◌, arith, length, Bool}
+use Rattle.rw_base.proofs.Common.{true, false, ◌&&◌, ◌||◌, nat_le, Option, Some, None, is_some, Result, Ok, Err, option_map, option_and_then}
+use Rattle.rw_base.proofs.Common.{list_all, IsErrAnd, IsAscii, IsUtf8, IsUtf8-from_ascii, IsAscii-nil, IsAscii-cons, and_parts, false≢true, nat_tests}
 use Rattle.rpl_code.specs.declared.kind.ValueKind.{ValueKind}
 use Rattle.rpl_code.specs.Names.{is_letter, is_digit, is_code_name}
 use Rattle.rpl_code.specs.Parting.{parted}
@@ -22,7 +24,8 @@ says_none meant (Err e) fault same none = λ bad. none (sym same ∙ bad)
 -- ---- a text is one part, or has two or more
 
 abbrev pub OneOrMore : ℕ → List ℕ → Type 0
-OneOrMore c text = (parted c text ≡ text ∷ []) ⊎ ((first : List ℕ) × (second : List ℕ) × (rest : List (List ℕ)) × (parted c text ≡ first ∷ second ∷ rest))
+OneOrMore c text =
+    (parted c text ≡ text ∷ []) ⊎ ((first : List ℕ) × (second : List ℕ) × (rest : List (List ℕ)) × (parted c text ≡ first ∷ second ∷ rest))
 
 one_or_by : (c : ℕ) (text : List ℕ) (parts : List (List ℕ)) → parted c text ≡ parts → IsMore parts → texts_joined c parts ≡ text → OneOrMore c text
 one_or_by c text [] e more whole = absurd more
@@ -41,7 +44,8 @@ one_not_more c text first second rest lacks e =
 abbrev pub listed_kind : List ℕ → List ℕ → Option ValueKind
 listed_kind letter digits = option_and_then (λ (of_most : ℕ → ValueKind). option_map of_most (length_in digits)) (entry_at list_kinds letter)
 
-not_listed : (letter digits first second : List ℕ) (rest : List (List ℕ)) → parted 42 digits ≡ first ∷ second ∷ rest → listed_kind letter digits ≡ None
+not_listed : (letter digits first second : List ℕ) (rest : List (List ℕ)) → parted 42 digits ≡ first ∷ second ∷ rest
+    → listed_kind letter digits ≡ None
 not_listed letter digits first second rest e = none_but (listed_kind letter digits)
     (λ kind is. let row = then_back (λ (of_most : ℕ → ValueKind). option_map of_most (length_in digits)) (entry_at list_kinds letter) kind is in
     let most = mapped_back row.0 (length_in digits) kind row.2 in
@@ -116,8 +120,10 @@ second_false true true a b e = absurd (false≢true (sym (ap is_some e)))
 second_false true false a b e = refl
 second_false false t a b e = refl
 
-pub slot_named : (word object slot x y : List ℕ) → parted 46 word ≡ object ∷ parted 46 slot → name_in object ≡ Some x → name_in slot ≡ Some y → slot_spelt word ≡ Some (x, y)
-slot_named word object slot x y e first second = slot_cut word object slot e ∙ both_true (is_code_name object) (is_code_name slot) x y object slot first second
+pub slot_named : (word object slot x y : List ℕ) → parted 46 word ≡ object ∷ parted 46 slot → name_in object ≡ Some x → name_in slot ≡ Some y
+    → slot_spelt word ≡ Some (x, y)
+slot_named word object slot x y e first second =
+    slot_cut word object slot e ∙ both_true (is_code_name object) (is_code_name slot) x y object slot first second
 
 pub slot_unnamed : (word object slot : List ℕ) → parted 46 word ≡ object ∷ parted 46 slot → name_in slot ≡ None → slot_spelt word ≡ None
 slot_unnamed word object slot e none = slot_cut word object slot e ∙ second_false (is_code_name object) (is_code_name slot) object slot none

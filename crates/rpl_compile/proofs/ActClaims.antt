@@ -1,5 +1,6 @@
 -- The lines of statements are those that TRANSLATE gives.
-use Rattle.rw_base.proofs.Common.{◌≡◌, ℕ, ◌+◌, ℤ, List, [], ◌∷◌, ◌++◌, length, length-map, reverse, Option, None, Some, IsSome, IsSomeAnd, unsigned_abs, refl, sym, ap, ◌∙◌, AllByRecursion, append-nil, append_assoc, arith}
+use Rattle.rw_base.proofs.Common.{◌≡◌, ℕ, ◌+◌, ℤ, List, [], ◌∷◌, ◌++◌, length, length-map, reverse, Option, None, Some, IsSome, IsSomeAnd}
+use Rattle.rw_base.proofs.Common.{unsigned_abs, refl, sym, ap, ◌∙◌, AllByRecursion, append-nil, append_assoc, arith}
 use Rattle.rw_model.proofs.Common.{Draft, IsBasin, slot_named}
 use Rattle.rpl_code.specs.declared.kind.ValueKind.{ValueKind}
 use Rattle.rpl_code.specs.declared.kind.ValueKind.TheVariants.{N}

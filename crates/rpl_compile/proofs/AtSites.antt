@@ -1,5 +1,6 @@
 -- What is written at a site: each step leads on to the next one.
-use Rattle.rw_base.proofs.Common.{◌≡◌, ℕ, ◌+◌, ◌-◌, Bool, true, false, List, [], ◌∷◌, ◌++◌, length, take, reverse, refl, sym, ap, ◌∙◌, subst, arith, if◌then◌else◌, append-nil, append_assoc, length-append, reverse-append, set-append_seam, take-append_seam}
+use Rattle.rw_base.proofs.Common.{◌≡◌, ℕ, ◌+◌, ◌-◌, Bool, true, false, List, [], ◌∷◌, ◌++◌, length, take, reverse, refl, sym, ap, ◌∙◌, subst, arith}
+use Rattle.rw_base.proofs.Common.{if◌then◌else◌, append-nil, append_assoc, length-append, reverse-append, set-append_seam, take-append_seam}
 use Rattle.rpl_code.specs.declared.kind.ValueKind.{ValueKind}
 use Rattle.rpl_code.specs.declared.kind.ValueKind.TheVariants.{N}
 use Rattle.rpl_code.specs.declared.instruction.Instruction.{Instruction}
@@ -7,7 +8,8 @@ use Rattle.rpl_code.specs.declared.instruction.Instruction.TheVariants as I
 use Rattle.rpl_tree.specs.Value.{Kind, is_same_kind, room_of}
 use Rattle.rpl_compile.specs.Operations.{code_kind, code_kinds, target, widening, widening_size}
 use Rattle.rpl_compile.specs.Site.{BoundName, Site, bound, keeping, knowing, on, over}
-use Rattle.rpl_compile.specs.Written.{Written, at_line, outer, written_step, with_end, with_kind, with_line, with_local, with_name, with_operand, written_with_room, with_second, with_value_end, without_name, without_operands}
+use Rattle.rpl_compile.specs.Written.{Written, at_line, outer, written_step, with_end, with_kind, with_line, with_local, with_name, with_operand}
+use Rattle.rpl_compile.specs.Written.{written_with_room, with_second, with_value_end, without_name, without_operands}
 
 -- with these locals and these lines so far
 pub record At (w : Written) (s : Site) (ls : List ValueKind) (is : List Instruction) : Type 0 where

@@ -1,5 +1,6 @@
 -- A value that is kept in a local, with a name.
-use Rattle.rw_base.proofs.Common.{◌≡◌, ℕ, suc, ◌+◌, ◌<◌, ◌≤◌, List, ◌∷◌, ◌++◌, length, set, Some, refl, ◌∙◌, subst, arith, slice_get, slice_get_within}
+use Rattle.rw_base.proofs.Common.{◌≡◌, ℕ, suc, ◌+◌, ◌<◌, ◌≤◌, List, ◌∷◌, ◌++◌, length, set, Some, refl, ◌∙◌, subst, arith, slice_get}
+use Rattle.rw_base.proofs.Common.{slice_get_within}
 use Rattle.rpl_code.specs.declared.instruction.Instruction.{Instruction}
 use Rattle.rpl_code.specs.declared.instruction.Instruction.TheVariants as I
 use Rattle.rpl_tree.specs.Value.{Kind, Value, kind_of_value, weight}
@@ -91,7 +92,8 @@ module _ (g : Setting) where
       let z : q + 1 ≡ suc q = omega arith in
       let m : site.free + suc (local_count e) ≡ site.free + 1 + local_count e = omega arith in
       let there = here_known site env ls us ops x k v (local_count e) hv b.local h k1 in
-      goes_first g.code g.world (fr g q us (v ∷ ops) lo) rest (fr g (suc q) (set us site.free v) ops lo ∷ rest) (spent (weight (kind_of_value v))) (go v) Q
+      goes_first g.code g.world (fr g q us (v ∷ ops) lo) rest (fr g (suc q) (set us site.free v) ops lo ∷ rest)
+      (spent (weight (kind_of_value v))) (go v) Q
       (stores g q site.free us ops lo rest v k b.keeps b.local hv)
       (goes_at g (q + 1) (suc q) (set us site.free v) ops lo rest (go v) Q z
       (inside v (set us site.free v) (kept_set site.free site.free ls us v (omega arith) k1)

@@ -27,7 +27,8 @@ use Rattle.rpl_compile.proofs.Counting.{Prices}
 use Rattle.rpl_compile.proofs.Costing.{CallsFit}
 use Rattle.rpl_compile.proofs.TreeCosts.{words_added}
 use Rattle.rpl_compile.proofs.Calling.{AreCallable, IsCallable, call_onward, calls_fit}
-use Rattle.rpl_compile.proofs.CallCosts.{AreCosted, CallCost, call_count, call_part, called_cost, costed_same, count_prices, counts_call, looks_call, looks_prices, puts_call, puts_prices, words_above, words_call, words_of_kinds}
+use Rattle.rpl_compile.proofs.CallCosts.{AreCosted, CallCost, call_count, call_part, called_cost, costed_same, count_prices, counts_call, looks_call}
+use Rattle.rpl_compile.proofs.CallCosts.{looks_prices, puts_call, puts_prices, words_above, words_call, words_of_kinds}
 use Rattle.rpl_compile.proofs.BlockWays.{function_goes, parameter_names, rule_goes}
 use Rattle.rpl_compile.proofs.Paying.{paying_account, whole}
 

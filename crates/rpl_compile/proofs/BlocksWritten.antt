@@ -1,16 +1,19 @@
 -- The blocks of a ruleset, as they are written, are those that TRANSLATE gives.
-use Rattle.rw_base.proofs.Common.{◌≡◌, ◌+◌, ℕ, List, [], ◌∷◌, drop, length, length-map, Some, IsSome, refl, sym, ap, ◌∙◌, subst, arith, false≢true, AllByRecursion, drop-append_seam}
+use Rattle.rw_base.proofs.Common.{◌≡◌, ◌+◌, ℕ, List, [], ◌∷◌, drop, length, length-map, Some, IsSome, refl, sym, ap, ◌∙◌, subst, arith, false≢true}
+use Rattle.rw_base.proofs.Common.{AllByRecursion, drop-append_seam}
 use Rattle.rw_model.proofs.Common.{Draft, IsBasin}
 use Rattle.rpl_code.specs.declared.block.BlockHead.TheVariants.{Rule, Function}
 use Rattle.rpl_tree.specs.Tree.{numeric, boolean, datetime, slot_type, numeric_list, slot_list}
 use Rattle.rpl_tree.specs.Value.{slots_kind}
-use Rattle.rpl_tree.proofs.Common.{Acts, Declared, Parameter, Tree, TypeName, function, rule, kind_of_type, local_kinds, numbers_kind, param_kinds, param_names}
+use Rattle.rpl_tree.proofs.Common.{Acts, Declared, Parameter, Tree, TypeName, function, rule, kind_of_type, local_kinds, numbers_kind, param_kinds}
+use Rattle.rpl_tree.proofs.Common.{param_names}
 use Rattle.rpl_compile.specs.Kinded.{AreKinded, AreKindedActs, AreKindedFrom, IsKinded, IsKindedBody}
 use Rattle.rpl_compile.specs.Operations.{code_kind, code_kinds}
 use Rattle.rpl_compile.specs.Rooms.{AreRoomy, HasListRoom, HaveRoom}
 use Rattle.rpl_compile.specs.Site.{bound, names_in, parameters_from, start}
 use Rattle.rpl_compile.specs.Translate.{Callee, blocks_from, callee_heads, function_block, kind_of_tree, predefined_callees, rule_block, translate}
-use Rattle.rpl_compile.specs.Written.{begun, begun_function, written_function, written_from, written_kind, written_parameters, written_rule, written_takes}
+use Rattle.rpl_compile.specs.Written.{begun, begun_function, written_function, written_from, written_kind, written_parameters, written_rule}
+use Rattle.rpl_compile.specs.Written.{written_takes}
 use Rattle.rpl_compile.proofs.ActClaims.{claim_acts}
 use Rattle.rpl_compile.proofs.Claims.{claim}
 use Rattle.rpl_compile.proofs.Plain.{IsSpelt, short_is}
@@ -46,7 +49,13 @@ takes_long (p ∷ ps) = let rest = takes_long ps in omega (arith, rest)
 predefined_spelt : AllByRecursion IsSpelt predefined_callees
 predefined_spelt = (
   λ none. small_text _ refl,
-  (λ none. small_text _ refl, (λ none. small_text _ refl, (λ none. small_text _ refl, (λ none. small_text _ refl, (λ none. small_text _ refl, (λ none. small_text _ refl, tt)))))),
+  (
+    λ none. small_text _ refl,
+    (
+      λ none. small_text _ refl,
+      (λ none. small_text _ refl, (λ none. small_text _ refl, (λ none. small_text _ refl, (λ none. small_text _ refl, tt)))),
+    ),
+  ),
 )
 
 module _ (basin : Draft) (valid : IsBasin basin) where

@@ -1,5 +1,7 @@
 -- A function of the ruleset: its block does what its body means, and a call of it does what the function does.
-use Rattle.rw_base.proofs.Common.{◌≡◌, ℕ, suc, ◌+◌, ◌-◌, ◌≤◌, Bool, true, false, nat_le, List, [], ◌∷◌, ◌++◌, length, map, reverse, reverse-reverse, length-reverse, length-append, map-append, Some, None, Ok, Err, refl, sym, ap, ap₂, ◌∙◌, subst, arith, slice_get, slice_get-map, option_map, if◌then◌else◌, eq-eqb, length-map}
+use Rattle.rw_base.proofs.Common.{◌≡◌, ℕ, suc, ◌+◌, ◌-◌, ◌≤◌, Bool, true, false, nat_le, List, [], ◌∷◌, ◌++◌, length, map, reverse, reverse-reverse}
+use Rattle.rw_base.proofs.Common.{length-reverse, length-append, map-append, Some, None, Ok, Err, refl, sym, ap, ap₂, ◌∙◌, subst, arith, slice_get}
+use Rattle.rw_base.proofs.Common.{slice_get-map, option_map, if◌then◌else◌, eq-eqb, length-map}
 use Rattle.rw_model.specs.Objects.{numbered}
 use Rattle.rpl_code.specs.declared.instruction.Instruction.TheVariants as I
 use Rattle.rpl_code.specs.declared.block.Block.{Block}
@@ -26,7 +28,8 @@ use Rattle.rpl_compile.specs.Site.{BoundName, Site, kind_at, names_in, parameter
 use Rattle.rpl_compile.specs.Translate.{Callee, callee_heads, code_of, function_block, room_lines}
 use Rattle.rpl_compile.specs.Kinded.{FitsIn, IsKinded, IsKindedBody}
 use Rattle.rpl_compile.proofs.Goes.{Goes, goes_first, goes_free}
-use Rattle.rpl_compile.proofs.OfKind.{At, HasKind, HaveKinds, all_words_coded, as_many, at_all, at_back, at_front, at_head, at_moved, at_tail, kind_coded, kinds_are, drop_front, take_front}
+use Rattle.rpl_compile.proofs.OfKind.{At, HasKind, HaveKinds, all_words_coded, as_many, at_all, at_back, at_front, at_head, at_moved, at_tail}
+use Rattle.rpl_compile.proofs.OfKind.{kind_coded, kinds_are, drop_front, take_front}
 use Rattle.rpl_compile.proofs.Sizes.{beside, code-size, widening-size}
 use Rattle.rpl_compile.proofs.Setting.{CanCall, DoesCall, Here, Holds, Left, Setting, fr}
 use Rattle.rpl_compile.proofs.Steps.{does}

@@ -1,5 +1,6 @@
 -- What calls come to: of a predefined function, and of one whose block has a budget.
-use Rattle.rw_base.proofs.Common.{◌≡◌, ◌≤◌, ◌<◌, ℕ, zero, suc, ◌+◌, ◌-◌, nat_le, Bool, true, false, ◌||◌, List, [], ◌∷◌, ◌++◌, length, bytes_eq, Option, Some, None, refl, ap, ap₂, ◌∙◌, arith, IsTrue, list_any, if◌then◌else◌, slice_get}
+use Rattle.rw_base.proofs.Common.{◌≡◌, ◌≤◌, ◌<◌, ℕ, zero, suc, ◌+◌, ◌-◌, nat_le, Bool, true, false, ◌||◌, List, [], ◌∷◌, ◌++◌, length, bytes_eq}
+use Rattle.rw_base.proofs.Common.{Option, Some, None, refl, ap, ap₂, ◌∙◌, arith, IsTrue, list_any, if◌then◌else◌, slice_get}
 use Rattle.rw_model.specs.Objects.{numbered}
 use Rattle.rpl_code.specs.declared.instruction.Instruction.{Instruction}
 use Rattle.rpl_code.specs.declared.instruction.Instruction.TheVariants as I

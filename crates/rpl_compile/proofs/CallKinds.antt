@@ -1,6 +1,8 @@
 -- A call finds the function that its type was found by: predefined ones and declared ones are looked up in different orders, but no two
 -- have one name.
-use Rattle.rw_base.proofs.Common.{◌≡◌, ◌==◌, inl, arith, nat_tests, subst, ℕ, ℤ, pos, int_le, unsigned_abs, Bool, true, false, ◌&&◌, ◌||◌, List, [], ◌∷◌, ◌++◌, length, map, replicate, bytes_eq, Option, Some, None, is_some, Ok, Err, refl, sym, ap, ap₂, ◌∙◌, if◌then◌else◌, bytes_eq-Decides, codes}
+use Rattle.rw_base.proofs.Common.{◌≡◌, ◌==◌, inl, arith, nat_tests, subst, ℕ, ℤ, pos, int_le, unsigned_abs, Bool, true, false, ◌&&◌, ◌||◌, List, []}
+use Rattle.rw_base.proofs.Common.{◌∷◌, ◌++◌, length, map, replicate, bytes_eq, Option, Some, None, is_some, Ok, Err, refl, sym, ap, ap₂, ◌∙◌}
+use Rattle.rw_base.proofs.Common.{if◌then◌else◌, bytes_eq-Decides, codes}
 use Rattle.rw_base.specs.Dimension.{Dimension, times_per_of}
 use Rattle.rw_base.specs.Unit.{units, unit_in}
 use Rattle.std.specs.List.{list_any}
@@ -14,7 +16,9 @@ use Rattle.rpl_tree.specs.Mean.{function_heads, param_kinds, predefined_function
 use Rattle.rpl_types.specs.declared.type_kind.TypeKind.TheVariants.{DuplicateName, ListTooLong, NotEarlier, UnknownName, WrongCount, WrongType}
 use Rattle.rpl_types.specs.Fits.{Typed, arguments_misfit, longest, misfit, misfit_among, misfit_in_places}
 use Rattle.rpl_types.specs.Forms.{TypeScope, a_dimension}
-use Rattle.rpl_types.specs.Functions.{Callable, Signature, call_type, called_type, count_named, declared_type, head_misfit, is_duplicate, made_by, measured_by, numbers_type, param_scope, predefined_count, product_over_type, refusal_in, repeats_name, signature, signature_named, type_here, type_or_plain, unknown_type, with_room, with_unit, written_type}
+use Rattle.rpl_types.specs.Functions.{Callable, Signature, call_type, called_type, count_named, declared_type, head_misfit, is_duplicate, made_by}
+use Rattle.rpl_types.specs.Functions.{measured_by, numbers_type, param_scope, predefined_count, product_over_type, refusal_in, repeats_name}
+use Rattle.rpl_types.specs.Functions.{signature, signature_named, type_here, type_or_plain, unknown_type, with_room, with_unit, written_type}
 use Rattle.rpl_types.specs.Judged.{head_refusal}
 use Rattle.rpl_compile.specs.Kinded.{FitsIn, HasHead}
 use Rattle.rpl_compile.proofs.TypeKinds.{AreAlike, kind_of_rpl_type, kinds_fit, measured, none_of_two, numbers_alike, same_kind, typed, unrefused}
@@ -286,7 +290,8 @@ made_of_product (Numeric a ∷ Numeric b ∷ _ ∷ ts) t h = absurd (cc h)
 made_of_product (Numeric a ∷ _ ∷ ts) t h = absurd (cc h)
 made_of_product (_ ∷ ts) t h = absurd (cc h)
 
-made_of_arguments : (f : List ℕ) (ts : List RplType) (t : RplType) → made_by f ts ≡ Ok t → (number_kind ≡ kind_of_rpl_type t) × AreAlike number_kind ts
+made_of_arguments : (f : List ℕ) (ts : List RplType) (t : RplType) → made_by f ts ≡ Ok t
+    → (number_kind ≡ kind_of_rpl_type t) × AreAlike number_kind ts
 made_of_arguments f ts t h = by (bytes_eq (codes "MulDiv") f) h
   where
     by : (test : Bool) → (if test then product_over_type ts else numbers_type (measured_by f) ts) ≡ Ok t

@@ -1,5 +1,7 @@
 -- Functions that can be called: the predefined ones, and one more.
-use Rattle.rw_base.proofs.Common.{◌≡◌, ℕ, zero, suc, Bool, true, false, ◌||◌, List, [], ◌∷◌, ◌++◌, length, map, reverse, reverse-reverse, length-reverse, replicate, Some, None, Ok, IsTrue, refl, sym, ap, ap₂, ◌∙◌, subst, bytes_eq, list_any, if◌then◌else◌, length-replicate}
+use Rattle.rw_base.proofs.Common.{◌≡◌, ℕ, zero, suc, Bool, true, false, ◌||◌, List, [], ◌∷◌, ◌++◌, length, map, reverse, reverse-reverse}
+use Rattle.rw_base.proofs.Common.{length-reverse, replicate, Some, None, Ok, IsTrue, refl, sym, ap, ap₂, ◌∙◌, subst, bytes_eq, list_any}
+use Rattle.rw_base.proofs.Common.{if◌then◌else◌, length-replicate}
 use Rattle.rw_model.specs.Objects.{numbered}
 use Rattle.rpl_code.specs.declared.kind.ValueKind.TheVariants as K
 use Rattle.rpl_code.specs.declared.instruction.Instruction.TheVariants as I
@@ -137,7 +139,8 @@ module _ (code : List Block) (world : World) where
       → Known code world (map (λ (head : Head). record { head = head; block = None }) (function_heads fs)) fs f
   named_known [] f does h = absurd (cc h)
   named_known (fn ∷ fs) f does h =
-      known_first code world (record { head = fn.head; block = None }) fn (map (λ (head : Head). record { head = head; block = None }) (function_heads fs))
+      known_first code world (record { head = fn.head; block = None }) fn
+      (map (λ (head : Head). record { head = head; block = None }) (function_heads fs))
       fs f refl
       (λ q. does fn (ap (λ (t : Bool). if t then Some fn else function_named fs f) q))
       (λ q. named_known fs f (λ known e. does known (ap (λ (t : Bool). if t then Some fn else function_named fs f) q ∙ e))) h

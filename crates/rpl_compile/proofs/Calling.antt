@@ -1,5 +1,6 @@
 -- Calls of functions that stand before a block fit in it.
-use Rattle.rw_base.proofs.Common.{◌≡◌, ◌<◌, ◌≤◌, ℕ, nat_lt, Bool, true, false, ◌||◌, List, [], ◌∷◌, ◌++◌, length, replicate, reverse, bytes_eq, Option, Some, None, Ok, refl, sym, ap, ◌∙◌, arith, nat_tests, IsTrue, list_any, if◌then◌else◌, bytes_eq-Decides}
+use Rattle.rw_base.proofs.Common.{◌≡◌, ◌<◌, ◌≤◌, ℕ, nat_lt, Bool, true, false, ◌||◌, List, [], ◌∷◌, ◌++◌, length, replicate, reverse, bytes_eq}
+use Rattle.rw_base.proofs.Common.{Option, Some, None, Ok, refl, sym, ap, ◌∙◌, arith, nat_tests, IsTrue, list_any, if◌then◌else◌, bytes_eq-Decides}
 use Rattle.rw_model.specs.Objects.{numbered}
 use Rattle.rpl_code.specs.declared.kind.ValueKind.{ValueKind}
 use Rattle.rpl_code.specs.declared.kind.ValueKind.TheVariants as K
@@ -30,7 +31,8 @@ pub call_onward : (callees : List Callee) (f : List ℕ) → going_of (call_line
 call_onward [] f = refl
 call_onward (c ∷ callees) f = by (bytes_eq c.head.name f) c.block (call_onward callees f)
   where
-    by : (t : Bool) (block : Option ℕ) → going_of (call_line callees f) ≡ onward → going_of (if t then call_by f block else call_line callees f) ≡ onward
+    by : (t : Bool) (block : Option ℕ) → going_of (call_line callees f) ≡ onward
+        → going_of (if t then call_by f block else call_line callees f) ≡ onward
     by true None h = refl
     by true (Some n) h = refl
     by false block h = h

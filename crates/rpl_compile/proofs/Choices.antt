@@ -1,5 +1,6 @@
 -- IF, and OR and AND, which stand for an IF each.
-use Rattle.rw_base.proofs.Common.{◌≡◌, ℕ, suc, ◌+◌, ◌≤◌, Bool, true, false, List, [], ◌∷◌, ◌++◌, length, Some, refl, sym, ap, ap₂, ◌∙◌, subst, arith, slice_get}
+use Rattle.rw_base.proofs.Common.{◌≡◌, ℕ, suc, ◌+◌, ◌≤◌, Bool, true, false, List, [], ◌∷◌, ◌++◌, length, Some, refl, sym, ap, ap₂, ◌∙◌, subst, arith}
+use Rattle.rw_base.proofs.Common.{slice_get}
 use Rattle.rpl_code.specs.declared.instruction.Instruction.{Instruction}
 use Rattle.rpl_code.specs.declared.instruction.Instruction.TheVariants as I
 use Rattle.rpl_tree.specs.declared.words.TwoWord.TheVariants.{Or, And}

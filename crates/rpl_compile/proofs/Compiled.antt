@@ -18,7 +18,8 @@ is_answer : {A E : Type 0} (r : Result A E) → IsOk r → (x : A) × (r ≡ Ok 
 is_answer (Ok x) h = (x, refl)
 is_answer (Err e) h = absurd (cc h)
 
-pub typed_rules : (basin : Draft) (rules same : ParsedRules) → same ≡ rules → IsOk (rules_judged basin (rules_of rules)) → IsTyped basin (rules_of same)
+pub typed_rules : (basin : Draft) (rules same : ParsedRules) → same ≡ rules → IsOk (rules_judged basin (rules_of rules))
+    → IsTyped basin (rules_of same)
 typed_rules basin rules same e h =
     let all = is_answer (rules_judged basin (rules_of rules)) h in
     subst (λ (r : ParsedRules). IsTyped basin (rules_of r)) (sym e) (accepted basin (rules_of rules) all.0 all.1)

@@ -1,5 +1,7 @@
 -- Code of a ruleset that is accepted is accepted, with the budgets of its declarations.
-use Rattle.rw_base.proofs.Common.{max, ◌≡◌, ◌≤◌, ℕ, suc, ◌+◌, ◌-◌, nat_le, nat_lt, Bool, true, false, ◌&&◌, List, [], ◌∷◌, ◌++◌, length, slice_index, Option, Some, None, Result, Ok, Err, refl, sym, ap, ap₂, ◌∙◌, subst, arith, nat_tests, append_assoc, append-nil, length-append, if◌then◌else◌, slice_get}
+use Rattle.rw_base.proofs.Common.{max, ◌≡◌, ◌≤◌, ℕ, suc, ◌+◌, ◌-◌, nat_le, nat_lt, Bool, true, false, ◌&&◌, List, [], ◌∷◌, ◌++◌, length, slice_index}
+use Rattle.rw_base.proofs.Common.{Option, Some, None, Result, Ok, Err, refl, sym, ap, ap₂, ◌∙◌, subst, arith, nat_tests, append_assoc, append-nil}
+use Rattle.rw_base.proofs.Common.{length-append, if◌then◌else◌, slice_get}
 use Rattle.rw_model.specs.Draft.{Draft}
 use Rattle.rw_model.specs.Objects.{numbered}
 use Rattle.rpl_code.specs.declared.block.Block.{Block}
@@ -9,7 +11,8 @@ use Rattle.rpl_tree.specs.Tree.{Tree, Acts, Parameter, TypeName, Declared, rule,
 use Rattle.rpl_tree.specs.Kinds.{Head, kind_of_type}
 use Rattle.rpl_tree.specs.Mean.{param_kinds}
 use Rattle.rpl_tree.specs.Budget.{Budget, budget, budget_of, capped, limits}
-use Rattle.rpl_tree.specs.Cost.{Costed, Price, costed_heads, costs, costs_from, most_of_acts, most_of_body, param_names, predefined_costs, price_of_looks, price_of_puts, price_of_steps}
+use Rattle.rpl_tree.specs.Cost.{Costed, Price, costed_heads, costs, costs_from, most_of_acts, most_of_body, param_names, predefined_costs}
+use Rattle.rpl_tree.specs.Cost.{price_of_looks, price_of_puts, price_of_steps}
 use Rattle.rpl_tree.specs.Words.{height, height_of_acts, words_of_rules, words_from}
 use Rattle.rpl_tree.specs.Locals.{acts_local_kinds, local_kinds}
 use Rattle.rpl_parse.specs.Bounds.{function_count, rule_count}

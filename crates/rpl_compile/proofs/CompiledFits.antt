@@ -1,5 +1,6 @@
 -- Code of a ruleset fits the basin, where the ruleset is of the kinds that are asked for and has no more declarations than there may be.
-use Rattle.rw_base.proofs.Common.{◌≡◌, ◌<◌, ◌≤◌, ℕ, suc, ◌+◌, ◌-◌, nat_lt, Bool, true, false, List, [], ◌∷◌, ◌++◌, length, Some, option_map, Result, Ok, Err, refl, sym, ap, ◌∙◌, arith, nat_tests, append_assoc, length-append, if◌then◌else◌, slice_get, slice_get-map}
+use Rattle.rw_base.proofs.Common.{◌≡◌, ◌<◌, ◌≤◌, ℕ, suc, ◌+◌, ◌-◌, nat_lt, Bool, true, false, List, [], ◌∷◌, ◌++◌, length, Some, option_map, Result}
+use Rattle.rw_base.proofs.Common.{Ok, Err, refl, sym, ap, ◌∙◌, arith, nat_tests, append_assoc, length-append, if◌then◌else◌, slice_get, slice_get-map}
 use Rattle.rw_model.specs.Draft.{Draft}
 use Rattle.rw_model.specs.Objects.{numbered}
 use Rattle.rpl_code.specs.declared.kind.ValueKind.{ValueKind}
@@ -11,7 +12,8 @@ use Rattle.rpl_tree.specs.Kinds.{kind_of_type}
 use Rattle.rpl_tree.specs.Mean.{param_kinds}
 use Rattle.rpl_parse.specs.Bounds.{function_count, rule_count}
 use Rattle.rpl_verify.specs.declared.verify_kind.VerifyKind.TheVariants.{TooMany}
-use Rattle.rpl_verify.specs.Fits.{AreFit, Before, Misplaced, Refusal, before, befores, block_befores, count_alike, each_block, heads_of, in_block, is_alike, refusal_in_result, scope_of}
+use Rattle.rpl_verify.specs.Fits.{AreFit, Before, Misplaced, Refusal, before, befores, block_befores, count_alike, each_block, heads_of, in_block}
+use Rattle.rpl_verify.specs.Fits.{is_alike, refusal_in_result, scope_of}
 use Rattle.rpl_verify.proofs.Accepted.{numbered_by}
 use Rattle.rpl_compile.specs.Kinded.{AreKinded, AreKindedFrom}
 use Rattle.rpl_compile.specs.Translate.{Callee, blocks_from, callee_heads, function_block, predefined_callees, rule_block, translate}

@@ -1,7 +1,9 @@
 -- Elements of a list, and the beginning and the turns of a loop over them.
-use Rattle.rw_base.proofs.Common.{◌≡◌, ◌⊎◌, inl, inr, ℕ, suc, ◌≤◌, ℤ, Bool, List, [], ◌∷◌, length, map, drop, Some, Ok, refl, sym, ap, ap₂, ◌∙◌, subst, arith, slice_get, if◌then◌else◌, length-map}
+use Rattle.rw_base.proofs.Common.{◌≡◌, ◌⊎◌, inl, inr, ℕ, suc, ◌≤◌, ℤ, Bool, List, [], ◌∷◌, length, map, drop, Some, Ok, refl, sym, ap, ap₂, ◌∙◌}
+use Rattle.rw_base.proofs.Common.{subst, arith, slice_get, if◌then◌else◌, length-map}
 use Rattle.rpl_code.specs.declared.instruction.Instruction.TheVariants as I
-use Rattle.rpl_tree.specs.Value.{Kind, number_kind, slot_kind, numbers_kind, slots_kind, Value, a_number, a_truth, a_date, a_slot, numbers, slots, element_of, room_of}
+use Rattle.rpl_tree.specs.Value.{Kind, number_kind, slot_kind, numbers_kind, slots_kind, Value, a_number, a_truth, a_date, a_slot, numbers, slots}
+use Rattle.rpl_tree.specs.Value.{element_of, room_of}
 use Rattle.rpl_tree.specs.Outcome.{Outcome, gives, spent, stuck, value, ◌>>=◌}
 use Rattle.rpl_tree.specs.Operators.{elements_of}
 use Rattle.rpl_tree.specs.Mean.{with_elements}

@@ -1,5 +1,6 @@
 -- A firing of a rule by its code: with enough steps, and with as many as a firing has where the code is accepted.
-use Rattle.rw_base.proofs.Common.{◌≡◌, ℕ, zero, suc, ◌+◌, ℤ, List, [], ◌∷◌, Option, Some, IsSome, Result, Ok, Err, refl, sym, ap, ◌∙◌, subst, arith, option_and_then, option_map}
+use Rattle.rw_base.proofs.Common.{◌≡◌, ℕ, zero, suc, ◌+◌, ℤ, List, [], ◌∷◌, Option, Some, IsSome, Result, Ok, Err, refl, sym, ap, ◌∙◌, subst, arith}
+use Rattle.rw_base.proofs.Common.{option_and_then, option_map}
 use Rattle.rw_base.specs.declared.number.Cell.{Cell}
 use Rattle.rw_model.specs.Draft.{Draft}
 use Rattle.rw_model.specs.Objects.{numbered}

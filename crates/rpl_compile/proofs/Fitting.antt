@@ -1,5 +1,6 @@
 -- Compiled code fits: what is before each place of each block is found.
-use Rattle.rw_base.proofs.Common.{drop_all, map, bytes_eq, Bool, true, false, if◌then◌else◌, ◌≡◌, ℕ, suc, ◌+◌, List, [], ◌∷◌, length, drop, Some, Result, Ok, refl, sym, ap, ◌∙◌, subst, arith, slice_get}
+use Rattle.rw_base.proofs.Common.{drop_all, map, bytes_eq, Bool, true, false, if◌then◌else◌, ◌≡◌, ℕ, suc, ◌+◌, List, [], ◌∷◌, length, drop, Some}
+use Rattle.rw_base.proofs.Common.{Result, Ok, refl, sym, ap, ◌∙◌, subst, arith, slice_get}
 use Rattle.rw_model.specs.Draft.{Draft}
 use Rattle.rpl_code.specs.declared.kind.ValueKind.{ValueKind}
 use Rattle.rpl_code.specs.declared.instruction.Instruction.{Instruction}

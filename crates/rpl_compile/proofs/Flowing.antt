@@ -1,5 +1,6 @@
 -- Forms that open no loop lead from the operands that stand below them to those and their value, and come to what they cost, where their parts do.
-use Rattle.rw_base.proofs.Common.{max, ◌≤◌, ◌≡◌, ℕ, ◌+◌, true, false, List, [], ◌∷◌, ◌++◌, length, append_assoc, Option, Some, None, IsSome, Ok, refl, sym, ap, ap₂, ◌∙◌, subst, arith}
+use Rattle.rw_base.proofs.Common.{max, ◌≤◌, ◌≡◌, ℕ, ◌+◌, true, false, List, [], ◌∷◌, ◌++◌, length, append_assoc, Option, Some, None, IsSome, Ok, refl}
+use Rattle.rw_base.proofs.Common.{sym, ap, ap₂, ◌∙◌, subst, arith}
 use Rattle.rw_table.specs.Table.{Row}
 use Rattle.rpl_code.specs.declared.kind.ValueKind.{ValueKind}
 use Rattle.rpl_code.specs.declared.kind.ValueKind.TheVariants as K
@@ -33,7 +34,8 @@ use Rattle.rpl_compile.proofs.Counting.{IsInvoke, IsUnit}
 use Rattle.rpl_compile.proofs.Going.{choosing, goes_choice, takes_kinds}
 use Rattle.rpl_compile.proofs.TreeCosts.{two_costs, two_heights, words_weight}
 use Rattle.rpl_compile.proofs.WordLines.{IsLine, one_goes, two_goes, two_step, widen_goes}
-use Rattle.rpl_compile.proofs.Costing.{Claim, Leads, Own, Costing, cost, deep_kind, far, heads, here, kept, kind_of_code, line, names_at, own_back, own_front, room_cost, same_kind, seq, tall_of, to, told, with_one}
+use Rattle.rpl_compile.proofs.Costing.{Claim, Leads, Own, Costing, cost, deep_kind, far, heads, here, kept, kind_of_code, line, names_at, own_back}
+use Rattle.rpl_compile.proofs.Costing.{own_front, room_cost, same_kind, seq, tall_of, to, told, with_one}
 
 module _ (costing : Costing) where
   -- ---- leaves
@@ -67,11 +69,13 @@ module _ (costing : Costing) where
           → judged_at costing.scope (behind (heads costing) e site).place (with_one (kind_of_code costing site e) site os) (convert_line word o)
           ≡ Ok (before (K.N ∷ code_kinds site.below) os)
       converts StorageToElevation =
-          ap (λ k. judged_at costing.scope (behind (heads costing) e site).place (before (code_kind k ∷ code_kinds site.below) os) (I.ToElevation o)) h.2
+          ap (λ k. judged_at costing.scope (behind (heads costing) e site).place (before (code_kind k ∷ code_kinds site.below) os)
+          (I.ToElevation o)) h.2
           ∙ there (I.ToElevation o) (table_named costing.scope.basin o) h.0 (before (K.N ∷ code_kinds site.below) os)
           ∙ takes_kinds costing.scope (I.ToElevation o) (K.N ∷ []) (K.N ∷ []) (code_kinds site.below) os refl
       converts ElevationToStorage =
-          ap (λ k. judged_at costing.scope (behind (heads costing) e site).place (before (code_kind k ∷ code_kinds site.below) os) (I.ToStorage o)) h.2
+          ap (λ k. judged_at costing.scope (behind (heads costing) e site).place (before (code_kind k ∷ code_kinds site.below) os)
+          (I.ToStorage o)) h.2
           ∙ there (I.ToStorage o) (table_named costing.scope.basin o) h.0 (before (K.N ∷ code_kinds site.below) os)
           ∙ takes_kinds costing.scope (I.ToStorage o) (K.N ∷ []) (K.N ∷ []) (code_kinds site.below) os refl
 

@@ -1,5 +1,6 @@
 -- LET, FOR and MAP lead from the operands that stand below them to those and their value, and come to what they cost, where their parts do.
-use Rattle.rw_base.proofs.Common.{max, length-append, ◌*◌, ◌≤◌, ◌≡◌, ℕ, suc, ◌+◌, List, [], ◌∷◌, ◌++◌, length, append_assoc, Some, refl, sym, ap, ◌∙◌, subst, arith, slice_get}
+use Rattle.rw_base.proofs.Common.{max, length-append, ◌*◌, ◌≤◌, ◌≡◌, ℕ, suc, ◌+◌, List, [], ◌∷◌, ◌++◌, length, append_assoc, Some, refl, sym, ap, ◌∙◌}
+use Rattle.rw_base.proofs.Common.{subst, arith, slice_get}
 use Rattle.rpl_code.specs.declared.kind.ValueKind.{ValueKind}
 use Rattle.rpl_code.specs.declared.kind.ValueKind.TheVariants as K
 use Rattle.rpl_code.specs.declared.instruction.Instruction.{Instruction}
@@ -20,7 +21,8 @@ use Rattle.rpl_compile.proofs.Placing.{HasAt}
 use Rattle.rpl_compile.proofs.Going.{goes_loop}
 use Rattle.rpl_compile.proofs.Lines.{foreach_fits, loop_at, map_fits, next_fits, yield_fits, room_code}
 use Rattle.rpl_compile.proofs.TreeCosts.{words_weight}
-use Rattle.rpl_compile.proofs.Costing.{Claim, Leads, Costing, cost, deep_kind, far, heads, kept, kind_of_code, loads, own_back, own_front, room_cost, same_kind, seq, stores, tall_of, to, told}
+use Rattle.rpl_compile.proofs.Costing.{Claim, Leads, Costing, cost, deep_kind, far, heads, kept, kind_of_code, loads, own_back, own_front, room_cost}
+use Rattle.rpl_compile.proofs.Costing.{same_kind, seq, stores, tall_of, to, told}
 use Rattle.rpl_compile.proofs.Flowing.{with_room}
 
 module _ (costing : Costing) where

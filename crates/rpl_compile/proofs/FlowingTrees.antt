@@ -7,7 +7,8 @@ use Rattle.rpl_code.specs.declared.instruction.Instruction.TheVariants as I
 use Rattle.rpl_tree.specs.declared.words.OneWord.TheVariants.{Not, Minus, Known, Length, Month, Day, Year}
 use Rattle.rpl_tree.specs.declared.words.TwoWord.TheVariants.{Or, And}
 use Rattle.rpl_tree.specs.Value.{Kind, weight, weights}
-use Rattle.rpl_tree.specs.Tree.{Tree, Trees, literal, truth, now, slot, name, call, brackets, list, choice, bind, each, mapped, one, two, convert, at, no_trees, tree}
+use Rattle.rpl_tree.specs.Tree.{Tree, Trees, literal, truth, now, slot, name, call, brackets, list, choice, bind, each, mapped, one, two, convert, at}
+use Rattle.rpl_tree.specs.Tree.{no_trees, tree}
 use Rattle.rpl_tree.specs.Kinds.{Head, Names, count_of, first_kind, kind_named, result_named, takes_named, tree_kind}
 use Rattle.rpl_tree.specs.Locals.{all_local_kinds}
 use Rattle.rpl_verify.specs.Notes.{words_kept}
@@ -27,7 +28,8 @@ use Rattle.rpl_compile.proofs.Going.{goes_none, goes_one, takes_kinds}
 use Rattle.rpl_compile.proofs.Lines.{list_fits, slot_fits}
 use Rattle.rpl_compile.proofs.TreeCosts.{again, element_words, turned, words_turned, words_weight}
 use Rattle.rpl_compile.proofs.WordLines.{widen_goes}
-use Rattle.rpl_compile.proofs.Costing.{Claim, Leads, Costing, far, heads, here, kept, kind_of_code, line, loads, own_back, own_front, room_cost, same_kind, seq, to, told}
+use Rattle.rpl_compile.proofs.Costing.{Claim, Leads, Costing, far, heads, here, kept, kind_of_code, line, loads, own_back, own_front, room_cost}
+use Rattle.rpl_compile.proofs.Costing.{same_kind, seq, to, told}
 use Rattle.rpl_compile.proofs.Flowing.{leaf, flow_convert, flow_plain, flow_two, flow_at, flow_known, flow_choice, flow_or, flow_and}
 use Rattle.rpl_compile.proofs.FlowingLoops.{flow_bind, flow_each, flow_mapped}
 

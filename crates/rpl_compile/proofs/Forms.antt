@@ -1,5 +1,6 @@
 -- The lines of expressions, written one after the other, are those that TRANSLATE gives: what each form writes, over its parts.
-use Rattle.rw_base.proofs.Common.{◌≡◌, ℕ, ◌+◌, true, false, List, [], ◌∷◌, ◌++◌, length, length-map, reverse, refl, sym, ap, ◌∙◌, arith, append-nil, append_assoc}
+use Rattle.rw_base.proofs.Common.{◌≡◌, ℕ, ◌+◌, true, false, List, [], ◌∷◌, ◌++◌, length, length-map, reverse, refl, sym, ap, ◌∙◌, arith, append-nil}
+use Rattle.rw_base.proofs.Common.{append_assoc}
 use Rattle.rw_model.proofs.Common.{Draft}
 use Rattle.rpl_code.specs.declared.kind.ValueKind.{ValueKind}
 use Rattle.rpl_code.specs.declared.kind.ValueKind.TheVariants.{N}
@@ -15,10 +16,12 @@ use Rattle.rpl_compile.specs.Kinded.{IsKinded}
 use Rattle.rpl_compile.specs.Operations.{code_kind, code_kinds, target, test_line, two_lines}
 use Rattle.rpl_compile.specs.Site.{Site, bound, keeping, knowing, names_in, on, over}
 use Rattle.rpl_compile.specs.Translate.{Callee, after_room, after_tree, callee_heads, code_of, kind_of_tree}
-use Rattle.rpl_compile.specs.Written.{WrittenStep, Written, compiled, kind_ahead, kind_of_two, outer, written_step, with_line, with_local, with_operand, written_with_two, without_operands, written}
+use Rattle.rpl_compile.specs.Written.{WrittenStep, Written, compiled, kind_ahead, kind_of_two, outer, written_step, with_line, with_local}
+use Rattle.rpl_compile.specs.Written.{with_operand, written_with_two, without_operands, written}
 use Rattle.rpl_compile.proofs.KindsFound.{ahead_is, kind_of_two_is, locals_counted}
 use Rattle.rpl_compile.proofs.Sizes.{code-size}
-use Rattle.rpl_compile.proofs.AtSites.{At, kind_at, line_at, lines_as, local_at, locals_as, longer, as_long, name_at, operand_at, room_at, second_at, taken_at, value_end_at}
+use Rattle.rpl_compile.proofs.AtSites.{At, kind_at, line_at, lines_as, local_at, locals_as, longer, as_long, name_at, operand_at, room_at, second_at}
+use Rattle.rpl_compile.proofs.AtSites.{taken_at, value_end_at}
 
 -- ---- lists
 
@@ -74,7 +77,8 @@ thrice_on s h = record {
 }
 
 -- a word between two expressions
-two_written : (word : TwoWord) (k l : Kind) (w : Written) → written_with_two word k l w ≡ written w.scope w.locals w.below (w.lines ++ two_lines word k l)
+two_written : (word : TwoWord) (k l : Kind) (w : Written)
+    → written_with_two word k l w ≡ written w.scope w.locals w.below (w.lines ++ two_lines word k l)
 two_written Two.Or k l w = λ i. written w.scope w.locals w.below (sym (append-nil w.lines) i)
 two_written Two.And k l w = λ i. written w.scope w.locals w.below (sym (append-nil w.lines) i)
 two_written Two.Unequal k l w = λ i. written w.scope w.locals w.below (append_assoc w.lines (test_line k I.Eq I.Deq ∷ []) (I.Not ∷ []) i)

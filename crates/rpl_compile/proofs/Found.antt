@@ -1,5 +1,6 @@
 -- Of the functions that have a name, the last of a list is the first of the list in reverse. The local of a name.
-use Rattle.rw_base.proofs.Common.{◌≡◌, ℕ, Bool, List, [], ◌∷◌, ◌++◌, Option, true, false, reverse, Some, bytes_eq, unwrap_or, refl, sym, ap, ◌∙◌, if◌then◌else◌, reverse-append, length, length-map, map}
+use Rattle.rw_base.proofs.Common.{◌≡◌, ℕ, Bool, List, [], ◌∷◌, ◌++◌, Option, true, false, reverse, Some, bytes_eq, unwrap_or, refl, sym, ap, ◌∙◌}
+use Rattle.rw_base.proofs.Common.{if◌then◌else◌, reverse-append, length, length-map, map}
 use Rattle.rpl_code.specs.declared.kind.ValueKind.{ValueKind}
 use Rattle.rpl_code.specs.declared.kind.ValueKind.TheVariants.{N, B, D, S, NList, SList}
 use Rattle.rpl_scope.specs.Scope.{first_named as first_found}

@@ -1,5 +1,7 @@
 -- Lines that lead from what is before their first place to what is before the place behind them, put together from single instructions.
-use Rattle.rw_base.proofs.Common.{◌≡◌, ℕ, suc, ◌+◌, ◌*◌, max, ◌≤◌, ◌<◌, nat_lt, Bool, true, false, List, [], ◌∷◌, ◌++◌, length, length-append, drop, drop-append_seam, take, take-append_seam, reverse, reverse-reverse, Option, Some, Result, Ok, Err, refl, sym, ap, ap₂, ◌∙◌, subst, arith, nat_tests, if◌then◌else◌, slice_get}
+use Rattle.rw_base.proofs.Common.{◌≡◌, ℕ, suc, ◌+◌, ◌*◌, max, ◌≤◌, ◌<◌, nat_lt, Bool, true, false, List, [], ◌∷◌, ◌++◌, length, length-append, drop}
+use Rattle.rw_base.proofs.Common.{drop-append_seam, take, take-append_seam, reverse, reverse-reverse, Option, Some, Result, Ok, Err, refl, sym, ap}
+use Rattle.rw_base.proofs.Common.{ap₂, ◌∙◌, subst, arith, nat_tests, if◌then◌else◌, slice_get}
 use Rattle.rpl_code.specs.declared.kind.ValueKind.{ValueKind}
 use Rattle.rpl_code.specs.declared.kind.ValueKind.TheVariants as K
 use Rattle.rpl_code.specs.declared.instruction.Instruction.{Instruction}
@@ -31,7 +33,8 @@ behind_row r ks left ls n h = by (nat_lt (length (ks ++ ls)) (operand_count r)) 
         ≡ Ok (left ++ ls)
     by true e = absurd (cc e)
     by false e =
-        ap₂ (λ d t. on_top_of d (left_of r t)) (ap (λ m. drop m (ks ++ ls)) n ∙ drop-append_seam ks ls) (ap (λ m. take m (ks ++ ls)) n ∙ take-append_seam ks ls)
+        ap₂ (λ d t. on_top_of d (left_of r t)) (ap (λ m. drop m (ks ++ ls)) n ∙ drop-append_seam ks ls)
+        (ap (λ m. take m (ks ++ ls)) n ∙ take-append_seam ks ls)
         ∙ ap (on_top_of ls) h
 
 taken_kinds : (ks left : List ValueKind) → left_of (takes ks left) ks ≡ Ok left

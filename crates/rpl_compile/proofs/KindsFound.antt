@@ -6,7 +6,10 @@ use Rattle.rpl_tree.specs.declared.words.TwoWord.TheVariants.{Append}
 use Rattle.rpl_tree.specs.Value.{list_kind, slot_kind, slots_kind}
 use Rattle.rpl_tree.specs.Kinds.{join}
 use Rattle.rpl_tree.specs.Count.{act_locals, acts_locals, local_count, local_counts}
-use Rattle.rpl_tree.proofs.Common.{Head, Kind, Names, act_local_kinds, acts_local_kinds, all_local_kinds, count_of, element_of, first_kind, local_kinds, number_kind, numbers_kind, room_of, tree_kind, two_kind, Tree, Trees, literal, truth, now, slot, name, call, brackets, list, choice, bind, each, mapped, one, two, convert, at, no_trees, tree, Act, Acts, assign, branch, with_name, no_acts, act}
+use Rattle.rpl_tree.proofs.Common.{Head, Kind, Names, act_local_kinds, acts_local_kinds, all_local_kinds, count_of, element_of, first_kind}
+use Rattle.rpl_tree.proofs.Common.{local_kinds, number_kind, numbers_kind, room_of, tree_kind, two_kind, Tree, Trees, literal, truth, now, slot, name}
+use Rattle.rpl_tree.proofs.Common.{call, brackets, list, choice, bind, each, mapped, one, two, convert, at, no_trees, tree, Act, Acts, assign, branch}
+use Rattle.rpl_tree.proofs.Common.{with_name, no_acts, act}
 use Rattle.rpl_compile.specs.Kinded.{AreBoth, AreOfKind, CanAppend, IsKinded, TwoTakes}
 use Rattle.rpl_compile.specs.Translate.{Callee, callee_heads}
 use Rattle.rpl_compile.specs.Written.{first_ahead, kind_ahead, kind_of_two, short}

@@ -1,5 +1,6 @@
 -- Literals, words and names.
-use Rattle.rw_base.proofs.Common.{◌≡◌, ℕ, ◌+◌, ℤ, ◌*ℤ◌, Bool, true, false, ◌||◌, List, [], ◌∷◌, IsTrue, Option, Some, None, IsSome, refl, sym, ap, ◌∙◌, subst, bytes_eq, slice_get, unwrap_or, if◌then◌else◌, list_any}
+use Rattle.rw_base.proofs.Common.{◌≡◌, ℕ, ◌+◌, ℤ, ◌*ℤ◌, Bool, true, false, ◌||◌, List, [], ◌∷◌, IsTrue, Option, Some, None, IsSome, refl, sym, ap}
+use Rattle.rw_base.proofs.Common.{◌∙◌, subst, bytes_eq, slice_get, unwrap_or, if◌then◌else◌, list_any}
 use Rattle.rw_base.specs.Dimension.{Dimension}
 use Rattle.rw_base.specs.Unit.{units, unit_in}
 use Rattle.rw_model.specs.Objects.{slot_named}

@@ -1,5 +1,7 @@
 -- Lines that stand in the code of a form fit, where the operands are of the kinds that the form asks for.
-use Rattle.rw_base.proofs.Common.{◌≡◌, ◌≤◌, inl, inr, ℕ, zero, suc, ℤ, unsigned_abs, true, ◌&&◌, List, [], ◌∷◌, ◌++◌, replicate, length-replicate, Option, Some, None, IsSome, IsSomeAnd, IsTrue, option_map, Result, Ok, rules, refl, sym, ap, ap₂, ◌∙◌, subst, arith, list_all, if◌then◌else◌, slice_get}
+use Rattle.rw_base.proofs.Common.{◌≡◌, ◌≤◌, inl, inr, ℕ, zero, suc, ℤ, unsigned_abs, true, ◌&&◌, List, [], ◌∷◌, ◌++◌, replicate, length-replicate}
+use Rattle.rw_base.proofs.Common.{Option, Some, None, IsSome, IsSomeAnd, IsTrue, option_map, Result, Ok, rules, refl, sym, ap, ap₂, ◌∙◌, subst, arith}
+use Rattle.rw_base.proofs.Common.{list_all, if◌then◌else◌, slice_get}
 use Rattle.rw_base.proofs.Tests.{Decides-le}
 use Rattle.rpl_code.specs.declared.kind.ValueKind.{ValueKind}
 use Rattle.rpl_code.specs.declared.kind.ValueKind.TheVariants as K
@@ -7,7 +9,8 @@ use Rattle.rpl_code.specs.declared.instruction.Instruction.{Instruction}
 use Rattle.rpl_code.specs.declared.instruction.Instruction.TheVariants as I
 use Rattle.rpl_code.specs.declared.block.BlockHead.TheVariants.{Rule}
 use Rattle.rw_model.specs.Objects.{slot_named}
-use Rattle.rpl_tree.specs.Value.{Kind, number_kind, truth_kind, date_kind, slot_kind, numbers_kind, slots_kind, element_of, is_same_kind, list_kind, room_of}
+use Rattle.rpl_tree.specs.Value.{Kind, number_kind, truth_kind, date_kind, slot_kind, numbers_kind, slots_kind, element_of, is_same_kind, list_kind}
+use Rattle.rpl_tree.specs.Value.{room_of}
 use Rattle.rpl_tree.specs.World.{can_set}
 use Rattle.rpl_tree.proofs.PutsAhead.{is_near}
 use Rattle.rpl_verify.specs.declared.verify_kind.VerifyKind.{VerifyKind}

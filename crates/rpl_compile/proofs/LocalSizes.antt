@@ -1,7 +1,8 @@
 -- How many locals are kept for an expression or statement.
 use Rattle.rw_base.proofs.Common.{◌≡◌, List, ◌∷◌, length, refl, arith, length-append}
 use Rattle.rpl_tree.specs.Value.{element_of}
-use Rattle.rpl_tree.specs.Tree.{Tree, Trees, literal, truth, now, slot, name, call, brackets, list, choice, bind, each, mapped, one, two, convert, at, no_trees, tree, Act, Acts, assign, branch, with_name, no_acts, act}
+use Rattle.rpl_tree.specs.Tree.{Tree, Trees, literal, truth, now, slot, name, call, brackets, list, choice, bind, each, mapped, one, two, convert, at}
+use Rattle.rpl_tree.specs.Tree.{no_trees, tree, Act, Acts, assign, branch, with_name, no_acts, act}
 use Rattle.rpl_tree.specs.Kinds.{Head, Names, tree_kind}
 use Rattle.rpl_tree.specs.Count.{act_locals, acts_locals, local_count, local_counts}
 use Rattle.rpl_tree.specs.Locals.{act_local_kinds, acts_local_kinds, all_local_kinds, local_kinds}

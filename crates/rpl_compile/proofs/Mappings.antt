@@ -18,7 +18,8 @@ use Rattle.rpl_compile.proofs.Goes.{Goes, goes_bind, goes_first, goes_none}
 use Rattle.rpl_compile.proofs.OfKind.{At, at_back, at_front, at_head, at_moved, at_tail}
 use Rattle.rpl_compile.proofs.Sizes.{code-size}
 use Rattle.rpl_compile.proofs.LocalSizes.{locals_size}
-use Rattle.rpl_compile.proofs.Setting.{Claim, H, Here, Kept, Left, Setting, Wants, fr, goes_at, goes_left, here_on, holds_kept, kept_less, left, part, same_kept, then_kept}
+use Rattle.rpl_compile.proofs.Setting.{Claim, H, Here, Kept, Left, Setting, Wants, fr, goes_at, goes_left, here_on, holds_kept, kept_less, left, part}
+use Rattle.rpl_compile.proofs.Setting.{same_kept, then_kept}
 use Rattle.rpl_compile.proofs.Balanced.{code_balanced, ends_there, mapped_shut}
 use Rattle.rpl_compile.proofs.Entering.{Elements, elements, loop_at, map_step, past_of, turn, turn_left}
 use Rattle.rpl_compile.proofs.Loops.{Mapped, map_goes}

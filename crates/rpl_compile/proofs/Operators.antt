@@ -1,5 +1,6 @@
 -- Operators and words: their operands, and then one or two instructions.
-use Rattle.rw_base.proofs.Common.{◌≡◌, ◌⊎◌, inl, inr, ℕ, suc, ◌+◌, ◌<◌, Bool, true, nat_lt, nat_tests, List, [], ◌∷◌, ◌++◌, Some, None, Ok, refl, sym, ap, ap₂, ◌∙◌, subst, arith, append_assoc, slice_get, if◌then◌else◌}
+use Rattle.rw_base.proofs.Common.{◌≡◌, ◌⊎◌, inl, inr, ℕ, suc, ◌+◌, ◌<◌, Bool, true, nat_lt, nat_tests, List, [], ◌∷◌, ◌++◌, Some, None, Ok, refl, sym}
+use Rattle.rw_base.proofs.Common.{ap, ap₂, ◌∙◌, subst, arith, append_assoc, slice_get, if◌then◌else◌}
 use Rattle.rpl_code.specs.declared.kind.ValueKind.{ValueKind}
 use Rattle.rpl_code.specs.declared.kind.ValueKind.TheVariants as K
 use Rattle.rpl_code.specs.declared.instruction.Instruction.{Instruction}
@@ -7,7 +8,8 @@ use Rattle.rpl_code.specs.declared.instruction.Instruction.TheVariants as I
 use Rattle.rpl_tree.specs.declared.words.OneWord.{OneWord}
 use Rattle.rpl_tree.specs.declared.words.OneWord.TheVariants.{Not, Minus, Known, Length, Month, Day, Year}
 use Rattle.rpl_tree.specs.declared.words.TwoWord.{TwoWord}
-use Rattle.rpl_tree.specs.declared.words.TwoWord.TheVariants.{Or, And, Equal, Unequal, Less, LessEqual, Greater, GreaterEqual, Plus, Minus as Less_by, Times, Divide, Append, Item}
+use Rattle.rpl_tree.specs.declared.words.TwoWord.TheVariants.{Or, And, Equal, Unequal, Less, LessEqual, Greater, GreaterEqual, Plus, Minus as Less_by}
+use Rattle.rpl_tree.specs.declared.words.TwoWord.TheVariants.{Times, Divide, Append, Item}
 use Rattle.rpl_tree.specs.declared.words.ConvertWord.{ConvertWord}
 use Rattle.rpl_tree.specs.declared.words.ConvertWord.TheVariants.{StorageToElevation, ElevationToStorage}
 use Rattle.rpl_tree.specs.Value.{Kind, number_kind, truth_kind, date_kind, slot_kind, numbers_kind, slots_kind, list_kind, element_of, room_of, Value}
@@ -197,7 +199,8 @@ module _ (g : Setting) where
   sum_does k l (inr e) = by_both (λ k l. Does k l k (sum_line k) sum_of) date_kind number_kind k l e
       (operator date_kind number_kind date_kind I.Shift tt refl refl refl)
 
-  difference_does : (k l : Kind) → CanAddKinds k l ⊎ AreBoth date_kind date_kind k l → Does k l (difference_kind k l) (difference_line k l) difference_of
+  difference_does : (k l : Kind) → CanAddKinds k l ⊎ AreBoth date_kind date_kind k l
+      → Does k l (difference_kind k l) (difference_line k l) difference_of
   difference_does k l (inl (inl e)) = by_both (λ k l. Does k l (difference_kind k l) (difference_line k l) difference_of) number_kind number_kind k l
       e (operator number_kind number_kind number_kind I.Sub tt refl refl refl)
   difference_does k l (inl (inr e)) = by_both (λ k l. Does k l (difference_kind k l) (difference_line k l) difference_of) date_kind number_kind k l e

@@ -1,5 +1,6 @@
 -- The account of a block that fits: what the table of its budgets has at each place.
-use Rattle.rw_base.proofs.Common.{◌≡◌, ◌≤◌, ◌<◌, ℕ, suc, ◌+◌, ◌*◌, max, List, [], ◌∷◌, length, Option, Some, None, Result, Ok, refl, sym, ap, ap₂, ◌∙◌, subst, arith, slice_get, slice_get_within, slice_index}
+use Rattle.rw_base.proofs.Common.{◌≡◌, ◌≤◌, ◌<◌, ℕ, suc, ◌+◌, ◌*◌, max, List, [], ◌∷◌, length, Option, Some, None, Result, Ok, refl, sym, ap, ap₂}
+use Rattle.rw_base.proofs.Common.{◌∙◌, subst, arith, slice_get, slice_get_within, slice_index}
 use Rattle.rpl_code.specs.declared.kind.ValueKind.{ValueKind}
 use Rattle.rpl_verify.specs.declared.verify_kind.VerifyKind.{VerifyKind}
 use Rattle.rpl_code.specs.declared.instruction.Instruction.{Instruction}

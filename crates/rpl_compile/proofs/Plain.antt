@@ -1,5 +1,7 @@
 -- What is written where a ruleset is kinded is what TRANSLATE says: numbers, names, kinds and functions.
-use Rattle.rw_base.proofs.Common.{◌≡◌, ◌≤◌, ◌*ℤ◌, ℕ, ℤ, pos, unsigned_abs, Bool, true, false, List, [], ◌∷◌, nat_lt, Option, Some, None, IsSome, IsTrue, IsUtf8, is_utf8, is_utf8-from_IsUtf8, refl, sym, ap, subst, arith, inl, inr, bytes_eq, bytes_eq-Decides, cases_Bool, false≢true, ◌||◌, AllByRecursion, option_and_then, unwrap_or, if◌then◌else◌}
+use Rattle.rw_base.proofs.Common.{◌≡◌, ◌≤◌, ◌*ℤ◌, ℕ, ℤ, pos, unsigned_abs, Bool, true, false, List, [], ◌∷◌, nat_lt, Option, Some, None, IsSome}
+use Rattle.rw_base.proofs.Common.{IsTrue, IsUtf8, is_utf8, is_utf8-from_IsUtf8, refl, sym, ap, subst, arith, inl, inr, bytes_eq, bytes_eq-Decides}
+use Rattle.rw_base.proofs.Common.{cases_Bool, false≢true, ◌||◌, AllByRecursion, option_and_then, unwrap_or, if◌then◌else◌}
 use Rattle.std.proofs.lemmas.Bool.{lt-ltb}
 use Rattle.rw_base.specs.Dimension.{Dimension}
 use Rattle.rw_base.specs.Unit.{units, unit_in}

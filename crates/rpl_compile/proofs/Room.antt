@@ -1,8 +1,10 @@
 -- A value is given the room of its place.
-use Rattle.rw_base.proofs.Common.{◌≡◌, ◌⊎◌, inl, inr, ℕ, ◌+◌, ◌<◌, ◌==◌, Bool, true, false, nat_lt, nat_le, nat_tests, List, [], ◌∷◌, ◌++◌, Some, None, refl, sym, ap, ◌∙◌, subst, arith, slice_get, if◌then◌else◌}
+use Rattle.rw_base.proofs.Common.{◌≡◌, ◌⊎◌, inl, inr, ℕ, ◌+◌, ◌<◌, ◌==◌, Bool, true, false, nat_lt, nat_le, nat_tests, List, [], ◌∷◌, ◌++◌, Some}
+use Rattle.rw_base.proofs.Common.{None, refl, sym, ap, ◌∙◌, subst, arith, slice_get, if◌then◌else◌}
 use Rattle.rpl_code.specs.declared.kind.ValueKind.TheVariants as K
 use Rattle.rpl_code.specs.declared.instruction.Instruction.TheVariants as I
-use Rattle.rpl_tree.specs.Value.{Kind, numbers_kind, slots_kind, Value, a_number, a_truth, a_date, a_slot, numbers, slots, kind_of_value, is_same_kind}
+use Rattle.rpl_tree.specs.Value.{Kind, numbers_kind, slots_kind, Value, a_number, a_truth, a_date, a_slot, numbers, slots, kind_of_value}
+use Rattle.rpl_tree.specs.Value.{is_same_kind}
 use Rattle.rpl_tree.specs.Outcome.{gives, is_stuck, ◌>>=◌}
 use Rattle.rpl_tree.specs.Operators.{roomier, widened}
 use Rattle.rpl_tree.specs.Tree.{Tree}

@@ -1,5 +1,6 @@
 -- Elements of a list, and arguments of a call.
-use Rattle.rw_base.proofs.Common.{◌≡◌, inl, inr, ℕ, suc, ◌+◌, ◌≤◌, Bool, true, List, [], ◌∷◌, ◌++◌, length, reverse, reverse_aux, reverse-reverse, length-reverse, None, Ok, refl, sym, ap, ap₂, ◌∙◌, subst, arith, append_assoc, option_map, list_all, if◌then◌else◌}
+use Rattle.rw_base.proofs.Common.{◌≡◌, inl, inr, ℕ, suc, ◌+◌, ◌≤◌, Bool, true, List, [], ◌∷◌, ◌++◌, length, reverse, reverse_aux, reverse-reverse}
+use Rattle.rw_base.proofs.Common.{length-reverse, None, Ok, refl, sym, ap, ap₂, ◌∙◌, subst, arith, append_assoc, option_map, list_all, if◌then◌else◌}
 use Rattle.rpl_code.specs.declared.instruction.Instruction.{Instruction}
 use Rattle.rpl_code.specs.declared.instruction.Instruction.TheVariants as I
 use Rattle.rpl_tree.specs.Value.{Kind, list_kind, Value}
@@ -24,7 +25,8 @@ use Rattle.rpl_compile.proofs.Goes.{Goes, goes_bind, goes_none, goes_weaker}
 use Rattle.rpl_compile.proofs.OfKind.{At, HasKind, HaveKinds, at_back, at_front, at_head, at_moved, kind_coded}
 use Rattle.rpl_compile.proofs.Sizes.{all-size, arguments-size, beside, code-size, widening-size}
 use Rattle.rpl_compile.proofs.LocalSizes.{locals_size}
-use Rattle.rpl_compile.proofs.Setting.{Claim, H, Here, Kept, Left, Setting, fr, goes_at, goes_left, here_on, here_over, left, part, same_kept, then_kept}
+use Rattle.rpl_compile.proofs.Setting.{Claim, H, Here, Kept, Left, Setting, fr, goes_at, goes_left, here_on, here_over, left, part, same_kept}
+use Rattle.rpl_compile.proofs.Setting.{then_kept}
 use Rattle.rpl_compile.proofs.Steps.{operates}
 use Rattle.rpl_compile.proofs.Room.{in_room}
 

@@ -1,5 +1,6 @@
 -- The block of a rule does what the rule does, wherever it is declared.
-use Rattle.rw_base.proofs.Common.{◌≡◌, ℕ, suc, ◌+◌, ◌-◌, ◌≤◌, ◌==◌, Bool, true, false, nat_tests, List, [], ◌∷◌, map, Some, refl, sym, ap, ◌∙◌, subst, arith, slice_get, if◌then◌else◌, length-map}
+use Rattle.rw_base.proofs.Common.{◌≡◌, ℕ, suc, ◌+◌, ◌-◌, ◌≤◌, ◌==◌, Bool, true, false, nat_tests, List, [], ◌∷◌, map, Some, refl, sym, ap, ◌∙◌, subst}
+use Rattle.rw_base.proofs.Common.{arith, slice_get, if◌then◌else◌, length-map}
 use Rattle.rw_model.specs.Objects.{numbered}
 use Rattle.rpl_code.specs.declared.block.Block.{Block}
 use Rattle.rpl_tree.specs.Value.{Kind, Value}

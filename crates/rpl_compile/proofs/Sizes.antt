@@ -1,5 +1,6 @@
 -- The code of a tree is as long as its size says.
-use Rattle.rw_base.proofs.Common.{◌≡◌, ℕ, suc, ◌+◌, Bool, true, false, List, [], ◌∷◌, ◌++◌, length, length-append, refl, ap₂, ◌∙◌, arith, if◌then◌else◌}
+use Rattle.rw_base.proofs.Common.{◌≡◌, ℕ, suc, ◌+◌, Bool, true, false, List, [], ◌∷◌, ◌++◌, length, length-append, refl, ap₂, ◌∙◌, arith}
+use Rattle.rw_base.proofs.Common.{if◌then◌else◌}
 use Rattle.rw_model.specs.Draft.{Draft}
 use Rattle.rpl_code.specs.declared.instruction.Instruction.{Instruction}
 use Rattle.rpl_code.specs.declared.instruction.Instruction.TheVariants as I
@@ -7,12 +8,14 @@ use Rattle.rpl_tree.specs.declared.words.OneWord.TheVariants.{Known}
 use Rattle.rpl_tree.specs.declared.words.TwoWord.TheVariants.{Or, And}
 use Rattle.rpl_tree.specs.Value.{Kind, truth_kind, element_of, is_same_kind}
 use Rattle.rpl_tree.specs.Kinds.{Names, tree_kind}
-use Rattle.rpl_tree.specs.Tree.{Tree, Trees, literal, truth, now, slot, name, call, brackets, list, choice, bind, each, mapped, one, two, convert, at, no_trees, tree, Act, Acts, assign, branch, with_name, no_acts, act}
+use Rattle.rpl_tree.specs.Tree.{Tree, Trees, literal, truth, now, slot, name, call, brackets, list, choice, bind, each, mapped, one, two, convert, at}
+use Rattle.rpl_tree.specs.Tree.{no_trees, tree, Act, Acts, assign, branch, with_name, no_acts, act}
 use Rattle.rpl_compile.specs.Operations.{choice_size, widening, widening_size}
 use Rattle.rpl_compile.specs.Size.{size, size_of_act, size_of_acts, sizes, sizes_of_arguments}
 use Rattle.rpl_compile.specs.Site.{Site, names_in, on}
 use Rattle.rpl_compile.specs.Kinded.{AreArguments, AreKindedActs, AreOfKind, IsKinded, IsKindedAct}
-use Rattle.rpl_compile.specs.Translate.{Callee, act_code, acts_code, all_code, arguments_code, callee_heads, choice_lines, code_of, kind_of_tree, after_tree}
+use Rattle.rpl_compile.specs.Translate.{Callee, act_code, acts_code, all_code, arguments_code, callee_heads, choice_lines, code_of, kind_of_tree}
+use Rattle.rpl_compile.specs.Translate.{after_tree}
 
 pub beside : (a b : List Instruction) {m n : ℕ} → length a ≡ m → length b ≡ n → length (a ++ b) ≡ m + n
 beside a b e f = length-append a b ∙ ap₂ (λ m n. m + n) e f

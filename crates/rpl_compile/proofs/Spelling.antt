@@ -15,7 +15,8 @@ use Rattle.rpl_compile.specs.Operations.{widening_size}
 use Rattle.rpl_compile.specs.Size.{size, size_of_acts}
 use Rattle.rpl_compile.specs.Site.{Site, names_in, parameters_from, start}
 use Rattle.rpl_compile.specs.Kinded.{AreKindedActs, AreKindedFrom, IsKindedBody}
-use Rattle.rpl_compile.specs.Translate.{Callee, blocks_from, callee_heads, code_of, function_block, predefined_callees, room_lines, rule_block, translate}
+use Rattle.rpl_compile.specs.Translate.{Callee, blocks_from, callee_heads, code_of, function_block, predefined_callees, room_lines, rule_block}
+use Rattle.rpl_compile.specs.Translate.{translate}
 use Rattle.rpl_compile.proofs.Sizes.{acts-size, beside, code-size, widening-size}
 use Rattle.rpl_compile.proofs.TypedKinds.{typed_is_kinded}
 use Rattle.rpl_compile.proofs.BlockWays.{parameter_names}
@@ -112,7 +113,17 @@ predefined_spelt = (
   (tt, (tt, tt)),
   tt,
   refl,
-  ((tt, (tt, tt)), tt, refl, ((tt, tt), tt, refl, ((tt, (tt, (tt, tt))), tt, refl, ((tt, (tt, tt)), tt, refl, ((tt, tt), tt, refl, ((tt, (tt, (tt, tt))), tt, refl, tt)))))),
+  (
+    (tt, (tt, tt)),
+    tt,
+    refl,
+    (
+      (tt, tt),
+      tt,
+      refl,
+      ((tt, (tt, (tt, tt))), tt, refl, ((tt, (tt, tt)), tt, refl, ((tt, tt), tt, refl, ((tt, (tt, (tt, tt))), tt, refl, tt)))),
+    ),
+  ),
 )
 
 as_many_blocks : (callees : List Callee) (number : ℕ) (ds : List Declared) → length (blocks_from callees number ds) ≡ length ds

@@ -7,16 +7,20 @@ use Rattle.rpl_code.specs.declared.instruction.Instruction.TheVariants as I
 use Rattle.rpl_tree.specs.declared.words.OneWord.TheVariants.{Known}
 use Rattle.rpl_tree.specs.declared.words.TwoWord.TheVariants.{Or, And}
 use Rattle.rpl_tree.specs.Value.{Kind, truth_kind, element_of}
-use Rattle.rpl_tree.specs.Tree.{Tree, Trees, literal, truth, now, slot, name, call, brackets, list, choice, bind, each, mapped, one, two, convert, at, no_trees, tree, Act, Acts, assign, branch, with_name, no_acts, act}
+use Rattle.rpl_tree.specs.Tree.{Tree, Trees, literal, truth, now, slot, name, call, brackets, list, choice, bind, each, mapped, one, two, convert, at}
+use Rattle.rpl_tree.specs.Tree.{no_trees, tree, Act, Acts, assign, branch, with_name, no_acts, act}
 use Rattle.rpl_tree.specs.Kinds.{first_kind, takes_named}
 use Rattle.rpl_tree.specs.Count.{act_locals, acts_locals, local_count, local_counts}
 use Rattle.rpl_compile.specs.Size.{size, size_of_act, size_of_acts, sizes, sizes_of_arguments}
 use Rattle.rpl_compile.specs.Site.{Site, bound, keeping, knowing, names_in, on, over}
 use Rattle.rpl_compile.specs.Kinded.{AreArguments, AreKindedActs, AreOfKind, IsKinded, IsKindedAct}
-use Rattle.rpl_compile.specs.Translate.{Callee, act_code, acts_code, after_act, after_acts, after_room, after_tree, all_code, arguments_code, asked_code, callee_heads, code_of, kind_of_tree, room_lines}
+use Rattle.rpl_compile.specs.Translate.{Callee, act_code, acts_code, after_act, after_acts, after_room, after_tree, all_code, arguments_code}
+use Rattle.rpl_compile.specs.Translate.{asked_code, callee_heads, code_of, kind_of_tree, room_lines}
 use Rattle.rpl_compile.proofs.SpeltNames.{slot_found, table_found}
 use Rattle.rpl_compile.proofs.SpeltKinds.{AreSpelt, IsSpelt, element_spelt, takes_spelt, tree_spelt}
-use Rattle.rpl_compile.proofs.SpeltLines.{AreBoundSpelt, AreCalleesSpelt, AreLines, behind, below_bound, call_spelt, callees_known, choice_spelt, convert_spelt, local_spelt, names_known, number_spelt, one_line_spelt, put_spelt, two_lines_spelt, widening_spelt}
+use Rattle.rpl_compile.proofs.SpeltLines.{AreBoundSpelt, AreCalleesSpelt, AreLines, behind, below_bound, call_spelt, callees_known, choice_spelt}
+use Rattle.rpl_compile.proofs.SpeltLines.{convert_spelt, local_spelt, names_known, number_spelt, one_line_spelt, put_spelt, two_lines_spelt}
+use Rattle.rpl_compile.proofs.SpeltLines.{widening_spelt}
 
 -- the names that can be used and the operands that are there can be spelt
 abbrev pub IsSiteSpelt : Site → Type 0

@@ -1,5 +1,7 @@
 -- The head of a function that is accepted can be spelt, and it has fewer parameters than words.
-use Rattle.rw_base.proofs.Common.{◌≡◌, ◌≤◌, ℕ, suc, ◌+◌, ◌-◌, max, min, nat_le, ◌&&◌, ℤ, pos, negsuc, int_le, ◌≤ℤ◌, unsigned_abs, Bool, true, false, List, [], ◌∷◌, ◌++◌, length, length-append, slice_index, get_or-append_seam, Option, Some, None, Ok, Err, refl, sym, ap, ◌∙◌, subst, arith, ints, and_parts, append_assoc, if◌then◌else◌}
+use Rattle.rw_base.proofs.Common.{◌≡◌, ◌≤◌, ℕ, suc, ◌+◌, ◌-◌, max, min, nat_le, ◌&&◌, ℤ, pos, negsuc, int_le, ◌≤ℤ◌, unsigned_abs, Bool, true, false}
+use Rattle.rw_base.proofs.Common.{List, [], ◌∷◌, ◌++◌, length, length-append, slice_index, get_or-append_seam, Option, Some, None, Ok, Err, refl, sym}
+use Rattle.rw_base.proofs.Common.{ap, ◌∙◌, subst, arith, ints, and_parts, append_assoc, if◌then◌else◌}
 use Rattle.rw_base.proofs.Tests.{Decides-int_le, Decides-le, spared}
 use Rattle.rw_base.specs.Dimension.{Dimension}
 use Rattle.rw_base.specs.Unit.{units, unit_in}
@@ -124,7 +126,8 @@ next_number : (before : List ℕ) (own k : ℕ) → k ≡ suc (length before) �
 next_number before own k e = omega (arith, e, length-append before (own ∷ []))
 
 heads_from : (basin : Draft) (rules : List Declared) (k : ℕ) (earlier : List Signature) (functions : List Costed) (before : List ℕ)
-    (ds : List Declared) → before ++ words_from functions ds ≡ words_of_rules rules → k ≡ suc (length before) → AreDeclared basin rules k earlier ds → AreHeads ds
+    (ds : List Declared) → before ++ words_from functions ds ≡ words_of_rules rules → k ≡ suc (length before) → AreDeclared basin rules k earlier ds
+    → AreHeads ds
 heads_from basin rules k earlier functions before [] whole counted h = tt
 heads_from basin rules k earlier functions before (rule f body ∷ ds) whole counted h =
     let own = weights (acts_local_kinds (costed_heads functions) [] body) + height_of_acts functions [] body in

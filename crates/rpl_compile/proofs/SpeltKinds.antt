@@ -1,5 +1,6 @@
 -- The kinds of expressions that are accepted can be spelt: lists have room for 1 to 4096 elements.
-use Rattle.rw_base.proofs.Common.{◌<◌, inl, inr, ◌⊎◌, ℕ, ◌+◌, nat_lt, Bool, true, false, List, [], ◌∷◌, ◌++◌, reverse, reverse-append, bytes_eq, sym, subst, arith, AllByRecursion, if◌then◌else◌}
+use Rattle.rw_base.proofs.Common.{◌<◌, inl, inr, ◌⊎◌, ℕ, ◌+◌, nat_lt, Bool, true, false, List, [], ◌∷◌, ◌++◌, reverse, reverse-append, bytes_eq, sym}
+use Rattle.rw_base.proofs.Common.{subst, arith, AllByRecursion, if◌then◌else◌}
 use Rattle.rw_model.specs.Draft.{Draft}
 use Rattle.rpl_code.specs.Bounds.{AreKinds, IsCodeKind, IsLength}
 use Rattle.rpl_tree.specs.declared.words.TwoWord.{TwoWord}
@@ -7,11 +8,14 @@ use Rattle.rpl_tree.specs.declared.words.OneWord.{OneWord}
 use Rattle.rpl_tree.specs.declared.words.OneWord.TheVariants.{Not, Minus, Known, Length, Month, Day, Year}
 use Rattle.rpl_tree.specs.declared.words.TwoWord.TheVariants.{Plus, Minus as Less_by, Append, Item}
 use Rattle.rpl_tree.specs.Value.{Kind, number_kind, date_kind, slot_kind, numbers_kind, slots_kind, element_of, list_kind, room_of}
-use Rattle.rpl_tree.specs.Tree.{Tree, Trees, literal, truth, now, slot, name, call, brackets, list, choice, bind, each, mapped, one, two, convert, at, no_trees, tree, Act, Acts, assign, branch, with_name, no_acts, act}
-use Rattle.rpl_tree.specs.Kinds.{Head, Names, count_of, difference_kind, first_kind, kind_named, one_kind, result_named, takes_named, tree_kind, two_kind}
+use Rattle.rpl_tree.specs.Tree.{Tree, Trees, literal, truth, now, slot, name, call, brackets, list, choice, bind, each, mapped, one, two, convert, at}
+use Rattle.rpl_tree.specs.Tree.{no_trees, tree, Act, Acts, assign, branch, with_name, no_acts, act}
+use Rattle.rpl_tree.specs.Kinds.{Head, Names, count_of, difference_kind, first_kind, kind_named, one_kind, result_named, takes_named, tree_kind}
+use Rattle.rpl_tree.specs.Kinds.{two_kind}
 use Rattle.rpl_tree.specs.Locals.{act_local_kinds, acts_local_kinds, all_local_kinds, local_kinds}
 use Rattle.rpl_compile.specs.Operations.{code_kind, code_kinds}
-use Rattle.rpl_compile.specs.Kinded.{AreArguments, AreBoth, AreKindedActs, AreOfKind, CanAppend, IsAnyList, IsElement, IsKinded, IsKindedAct, TwoTakes}
+use Rattle.rpl_compile.specs.Kinded.{AreArguments, AreBoth, AreKindedActs, AreOfKind, CanAppend, IsAnyList, IsElement, IsKinded, IsKindedAct}
+use Rattle.rpl_compile.specs.Kinded.{TwoTakes}
 use Rattle.rpl_compile.proofs.Lines.{of_lists}
 
 abbrev pub IsSpelt : Kind → Type 0

@@ -1,5 +1,7 @@
 -- Each instruction of compiled code can be spelt: by recursion on the tree, a line or two for each form.
-use Rattle.rw_base.proofs.Common.{◌≡◌, ◌≢◌, ◌≤◌, inl, inr, ◌⊎◌, ℕ, ◌+◌, ◌*ℤ◌, ℤ, unsigned_abs, Bool, true, false, List, [], ◌∷◌, ◌++◌, Option, Some, None, IsSome, IsSomeAnd, IsTrue, unwrap_or, bytes_eq, bytes_eq-Decides, list_any, ◌||◌, refl, sym, subst, arith, AllByRecursion, if◌then◌else◌}
+use Rattle.rw_base.proofs.Common.{◌≡◌, ◌≢◌, ◌≤◌, inl, inr, ◌⊎◌, ℕ, ◌+◌, ◌*ℤ◌, ℤ, unsigned_abs, Bool, true, false, List, [], ◌∷◌, ◌++◌, Option, Some}
+use Rattle.rw_base.proofs.Common.{None, IsSome, IsSomeAnd, IsTrue, unwrap_or, bytes_eq, bytes_eq-Decides, list_any, ◌||◌, refl, sym, subst, arith}
+use Rattle.rw_base.proofs.Common.{AllByRecursion, if◌then◌else◌}
 use Rattle.rw_base.proofs.Tests.{Decides-from_to}
 use Rattle.rw_base.specs.Dimension.{Dimension}
 use Rattle.rw_base.specs.Quantity.{IsQuantity}
@@ -15,12 +17,14 @@ use Rattle.rpl_tree.specs.declared.words.ConvertWord.TheVariants.{StorageToEleva
 use Rattle.rpl_tree.specs.declared.words.OneWord.{OneWord}
 use Rattle.rpl_tree.specs.declared.words.OneWord.TheVariants.{Not, Minus, Known, Length, Month, Day, Year}
 use Rattle.rpl_tree.specs.declared.words.TwoWord.{TwoWord}
-use Rattle.rpl_tree.specs.declared.words.TwoWord.TheVariants.{Or, And, Equal, Unequal, Less, LessEqual, Greater, GreaterEqual, Plus, Minus as Less_by, Times, Divide, Append, Item}
+use Rattle.rpl_tree.specs.declared.words.TwoWord.TheVariants.{Or, And, Equal, Unequal, Less, LessEqual, Greater, GreaterEqual, Plus, Minus as Less_by}
+use Rattle.rpl_tree.specs.declared.words.TwoWord.TheVariants.{Times, Divide, Append, Item}
 use Rattle.rpl_tree.specs.Value.{Kind, number_kind, truth_kind, date_kind, slot_kind, numbers_kind, slots_kind, is_same_kind, room_of}
 use Rattle.rpl_tree.specs.World.{can_set}
 use Rattle.rpl_tree.specs.Kinds.{Head}
 use Rattle.rpl_tree.proofs.PutsAhead.{at_most_30}
-use Rattle.rpl_compile.specs.Operations.{code_kinds, convert_line, difference_line, factor_of, number_line, one_line, sum_line, target, test_line, two_lines, widening}
+use Rattle.rpl_compile.specs.Operations.{code_kinds, convert_line, difference_line, factor_of, number_line, one_line, sum_line, target, test_line}
+use Rattle.rpl_compile.specs.Operations.{two_lines, widening}
 use Rattle.rpl_compile.specs.Site.{BoundName, Site, local_named, names_in}
 use Rattle.rpl_compile.specs.Kinded.{FitsIn, HasHead, IsLiteral, IsTarget}
 use Rattle.rpl_compile.specs.Translate.{Callee, call_by, call_line, callee_heads, choice_lines}

@@ -1,11 +1,15 @@
 -- What is found by name in a basin has a name that code can spell.
-use Rattle.rw_base.proofs.Common.{◌≡◌, ℕ, ◌+◌, ◌==◌, Bool, true, false, ◌&&◌, ◌||◌, not, List, [], ◌∷◌, length, map, nat_le, Option, Some, None, IsSome, option_and_then, refl, sym, subst, bytes_eq, bytes_eq-Decides, list_all, AllByRecursion, recursion_from_All, and_parts, if◌then◌else◌}
-use Rattle.rw_model.proofs.Common.{IsBasin, Draft, IsSound, IsKind, IsName, Object, Placed, all_slots, first_from, is_named, object_at, object_from, object_named, placed_from, slot_named, slots_from, Slot, of_range, all_quantities, slots_of, where_chosen}
+use Rattle.rw_base.proofs.Common.{◌≡◌, ℕ, ◌+◌, ◌==◌, Bool, true, false, ◌&&◌, ◌||◌, not, List, [], ◌∷◌, length, map, nat_le, Option, Some, None}
+use Rattle.rw_base.proofs.Common.{IsSome, option_and_then, refl, sym, subst, bytes_eq, bytes_eq-Decides, list_all, AllByRecursion, recursion_from_All}
+use Rattle.rw_base.proofs.Common.{and_parts, if◌then◌else◌}
+use Rattle.rw_model.proofs.Common.{IsBasin, Draft, IsSound, IsKind, IsName, Object, Placed, all_slots, first_from, is_named, object_at, object_from}
+use Rattle.rw_model.proofs.Common.{object_named, placed_from, slot_named, slots_from, Slot, of_range, all_quantities, slots_of, where_chosen}
 use Rattle.rw_model.proofs.NameFacts.{Decides-name}
 use Rattle.rw_model.specs.Name as N
 use Rattle.rw_model.specs.declared.data_slots.DataSlot.{DataSlot}
 use Rattle.rw_model.specs.declared.kind.Kind.{Kind}
-use Rattle.rw_model.specs.declared.kind.Kind.TheVariants.{DataObject, Gage, Confluence, Bifurcation, Reach, Reservoir, WaterUser, Canal, PowerReservoir, RoutedReach}
+use Rattle.rw_model.specs.declared.kind.Kind.TheVariants.{DataObject, Gage, Confluence, Bifurcation, Reach, Reservoir, WaterUser, Canal}
+use Rattle.rw_model.specs.declared.kind.Kind.TheVariants.{PowerReservoir, RoutedReach}
 use Rattle.rw_model.specs.declared.kind.Supply.TheVariants.{Request, Rule}
 use Rattle.rw_model.specs.declared.role.Role.TheVariants.{Neither}
 use Rattle.rpl_code.specs.Names as C

@@ -1,5 +1,7 @@
 -- One step of each instruction.
-use Rattle.rw_base.proofs.Common.{◌≡◌, ℕ, zero, suc, ◌+◌, ◌≤◌, Bool, true, false, nat_lt, nat_tests, List, [], ◌∷◌, ◌++◌, length, take, drop, set, reverse, reverse-reverse, Option, Some, None, Result, Ok, Err, refl, sym, ap, ap₂, ◌∙◌, subst, arith, slice_get, is_ok, if◌then◌else◌, option_and_then, length-append}
+use Rattle.rw_base.proofs.Common.{◌≡◌, ℕ, zero, suc, ◌+◌, ◌≤◌, Bool, true, false, nat_lt, nat_tests, List, [], ◌∷◌, ◌++◌, length, take, drop, set}
+use Rattle.rw_base.proofs.Common.{reverse, reverse-reverse, Option, Some, None, Result, Ok, Err, refl, sym, ap, ap₂, ◌∙◌, subst, arith, slice_get}
+use Rattle.rw_base.proofs.Common.{is_ok, if◌then◌else◌, option_and_then, length-append}
 use Rattle.rw_model.specs.Objects.{numbered}
 use Rattle.rpl_code.specs.declared.kind.ValueKind.{ValueKind}
 use Rattle.rpl_code.specs.declared.instruction.Instruction.{Instruction}

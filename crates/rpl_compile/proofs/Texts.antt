@@ -1,5 +1,8 @@
 -- What is no text names no unit.
-use Rattle.rw_base.proofs.Common.{arith, AllByRecursion, recursion_from_All, ◌+◌, ◌⊎◌, ◌≡◌, ◌<◌, ℕ, ℤ, Bool, true, List, [], ◌∷◌, None, refl, subst, inl, inr, bytes_eq, nat_lt, list_all, IsAscii, IsUtf8, IsUtf8-from_ascii, IsUtf8-from_is_utf8, is_utf8-from_IsUtf8, is_utf8, if◌then◌else◌, false, sym, ap, ◌∙◌, IsAscii-nil, IsAscii-cons, and_parts, cases_Bool, ltb-true, bytes_eq-Decides}
+use Rattle.rw_base.proofs.Common.{arith, AllByRecursion, recursion_from_All, ◌+◌, ◌⊎◌, ◌≡◌, ◌<◌, ℕ, ℤ, Bool, true, List, [], ◌∷◌, None, refl, subst}
+use Rattle.rw_base.proofs.Common.{inl, inr, bytes_eq, nat_lt, list_all, IsAscii, IsUtf8, IsUtf8-from_ascii, IsUtf8-from_is_utf8, is_utf8-from_IsUtf8}
+use Rattle.rw_base.proofs.Common.{is_utf8, if◌then◌else◌, false, sym, ap, ◌∙◌, IsAscii-nil, IsAscii-cons, and_parts, cases_Bool, ltb-true}
+use Rattle.rw_base.proofs.Common.{bytes_eq-Decides}
 use Rattle.rw_model.proofs.Common.{Draft, IsBasin, IsDigit, IsLetter, IsName, IsSound, Object, object_from, object_named}
 use Rattle.rw_base.specs.Dimension.{Dimension}
 use Rattle.rw_base.specs.Unit.{units, unit_in}

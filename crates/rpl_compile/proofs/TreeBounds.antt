@@ -5,7 +5,8 @@ use Rattle.rpl_tree.specs.declared.words.OneWord.TheVariants.{Known}
 use Rattle.rpl_tree.specs.declared.words.TwoWord.{TwoWord}
 use Rattle.rpl_tree.specs.declared.words.TwoWord.TheVariants.{Or, And, Unequal, Greater, GreaterEqual}
 use Rattle.rpl_tree.specs.Value.{Kind, element_of, is_same_kind}
-use Rattle.rpl_tree.specs.Tree.{Tree, Trees, literal, truth, now, slot, name, call, brackets, list, choice, bind, each, mapped, one, two, convert, at, no_trees, tree, Act, Acts, assign, branch, with_name, no_acts, act}
+use Rattle.rpl_tree.specs.Tree.{Tree, Trees, literal, truth, now, slot, name, call, brackets, list, choice, bind, each, mapped, one, two, convert, at}
+use Rattle.rpl_tree.specs.Tree.{no_trees, tree, Act, Acts, assign, branch, with_name, no_acts, act}
 use Rattle.rpl_tree.specs.Kinds.{Head, Names, takes_named, tree_kind}
 use Rattle.rpl_tree.specs.Count.{act_locals, act_nodes, acts_locals, acts_nodes, local_count, local_counts, node_count, node_counts}
 use Rattle.rpl_compile.specs.Operations.{one_size, two_size, widening_size}

@@ -1,5 +1,6 @@
 -- What trees cost, in words that the proofs on their code use.
-use Rattle.rw_base.proofs.Common.{max, ◌≡◌, ℕ, zero, suc, ◌+◌, List, [], ◌∷◌, ◌++◌, replicate, reverse, reverse-append, append_assoc, inl, inr, refl, sym, ap, ◌∙◌, subst, arith}
+use Rattle.rw_base.proofs.Common.{max, ◌≡◌, ℕ, zero, suc, ◌+◌, List, [], ◌∷◌, ◌++◌, replicate, reverse, reverse-append, append_assoc, inl, inr, refl}
+use Rattle.rw_base.proofs.Common.{sym, ap, ◌∙◌, subst, arith}
 use Rattle.rpl_code.specs.declared.kind.ValueKind.{ValueKind}
 use Rattle.rpl_code.specs.Weight.{words_of}
 use Rattle.rpl_tree.specs.declared.words.TwoWord.{TwoWord}

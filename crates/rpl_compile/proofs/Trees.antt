@@ -1,7 +1,8 @@
 -- The code of each tree does what the tree means.
 use Rattle.rpl_tree.specs.declared.words.TwoWord.{TwoWord}
 use Rattle.rpl_tree.specs.declared.words.TwoWord.TheVariants.{Or, And}
-use Rattle.rpl_tree.specs.Tree.{Tree, Trees, literal, truth, now, slot, name, call, brackets, list, choice, bind, each, mapped, one, two, convert, at, no_trees, tree}
+use Rattle.rpl_tree.specs.Tree.{Tree, Trees, literal, truth, now, slot, name, call, brackets, list, choice, bind, each, mapped, one, two, convert, at}
+use Rattle.rpl_tree.specs.Tree.{no_trees, tree}
 use Rattle.rpl_compile.proofs.Setting.{Claim, Setting}
 use Rattle.rpl_compile.proofs.Leaves.{on_brackets, on_literal, on_name, on_now, on_slot, on_truth}
 use Rattle.rpl_compile.proofs.Operators.{Asks, asks_at, on_at, on_convert, on_two_trees, on_word}

@@ -1,11 +1,13 @@
 -- What types that fit say of kinds: for each form the kind that it has, and what it asks of the kinds of its parts.
-use Rattle.rw_base.proofs.Common.{◌≡◌, ◌≤◌, ◌<◌, inl, inr, ◌⊎◌, ℕ, ◌+◌, nat_le, nat_lt, max, Bool, true, false, ◌&&◌, List, [], ◌∷◌, length, Option, Some, None, Ok, Err, refl, ap, ◌∙◌, arith, nat_tests, if◌then◌else◌}
+use Rattle.rw_base.proofs.Common.{◌≡◌, ◌≤◌, ◌<◌, inl, inr, ◌⊎◌, ℕ, ◌+◌, nat_le, nat_lt, max, Bool, true, false, ◌&&◌, List, [], ◌∷◌, length, Option}
+use Rattle.rw_base.proofs.Common.{Some, None, Ok, Err, refl, ap, ◌∙◌, arith, nat_tests, if◌then◌else◌}
 use Rattle.rw_base.specs.Answers.{unless_refused}
 use Rattle.rw_base.specs.Dimension.{Dimension, per_of, times_of}
 use Rattle.rpl_tree.specs.declared.words.OneWord.{OneWord}
 use Rattle.rpl_tree.specs.declared.words.OneWord.TheVariants.{Not, Minus, Known, Length, Month, Day, Year}
 use Rattle.rpl_tree.specs.declared.words.TwoWord.{TwoWord}
-use Rattle.rpl_tree.specs.declared.words.TwoWord.TheVariants.{Or, And, Equal, Unequal, Less, LessEqual, Greater, GreaterEqual, Plus, Minus as Less_by, Times, Divide, Append, Item}
+use Rattle.rpl_tree.specs.declared.words.TwoWord.TheVariants.{Or, And, Equal, Unequal, Less, LessEqual, Greater, GreaterEqual, Plus, Minus as Less_by}
+use Rattle.rpl_tree.specs.declared.words.TwoWord.TheVariants.{Times, Divide, Append, Item}
 use Rattle.rpl_tree.specs.declared.words.ConvertWord.{ConvertWord}
 use Rattle.rpl_tree.specs.declared.rpl_type.RplType.{RplType}
 use Rattle.rpl_tree.specs.declared.rpl_type.RplType.TheVariants.{Numeric, Boolean, Datetime, Slot, NumericList, SlotList}
@@ -14,7 +16,9 @@ use Rattle.rpl_tree.specs.Kinds.{join, one_kind, two_kind}
 use Rattle.rpl_types.specs.declared.type_kind.TypeKind.{TypeKind}
 use Rattle.rpl_types.specs.declared.type_kind.TypeKind.TheVariants.{ListTooLong}
 use Rattle.rpl_types.specs.Fits.{Typed, joined_type, length_misfit, longest, misfit, misfit_among, refusal_order, sooner, unit_misfit}
-use Rattle.rpl_types.specs.Forms.{a_dimension, answers, append_type, asks, compared_type, convert_type, difference_type, element_type, is_boolean, is_datetime, item_type, length_type, list_type, look_type, mapped_type, measured_in, negative_type, one_type, only_if, product_type, sum_type, two_type}
+use Rattle.rpl_types.specs.Forms.{a_dimension, answers, append_type, asks, compared_type, convert_type, difference_type, element_type, is_boolean}
+use Rattle.rpl_types.specs.Forms.{is_datetime, item_type, length_type, list_type, look_type, mapped_type, measured_in, negative_type, one_type}
+use Rattle.rpl_types.specs.Forms.{only_if, product_type, sum_type, two_type}
 use Rattle.rpl_verify.proofs.KindFacts.{and_true}
 use Rattle.rpl_compile.specs.Kinded.{AreComparable, FitsIn, IsAnyList, IsElement, OneTakes, TwoTakes}
 

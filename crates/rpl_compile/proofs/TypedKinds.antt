@@ -1,5 +1,6 @@
 -- A ruleset that is accepted is of the kinds that its code asks for: by recursion on the tree, a line or two for each form.
-use Rattle.rw_base.proofs.Common.{◌≡◌, ℕ, ◌+◌, ℤ, pos, Bool, true, false, ◌||◌, List, [], ◌∷◌, length, bytes_eq, Option, Some, None, is_some, IsSome, IsSomeAnd, IsTrue, unwrap_or, Ok, Err, refl, sym, ap, ap₂, ◌∙◌, subst, arith, if◌then◌else◌, ◌*ℤ◌}
+use Rattle.rw_base.proofs.Common.{◌≡◌, ℕ, ◌+◌, ℤ, pos, Bool, true, false, ◌||◌, List, [], ◌∷◌, length, bytes_eq, Option, Some, None, is_some, IsSome}
+use Rattle.rw_base.proofs.Common.{IsSomeAnd, IsTrue, unwrap_or, Ok, Err, refl, sym, ap, ap₂, ◌∙◌, subst, arith, if◌then◌else◌, ◌*ℤ◌}
 use Rattle.std.specs.List.{list_any}
 use Rattle.rw_base.specs.Dimension.{Dimension}
 use Rattle.rw_base.specs.Unit.{units, unit_in}
@@ -15,7 +16,8 @@ use Rattle.rpl_tree.specs.declared.rpl_type.RplType.TheVariants.{Numeric, Boolea
 use Rattle.rpl_tree.specs.Value.{Kind, number_kind, numbers_kind, slot_kind, element_of, list_kind, room_of}
 use Rattle.rpl_tree.specs.Operators.{is_quantity}
 use Rattle.rpl_tree.specs.World.{can_put_ahead, can_set, table_named}
-use Rattle.rpl_tree.specs.Tree.{Tree, Trees, literal, truth, now, slot, name, call, brackets, list, choice, bind, each, mapped, one, two, convert, at, no_trees, tree, Act, Acts, assign, branch, with_name, no_acts, act, Declared, rule, function}
+use Rattle.rpl_tree.specs.Tree.{Tree, Trees, literal, truth, now, slot, name, call, brackets, list, choice, bind, each, mapped, one, two, convert, at}
+use Rattle.rpl_tree.specs.Tree.{no_trees, tree, Act, Acts, assign, branch, with_name, no_acts, act, Declared, rule, function}
 use Rattle.rpl_tree.specs.Kinds.{Head, Names, count_of, join, kind_named, kind_of_type, takes_named, tree_kind, two_kind}
 use Rattle.rpl_tree.specs.Mean.{function_heads, predefined_functions}
 use Rattle.rpl_types.specs.declared.type_kind.TypeKind.TheVariants.{LiteralRange, NotSettable, TargetStep}
@@ -24,13 +26,16 @@ use Rattle.rpl_types.specs.Forms.{TypeScope, found_slot_type, found_target_misfi
 use Rattle.rpl_types.specs.Functions.{Callable, Signature, param_scope, type_here}
 use Rattle.rpl_types.specs.HasType.{AllStand, AreDeclared, HasType, HaveTypes, IsTyped, Stands}
 use Rattle.rpl_types.specs.Judged.{and_function, function_names}
-use Rattle.rpl_compile.specs.Kinded.{AreArguments, AreKinded, AreKindedActs, AreKindedFrom, AreOfKind, FitsIn, HasName, IsAnyList, IsAsked, IsElement, IsKinded, IsKindedAct, IsKindedBody, IsLiteral, OneTakes, TwoTakes}
-use Rattle.rpl_compile.proofs.TypeKinds.{AreAlike, IsPlain, Listed, convert_takes, element_is, kind_of_rpl_type, kinds_fit, kinds_join, known_takes, list_takes, look_takes, mapped_takes, measured_number, one_takes, same_kind, two_takes, typed}
+use Rattle.rpl_compile.specs.Kinded.{AreArguments, AreKinded, AreKindedActs, AreKindedFrom, AreOfKind, FitsIn, HasName, IsAnyList, IsAsked, IsElement}
+use Rattle.rpl_compile.specs.Kinded.{IsKinded, IsKindedAct, IsKindedBody, IsLiteral, OneTakes, TwoTakes}
+use Rattle.rpl_compile.proofs.TypeKinds.{AreAlike, IsPlain, Listed, convert_takes, element_is, kind_of_rpl_type, kinds_fit, kinds_join, known_takes}
+use Rattle.rpl_compile.proofs.TypeKinds.{list_takes, look_takes, mapped_takes, measured_number, one_takes, same_kind, two_takes, typed}
 use Rattle.rpl_compile.proofs.CallKinds.{FitTypes, Matches, call_takes, fresh, matches_none, type_names, with_function}
 
 -- ---- leaves
 
-literal_found : (n : ℤ) (unit : Option (Dimension × ℤ)) (t : RplType) → literal_in_unit n unit ≡ Ok t → (number_kind ≡ kind_of_rpl_type t) × IsLiteral n unit
+literal_found : (n : ℤ) (unit : Option (Dimension × ℤ)) (t : RplType) → literal_in_unit n unit ≡ Ok t
+    → (number_kind ≡ kind_of_rpl_type t) × IsLiteral n unit
 literal_found n None t h = absurd (cc h)
 literal_found n (Some unit) t h = by (is_quantity (n *ℤ unit.1)) h
   where

@@ -1,5 +1,6 @@
 -- The types that an accepted ruleset declares have room for as many elements as code can say.
-use Rattle.rw_base.proofs.Common.{◌≡◌, ◌&&◌, ℕ, ◌+◌, ℤ, pos, negsuc, Bool, true, false, List, [], ◌∷◌, Option, None, Some, IsSome, Ok, Err, nat_le, nat_lt, int_le, unsigned_abs, refl, subst, false≢true, and_parts, leb-true, if◌then◌else◌}
+use Rattle.rw_base.proofs.Common.{◌≡◌, ◌&&◌, ℕ, ◌+◌, ℤ, pos, negsuc, Bool, true, false, List, [], ◌∷◌, Option, None, Some, IsSome, Ok, Err, nat_le}
+use Rattle.rw_base.proofs.Common.{nat_lt, int_le, unsigned_abs, refl, subst, false≢true, and_parts, leb-true, if◌then◌else◌}
 use Rattle.rw_base.specs.Dimension.{Dimension}
 use Rattle.rw_base.specs.Unit.{units, unit_in}
 use Rattle.rw_model.proofs.Common.{Draft}

@@ -1,5 +1,6 @@
 -- The forms FOR and MAP.
-use Rattle.rw_base.proofs.Common.{◌≡◌, ℕ, suc, ◌+◌, ◌<◌, List, [], ◌∷◌, ◌++◌, length, set, Some, refl, sym, ap, ◌∙◌, subst, arith, append_assoc, slice_get, slice_get_within}
+use Rattle.rw_base.proofs.Common.{◌≡◌, ℕ, suc, ◌+◌, ◌<◌, List, [], ◌∷◌, ◌++◌, length, set, Some, refl, sym, ap, ◌∙◌, subst, arith, append_assoc}
+use Rattle.rw_base.proofs.Common.{slice_get, slice_get_within}
 use Rattle.rpl_code.specs.declared.instruction.Instruction.{Instruction}
 use Rattle.rpl_code.specs.declared.instruction.Instruction.TheVariants as I
 use Rattle.rpl_tree.specs.Value.{Kind, Value, kind_of_value, element_of, room_of, weight}
@@ -19,7 +20,8 @@ use Rattle.rpl_compile.proofs.Goes.{Goes, after_after, goes_bind, goes_first}
 use Rattle.rpl_compile.proofs.OfKind.{At, HasKind, at_back, at_front, at_head, at_moved, at_second, at_tail, set_here}
 use Rattle.rpl_compile.proofs.Sizes.{beside, code-size, widening-size}
 use Rattle.rpl_compile.proofs.LocalSizes.{locals_size}
-use Rattle.rpl_compile.proofs.Setting.{Claim, H, Here, Kept, Left, Setting, Wants, fr, goes_at, goes_left, here_on, here_over, holds_kept, kept_less, part, same_kept, then_kept}
+use Rattle.rpl_compile.proofs.Setting.{Claim, H, Here, Kept, Left, Setting, Wants, fr, goes_at, goes_left, here_on, here_over, holds_kept, kept_less}
+use Rattle.rpl_compile.proofs.Setting.{part, same_kept, then_kept}
 use Rattle.rpl_compile.proofs.Steps.{loads, stores}
 use Rattle.rpl_compile.proofs.Room.{in_room}
 use Rattle.rpl_compile.proofs.Bindings.{kept_set}

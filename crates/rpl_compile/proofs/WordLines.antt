@@ -1,5 +1,6 @@
 -- Lines of operators and of room lead from the kinds of their operands to the kind of their result.
-use Rattle.rw_base.proofs.Common.{max, ◌≡◌, ◌≤◌, ◌<◌, inl, inr, ◌⊎◌, ℕ, suc, ◌+◌, ◌==◌, nat_le, nat_lt, true, false, List, [], ◌∷◌, ◌++◌, Option, Some, None, refl, sym, ap, ◌∙◌, subst, arith, nat_tests, if◌then◌else◌, length}
+use Rattle.rw_base.proofs.Common.{max, ◌≡◌, ◌≤◌, ◌<◌, inl, inr, ◌⊎◌, ℕ, suc, ◌+◌, ◌==◌, nat_le, nat_lt, true, false, List, [], ◌∷◌, ◌++◌, Option}
+use Rattle.rw_base.proofs.Common.{Some, None, refl, sym, ap, ◌∙◌, subst, arith, nat_tests, if◌then◌else◌, length}
 use Rattle.rpl_code.specs.declared.kind.ValueKind.{ValueKind}
 use Rattle.rpl_code.specs.declared.kind.ValueKind.TheVariants as K
 use Rattle.rpl_code.specs.declared.instruction.Instruction.{Instruction}
@@ -7,7 +8,8 @@ use Rattle.rpl_code.specs.declared.instruction.Instruction.TheVariants as I
 use Rattle.rpl_tree.specs.declared.words.OneWord.{OneWord}
 use Rattle.rpl_tree.specs.declared.words.OneWord.TheVariants.{Not, Minus, Known, Length, Month, Day, Year}
 use Rattle.rpl_tree.specs.declared.words.TwoWord.{TwoWord}
-use Rattle.rpl_tree.specs.declared.words.TwoWord.TheVariants.{Or, And, Equal, Unequal, Less, LessEqual, Greater, GreaterEqual, Plus, Minus as Less_by, Times, Divide, Append, Item}
+use Rattle.rpl_tree.specs.declared.words.TwoWord.TheVariants.{Or, And, Equal, Unequal, Less, LessEqual, Greater, GreaterEqual, Plus, Minus as Less_by}
+use Rattle.rpl_tree.specs.declared.words.TwoWord.TheVariants.{Times, Divide, Append, Item}
 use Rattle.rpl_tree.specs.Value.{Kind, number_kind, truth_kind, date_kind, slot_kind, numbers_kind, slots_kind, is_same_kind, room_of, weight}
 use Rattle.rpl_tree.specs.Kinds.{one_kind, two_kind}
 use Rattle.rpl_verify.specs.Places.{spots}
@@ -136,13 +138,15 @@ module _ (scope : Scope) (lines : List Instruction) (spots_are : scope.spots ≡
       told (line i (l ∷ k ∷ []) (left ∷ []) (pays.step 1) simple r p ls os (account.prices.unit (before (l ∷ k ∷ ls) os) i u)) refl
       (omega (arith, le))
 
-  numbers_line : (i : Instruction) (left : ValueKind) → IsSimple i → IsUnit i → operand_row scope.heads scope.locals i ≡ takes (K.N ∷ K.N ∷ []) (left ∷ [])
+  numbers_line : (i : Instruction) (left : ValueKind) → IsSimple i → IsUnit i
+      → operand_row scope.heads scope.locals i ≡ takes (K.N ∷ K.N ∷ []) (left ∷ [])
       → words_of left ≤ 1
       → (p : ℕ) (ls : List ValueKind) (os : List Open)
       → Leads (i ∷ []) p (before (K.N ∷ K.N ∷ ls) os) (before (left ∷ ls) os) (pays.step 1) (kept (before (K.N ∷ K.N ∷ ls) os))
   numbers_line i left simple u r le = binary i K.N K.N left simple u r le
 
-  dates_line : (i : Instruction) (left : ValueKind) → IsSimple i → IsUnit i → operand_row scope.heads scope.locals i ≡ takes (K.D ∷ K.D ∷ []) (left ∷ [])
+  dates_line : (i : Instruction) (left : ValueKind) → IsSimple i → IsUnit i
+      → operand_row scope.heads scope.locals i ≡ takes (K.D ∷ K.D ∷ []) (left ∷ [])
       → words_of left ≤ 1
       → (p : ℕ) (ls : List ValueKind) (os : List Open)
       → Leads (i ∷ []) p (before (K.D ∷ K.D ∷ ls) os) (before (left ∷ ls) os) (pays.step 1) (kept (before (K.D ∷ K.D ∷ ls) os))
@@ -193,7 +197,8 @@ module _ (scope : Scope) (lines : List Instruction) (spots_are : scope.spots ≡
       by m lt (inl e) = two_of Append (numbers_kind m) number_kind k l e (appending m K.NList K.N (room_grows m K.NList lt) refl (λ n. refl) refl)
       by m lt (inr e) = two_of Append (slots_kind m) slot_kind k l e (appending m K.SList K.S (room_grows m K.SList lt) refl (λ n. refl) refl)
 
-  picking : (k left : ValueKind) → element_picked (K.N ∷ k ∷ []) ≡ Some (left ∷ []) → words_of left ≡ 1 → (p : ℕ) (ls : List ValueKind) (os : List Open)
+  picking : (k left : ValueKind) → element_picked (K.N ∷ k ∷ []) ≡ Some (left ∷ []) → words_of left ≡ 1
+      → (p : ℕ) (ls : List ValueKind) (os : List Open)
       → Leads (I.Item ∷ []) p (before (K.N ∷ k ∷ ls) os) (before (left ∷ ls) os) (pays.step 1) (kept (before (K.N ∷ k ∷ ls) os))
   picking k left e w p ls os =
       told (line_by I.Item 2 element_picked (K.N ∷ k ∷ []) (left ∷ []) (pays.step 1) (λ p b. refl, refl, λ x. x) refl refl e p ls os

@@ -1,7 +1,8 @@
 -- Reading a declaration, and the grammar.
 use Rattle.rw_base.proofs.Common.{◌≡◌, ◌≤◌, ◌<◌, ◌∙◌, ◌++◌, ℕ, zero, suc, List, [], ◌∷◌, length, Some, None, refl, sym, ap, subst, arith}
 use Rattle.std.proofs.lemmas.List.{append-nil, append_assoc}
-use Rattle.rpl_tree.specs.Tree.{TypeName, numeric, boolean, datetime, slot_type, numeric_list, slot_list, Tree, Acts, Parameter, Declared, rule, function}
+use Rattle.rpl_tree.specs.Tree.{TypeName, numeric, boolean, datetime, slot_type, numeric_list, slot_list, Tree, Acts, Parameter, Declared, rule}
+use Rattle.rpl_tree.specs.Tree.{function}
 use Rattle.rpl_parse.specs.declared.token.Mark.{Mark}
 use Rattle.rpl_parse.specs.declared.token.Mark.TheVariants as M
 use Rattle.rpl_parse.specs.declared.token.TokenAt.{TokenAt}
@@ -11,7 +12,9 @@ use Rattle.rpl_parse.specs.Grammar.{◌⨾◌, sign, token, Spells}
 use Rattle.rpl_parse.specs.Statements.{SpellsActs, SpellsType, SpellsParameter, SpellsParameters, SpellsMoreParameters, IsDeclaration}
 use Rattle.rpl_parse.specs.Reading.{◌>>=◌, Got, got, Named, read_tree, behind, behind_name, closed_by_mark}
 use Rattle.rpl_parse.specs.ReadingActs.{behind_number, read_acts, acts_of}
-use Rattle.rpl_parse.specs.ReadingDeclared.{behind_text, TypeRead, typed, in_unit, element, list_type_read, type_by, read_type, Given, parameter_read, read_parameter, ParametersRead, params_read, more_parameters, some_parameters, closed_parameters, parameters, if_all, rule_behind, body_behind, function_behind, read_declared}
+use Rattle.rpl_parse.specs.ReadingDeclared.{behind_text, TypeRead, typed, in_unit, element, list_type_read, type_by, read_type, Given, parameter_read}
+use Rattle.rpl_parse.specs.ReadingDeclared.{read_parameter, ParametersRead, params_read, more_parameters, some_parameters, closed_parameters}
+use Rattle.rpl_parse.specs.ReadingDeclared.{parameters, if_all, rule_behind, body_behind, function_behind, read_declared}
 use Rattle.rpl_parse.proofs.Sound.{some_one, and_then, found, behind_sound, name_sound, sound}
 use Rattle.rpl_parse.proofs.SoundActs.{number_sound, acts_sound}
 use Rattle.rpl_parse.proofs.Complete.{Shrinks, one_shrinks, shrinks_then, mark_then, Closes, behind_here, name_here, not_here}
@@ -34,11 +37,15 @@ abbrev IsTyped : List Tok → TypeRead → Type 0
 IsTyped ts k = SpellsType k.of_type ts k.next
 
 -- a type in a unit, behind its words
-unit_sound : (f : List ℕ → TypeName) (ts : List Tok) (k : TypeRead) → in_unit f ts ≡ Some k → (u : List ℕ) × (ts ≡ text u ∷ k.next) × (k ≡ typed (f u) k.next)
+unit_sound : (f : List ℕ → TypeName) (ts : List Tok) (k : TypeRead) → in_unit f ts ≡ Some k
+    → (u : List ℕ) × (ts ≡ text u ∷ k.next) × (k ≡ typed (f u) k.next)
 unit_sound f ts k e =
     let u = and_then (behind_text ts) _ k e in
-    let same : typed (f u.0.called) u.0.next ≡ k = some_one _ k u.2 in
-    (u.0.called, subst (λ (y : TypeRead). ts ≡ text u.0.called ∷ y.next) same (text_sound ts u.0 u.1), subst (λ (y : TypeRead). y ≡ typed (f u.0.called) y.next) same refl)
+    let same : typed (f u.0.called) u.0.next ≡ k = some_one _ k u.2 in (
+      u.0.called,
+      subst (λ (y : TypeRead). ts ≡ text u.0.called ∷ y.next) same (text_sound ts u.0 u.1),
+      subst (λ (y : TypeRead). y ≡ typed (f u.0.called) y.next) same refl,
+    )
 
 list_type_sound : (ts : List Tok) (k : TypeRead) → list_type_read ts ≡ Some k → IsTyped (mark M.List ∷ ts) k
 list_type_sound ts k e =
@@ -83,8 +90,10 @@ type_shrinks (numeric u) = mark_then (mark M.Numeric) _ (one_shrinks (text u))
 type_shrinks boolean = one_shrinks (mark M.Boolean)
 type_shrinks datetime = one_shrinks (mark M.Datetime)
 type_shrinks (slot_type u) = mark_then (mark M.Slot) _ (one_shrinks (text u))
-type_shrinks (numeric_list m u) = mark_then (mark M.List) _ (mark_then (digits m) _ (mark_then (mark M.Of) _ (mark_then (mark M.Numeric) _ (one_shrinks (text u)))))
-type_shrinks (slot_list m u) = mark_then (mark M.List) _ (mark_then (digits m) _ (mark_then (mark M.Of) _ (mark_then (mark M.Slot) _ (one_shrinks (text u)))))
+type_shrinks (numeric_list m u) =
+    mark_then (mark M.List) _ (mark_then (digits m) _ (mark_then (mark M.Of) _ (mark_then (mark M.Numeric) _ (one_shrinks (text u)))))
+type_shrinks (slot_list m u) =
+    mark_then (mark M.List) _ (mark_then (digits m) _ (mark_then (mark M.Of) _ (mark_then (mark M.Slot) _ (one_shrinks (text u)))))
 
 -- no type begins with a bracket
 type_first : (k : TypeName) (ts rest : List Tok) → SpellsType k ts rest → behind M.RightParen ts ≡ None
@@ -104,7 +113,8 @@ parameter_sound : (ts : List Tok) (p : Given) → read_parameter ts ≡ Some p �
 parameter_sound ts p e =
     let k = and_then (read_type ts) _ p e in
     let x = and_then (behind_name k.0.next) _ p k.2 in
-    subst (IsGiven ts) (some_one (parameter_read k.0.of_type x.0.called x.0.next) p x.2) (k.0.next, type_sound ts k.0 k.1, name_sound k.0.next x.0 x.1)
+    subst (IsGiven ts) (some_one (parameter_read k.0.of_type x.0.called x.0.next) p x.2)
+    (k.0.next, type_sound ts k.0 k.1, name_sound k.0.next x.0 x.1)
 
 parameter_reads : (p : Parameter) (ts rest : List Tok) → SpellsParameter p ts rest → read_parameter ts ≡ Some (record { it = p; next = rest })
 parameter_reads p ts rest h = rw (type_reads p.of_type ts h.0 h.1, name_here p.name h.0 rest h.2) refl
@@ -148,7 +158,8 @@ count_within (p ∷ ps) ts rest h =
     let b = count_within ps h.2.0 rest h.2.2 in
     omega arith
 
-more_reads : (ps : List Parameter) (n : ℕ) (a : ParametersRead) (mid rest : List Tok) → SpellsMoreParameters ps a.left mid → mid ≡ mark M.RightParen ∷ rest → length ps ≤ n → more_parameters n a ≡ Some (params_read (a.params ++ ps) mid)
+more_reads : (ps : List Parameter) (n : ℕ) (a : ParametersRead) (mid rest : List Tok) → SpellsMoreParameters ps a.left mid
+    → mid ≡ mark M.RightParen ∷ rest → length ps ≤ n → more_parameters n a ≡ Some (params_read (a.params ++ ps) mid)
 more_reads [] n a mid rest h e le = more_stops n a (not_here M.Comma M.RightParen a.left rest refl (h ∙ e)) ∙ rw (append-nil a.params, ← h) refl
 more_reads (p ∷ ps) zero a mid rest h e le = absurd (omega arith)
 more_reads (p ∷ ps) (suc n) a mid rest h e le =
@@ -162,7 +173,8 @@ IsTakes ts a = (SpellsParameters a.params ⨾ sign M.RightParen) ts a.left
 closed_sound : (a b : ParametersRead) → closed_parameters a ≡ Some b → (a.left ≡ mark M.RightParen ∷ b.left) × (b ≡ params_read a.params b.left)
 closed_sound a b e =
     let t = and_then (behind M.RightParen a.left) _ b e in
-    subst (λ (y : ParametersRead). (a.left ≡ mark M.RightParen ∷ y.left) × (y ≡ params_read a.params y.left)) (some_one (params_read a.params t.0) b t.2) (behind_sound M.RightParen a.left t.0 t.1, refl)
+    subst (λ (y : ParametersRead). (a.left ≡ mark M.RightParen ∷ y.left) × (y ≡ params_read a.params y.left))
+    (some_one (params_read a.params t.0) b t.2) (behind_sound M.RightParen a.left t.0 t.1, refl)
 
 parameters_sound : (ts : List Tok) (b : ParametersRead) → parameters ts ≡ Some b → IsTakes ts b
 parameters_sound ts b e = found (behind M.RightParen ts) _ _ b e
@@ -176,7 +188,8 @@ parameters_sound ts b e = found (behind M.RightParen ts) _ _ b e
     (subst (λ l. (SpellsParameters l ⨾ sign M.RightParen) ts b.left) (sym m.params) (a.0.left, (p.0.next, h, m.spells), c.0)))
     (λ us is go. subst (IsTakes ts) (some_one (params_read [] us) b go) (ts, refl, behind_sound M.RightParen ts us is))
 
-parameters_read : (ps : List Parameter) (ts mid rest : List Tok) → SpellsParameters ps ts mid → mid ≡ mark M.RightParen ∷ rest → parameters ts ≡ Some (params_read ps rest)
+parameters_read : (ps : List Parameter) (ts mid rest : List Tok) → SpellsParameters ps ts mid → mid ≡ mark M.RightParen ∷ rest
+    → parameters ts ≡ Some (params_read ps rest)
 parameters_read [] ts mid rest h e = rw (h ∙ e) refl
 parameters_read (p ∷ ps) ts mid rest h e =
     let none : behind M.RightParen ts ≡ None = type_first p.of_type ts h.1.0 h.1.1 in
@@ -202,11 +215,31 @@ rule_sound ts us d front e =
     let w = all_one v.0 _ d v.2 in
     let h = acts_sound 100 u.0 b.0 u.2 in
     let all : b.0.acts ≡ h.more = h.acts in
-    let most : acts_depth (acts_of b.0.acts) ≤ 100 = subst (λ l. acts_depth (acts_of l) ≤ 100) (sym all) (let x = h.most in let y = h.within (omega arith) in omega arith) in
-    subst (IsDeclaration ts) w.1
-    ((us, front, (t.0.next, text_sound us t.0 t.1, (u.0, behind_sound M.Colon t.0.next u.0 u.1, (b.0.left, subst (λ l. SpellsActs (acts_of l) u.0 b.0.left) (sym all) h.spells, behind_sound M.EndRule b.0.left v.0 v.1 ∙ ap (λ l. mark M.EndRule ∷ l) w.0)))), most)
+    let most : acts_depth (acts_of b.0.acts) ≤ 100 =
+    subst (λ l. acts_depth (acts_of l) ≤ 100) (sym all) (let x = h.most in let y = h.within (omega arith) in omega arith) in
+    subst (IsDeclaration ts) w.1 (
+      (
+        us,
+        front,
+        (
+          t.0.next,
+          text_sound us t.0 t.1,
+          (
+            u.0,
+            behind_sound M.Colon t.0.next u.0 u.1,
+            (
+              b.0.left,
+              subst (λ l. SpellsActs (acts_of l) u.0 b.0.left) (sym all) h.spells,
+              behind_sound M.EndRule b.0.left v.0 v.1 ∙ ap (λ l. mark M.EndRule ∷ l) w.0,
+            ),
+          ),
+        ),
+      ),
+      most,
+    )
 
-rule_complete : (called : List ℕ) (body : Acts) (us : List Tok) → acts_depth body ≤ 100 → (token (text called) ⨾ sign M.Colon ⨾ SpellsActs body ⨾ sign M.EndRule) us [] → rule_behind us ≡ Some (rule called body)
+rule_complete : (called : List ℕ) (body : Acts) (us : List Tok) → acts_depth body ≤ 100
+    → (token (text called) ⨾ sign M.Colon ⨾ SpellsActs body ⨾ sign M.EndRule) us [] → rule_behind us ≡ Some (rule called body)
 unfolding ActsRead
 rule_complete called body us le h =
     let k = h.2.2 in
@@ -219,7 +252,8 @@ rule_complete called body us le h =
     ) refl
 
 body_sound : (x : List ℕ) (ps : List Parameter) (ts : List Tok) (d : Declared) → body_behind x ps ts ≡ Some d
-    → (k : TypeName) × (b : Tree) × (d ≡ function x ps k b) × (depth b ≤ 100) × (sign M.Colon ⨾ SpellsType k ⨾ sign M.Is ⨾ Spells b ⨾ sign M.EndFunction) ts []
+    → (k : TypeName) × (b : Tree) × (d ≡ function x ps k b) × (depth b ≤ 100)
+    × (sign M.Colon ⨾ SpellsType k ⨾ sign M.Is ⨾ Spells b ⨾ sign M.EndFunction) ts []
 body_sound x ps ts d e =
     let k = and_then (behind M.Colon ts >>= read_type) _ d e in
     let c = and_then (behind M.Colon ts) read_type k.0 k.1 in
@@ -236,7 +270,19 @@ body_sound x ps ts d e =
       g.0.tree,
       sym w.1 ∙ ap (function x ps k.0.of_type) (sym one),
       (let z = h.within in let y = h.deep in omega arith),
-      (c.0, behind_sound M.Colon ts c.0 c.1, (k.0.next, type_sound c.0 k.0 c.2, (i.0, behind_sound M.Is k.0.next i.0 i.1, (g.0.rest, h.spells, behind_sound M.EndFunction g.0.rest v.0 v.1 ∙ ap (λ l. mark M.EndFunction ∷ l) none)))),
+      (
+        c.0,
+        behind_sound M.Colon ts c.0 c.1,
+        (
+          k.0.next,
+          type_sound c.0 k.0 c.2,
+          (
+            i.0,
+            behind_sound M.Is k.0.next i.0 i.1,
+            (g.0.rest, h.spells, behind_sound M.EndFunction g.0.rest v.0 v.1 ∙ ap (λ l. mark M.EndFunction ∷ l) none),
+          ),
+        ),
+      ),
     )
 
 function_sound : (ts us : List Tok) (d : Declared) → ts ≡ mark M.Function ∷ us → function_behind us ≡ Some d → IsDeclaration ts d
@@ -253,7 +299,8 @@ ends_function : Closes M.EndFunction
 ends_function = record { paren = refl; bracket = refl; dot = refl; no_operator = refl }
 
 function_complete : (x : List ℕ) (ps : List Parameter) (k : TypeName) (b : Tree) (us : List Tok) → depth b ≤ 100
-    → (token (word x) ⨾ sign M.LeftParen ⨾ SpellsParameters ps ⨾ sign M.RightParen ⨾ sign M.Colon ⨾ SpellsType k ⨾ sign M.Is ⨾ Spells b ⨾ sign M.EndFunction) us []
+    → (token (word x) ⨾ sign M.LeftParen ⨾ SpellsParameters ps ⨾ sign M.RightParen ⨾ sign M.Colon ⨾ SpellsType k ⨾ sign M.Is ⨾ Spells b ⨾ sign
+    M.EndFunction) us []
     → function_behind us ≡ Some (function x ps k b)
 function_complete x ps k b us le h =
     let p = h.2.2 in
@@ -292,7 +339,8 @@ no_declaration ts e d h = cc (sym e ∙ declared_complete ts d h)
 
 -- tokens that are left behind a function
 pub function_over : (source x : List ℕ) (ps : List Parameter) (ts us vs : List Tok) (k : TypeRead) (t : Tree) (deep : ℕ) (left : List TokenAt)
-    → Some us ≡ behind M.Colon ts → read_type us ≡ Some k → Some vs ≡ behind M.Is k.next → (read_tree 100 7 vs >>= closed_by_mark M.EndFunction) ≡ Some (got t deep (toks source left)) → 0 < length left
+    → Some us ≡ behind M.Colon ts → read_type us ≡ Some k → Some vs ≡ behind M.Is k.next
+    → (read_tree 100 7 vs >>= closed_by_mark M.EndFunction) ≡ Some (got t deep (toks source left)) → 0 < length left
     → body_behind x ps ts ≡ None
 function_over source x ps ts us vs k t deep [] a b c d lt = absurd (omega arith)
 function_over source x ps ts us vs k t deep (y ∷ ys) a b c d lt = rw (← a, b, ← c, d) refl

@@ -22,7 +22,8 @@ functions_end [] d = let e : 0 + function_count (d ∷ []) ≡ function_count (d
 functions_end (rule x body ∷ ds) d = functions_end ds d
 functions_end (function x ps k b ∷ ds) d = let h = functions_end ds d in omega (arith, h)
 
-within_end : (much : Declared → ℕ) (most : ℕ) (ds : List Declared) (d : Declared) → AreWithin much most ds → much d ≤ most → AreWithin much most (ds ++ d ∷ [])
+within_end : (much : Declared → ℕ) (most : ℕ) (ds : List Declared) (d : Declared) → AreWithin much most ds → much d ≤ most
+    → AreWithin much most (ds ++ d ∷ [])
 within_end much most [] d h le = (le, tt)
 within_end much most (x ∷ ds) d h le = (h.0, within_end much most ds d h.1 le)
 
@@ -47,7 +48,8 @@ listed (Ok ds) = ds
 listed (Err why) = []
 
 bounded : (k r f : ℕ) (before : List Declared) (ps : List Piece) (ds : List Declared) → IsDue k r f before ps (Ok ds)
-    → (most : ℕ) → most ≤ 16777216 → ArePieces most ps → AreWithin declared_depth 100 before → AreWithin nodes_of 16777216 before → rule_count before ≡ r → function_count before ≡ f → r ≤ 200 → f ≤ 200 → AreLimited ds
+    → (most : ℕ) → most ≤ 16777216 → ArePieces most ps → AreWithin declared_depth 100 before → AreWithin nodes_of 16777216 before
+    → rule_count before ≡ r → function_count before ≡ f → r ≤ 200 → f ≤ 200 → AreLimited ds
 unfolding listed
 bounded k r f before [] ds due most few small deep nodes er ef lr lf =
     subst AreLimited (sym (ap listed due)) (record { depth = deep; nodes = nodes; rules = omega (arith, er); functions = omega (arith, ef) })
@@ -65,10 +67,12 @@ bounded k r f before (p ∷ ps) ds (inr (inr h)) most few small deep nodes er ef
     bounded (k + 1) (one_more_if (begins_rule p.toks) r) (one_more_if (begins_function p.toks) f) (before ++ d ∷ []) ps ds h.1.2
     most few small.1
     (within_end declared_depth 100 before d deep (let a = h.1.1 in a.1))
-    (within_end nodes_of 16777216 before d nodes (let a = nodes_within p.toks d h.1.1 in let l = small.0 in omega arith)) (omega (arith, nr, er, br)) (omega (arith, nf, ef, bf)) (omega (arith, br, lr2)) (omega (arith, bf, lf2))
+    (within_end nodes_of 16777216 before d nodes (let a = nodes_within p.toks d h.1.1 in let l = small.0 in omega arith)) (omega (arith, nr, er, br))
+    (omega (arith, nf, ef, bf)) (omega (arith, br, lr2)) (omega (arith, bf, lf2))
 
 of_scanned : (s : Scanned) (ds : List Declared) → IsDueOf s (Ok ds) → ((ts : List Lined) → s ≡ all ts → length ts ≤ 16777216) → AreLimited ds
-of_scanned (all ts) ds h few = bounded 1 0 0 [] (pieces ts) ds h (length ts) (few ts refl) (pieces_within ts) tt tt refl refl (omega arith) (omega arith)
+of_scanned (all ts) ds h few =
+    bounded 1 0 0 [] (pieces ts) ds h (length ts) (few ts refl) (pieces_within ts) tt tt refl refl (omega arith) (omega arith)
 of_scanned (bad_at line) ds h few = absurd (cc h)
 
 pub bounds_hold : (rules : ParsedRules) → IsRuleset rules → AreLimited (rules_of rules)

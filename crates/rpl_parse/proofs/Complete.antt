@@ -1,5 +1,6 @@
 -- What is in the grammar is read, to that very tree.
-use Rattle.rw_base.proofs.Common.{◌≡◌, ◌<◌, ◌≤◌, ◌-◌, ◌+◌, ◌*◌, ◌==◌, ◌∙◌, ◌++◌, ◌⊎◌, ℕ, ℤ, zero, suc, Bool, true, false, List, [], ◌∷◌, length, max, Option, Some, None, refl, sym, ap, subst, arith, if◌then◌else◌, inl, inr, lt-ltb}
+use Rattle.rw_base.proofs.Common.{◌≡◌, ◌<◌, ◌≤◌, ◌-◌, ◌+◌, ◌*◌, ◌==◌, ◌∙◌, ◌++◌, ◌⊎◌, ℕ, ℤ, zero, suc, Bool, true, false, List, [], ◌∷◌, length, max}
+use Rattle.rw_base.proofs.Common.{Option, Some, None, refl, sym, ap, subst, arith, if◌then◌else◌, inl, inr, lt-ltb}
 use Rattle.std.proofs.lemmas.List.{append-nil, append_assoc}
 use Rattle.rpl_parse.specs.declared.token.Mark.{Mark}
 use Rattle.rpl_parse.specs.declared.token.Mark.TheVariants as M
@@ -10,10 +11,14 @@ use Rattle.rpl_tree.specs.declared.words.TwoWord.TheVariants as T
 use Rattle.rpl_tree.specs.declared.words.ConvertWord.{ConvertWord}
 use Rattle.rpl_tree.specs.declared.words.ConvertWord.TheVariants as C
 use Rattle.rpl_parse.specs.Tokens.{Tok, mark, word, digits, text, same}
-use Rattle.rpl_tree.specs.Tree.{Tree, Trees, literal, truth, now, slot, name, call, brackets, list, choice, bind, each, mapped, one, two, convert, at, no_trees, tree}
+use Rattle.rpl_tree.specs.Tree.{Tree, Trees, literal, truth, now, slot, name, call, brackets, list, choice, bind, each, mapped, one, two, convert, at}
+use Rattle.rpl_tree.specs.Tree.{no_trees, tree}
 use Rattle.rpl_parse.specs.Depth.{depth, depths}
-use Rattle.rpl_parse.specs.Grammar.{Part, ◌⨾◌, sign, token, form, at_most, Spells, SpellsList, SpellsMore, looseness, looseness_of, looseness_of_one, looseness_on_left, mark_of, mark_of_one, mark_of_truth, mark_of_convert, is_prefix, is_operator}
-use Rattle.rpl_parse.specs.Reading.{Read, got, Many, many, ◌>>=◌, behind, behind_name, name_before, up_to, items, some_items, word_of_one, word_of_two, converts, opened, prim, steps, turn, if_loose, operator, chain, prefix_of, level, read_tree, turns_of, trees_of}
+use Rattle.rpl_parse.specs.Grammar.{Part, ◌⨾◌, sign, token, form, at_most, Spells, SpellsList, SpellsMore, looseness, looseness_of, looseness_of_one}
+use Rattle.rpl_parse.specs.Grammar.{looseness_on_left, mark_of, mark_of_one, mark_of_truth, mark_of_convert, is_prefix, is_operator}
+use Rattle.rpl_parse.specs.Reading.{Read, got, Many, many, ◌>>=◌, behind, behind_name, name_before, up_to, items, some_items, word_of_one}
+use Rattle.rpl_parse.specs.Reading.{word_of_two, converts, opened, prim, steps, turn, if_loose, operator, chain, prefix_of, level, read_tree}
+use Rattle.rpl_parse.specs.Reading.{turns_of, trees_of}
 use Rattle.rpl_parse.proofs.Marks.{same_self, same_mark}
 use Rattle.rpl_parse.proofs.Sound.{max_three, prefix_sound}
 use Rattle.rpl_parse.proofs.Turns.{items_stops, items_turn, steps_stops, steps_turn, chain_stops, chain_turn}
@@ -50,19 +55,39 @@ mutual
   shrinks (call n ts) = mark_then (word n) _ (mark_then (mark M.LeftParen) _ (ends_paren_shrinks (SpellsList ts) (list_shrinks ts)))
   shrinks (brackets t) = mark_then (mark M.LeftParen) _ (ends_paren_shrinks (Spells t) (shrinks t))
   shrinks (list no_trees) = λ ts rest h. absurd h
-  shrinks (list (tree t ts)) = mark_then (mark M.LeftBrace) _ (shrinks_then (Spells t) _ (shrinks t) (shrinks_then (SpellsMore ts) _ (more_shrinks ts) (one_shrinks (mark M.RightBrace))))
-  shrinks (choice c y n) = mark_then (mark M.If) _ (shrinks_then (Spells c) _ (shrinks c) (mark_then (mark M.Then) _ (shrinks_then (Spells y) _ (shrinks y) (mark_then (mark M.Else) _ (shrinks_then (Spells n) _ (shrinks n) (one_shrinks (mark M.EndIf)))))))
-  shrinks (bind x e b) = mark_then (mark M.Let) _ (mark_then (word x) _ (mark_then (mark M.Assign) _ (shrinks_then (Spells e) _ (shrinks e) (mark_then (mark M.In) _ (shrinks_then (Spells b) _ (shrinks b) (one_shrinks (mark M.EndLet)))))))
-  shrinks (each x l a f b) = mark_then (mark M.For) _ (mark_then (word x) _ (mark_then (mark M.In) _ (shrinks_then (Spells l) _ (shrinks l) (mark_then (mark M.With) _ (mark_then (word a) _ (mark_then (mark M.Assign) _ (shrinks_then (Spells f) _ (shrinks f)
+  shrinks (list (tree t ts)) =
+      mark_then (mark M.LeftBrace) _ (shrinks_then (Spells t) _ (shrinks t)
+      (shrinks_then (SpellsMore ts) _ (more_shrinks ts) (one_shrinks (mark M.RightBrace))))
+  shrinks (choice c y n) =
+      mark_then (mark M.If) _ (shrinks_then (Spells c) _ (shrinks c)
+      (mark_then (mark M.Then) _ (shrinks_then (Spells y) _ (shrinks y)
+      (mark_then (mark M.Else) _ (shrinks_then (Spells n) _ (shrinks n) (one_shrinks (mark M.EndIf)))))))
+  shrinks (bind x e b) =
+      mark_then (mark M.Let) _ (mark_then (word x) _
+      (mark_then (mark M.Assign) _ (shrinks_then (Spells e) _ (shrinks e)
+      (mark_then (mark M.In) _ (shrinks_then (Spells b) _ (shrinks b) (one_shrinks (mark M.EndLet)))))))
+  shrinks (each x l a f b) =
+      mark_then (mark M.For) _ (mark_then (word x) _
+      (mark_then (mark M.In) _ (shrinks_then (Spells l) _ (shrinks l)
+      (mark_then (mark M.With) _ (mark_then (word a) _ (mark_then (mark M.Assign) _ (shrinks_then (Spells f) _ (shrinks f)
       (mark_then (mark M.Do) _ (shrinks_then (Spells b) _ (shrinks b) (one_shrinks (mark M.EndFor)))))))))))
-  shrinks (mapped x l b) = mark_then (mark M.Map) _ (mark_then (word x) _ (mark_then (mark M.In) _ (shrinks_then (Spells l) _ (shrinks l) (mark_then (mark M.Do) _ (shrinks_then (Spells b) _ (shrinks b) (one_shrinks (mark M.EndMap)))))))
+  shrinks (mapped x l b) =
+      mark_then (mark M.Map) _ (mark_then (word x) _
+      (mark_then (mark M.In) _ (shrinks_then (Spells l) _ (shrinks l)
+      (mark_then (mark M.Do) _ (shrinks_then (Spells b) _ (shrinks b) (one_shrinks (mark M.EndMap)))))))
   shrinks (one w t) = form_shrinks (is_prefix w) _ _ (mark_then (mark (mark_of_one w)) _ (λ ts rest h. shrinks t ts rest h.1))
       (mark_then (mark (mark_of_one w)) _ (mark_then (mark M.LeftParen) _ (ends_paren_shrinks (Spells t) (shrinks t))))
   shrinks (two w l r) = form_shrinks (is_operator w) _ _
-      (shrinks_then (at_most (looseness_on_left w) l (Spells l)) _ (λ ts rest h. shrinks l ts rest h.1) (mark_then (mark (mark_of w)) _ (λ ts rest h. shrinks r ts rest h.1)))
-      (mark_then (mark (mark_of w)) _ (mark_then (mark M.LeftParen) _ (shrinks_then (Spells l) _ (shrinks l) (mark_then (mark M.Comma) _ (ends_paren_shrinks (Spells r) (shrinks r))))))
-  shrinks (convert w o t) = mark_then (mark (mark_of_convert w)) _ (mark_then (mark M.LeftParen) _ (mark_then (word o) _ (mark_then (mark M.Comma) _ (ends_paren_shrinks (Spells t) (shrinks t)))))
-  shrinks (at s d) = shrinks_then (at_most 0 s (Spells s)) _ (λ ts rest h. shrinks s ts rest h.1) (mark_then (mark M.LeftBracket) _ (shrinks_then (Spells d) _ (shrinks d) (one_shrinks (mark M.RightBracket))))
+      (shrinks_then (at_most (looseness_on_left w) l (Spells l)) _ (λ ts rest h. shrinks l ts rest h.1)
+      (mark_then (mark (mark_of w)) _ (λ ts rest h. shrinks r ts rest h.1)))
+      (mark_then (mark (mark_of w)) _ (mark_then (mark M.LeftParen) _
+      (shrinks_then (Spells l) _ (shrinks l) (mark_then (mark M.Comma) _ (ends_paren_shrinks (Spells r) (shrinks r))))))
+  shrinks (convert w o t) =
+      mark_then (mark (mark_of_convert w)) _ (mark_then (mark M.LeftParen) _
+      (mark_then (word o) _ (mark_then (mark M.Comma) _ (ends_paren_shrinks (Spells t) (shrinks t)))))
+  shrinks (at s d) =
+      shrinks_then (at_most 0 s (Spells s)) _ (λ ts rest h. shrinks s ts rest h.1)
+      (mark_then (mark M.LeftBracket) _ (shrinks_then (Spells d) _ (shrinks d) (one_shrinks (mark M.RightBracket))))
 
   list_shrinks : (us : Trees) → Shrinks (SpellsList us)
   list_shrinks no_trees = λ ts rest e. let f : length ts ≡ length rest = ap length e in omega arith
@@ -166,14 +191,16 @@ Unlike m k = (w : OneWord) → is_prefix w ≡ true → looseness_of_one w ≤ k
 
 module _ (m : Mark) (e : begins m ≡ false) where
   not_first_one : (w : OneWord) (t : Tree) (b : Bool) → is_prefix w ≡ b → (ts rest : List Tok) → Unlike m (looseness_of_one w)
-      → form b (sign (mark_of_one w) ⨾ at_most (looseness_of_one w) t (Spells t)) (sign (mark_of_one w) ⨾ sign M.LeftParen ⨾ Spells t ⨾ sign M.RightParen) ts rest
+      → form b (sign (mark_of_one w) ⨾ at_most (looseness_of_one w) t (Spells t))
+      (sign (mark_of_one w) ⨾ sign M.LeftParen ⨾ Spells t ⨾ sign M.RightParen) ts rest
       → behind m ts ≡ None
   not_first_one w t true g ts rest f h = not_here m (mark_of_one w) ts h.0 (f w g (omega arith)) h.1
   not_first_one w t false g ts rest f h = not_here m (mark_of_one w) ts h.0 (apart m (mark_of_one w) e (one_begins w g)) h.1
 
   not_first_two : (w : TwoWord) (l r : Tree) (b : Bool) → is_operator w ≡ b → (ts rest : List Tok) → Unlike m (looseness_of w)
       → ((us vs : List Tok) → Unlike m (looseness l) → Spells l us vs → behind m us ≡ None)
-      → form b (at_most (looseness_on_left w) l (Spells l) ⨾ sign (mark_of w) ⨾ at_most (looseness_of w - 1) r (Spells r)) (sign (mark_of w) ⨾ sign M.LeftParen ⨾ Spells l ⨾ sign M.Comma ⨾ Spells r ⨾ sign M.RightParen) ts rest
+      → form b (at_most (looseness_on_left w) l (Spells l) ⨾ sign (mark_of w) ⨾ at_most (looseness_of w - 1) r (Spells r))
+      (sign (mark_of w) ⨾ sign M.LeftParen ⨾ Spells l ⨾ sign M.Comma ⨾ Spells r ⨾ sign M.RightParen) ts rest
       → behind m ts ≡ None
   not_first_two w l r true g ts rest f go h = let p = h.1.0 in let q = left_within w in go ts h.0 (λ v i le. f v i (omega arith)) h.1.1
   not_first_two w l r false g ts rest f go h = not_here m (mark_of w) ts h.0 (apart m (mark_of w) e (two_begins w g)) h.1
@@ -219,10 +246,18 @@ pub record Closes (m : Mark) : Type 0 where
   pub no_operator : operator m ≡ None
 
 pub closing : (m : Mark) (ts : List Tok) (k : ℕ) → Closes m → Stops k (mark m ∷ ts)
-closing m ts k c = record { no_text = refl; no_paren = rw c.paren refl; no_dot = rw c.dot refl; no_bracket = rw c.bracket refl; no_turn = λ j le. rw c.no_operator refl }
+closing m ts k c =
+    record {
+      no_text = refl;
+      no_paren = rw c.paren refl;
+      no_dot = rw c.dot refl;
+      no_bracket = rw c.bracket refl;
+      no_turn = λ j le. rw c.no_operator refl;
+    }
 
 pub fewer : (j k : ℕ) (rest : List Tok) → j ≤ k → Stops k rest → Stops j rest
-fewer j k rest le s = record { no_text = s.no_text; no_paren = s.no_paren; no_dot = s.no_dot; no_bracket = s.no_bracket; no_turn = λ i l. s.no_turn i (omega arith) }
+fewer j k rest le s =
+    record { no_text = s.no_text; no_paren = s.no_paren; no_dot = s.no_dot; no_bracket = s.no_bracket; no_turn = λ i l. s.no_turn i (omega arith) }
 
 not_level : (w : TwoWord) (j : ℕ) (ts : List Tok) → j < looseness_of w → if_loose (looseness_of w == j) w ts ≡ None
 not_level w j ts lt = let e : (looseness_of w == j) ≡ false = grind (arith, lt) in rw e refl
@@ -231,25 +266,38 @@ not_level w j ts lt = let e : (looseness_of w == j) ≡ false = grind (arith, lt
 operator_ends : (w : TwoWord) (ts : List Tok) (k : ℕ) → is_operator w ≡ true → k < looseness_of w → Stops k (mark (mark_of w) ∷ ts)
 operator_ends T.Append ts k f lt = absurd (cc f)
 operator_ends T.Item ts k f lt = absurd (cc f)
-operator_ends T.Or ts k f lt = record { no_text = refl; no_paren = refl; no_dot = refl; no_bracket = refl; no_turn = λ j le. not_level T.Or j ts (omega arith) }
-operator_ends T.And ts k f lt = record { no_text = refl; no_paren = refl; no_dot = refl; no_bracket = refl; no_turn = λ j le. not_level T.And j ts (omega arith) }
-operator_ends T.Equal ts k f lt = record { no_text = refl; no_paren = refl; no_dot = refl; no_bracket = refl; no_turn = λ j le. not_level T.Equal j ts (omega arith) }
-operator_ends T.Unequal ts k f lt = record { no_text = refl; no_paren = refl; no_dot = refl; no_bracket = refl; no_turn = λ j le. not_level T.Unequal j ts (omega arith) }
-operator_ends T.Less ts k f lt = record { no_text = refl; no_paren = refl; no_dot = refl; no_bracket = refl; no_turn = λ j le. not_level T.Less j ts (omega arith) }
-operator_ends T.LessEqual ts k f lt = record { no_text = refl; no_paren = refl; no_dot = refl; no_bracket = refl; no_turn = λ j le. not_level T.LessEqual j ts (omega arith) }
-operator_ends T.Greater ts k f lt = record { no_text = refl; no_paren = refl; no_dot = refl; no_bracket = refl; no_turn = λ j le. not_level T.Greater j ts (omega arith) }
-operator_ends T.GreaterEqual ts k f lt = record { no_text = refl; no_paren = refl; no_dot = refl; no_bracket = refl; no_turn = λ j le. not_level T.GreaterEqual j ts (omega arith) }
-operator_ends T.Plus ts k f lt = record { no_text = refl; no_paren = refl; no_dot = refl; no_bracket = refl; no_turn = λ j le. not_level T.Plus j ts (omega arith) }
-operator_ends T.Minus ts k f lt = record { no_text = refl; no_paren = refl; no_dot = refl; no_bracket = refl; no_turn = λ j le. not_level T.Minus j ts (omega arith) }
-operator_ends T.Times ts k f lt = record { no_text = refl; no_paren = refl; no_dot = refl; no_bracket = refl; no_turn = λ j le. not_level T.Times j ts (omega arith) }
-operator_ends T.Divide ts k f lt = record { no_text = refl; no_paren = refl; no_dot = refl; no_bracket = refl; no_turn = λ j le. not_level T.Divide j ts (omega arith) }
+operator_ends T.Or ts k f lt =
+    record { no_text = refl; no_paren = refl; no_dot = refl; no_bracket = refl; no_turn = λ j le. not_level T.Or j ts (omega arith) }
+operator_ends T.And ts k f lt =
+    record { no_text = refl; no_paren = refl; no_dot = refl; no_bracket = refl; no_turn = λ j le. not_level T.And j ts (omega arith) }
+operator_ends T.Equal ts k f lt =
+    record { no_text = refl; no_paren = refl; no_dot = refl; no_bracket = refl; no_turn = λ j le. not_level T.Equal j ts (omega arith) }
+operator_ends T.Unequal ts k f lt =
+    record { no_text = refl; no_paren = refl; no_dot = refl; no_bracket = refl; no_turn = λ j le. not_level T.Unequal j ts (omega arith) }
+operator_ends T.Less ts k f lt =
+    record { no_text = refl; no_paren = refl; no_dot = refl; no_bracket = refl; no_turn = λ j le. not_level T.Less j ts (omega arith) }
+operator_ends T.LessEqual ts k f lt =
+    record { no_text = refl; no_paren = refl; no_dot = refl; no_bracket = refl; no_turn = λ j le. not_level T.LessEqual j ts (omega arith) }
+operator_ends T.Greater ts k f lt =
+    record { no_text = refl; no_paren = refl; no_dot = refl; no_bracket = refl; no_turn = λ j le. not_level T.Greater j ts (omega arith) }
+operator_ends T.GreaterEqual ts k f lt =
+    record { no_text = refl; no_paren = refl; no_dot = refl; no_bracket = refl; no_turn = λ j le. not_level T.GreaterEqual j ts (omega arith) }
+operator_ends T.Plus ts k f lt =
+    record { no_text = refl; no_paren = refl; no_dot = refl; no_bracket = refl; no_turn = λ j le. not_level T.Plus j ts (omega arith) }
+operator_ends T.Minus ts k f lt =
+    record { no_text = refl; no_paren = refl; no_dot = refl; no_bracket = refl; no_turn = λ j le. not_level T.Minus j ts (omega arith) }
+operator_ends T.Times ts k f lt =
+    record { no_text = refl; no_paren = refl; no_dot = refl; no_bracket = refl; no_turn = λ j le. not_level T.Times j ts (omega arith) }
+operator_ends T.Divide ts k f lt =
+    record { no_text = refl; no_paren = refl; no_dot = refl; no_bracket = refl; no_turn = λ j le. not_level T.Divide j ts (omega arith) }
 
 operator_back : (w : TwoWord) → is_operator w ≡ true → operator (mark_of w) ≡ Some w
 operator_back T.Append f = absurd (cc f)
 operator_back T.Item f = absurd (cc f)
 operator_back w f = refl
 
-turn_here : (w : TwoWord) (k : ℕ) (ts : List Tok) → is_operator w ≡ true → looseness_of w ≡ k → turn k (mark (mark_of w) ∷ ts) ≡ Some (record { op = w; more = ts })
+turn_here : (w : TwoWord) (k : ℕ) (ts : List Tok) → is_operator w ≡ true → looseness_of w ≡ k
+    → turn k (mark (mark_of w) ∷ ts) ≡ Some (record { op = w; more = ts })
 turn_here w k ts o e = let f : (looseness_of w == k) ≡ true = grind (arith, e) in rw (operator_back w o, f) refl
 
 pub behind_here : (m : Mark) (ts us : List Tok) → ts ≡ mark m ∷ us → behind m ts ≡ Some us
@@ -258,7 +306,8 @@ behind_here m ts us e = rw (e, same_self m) refl
 pub name_here : (n : List ℕ) (ts us : List Tok) → ts ≡ word n ∷ us → behind_name ts ≡ Some (record { called = n; next = us })
 name_here n ts us e = rw e refl
 
-pub name_here_before : (m : Mark) (n : List ℕ) (ts mid rest : List Tok) → ts ≡ word n ∷ mid → mid ≡ mark m ∷ rest → name_before m ts ≡ Some (record { called = n; next = rest })
+pub name_here_before : (m : Mark) (n : List ℕ) (ts mid rest : List Tok) → ts ≡ word n ∷ mid → mid ≡ mark m ∷ rest
+    → name_before m ts ≡ Some (record { called = n; next = rest })
 name_here_before m n ts mid rest e f = rw (e, behind_here m mid rest f) refl
 
 ends_comma : Closes M.Comma
@@ -306,9 +355,12 @@ more_ends no_trees m ts mid rest h e c = subst (λ l. Stops 7 l) (sym (h ∙ e))
 more_ends (tree t us) m ts mid rest h e c = subst (λ l. Stops 7 l) (sym h.1) (closing M.Comma h.0 7 ends_comma)
 
 unfoldable pub Reads : (inner : ℕ → List Tok → Read) (d : ℕ) → Type 0
-Reads inner d = (k : ℕ) (t : Tree) (ts rest : List Tok) → looseness t ≤ k → depth t ≤ d → Spells t ts rest → Stops k rest → inner k ts ≡ Some (got t (depth t) rest)
+Reads inner d =
+    (k : ℕ) (t : Tree) (ts rest : List Tok) → looseness t ≤ k → depth t ≤ d → Spells t ts rest → Stops k rest
+    → inner k ts ≡ Some (got t (depth t) rest)
 
-number_alone : (inner : ℕ → List Tok → Read) (d : ℕ) (z : ℤ) (rest : List Tok) → has_text rest ≡ false → prim inner d (digits z ∷ rest) ≡ Some (got (literal z None) 1 rest)
+number_alone : (inner : ℕ → List Tok → Read) (d : ℕ) (z : ℤ) (rest : List Tok) → has_text rest ≡ false
+    → prim inner d (digits z ∷ rest) ≡ Some (got (literal z None) 1 rest)
 number_alone inner d z [] e = refl
 number_alone inner d z (mark m ∷ ts) e = refl
 number_alone inner d z (word n ∷ ts) e = refl
@@ -420,13 +472,15 @@ no_two w O.Minus e f = no_one w f
 no_two w v e f = absurd (cc e)
 
 module _ (inner : ℕ → List Tok → Read) (d : ℕ) (ih : Reads inner d) where
-  up_to_reads : (m : Mark) (t : Tree) (ts mid rest : List Tok) → depth t ≤ d → Spells t ts mid → mid ≡ mark m ∷ rest → Closes m → up_to inner d m ts ≡ Some (got t (depth t) rest)
+  up_to_reads : (m : Mark) (t : Tree) (ts mid rest : List Tok) → depth t ≤ d → Spells t ts mid → mid ≡ mark m ∷ rest → Closes m
+      → up_to inner d m ts ≡ Some (got t (depth t) rest)
   unfolding Reads
   up_to_reads m t ts mid rest le h e c =
       let s : Stops 7 mid = subst (λ l. Stops 7 l) (sym e) (closing m rest 7 c) in
       rw (ih 7 t ts mid (loose_all t) le h s, behind_here m mid rest e) refl
 
-  items_reads : (us : Trees) (m : Mark) (n : ℕ) (a : Many) (mid rest : List Tok) → depths us ≤ d → SpellsMore us a.left mid → mid ≡ mark m ∷ rest → Closes m → same M.Comma m ≡ false → count us ≤ n
+  items_reads : (us : Trees) (m : Mark) (n : ℕ) (a : Many) (mid rest : List Tok) → depths us ≤ d → SpellsMore us a.left mid → mid ≡ mark m ∷ rest
+      → Closes m → same M.Comma m ≡ false → count us ≤ n
       → items inner d n a ≡ Some (many (a.trees ++ list_of us) (max a.most (depths us)) mid)
   unfolding Reads list_of count
   items_reads no_trees m n a mid rest le h e c f lc =
@@ -442,7 +496,8 @@ module _ (inner : ℕ → List Tok → Read) (d : ℕ) (ih : Reads inner d) wher
       ∙ items_reads us m n b mid rest (omega arith) h.2.2 e c f (omega arith)
       ∙ rw (append_assoc a.trees (t ∷ []) (list_of us), max_three a.most (depth t) (depths us)) refl
 
-  list_reads : (t : Tree) (us : Trees) (m : Mark) (ts mid mid2 rest : List Tok) → depths (tree t us) ≤ d → Spells t ts mid → SpellsMore us mid mid2 → mid2 ≡ mark m ∷ rest → Closes m → same M.Comma m ≡ false
+  list_reads : (t : Tree) (us : Trees) (m : Mark) (ts mid mid2 rest : List Tok) → depths (tree t us) ≤ d → Spells t ts mid → SpellsMore us mid mid2
+      → mid2 ≡ mark m ∷ rest → Closes m → same M.Comma m ≡ false
       → some_items inner d ts ≡ Some (many (t ∷ list_of us) (depths (tree t us)) mid2)
   unfolding Reads
   list_reads t us m ts mid mid2 rest le h hs e c f =
@@ -451,7 +506,9 @@ module _ (inner : ℕ → List Tok → Read) (d : ℕ) (ih : Reads inner d) wher
 
   -- a primary
   Primary : Tree → Type 0
-  Primary t = (ts rest : List Tok) → depth t ≤ suc d → Spells t ts rest → has_text rest ≡ false → behind M.LeftParen rest ≡ None → behind M.Dot rest ≡ None → prim inner d ts ≡ Some (got t (depth t) rest)
+  Primary t =
+      (ts rest : List Tok) → depth t ≤ suc d → Spells t ts rest → has_text rest ≡ false → behind M.LeftParen rest ≡ None → behind M.Dot rest ≡ None
+      → prim inner d ts ≡ Some (got t (depth t) rest)
 
   call_reads : (n : List ℕ) (us : Trees) → Primary (call n us)
   unfolding Primary
@@ -461,18 +518,28 @@ module _ (inner : ℕ → List Tok → Read) (d : ℕ) (ih : Reads inner d) wher
   call_reads n (tree t us) ts rest le h no_text no_paren no_dot =
       let l = h.2.2 in
       let none : behind M.RightParen h.2.0 ≡ None = not_first M.RightParen refl t h.2.0 l.1.0 (unlike_paren (looseness t)) l.1.1 in
-      rw (h.1, h.2.1, none, list_reads t us M.RightParen h.2.0 l.1.0 l.0 rest (omega arith) l.1.1 l.1.2 l.2 ends_paren refl, behind_here M.RightParen l.0 rest l.2, trees_back us) refl
+      rw (
+        h.1,
+        h.2.1,
+        none,
+        list_reads t us M.RightParen h.2.0 l.1.0 l.0 rest (omega arith) l.1.1 l.1.2 l.2 ends_paren refl,
+        behind_here M.RightParen l.0 rest l.2,
+        trees_back us,
+      ) refl
 
-  one_reads : (w : OneWord) (t : Tree) → is_prefix w ≡ false → (ts rest : List Tok) → depth (one w t) ≤ suc d → (h : (sign M.LeftParen ⨾ Spells t ⨾ sign M.RightParen) ts rest)
+  one_reads : (w : OneWord) (t : Tree) → is_prefix w ≡ false → (ts rest : List Tok) → depth (one w t) ≤ suc d
+      → (h : (sign M.LeftParen ⨾ Spells t ⨾ sign M.RightParen) ts rest)
       → word_of_one inner d w ts ≡ Some (got (one w t) (depth (one w t)) rest)
-  one_reads w t e ts rest le h = rw (behind_here M.LeftParen ts h.0 h.1, up_to_reads M.RightParen t h.0 h.2.0 rest (omega arith) h.2.1 h.2.2 ends_paren) refl
+  one_reads w t e ts rest le h =
+      rw (behind_here M.LeftParen ts h.0 h.1, up_to_reads M.RightParen t h.0 h.2.0 rest (omega arith) h.2.1 h.2.2 ends_paren) refl
 
   opened_one : (w : OneWord) → is_prefix w ≡ false → (ts : List Tok) → opened inner d (mark_of_one w) ts ≡ word_of_one inner d w ts
   opened_one O.Not e ts = absurd (cc e)
   opened_one O.Minus e ts = absurd (cc e)
   opened_one w e ts = refl
 
-  two_reads : (w : TwoWord) (l r : Tree) (ts rest : List Tok) → depth (two w l r) ≤ suc d → (h : (sign M.LeftParen ⨾ Spells l ⨾ sign M.Comma ⨾ Spells r ⨾ sign M.RightParen) ts rest)
+  two_reads : (w : TwoWord) (l r : Tree) (ts rest : List Tok) → depth (two w l r) ≤ suc d
+      → (h : (sign M.LeftParen ⨾ Spells l ⨾ sign M.Comma ⨾ Spells r ⨾ sign M.RightParen) ts rest)
       → word_of_two inner d w ts ≡ Some (got (two w l r) (depth (two w l r)) rest)
   two_reads w l r ts rest le h =
       let k = h.2.2 in
@@ -487,7 +554,8 @@ module _ (inner : ℕ → List Tok → Read) (d : ℕ) (ih : Reads inner d) wher
   opened_two T.Item e ts = refl
   opened_two w e ts = absurd (cc e)
 
-  convert_reads : (w : ConvertWord) (o : List ℕ) (t : Tree) (ts rest : List Tok) → depth (convert w o t) ≤ suc d → (h : (sign M.LeftParen ⨾ token (word o) ⨾ sign M.Comma ⨾ Spells t ⨾ sign M.RightParen) ts rest)
+  convert_reads : (w : ConvertWord) (o : List ℕ) (t : Tree) (ts rest : List Tok) → depth (convert w o t) ≤ suc d
+      → (h : (sign M.LeftParen ⨾ token (word o) ⨾ sign M.Comma ⨾ Spells t ⨾ sign M.RightParen) ts rest)
       → converts inner d w ts ≡ Some (got (convert w o t) (depth (convert w o t)) rest)
   convert_reads w o t ts rest le h =
       let k = h.2.2 in
@@ -529,10 +597,16 @@ module _ (inner : ℕ → List Tok → Read) (d : ℕ) (ih : Reads inner d) wher
   prim_reads (slot o s) nat le0 ts rest le h no_text no_paren no_dot = rw (h.1, h.2.1, h.2.2) refl
   prim_reads (name n) nat le0 ts rest le h no_text no_paren no_dot = rw (h, no_paren, no_dot) refl
   prim_reads (call n us) nat le0 ts rest le h no_text no_paren no_dot = call_reads n us ts rest le h no_text no_paren no_dot
-  prim_reads (brackets t) nat le0 ts rest le h no_text no_paren no_dot = rw (h.1, up_to_reads M.RightParen t h.0 h.2.0 rest (omega arith) h.2.1 h.2.2 ends_paren) refl
+  prim_reads (brackets t) nat le0 ts rest le h no_text no_paren no_dot =
+      rw (h.1, up_to_reads M.RightParen t h.0 h.2.0 rest (omega arith) h.2.1 h.2.2 ends_paren) refl
   prim_reads (list no_trees) nat le0 ts rest le h no_text no_paren no_dot = absurd h
   prim_reads (list (tree t us)) nat le0 ts rest le h no_text no_paren no_dot =
-      rw (h.1, list_reads t us M.RightBrace h.0 h.2.0 h.2.2.0 rest (omega arith) h.2.1 h.2.2.1 h.2.2.2 ends_brace refl, behind_here M.RightBrace h.2.2.0 rest h.2.2.2, trees_back us) refl
+      rw (
+        h.1,
+        list_reads t us M.RightBrace h.0 h.2.0 h.2.2.0 rest (omega arith) h.2.1 h.2.2.1 h.2.2.2 ends_brace refl,
+        behind_here M.RightBrace h.2.2.0 rest h.2.2.2,
+        trees_back us,
+      ) refl
   prim_reads (choice c y n) nat le0 ts rest le h no_text no_paren no_dot =
       rw (
         h.1,
@@ -574,13 +648,15 @@ module _ (inner : ℕ → List Tok → Read) (d : ℕ) (ih : Reads inner d) wher
     few : turns < depth t
     reads : (n m : ℕ) → n ≡ turns + m → (prim inner d ts >>= steps inner d n) ≡ steps inner d m (got t (depth t) rest)
 
-  post_alone : (t : Tree) → ((s x : Tree) → t ≡ at s x → ⊥) → looseness t ≤ 0 → (ts rest : List Tok) → depth t ≤ suc d → Spells t ts rest → has_text rest ≡ false → behind M.LeftParen rest ≡ None → behind M.Dot rest ≡ None → Posts t ts rest
+  post_alone : (t : Tree) → ((s x : Tree) → t ≡ at s x → ⊥) → looseness t ≤ 0 → (ts rest : List Tok) → depth t ≤ suc d → Spells t ts rest
+      → has_text rest ≡ false → behind M.LeftParen rest ≡ None → behind M.Dot rest ≡ None → Posts t ts rest
   unfolding Primary
   post_alone t nat le0 ts rest le h x y z =
       let p = depth_pos t in
       record { turns = 0; few = omega arith; reads = λ n m e. let f : n ≡ m = omega arith in rw (prim_reads t nat le0 ts rest le h x y z, f) refl }
 
-  post_reads : (t : Tree) → looseness t ≤ 0 → (ts rest : List Tok) → depth t ≤ suc d → Spells t ts rest → has_text rest ≡ false → behind M.LeftParen rest ≡ None → behind M.Dot rest ≡ None → Posts t ts rest
+  post_reads : (t : Tree) → looseness t ≤ 0 → (ts rest : List Tok) → depth t ≤ suc d → Spells t ts rest → has_text rest ≡ false
+      → behind M.LeftParen rest ≡ None → behind M.Dot rest ≡ None → Posts t ts rest
   unfolding Primary
   post_reads (at s x) le0 ts rest le h no_text no_paren no_dot =
       let mid = h.2.0 in
@@ -591,13 +667,16 @@ module _ (inner : ℕ → List Tok → Read) (d : ℕ) (ih : Reads inner d) wher
         few = omega arith;
         reads = λ n m e.
             p.reads n (suc m) (omega arith)
-            ∙ steps_turn inner d m (got s (depth s) h.0) mid (got x (depth x) rest) (behind_here M.LeftBracket h.0 mid h.2.1) (lt-ltb (depth s) (suc d) (omega arith))
+            ∙ steps_turn inner d m (got s (depth s) h.0) mid (got x (depth x) rest) (behind_here M.LeftBracket h.0 mid h.2.1)
+            (lt-ltb (depth s) (suc d) (omega arith))
             (up_to_reads M.RightBracket x mid h.2.2.0 rest (omega arith) h.2.2.1 h.2.2.2 ends_bracket);
       }
   post_reads t le0 ts rest le h x y z = post_alone t (λ s x e. absurd (cc e)) le0 ts rest le h x y z
 
   AtLevel : ℕ → Type 0
-  AtLevel k = (t : Tree) (ts rest : List Tok) → looseness t ≤ k → depth t ≤ suc d → Spells t ts rest → Stops k rest → level inner d k ts ≡ Some (got t (depth t) rest)
+  AtLevel k =
+      (t : Tree) (ts rest : List Tok) → looseness t ≤ k → depth t ≤ suc d → Spells t ts rest → Stops k rest
+      → level inner d k ts ≡ Some (got t (depth t) rest)
 
   -- a chain of one level: after so many turns all of it is read
   record Chains (j : ℕ) (t : Tree) (ts rest : List Tok) : Type 0 where
@@ -606,22 +685,31 @@ module _ (inner : ℕ → List Tok → Read) (d : ℕ) (ih : Reads inner d) wher
     once : suc j ≡ 4 → 4 * turns ≤ looseness t
     reads : (n m : ℕ) → n ≡ turns + m → (level inner d j ts >>= chain inner d (suc j) n) ≡ chain inner d (suc j) m (got t (depth t) rest)
 
-  chain_alone : (j : ℕ) → AtLevel j → (t : Tree) (ts rest : List Tok) → looseness t ≤ j → depth t ≤ suc d → Spells t ts rest → Stops j rest → Chains j t ts rest
+  chain_alone : (j : ℕ) → AtLevel j → (t : Tree) (ts rest : List Tok) → looseness t ≤ j → depth t ≤ suc d → Spells t ts rest → Stops j rest
+      → Chains j t ts rest
   unfolding AtLevel
   chain_alone j below t ts rest lo le h s =
       let p = depth_pos t in
-      record { turns = 0; few = omega arith; once = λ e. omega arith; reads = λ n m e. let f : n ≡ m = omega arith in rw (below t ts rest lo le h s, f) refl }
+      record {
+        turns = 0;
+        few = omega arith;
+        once = λ e. omega arith;
+        reads = λ n m e. let f : n ≡ m = omega arith in
+            rw (below t ts rest lo le h s, f) refl;
+      }
 
   le_or : (a b : ℕ) → a ≤ suc b → (a ≤ b) ⊎ (a ≡ suc b)
   le_or a b le = grind (arith, le)
 
-  chain_step : (j : ℕ) → 1 ≤ j → (w : TwoWord) (l r : Tree) → looseness_of w ≡ suc j → is_operator w ≡ true → (ts rest : List Tok) → depth (two w l r) ≤ suc d → (h : Between w l r ts rest) → Stops j rest → Chains j l ts h.0 → Chains j (two w l r) ts rest
+  chain_step : (j : ℕ) → 1 ≤ j → (w : TwoWord) (l r : Tree) → looseness_of w ≡ suc j → is_operator w ≡ true → (ts rest : List Tok)
+      → depth (two w l r) ≤ suc d → (h : Between w l r ts rest) → Stops j rest → Chains j l ts h.0 → Chains j (two w l r) ts rest
   unfolding Reads
   chain_step j pos w l r e o ts rest le h s c =
       let few = c.few in
       let mid = h.2.0 in
       let k : suc j - 1 ≡ j = omega arith in
-      let right : inner (suc j - 1) mid ≡ Some (got r (depth r) rest) = rw k (ih j r mid rest (let z = h.2.2.0 in omega (arith, z, e)) (omega arith) h.2.2.1 s) in
+      let right : inner (suc j - 1) mid ≡ Some (got r (depth r) rest) =
+      rw k (ih j r mid rest (let z = h.2.2.0 in omega (arith, z, e)) (omega arith) h.2.2.1 s) in
       record {
         turns = suc c.turns;
         few = omega arith;
@@ -639,18 +727,21 @@ module _ (inner : ℕ → List Tok → Read) (d : ℕ) (ih : Reads inner d) wher
   abbrev Bare : ℕ → Type 0
   Bare j = prefix_of (suc j) ≡ None
 
-  chain_two : (j : ℕ) → 1 ≤ j → AtLevel j → (w : TwoWord) (l r : Tree) → (looseness_of w ≤ j) ⊎ (looseness_of w ≡ suc j) → (ts rest : List Tok) → depth (two w l r) ≤ suc d → (h : Spells (two w l r) ts rest) → Stops j rest
+  chain_two : (j : ℕ) → 1 ≤ j → AtLevel j → (w : TwoWord) (l r : Tree) → (looseness_of w ≤ j) ⊎ (looseness_of w ≡ suc j) → (ts rest : List Tok)
+      → depth (two w l r) ≤ suc d → (h : Spells (two w l r) ts rest) → Stops j rest
       → ((e : looseness_of w ≡ suc j) → Chains j l ts (between w l r ts rest (two_pos w j e) h).0) → Chains j (two w l r) ts rest
   chain_two j pos below w l r (inl lo) ts rest le h s c = chain_alone j below (two w l r) ts rest lo le h s
   chain_two j pos below w l r (inr e) ts rest le h s c =
       let o = two_pos w j e in
       chain_step j pos w l r e o ts rest le (between w l r ts rest o h) s (c e)
 
-  chain_one : (j : ℕ) → Bare j → AtLevel j → (w : OneWord) (t : Tree) → (looseness_of_one w ≤ j) ⊎ (looseness_of_one w ≡ suc j) → (ts rest : List Tok) → depth (one w t) ≤ suc d → Spells (one w t) ts rest → Stops j rest → Chains j (one w t) ts rest
+  chain_one : (j : ℕ) → Bare j → AtLevel j → (w : OneWord) (t : Tree) → (looseness_of_one w ≤ j) ⊎ (looseness_of_one w ≡ suc j) → (ts rest : List Tok)
+      → depth (one w t) ≤ suc d → Spells (one w t) ts rest → Stops j rest → Chains j (one w t) ts rest
   chain_one j bare below w t (inl lo) ts rest le h s = chain_alone j below (one w t) ts rest lo le h s
   chain_one j bare below w t (inr e) ts rest le h s = absurd (cc (sym (prefix_back w (suc j) e (omega arith)) ∙ bare))
 
-  chain_reads : (j : ℕ) → Bare j → 1 ≤ j → AtLevel j → (t : Tree) (ts rest : List Tok) → looseness t ≤ suc j → depth t ≤ suc d → Spells t ts rest → Stops j rest → Chains j t ts rest
+  chain_reads : (j : ℕ) → Bare j → 1 ≤ j → AtLevel j → (t : Tree) (ts rest : List Tok) → looseness t ≤ suc j → depth t ≤ suc d → Spells t ts rest
+      → Stops j rest → Chains j t ts rest
   chain_reads j bare pos below (two w l r) ts rest lo le h s =
       chain_two j pos below w l r (le_or (looseness_of w) j lo) ts rest le h s
       (λ e.
@@ -658,7 +749,8 @@ module _ (inner : ℕ → List Tok → Read) (d : ℕ) (ih : Reads inner d) wher
       let k = between w l r ts rest o h in
       let few = k.1.0 in
       let within = left_within w in
-      chain_reads j bare pos below l ts k.0 (omega (arith, few, within, e)) (omega arith) k.1.1 (subst (Stops j) (sym k.2.1) (operator_ends w k.2.0 j o (omega (arith, e)))))
+      chain_reads j bare pos below l ts k.0 (omega (arith, few, within, e)) (omega arith) k.1.1
+      (subst (Stops j) (sym k.2.1) (operator_ends w k.2.0 j o (omega (arith, e)))))
   chain_reads j bare pos below (one w t) ts rest lo le h s = chain_one j bare below w t (le_or (looseness_of_one w) j lo) ts rest le h s
   chain_reads j bare pos below t ts rest lo le h s = chain_alone j below t ts rest (omega arith) le h s
 
@@ -678,13 +770,17 @@ module _ (inner : ℕ → List Tok → Read) (d : ℕ) (ih : Reads inner d) wher
 
   -- a level with a word before its expressions
   module _ (j : ℕ) (v : OneWord) (is : prefix_of (suc j) ≡ Some v) (below : AtLevel j) where
-    tighter : (t : Tree) (ts rest : List Tok) → looseness t ≤ j → depth t ≤ suc d → Spells t ts rest → Stops (suc j) rest → level inner d (suc j) ts ≡ Some (got t (depth t) rest)
+    tighter : (t : Tree) (ts rest : List Tok) → looseness t ≤ j → depth t ≤ suc d → Spells t ts rest → Stops (suc j) rest
+        → level inner d (suc j) ts ≡ Some (got t (depth t) rest)
     unfolding AtLevel level
     tighter t ts rest lo le h s =
-        let none : behind (mark_of_one v) ts ≡ None = not_first (mark_of_one v) (prefix_no_begin v (prefix_sound (suc j) v is).before) t ts rest (prefix_unlike v j t (prefix_sound (suc j) v is).level lo) h in
+        let none : behind (mark_of_one v) ts ≡ None =
+        not_first (mark_of_one v) (prefix_no_begin v (prefix_sound (suc j) v is).before) t ts rest
+        (prefix_unlike v j t (prefix_sound (suc j) v is).level lo) h in
         rw (is, none) (below t ts rest lo le h (fewer j (suc j) rest (omega arith) s))
 
-    by_word : (w : OneWord) (t : Tree) → (looseness_of_one w ≤ j) ⊎ (looseness_of_one w ≡ suc j) → (ts rest : List Tok) → depth (one w t) ≤ suc d → Spells (one w t) ts rest → Stops (suc j) rest → level inner d (suc j) ts ≡ Some (got (one w t) (depth (one w t)) rest)
+    by_word : (w : OneWord) (t : Tree) → (looseness_of_one w ≤ j) ⊎ (looseness_of_one w ≡ suc j) → (ts rest : List Tok) → depth (one w t) ≤ suc d
+        → Spells (one w t) ts rest → Stops (suc j) rest → level inner d (suc j) ts ≡ Some (got (one w t) (depth (one w t)) rest)
     unfolding level Reads
     by_word w t (inl lo) ts rest le h s = tighter (one w t) ts rest lo le h s
     by_word w t (inr e) ts rest le h s =
@@ -693,7 +789,8 @@ module _ (inner : ℕ → List Tok → Read) (d : ℕ) (ih : Reads inner d) wher
         let same_word : v ≡ w = some_eq v w (sym is ∙ prefix_back w (suc j) e (omega arith)) in
         rw (is, same_word, behind_here (mark_of_one w) ts k.0 k.1, ih (suc j) t k.0 rest (omega (arith, lo, e)) (omega arith) k.2.1 s) refl
 
-    by_two : (w : TwoWord) (l r : Tree) → (looseness_of w ≤ j) ⊎ (looseness_of w ≡ suc j) → (ts rest : List Tok) → depth (two w l r) ≤ suc d → Spells (two w l r) ts rest → Stops (suc j) rest → level inner d (suc j) ts ≡ Some (got (two w l r) (depth (two w l r)) rest)
+    by_two : (w : TwoWord) (l r : Tree) → (looseness_of w ≤ j) ⊎ (looseness_of w ≡ suc j) → (ts rest : List Tok) → depth (two w l r) ≤ suc d
+        → Spells (two w l r) ts rest → Stops (suc j) rest → level inner d (suc j) ts ≡ Some (got (two w l r) (depth (two w l r)) rest)
     by_two w l r (inl lo) ts rest le h s = tighter (two w l r) ts rest lo le h s
     by_two w l r (inr e) ts rest le h s = absurd (no_two w v (prefix_sound (suc j) v is).before (e ∙ sym (prefix_sound (suc j) v is).level))
 

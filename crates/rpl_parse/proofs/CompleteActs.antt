@@ -1,5 +1,6 @@
 -- What statements are in the grammar are read, to those very trees.
-use Rattle.rw_base.proofs.Common.{◌≡◌, ◌<◌, ◌≤◌, ◌+◌, ◌∙◌, ◌++◌, ℕ, ℤ, zero, suc, false, List, [], ◌∷◌, length, max, Some, None, refl, sym, ap, subst, arith, inl, inr}
+use Rattle.rw_base.proofs.Common.{◌≡◌, ◌<◌, ◌≤◌, ◌+◌, ◌∙◌, ◌++◌, ℕ, ℤ, zero, suc, false, List, [], ◌∷◌, length, max, Some, None, refl, sym, ap, subst}
+use Rattle.rw_base.proofs.Common.{arith, inl, inr}
 use Rattle.std.proofs.lemmas.List.{append-nil, append_assoc}
 use Rattle.rpl_tree.specs.Tree.{Tree, Act, Acts, assign, branch, with_name, no_acts, act}
 use Rattle.rpl_parse.specs.declared.token.Mark.{Mark}
@@ -9,9 +10,11 @@ use Rattle.rpl_parse.specs.Depth.{depth, act_depth, acts_depth}
 use Rattle.rpl_parse.specs.Grammar.{Part, ◌⨾◌, sign, token, Spells}
 use Rattle.rpl_parse.specs.Statements.{SpellsAct, SpellsActs, if_none, if_zero, ◌or◌}
 use Rattle.rpl_parse.specs.Reading.{got, ◌>>=◌, behind, behind_name, closed_by_mark, read_tree}
-use Rattle.rpl_parse.specs.ReadingActs.{Done, done, read_step, behind_number, ahead_of, dated, acts_of, with_act, assigns, others, branches, withs, one_act, no_room, more_acts, read_acts}
+use Rattle.rpl_parse.specs.ReadingActs.{Done, done, read_step, behind_number, ahead_of, dated, acts_of, with_act, assigns, others, branches, withs}
+use Rattle.rpl_parse.specs.ReadingActs.{one_act, no_room, more_acts, read_acts}
 use Rattle.rpl_parse.proofs.Sound.{max_three}
-use Rattle.rpl_parse.proofs.Complete.{Shrinks, one_shrinks, shrinks_then, mark_then, shrinks, behind_here, name_here, name_here_before, not_here, Stops, Closes, closing, complete, Reads, loose_all, ends_then, ends_do}
+use Rattle.rpl_parse.proofs.Complete.{Shrinks, one_shrinks, shrinks_then, mark_then, shrinks, behind_here, name_here, name_here_before, not_here}
+use Rattle.rpl_parse.proofs.Complete.{Stops, Closes, closing, complete, Reads, loose_all, ends_then, ends_do}
 use Rattle.rpl_parse.proofs.TurnsActs.{acts_stop, acts_turn}
 
 -- Statements leave no more tokens than there were.
@@ -35,18 +38,22 @@ ahead_shrinks z = or_shrinks (if_zero z) _ (zero_shrinks z) (mark_then (mark M.P
 
 -- what of an assignment follows the name of its object
 abbrev AssignedTo : List ℕ → ℤ → Tree → Part
-AssignedTo s ahead e = sign M.Dot ⨾ token (word s) ⨾ sign M.LeftBracket ⨾ sign M.Now ⨾ Ahead ahead ⨾ sign M.RightBracket ⨾ sign M.Assign ⨾ Spells e ⨾ sign M.Semicolon
+AssignedTo s ahead e =
+    sign M.Dot ⨾ token (word s) ⨾ sign M.LeftBracket ⨾ sign M.Now ⨾ Ahead ahead ⨾ sign M.RightBracket ⨾ sign M.Assign ⨾ Spells e ⨾ sign M.Semicolon
 
 assigned_shrinks : (s : List ℕ) (ahead : ℤ) (e : Tree) → Shrinks (AssignedTo s ahead e)
 assigned_shrinks s ahead e = mark_then (mark M.Dot) _ (mark_then (word s) _ (mark_then (mark M.LeftBracket) _ (mark_then (mark M.Now) _
     (shrinks_then (Ahead ahead) _ (ahead_shrinks ahead) (mark_then (mark M.RightBracket) _ (mark_then (mark M.Assign) _
     (shrinks_then (Spells e) _ (shrinks e) (one_shrinks (mark M.Semicolon)))))))))
 
-branch_shrinks : (c : Tree) (y n : Acts) → Shrinks (SpellsActs y) → Shrinks (SpellsActs n) → Shrinks (Spells c ⨾ sign M.Then ⨾ SpellsActs y ⨾ (if_none n or (sign M.Else ⨾ SpellsActs n)) ⨾ sign M.EndIf)
+branch_shrinks : (c : Tree) (y n : Acts) → Shrinks (SpellsActs y) → Shrinks (SpellsActs n)
+    → Shrinks (Spells c ⨾ sign M.Then ⨾ SpellsActs y ⨾ (if_none n or (sign M.Else ⨾ SpellsActs n)) ⨾ sign M.EndIf)
 branch_shrinks c y n hy hn = shrinks_then (Spells c) _ (shrinks c) (mark_then (mark M.Then) _ (shrinks_then (SpellsActs y) _ hy
-    (shrinks_then (if_none n or (sign M.Else ⨾ SpellsActs n)) _ (or_shrinks (if_none n) _ (none_shrinks n) (mark_then (mark M.Else) _ hn)) (one_shrinks (mark M.EndIf)))))
+    (shrinks_then (if_none n or (sign M.Else ⨾ SpellsActs n)) _ (or_shrinks (if_none n) _ (none_shrinks n) (mark_then (mark M.Else) _ hn))
+    (one_shrinks (mark M.EndIf)))))
 
-with_shrinks : (x : List ℕ) (e : Tree) (body : Acts) → Shrinks (SpellsActs body) → Shrinks (token (word x) ⨾ sign M.Assign ⨾ Spells e ⨾ sign M.Do ⨾ SpellsActs body ⨾ sign M.EndWith)
+with_shrinks : (x : List ℕ) (e : Tree) (body : Acts) → Shrinks (SpellsActs body)
+    → Shrinks (token (word x) ⨾ sign M.Assign ⨾ Spells e ⨾ sign M.Do ⨾ SpellsActs body ⨾ sign M.EndWith)
 with_shrinks x e body h = mark_then (word x) _ (mark_then (mark M.Assign) _ (shrinks_then (Spells e) _ (shrinks e) (mark_then (mark M.Do) _
     (shrinks_then (SpellsActs body) _ h (one_shrinks (mark M.EndWith))))))
 
@@ -98,16 +105,21 @@ pub record Ends (rest : List Tok) : Type 0 where
   pub no_with : behind M.With rest ≡ None
   pub no_act : no_room rest ≡ Some None
 
-pub mark_ends : (m : Mark) (ts rest : List Tok) → same M.If m ≡ false → same M.With m ≡ false → ((us : List Tok) → no_room (mark m ∷ us) ≡ Some None) → ts ≡ mark m ∷ rest → Ends ts
-mark_ends m ts rest f g i e = record { no_name = rw e refl; no_if = not_here M.If m ts rest f e; no_with = not_here M.With m ts rest g e; no_act = rw e (i rest) }
+pub mark_ends : (m : Mark) (ts rest : List Tok) → same M.If m ≡ false → same M.With m ≡ false → ((us : List Tok) → no_room (mark m ∷ us) ≡ Some None)
+    → ts ≡ mark m ∷ rest → Ends ts
+mark_ends m ts rest f g i e =
+    record { no_name = rw e refl; no_if = not_here M.If m ts rest f e; no_with = not_here M.With m ts rest g e; no_act = rw e (i rest) }
 
 ends_semicolon : Closes M.Semicolon
 ends_semicolon = record { paren = refl; bracket = refl; dot = refl; no_operator = refl }
 
 unfoldable pub ActsRead : ℕ → Type 0
-ActsRead d = (xs : Acts) (ts rest : List Tok) → acts_depth xs ≤ d → SpellsActs xs ts rest → Ends rest → read_acts d ts ≡ Some (done (list_acts xs) (acts_depth xs) rest)
+ActsRead d =
+    (xs : Acts) (ts rest : List Tok) → acts_depth xs ≤ d → SpellsActs xs ts rest → Ends rest
+    → read_acts d ts ≡ Some (done (list_acts xs) (acts_depth xs) rest)
 
-pub value_reads : (d : ℕ) (m : Mark) (t : Tree) (ts mid rest : List Tok) → depth t ≤ d → Spells t ts mid → mid ≡ mark m ∷ rest → Closes m → (read_tree d 7 ts >>= closed_by_mark m) ≡ Some (got t (depth t) rest)
+pub value_reads : (d : ℕ) (m : Mark) (t : Tree) (ts mid rest : List Tok) → depth t ≤ d → Spells t ts mid → mid ≡ mark m ∷ rest → Closes m
+    → (read_tree d 7 ts >>= closed_by_mark m) ≡ Some (got t (depth t) rest)
 unfolding Reads
 value_reads d m t ts mid rest le h e c =
     let s : Stops 7 mid = subst (λ l. Stops 7 l) (sym e) (closing m rest 7 c) in
@@ -116,13 +128,15 @@ value_reads d m t ts mid rest le h e c =
 pub number_here : (z : ℤ) (ts us : List Tok) → ts ≡ digits z ∷ us → behind_number ts ≡ Some (record { value = z; next = us })
 number_here z ts us e = rw e refl
 
-ahead_reads : (z : ℤ) (ts mid rest : List Tok) → Ahead z ts mid → mid ≡ mark M.RightBracket ∷ rest → ahead_of ts ≡ Some (record { value = z; next = mid })
+ahead_reads : (z : ℤ) (ts mid rest : List Tok) → Ahead z ts mid → mid ≡ mark M.RightBracket ∷ rest
+    → ahead_of ts ≡ Some (record { value = z; next = mid })
 ahead_reads z ts mid rest (inl h) e =
     let x : behind M.Plus ts ≡ None = not_here M.Plus M.RightBracket ts rest refl (h.1 ∙ e) in
     rw (x, h.0, h.1) refl
 ahead_reads z ts mid rest (inr h) e = rw (behind_here M.Plus ts h.0 h.1) (number_here z h.0 mid h.2)
 
-dated_reads : (s : List ℕ) (z : ℤ) (ts rest : List Tok) → (sign M.LeftBracket ⨾ sign M.Now ⨾ Ahead z ⨾ sign M.RightBracket ⨾ sign M.Assign) ts rest → dated s ts ≡ Some (record { slot = s; ahead = z; next = rest })
+dated_reads : (s : List ℕ) (z : ℤ) (ts rest : List Tok) → (sign M.LeftBracket ⨾ sign M.Now ⨾ Ahead z ⨾ sign M.RightBracket ⨾ sign M.Assign) ts rest
+    → dated s ts ≡ Some (record { slot = s; ahead = z; next = rest })
 dated_reads s z ts rest h =
     let k = h.2.2 in
     let l = k.2 in
@@ -135,7 +149,8 @@ dated_reads s z ts rest h =
     ) refl
 
 module _ (d : ℕ) (ih : ActsRead d) where
-  others_read : (n : Acts) (ts mid rest : List Tok) → acts_depth n ≤ d → (if_none n or (sign M.Else ⨾ SpellsActs n)) ts mid → mid ≡ mark M.EndIf ∷ rest
+  others_read : (n : Acts) (ts mid rest : List Tok) → acts_depth n ≤ d → (if_none n or (sign M.Else ⨾ SpellsActs n)) ts mid
+      → mid ≡ mark M.EndIf ∷ rest
       → others (read_tree d 7) (read_acts d) ts ≡ Some (done (list_acts n) (acts_depth n) mid)
   unfolding ActsRead list_acts
   others_read no_acts ts mid rest le (inl h) e =
@@ -143,7 +158,8 @@ module _ (d : ℕ) (ih : ActsRead d) where
       let x : behind M.Else ts ≡ None = rw f refl in
       rw (x, h) refl
   others_read (act a more) ts mid rest le (inl h) e = absurd h
-  others_read n ts mid rest le (inr h) e = rw (behind_here M.Else ts h.0 h.1) (ih n h.0 mid le h.2 (mark_ends M.EndIf mid rest refl refl (λ us. refl) e))
+  others_read n ts mid rest le (inr h) e =
+      rw (behind_here M.Else ts h.0 h.1) (ih n h.0 mid le h.2 (mark_ends M.EndIf mid rest refl refl (λ us. refl) e))
 
   -- what follows the first branch
   then_ends : (n : Acts) (ts mid rest : List Tok) → (if_none n or (sign M.Else ⨾ SpellsActs n)) ts mid → mid ≡ mark M.EndIf ∷ rest → Ends ts
@@ -165,7 +181,8 @@ module _ (d : ℕ) (ih : ActsRead d) where
         value_reads d M.Semicolon e a.0 a.2.0 rest le a.2.1 a.2.2 ends_semicolon,
       ) refl
 
-  branch_reads : (c : Tree) (y n : Acts) (ts rest : List Tok) → act_depth (branch c y n) ≤ suc d → (k : (Spells c ⨾ sign M.Then ⨾ SpellsActs y ⨾ (if_none n or (sign M.Else ⨾ SpellsActs n)) ⨾ sign M.EndIf) ts rest)
+  branch_reads : (c : Tree) (y n : Acts) (ts rest : List Tok) → act_depth (branch c y n) ≤ suc d
+      → (k : (Spells c ⨾ sign M.Then ⨾ SpellsActs y ⨾ (if_none n or (sign M.Else ⨾ SpellsActs n)) ⨾ sign M.EndIf) ts rest)
       → branches (read_tree d 7) (read_acts d) ts ≡ Some (read_step (branch c y n) (act_depth (branch c y n)) rest)
   unfolding ActsRead
   branch_reads c y n ts rest le k =
@@ -180,7 +197,8 @@ module _ (d : ℕ) (ih : ActsRead d) where
         acts_back n,
       ) refl
 
-  with_reads : (x : List ℕ) (e : Tree) (body : Acts) (ts rest : List Tok) → act_depth (with_name x e body) ≤ suc d → (h : (token (word x) ⨾ sign M.Assign ⨾ Spells e ⨾ sign M.Do ⨾ SpellsActs body ⨾ sign M.EndWith) ts rest)
+  with_reads : (x : List ℕ) (e : Tree) (body : Acts) (ts rest : List Tok) → act_depth (with_name x e body) ≤ suc d
+      → (h : (token (word x) ⨾ sign M.Assign ⨾ Spells e ⨾ sign M.Do ⨾ SpellsActs body ⨾ sign M.EndWith) ts rest)
       → withs (read_tree d 7) (read_acts d) ts ≡ Some (read_step (with_name x e body) (act_depth (with_name x e body)) rest)
   unfolding ActsRead
   with_reads x e body ts rest le h =
@@ -194,7 +212,8 @@ module _ (d : ℕ) (ih : ActsRead d) where
         acts_back body,
       ) refl
 
-  one_reads : (a : Act) (ts rest : List Tok) → act_depth a ≤ suc d → SpellsAct a ts rest → one_act (read_tree d 7) (read_acts d) ts ≡ Some (Some (read_step a (act_depth a) rest))
+  one_reads : (a : Act) (ts rest : List Tok) → act_depth a ≤ suc d → SpellsAct a ts rest
+      → one_act (read_tree d 7) (read_acts d) ts ≡ Some (Some (read_step a (act_depth a) rest))
   one_reads (assign o s z e) ts rest le h = rw (name_here o ts h.0 h.1, assign_reads o s z e h.0 rest (omega arith) h.2) refl
   one_reads (branch c y n) ts rest le h =
       let x : behind_name ts ≡ None = rw h.1 refl in
@@ -227,7 +246,8 @@ act_pos a = omega arith
 max_zero : (n : ℕ) → max 0 n ≡ n
 max_zero n = omega arith
 
-none_deep : (xs : Acts) (ts rest : List Tok) → acts_depth xs ≤ 0 → SpellsActs xs ts rest → Ends rest → read_acts 0 ts ≡ Some (done (list_acts xs) (acts_depth xs) rest)
+none_deep : (xs : Acts) (ts rest : List Tok) → acts_depth xs ≤ 0 → SpellsActs xs ts rest → Ends rest
+    → read_acts 0 ts ≡ Some (done (list_acts xs) (acts_depth xs) rest)
 unfolding read_acts list_acts
 none_deep no_acts ts rest le h s = acts_stop no_room (length ts) (done [] 0 ts) (rw h s.no_act) ∙ rw h refl
 none_deep (act a more) ts rest le h s = let p = act_pos a in absurd (omega arith)
@@ -235,4 +255,6 @@ none_deep (act a more) ts rest le h s = let p = act_pos a in absurd (omega arith
 pub acts_complete : (d : ℕ) → ActsRead d
 unfolding ActsRead read_acts list_acts
 acts_complete zero = λ xs ts rest le h s. none_deep xs ts rest le h s
-acts_complete (suc d) = λ xs ts rest le h s. more_read d (acts_complete d) xs (length ts) (done [] 0 ts) rest le h (count_fits xs ts rest h) s ∙ ap (λ k. Some (done (list_acts xs) k rest)) (max_zero (acts_depth xs))
+acts_complete (suc d) =
+    λ xs ts rest le h s. more_read d (acts_complete d) xs (length ts) (done [] 0 ts) rest le h (count_fits xs ts rest h) s
+    ∙ ap (λ k. Some (done (list_acts xs) k rest)) (max_zero (acts_depth xs))

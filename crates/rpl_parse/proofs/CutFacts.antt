@@ -1,10 +1,12 @@
 -- Where the first declaration is cut; that what is due is one thing.
-use Rattle.rw_base.proofs.Common.{◌≡◌, ◌<◌, ◌+◌, ◌∙◌, ◌++◌, ℕ, suc, Bool, true, false, List, [], ◌∷◌, length, map, take, drop, slice_index_or, Option, Some, None, Ok, Err, refl, sym, ap, subst, arith, if◌then◌else◌, inl, inr}
+use Rattle.rw_base.proofs.Common.{◌≡◌, ◌<◌, ◌+◌, ◌∙◌, ◌++◌, ℕ, suc, Bool, true, false, List, [], ◌∷◌, length, map, take, drop, slice_index_or, Option}
+use Rattle.rw_base.proofs.Common.{Some, None, Ok, Err, refl, sym, ap, subst, arith, if◌then◌else◌, inl, inr}
 use Rattle.rpl_tree.specs.Tree.{Declared}
 use Rattle.rpl_parse.specs.declared.token.TokenAt.{TokenAt}
 use Rattle.rpl_parse.specs.Tokens.{Tok, Lined, token_seen, lined_of, toks}
 use Rattle.rpl_parse.specs.Scan.{Scanned, all, bad_at, tokens}
-use Rattle.rpl_parse.specs.Declarations.{Piece, piece, is_end, token_joined, pieces, begins_rule, begins_function, one_more_if, is_full, Due, bad_token, bad_declaration, too_many, IsDue, IsDueOf, some_reading, one_reading}
+use Rattle.rpl_parse.specs.Declarations.{Piece, piece, is_end, token_joined, pieces, begins_rule, begins_function, one_more_if, is_full, Due}
+use Rattle.rpl_parse.specs.Declarations.{bad_token, bad_declaration, too_many, IsDue, IsDueOf, some_reading, one_reading}
 use Rattle.rpl_parse.specs.Cut.{size}
 use Rattle.rpl_parse.specs.ReadingDeclared.{read_declared}
 use Rattle.rpl_parse.proofs.Both.{one_declaration, no_declaration, declared_sound}
@@ -16,16 +18,20 @@ lineds source ts = map (lined_of source) ts
 abbrev Cut : List ℕ → TokenAt → List TokenAt → ℕ → List Piece
 Cut source x more n = piece (toks source (take n (x ∷ more))) x.line ∷ pieces (lineds source (drop n (x ∷ more)))
 
-pub first_piece : (source : List ℕ) (x : TokenAt) (more : List TokenAt) → pieces (lineds source (x ∷ more)) ≡ Cut source x more (size (toks source (x ∷ more)))
+pub first_piece : (source : List ℕ) (x : TokenAt) (more : List TokenAt)
+    → pieces (lineds source (x ∷ more)) ≡ Cut source x more (size (toks source (x ∷ more)))
 first_piece source x [] = alone (is_end (token_seen source x.token))
   where
-    alone : (b : Bool) → (if b then piece (token_seen source x.token ∷ []) x.line ∷ [] else token_joined (lined_of source x) []) ≡ Cut source x [] (if b then 1 else suc 0)
+    alone : (b : Bool) → (if b then piece (token_seen source x.token ∷ []) x.line ∷ [] else token_joined (lined_of source x) [])
+        ≡ Cut source x [] (if b then 1 else suc 0)
     alone true = refl
     alone false = refl
 first_piece source x (y ∷ ys) = by_end (is_end (token_seen source x.token)) (first_piece source y ys)
   where
     by_end : (b : Bool) → pieces (lineds source (y ∷ ys)) ≡ Cut source y ys (size (toks source (y ∷ ys)))
-        → (if b then piece (token_seen source x.token ∷ []) x.line ∷ pieces (lineds source (y ∷ ys)) else token_joined (lined_of source x) (pieces (lineds source (y ∷ ys)))) ≡ Cut source x (y ∷ ys) (if b then 1 else suc (size (toks source (y ∷ ys))))
+        → (if b then piece (token_seen source x.token ∷ []) x.line
+        ∷ pieces (lineds source (y ∷ ys)) else token_joined (lined_of source x) (pieces (lineds source (y ∷ ys))))
+        ≡ Cut source x (y ∷ ys) (if b then 1 else suc (size (toks source (y ∷ ys))))
     by_end true h = refl
     by_end false h = ap (token_joined (lined_of source x)) h
 
@@ -38,7 +44,8 @@ module _ (source : List ℕ) (k r f : ℕ) (before : List Declared) where
   abbrev pub First : List TokenAt → List Tok
   First xs = toks source (take (size (toks source xs)) xs)
 
-  pub due_full : (xs : List TokenAt) → 0 < length xs → is_full (First xs) r f ≡ true → IsDue k r f before (pieces (lineds source xs)) (Err (too_many k))
+  pub due_full : (xs : List TokenAt) → 0 < length xs → is_full (First xs) r f ≡ true
+      → IsDue k r f before (pieces (lineds source xs)) (Err (too_many k))
   due_full [] lt e = absurd (omega arith)
   due_full (x ∷ more) lt e = subst (λ ps. IsDue k r f before ps (Err (too_many k))) (sym (first_piece source x more)) (inl (e, refl))
 
@@ -46,16 +53,19 @@ module _ (source : List ℕ) (k r f : ℕ) (before : List Declared) where
       → IsDue k r f before (pieces (lineds source xs)) (Err (bad_declaration k (slice_index_or xs 0 other).line))
   due_bad other [] lt e g = absurd (omega arith)
   due_bad other (y ∷ more) lt e g =
-      subst (λ ps. IsDue k r f before ps (Err (bad_declaration k y.line))) (sym (first_piece source y more)) (inr (inl (e, no_declaration (First (y ∷ more)) g, refl)))
+      subst (λ ps. IsDue k r f before ps (Err (bad_declaration k y.line))) (sym (first_piece source y more))
+      (inr (inl (e, no_declaration (First (y ∷ more)) g, refl)))
 
   pub due_later : (xs : List TokenAt) (d : Declared) (due : Due) → 0 < length xs → is_full (First xs) r f ≡ false → read_declared (First xs) ≡ Some d
-      → IsDue (k + 1) (one_more_if (begins_rule (First xs)) r) (one_more_if (begins_function (First xs)) f) (before ++ d ∷ []) (pieces (lineds source (drop (size (toks source xs)) xs))) due
+      → IsDue (k + 1) (one_more_if (begins_rule (First xs)) r) (one_more_if (begins_function (First xs)) f) (before ++ d ∷ [])
+      (pieces (lineds source (drop (size (toks source xs)) xs))) due
       → IsDue k r f before (pieces (lineds source xs)) due
   due_later [] d due lt e g h = absurd (omega arith)
   due_later (x ∷ more) d due lt e g h =
       subst (λ ps. IsDue k r f before ps due) (sym (first_piece source x more)) (inr (inr (e, (d, declared_sound (First (x ∷ more)) d g, h))))
 
-moved : (k : ℕ) (due : Due) {r r2 f f2 : ℕ} {a a2 : List Declared} {ps ps2 : List Piece} → r2 ≡ r → f2 ≡ f → a2 ≡ a → ps2 ≡ ps → IsDue k r2 f2 a2 ps2 due → IsDue k r f a ps due
+moved : (k : ℕ) (due : Due) {r r2 f f2 : ℕ} {a a2 : List Declared} {ps ps2 : List Piece} → r2 ≡ r → f2 ≡ f → a2 ≡ a → ps2 ≡ ps
+    → IsDue k r2 f2 a2 ps2 due → IsDue k r f a ps due
 moved k due e f g i h = rw (← e, ← f, ← g, ← i) h
 
 -- The same, of what the code knows: the first n tokens are the first declaration.
@@ -69,21 +79,27 @@ module _ (source : List ℕ) (k r f : ℕ) (before : List Declared) (n : ℕ) (x
   pub found_full : is_full Here r f ≡ true → IsDue k r f before (pieces (lineds source xs)) (Err (too_many k))
   found_full g = due_full source k r f before xs lt (subst (λ ts. is_full ts r f ≡ true) here g)
 
-  pub found_bad : (other : TokenAt) → is_full Here r f ≡ false → read_declared Here ≡ None → IsDue k r f before (pieces (lineds source xs)) (Err (bad_declaration k (slice_index_or xs 0 other).line))
-  found_bad other g h = due_bad source k r f before other xs lt (subst (λ ts. is_full ts r f ≡ false) here g) (subst (λ ts. read_declared ts ≡ None) here h)
+  pub found_bad : (other : TokenAt) → is_full Here r f ≡ false → read_declared Here ≡ None
+      → IsDue k r f before (pieces (lineds source xs)) (Err (bad_declaration k (slice_index_or xs 0 other).line))
+  found_bad other g h =
+      due_bad source k r f before other xs lt (subst (λ ts. is_full ts r f ≡ false) here g) (subst (λ ts. read_declared ts ≡ None) here h)
 
-  pub found_later : (d : Declared) (due : Due) (r2 f2 : ℕ) (after : List Declared) (rest : List TokenAt) → is_full Here r f ≡ false → read_declared Here ≡ Some d
+  pub found_later : (d : Declared) (due : Due) (r2 f2 : ℕ) (after : List Declared) (rest : List TokenAt) → is_full Here r f ≡ false
+      → read_declared Here ≡ Some d
       → r2 ≡ one_more_if (begins_rule Here) r → f2 ≡ one_more_if (begins_function Here) f → after ≡ before ++ d ∷ [] → rest ≡ drop n xs
       → IsDue (k + 1) r2 f2 after (pieces (lineds source rest)) due → IsDue k r f before (pieces (lineds source xs)) due
   found_later d due r2 f2 after rest g h er ef ea el i =
-      let same = moved (k + 1) due (er ∙ ap (λ ts. one_more_if (begins_rule ts) r) here) (ef ∙ ap (λ ts. one_more_if (begins_function ts) f) here) ea (ap (λ l. pieces (lineds source l)) (el ∙ ap (λ m. drop m xs) e)) i in
+      let same =
+      moved (k + 1) due (er ∙ ap (λ ts. one_more_if (begins_rule ts) r) here) (ef ∙ ap (λ ts. one_more_if (begins_function ts) f) here) ea
+      (ap (λ l. pieces (lineds source l)) (el ∙ ap (λ m. drop m xs) e)) i in
       due_later source k r f before xs d due lt (subst (λ ts. is_full ts r f ≡ false) here g) (subst (λ ts. read_declared ts ≡ Some d) here h) same
 
 -- something is due
 some_due : (k r f : ℕ) (before : List Declared) (ps : List Piece) → (due : Due) × IsDue k r f before ps due
 some_due k r f before [] = (Ok before, refl)
 some_due k r f before (p ∷ ps) =
-    by_full (is_full p.toks r f) refl (λ d. some_due (k + 1) (one_more_if (begins_rule p.toks) r) (one_more_if (begins_function p.toks) f) (before ++ d ∷ []) ps)
+    by_full (is_full p.toks r f) refl (λ d. some_due (k + 1) (one_more_if (begins_rule p.toks) r) (one_more_if (begins_function p.toks) f)
+    (before ++ d ∷ []) ps)
   where
     Later : Declared → Type 0
     Later d = (due : Due) × IsDue (k + 1) (one_more_if (begins_rule p.toks) r) (one_more_if (begins_function p.toks) f) (before ++ d ∷ []) ps due

@@ -11,7 +11,8 @@ pub fails_on : {A B : Type 0} (f : Stop) (r : Option A) (s : Option B) → (r �
 fails_on S.Bad r s go e = go e
 fails_on S.NoMemory r s go e = e
 
-pub many_fault : (source : List ℕ) (d : ℕ) (result : Result (Vec Expr Global × ℕ × Bor (List TokenAt)) Stop) (read : Option Many) (f : Stop) → IsErrAnd result (λ e. e ≡ f) → Fails f read → GivesMany source d result read
+pub many_fault : (source : List ℕ) (d : ℕ) (result : Result (Vec Expr Global × ℕ × Bor (List TokenAt)) Stop) (read : Option Many) (f : Stop)
+    → IsErrAnd result (λ e. e ≡ f) → Fails f read → GivesMany source d result read
 many_fault source d (Ok x) read f same why = absurd same
 many_fault source d (Err e) read f same why = subst (λ g. Fails g read) (sym same) why
 

@@ -5,7 +5,8 @@ use Rattle.rpl_parse.specs.Grammar.{Spells}
 use Rattle.rpl_parse.specs.Statements.{IsDeclaration}
 use Rattle.rpl_parse.specs.Reading.{got, read_tree, level, chain, steps}
 use Rattle.rpl_parse.specs.ReadingActs.{read_acts, more_acts}
-use Rattle.rpl_parse.specs.Worked.{differences, from_the_left, logical, or_last, levels, tighter_right, chain_tokens, tighter_left, setting, set_to, comparisons}
+use Rattle.rpl_parse.specs.Worked.{differences, from_the_left, logical, or_last, levels, tighter_right, chain_tokens, tighter_left, setting, set_to}
+use Rattle.rpl_parse.specs.Worked.{comparisons}
 use Rattle.rpl_parse.proofs.Sound.{sound}
 use Rattle.rpl_parse.proofs.Both.{declared_sound, no_declaration}
 

@@ -1,5 +1,6 @@
 -- Numbers only grow while they are read; one turn of the scanner.
-use Rattle.rw_base.proofs.Common.{◌≡◌, ◌<◌, ◌≤◌, ◌-◌, ◌+◌, ◌*◌, ◌++◌, ◌∙◌, ℕ, zero, suc, List, [], ◌∷◌, arith, drop, take, length, slice_index_or, refl, sym, ap, subst}
+use Rattle.rw_base.proofs.Common.{◌≡◌, ◌<◌, ◌≤◌, ◌-◌, ◌+◌, ◌*◌, ◌++◌, ◌∙◌, ℕ, zero, suc, List, [], ◌∷◌, arith, drop, take, length, slice_index_or}
+use Rattle.rw_base.proofs.Common.{refl, sym, ap, subst}
 use Rattle.std.proofs.lemmas.List.{append_assoc, append-nil, length-drop}
 use Rattle.rpl_parse.specs.declared.token.Span.{Span}
 use Rattle.rpl_parse.specs.Tokens.{Tok, text, Lined, lined, bytes_in}
@@ -9,7 +10,8 @@ pub number_grows : (n : ℕ) (bs : List ℕ) → n ≤ number_of n bs
 number_grows n [] = omega arith
 number_grows n (b ∷ bs) = let h = number_grows (10 * n + (b - 48)) bs in omega arith
 
-pub number_over : (i : ℕ) (ds : List ℕ) (v most n : ℕ) → i < length ds → most < 10 * v + (slice_index_or ds i 0 - 48) → number_of v (drop i ds) ≡ n → most < n
+pub number_over : (i : ℕ) (ds : List ℕ) (v most n : ℕ) → i < length ds → most < 10 * v + (slice_index_or ds i 0 - 48)
+    → number_of v (drop i ds) ≡ n → most < n
 number_over i [] v most n lt over e = absurd (omega arith)
 number_over zero (d ∷ ds) v most n lt over e = let h = number_grows (10 * v + (d - 48)) ds in omega (arith, e)
 number_over (suc i) (d ∷ ds) v most n lt over e = number_over i ds v most n (omega arith) over e
@@ -53,13 +55,15 @@ module _ (line : ℕ) where
   scan_gap [] k e lt pos = absurd (omega arith)
   scan_gap (b ∷ bs) k e lt pos = rw e (behind_piece k (line_behind line (b ∷ bs)) b bs lt)
 
-  pub scan_token : (bs : List ℕ) (t : Tok) (k : ℕ) → front bs ≡ token t k → 0 < k → 0 < length bs → scan 0 line bs ≡ led_by (lined t line ∷ []) (scan 0 line (drop k bs))
+  pub scan_token : (bs : List ℕ) (t : Tok) (k : ℕ) → front bs ≡ token t k → 0 < k → 0 < length bs
+      → scan 0 line bs ≡ led_by (lined t line ∷ []) (scan 0 line (drop k bs))
   unfolding scan
   scan_token [] t k e lt pos = absurd (omega arith)
   scan_token (b ∷ bs) t k e lt pos = rw e (ap (led_by (lined t line ∷ [])) (behind_piece k line b bs lt))
 
 -- the bytes of a string, behind its quote
-pub quoted_there : (at n : ℕ) (source : List ℕ) (s : Span) → s.start ≡ at + 1 → s.end ≡ at + 1 + n → take n (drop 1 (drop at source)) ≡ bytes_in source s
+pub quoted_there : (at n : ℕ) (source : List ℕ) (s : Span) → s.start ≡ at + 1 → s.end ≡ at + 1 + n
+    → take n (drop 1 (drop at source)) ≡ bytes_in source s
 quoted_there at n source s e f =
     let g : s.end - s.start ≡ n = omega (arith, e, f) in
     rw (g, e, drop_more at 1 source) refl
@@ -78,13 +82,15 @@ module _ (source : List ℕ) (ts : List Lined) (line at : ℕ) (same : led_by ts
   pub bad_read : front (drop at source) ≡ bad → at < length source → tokens source ≡ bad_at line
   bad_read e lt = sym same ∙ ap (led_by ts) (scan_bad line (drop at source) e (left lt))
 
-  pub gap_read : (n : ℕ) → front (drop at source) ≡ gap n → 0 < n → at < length source → led_by ts (scan 0 (line_behind line (drop at source)) (drop (at + n) source)) ≡ tokens source
+  pub gap_read : (n : ℕ) → front (drop at source) ≡ gap n → 0 < n → at < length source
+      → led_by ts (scan 0 (line_behind line (drop at source)) (drop (at + n) source)) ≡ tokens source
   gap_read n e pos lt =
       ap (λ bs. led_by ts (scan 0 (line_behind line (drop at source)) bs)) (sym (drop_more at n source))
       ∙ ap (led_by ts) (sym (scan_gap line (drop at source) n e pos (left lt)))
       ∙ same
 
-  pub token_read : (t : Tok) (n : ℕ) → front (drop at source) ≡ token t n → 0 < n → at < length source → led_by (ts ++ lined t line ∷ []) (scan 0 line (drop (at + n) source)) ≡ tokens source
+  pub token_read : (t : Tok) (n : ℕ) → front (drop at source) ≡ token t n → 0 < n → at < length source
+      → led_by (ts ++ lined t line ∷ []) (scan 0 line (drop (at + n) source)) ≡ tokens source
   token_read t n e pos lt =
       ap (λ bs. led_by (ts ++ lined t line ∷ []) (scan 0 line bs)) (sym (drop_more at n source))
       ∙ sym (led_again ts (lined t line ∷ []) (scan 0 line (drop n (drop at source))))

@@ -1,5 +1,6 @@
 -- What is read is in the grammar.
-use Rattle.rw_base.proofs.Common.{◌≡◌, ◌≤◌, ◌-◌, ◌+◌, ◌*◌, ◌==◌, ◌∙◌, ◌++◌, ℕ, zero, suc, Bool, true, false, List, [], ◌∷◌, length, max, Option, Some, None, refl, sym, ap, subst, arith, if◌then◌else◌, ltb-true, ltb}
+use Rattle.rw_base.proofs.Common.{◌≡◌, ◌≤◌, ◌-◌, ◌+◌, ◌*◌, ◌==◌, ◌∙◌, ◌++◌, ℕ, zero, suc, Bool, true, false, List, [], ◌∷◌, length, max, Option, Some}
+use Rattle.rw_base.proofs.Common.{None, refl, sym, ap, subst, arith, if◌then◌else◌, ltb-true, ltb}
 use Rattle.std.proofs.lemmas.List.{append-nil, append_assoc}
 use Rattle.rpl_parse.specs.declared.token.Mark.{Mark}
 use Rattle.rpl_parse.specs.declared.token.Mark.TheVariants as M
@@ -12,8 +13,11 @@ use Rattle.rpl_tree.specs.declared.words.ConvertWord.TheVariants as C
 use Rattle.rpl_parse.specs.Tokens.{Tok, mark, word, digits, text, same}
 use Rattle.rpl_tree.specs.Tree.{Tree, literal, truth, now, slot, name, call, list, no_trees}
 use Rattle.rpl_parse.specs.Depth.{depth, depths}
-use Rattle.rpl_parse.specs.Grammar.{Part, ◌⨾◌, sign, form, Spells, SpellsMore, looseness, looseness_of, looseness_of_one, looseness_on_left, mark_of, mark_of_one, mark_of_convert, is_prefix, is_operator}
-use Rattle.rpl_parse.specs.Reading.{Read, Got, got, Many, many, Named, Turn, ◌>>=◌, behind, behind_name, name_before, kept, closed_by_mark, up_to, items, some_items, args, named, braces, loops, maps, word_of_one, word_of_two, converts, opened, prim, steps, turn, if_word, if_loose, operator, chain, guarded, if_found, prefix_of, level, read_tree, turns_of, trees_of}
+use Rattle.rpl_parse.specs.Grammar.{Part, ◌⨾◌, sign, form, Spells, SpellsMore, looseness, looseness_of, looseness_of_one, looseness_on_left, mark_of}
+use Rattle.rpl_parse.specs.Grammar.{mark_of_one, mark_of_convert, is_prefix, is_operator}
+use Rattle.rpl_parse.specs.Reading.{Read, Got, got, Many, many, Named, Turn, ◌>>=◌, behind, behind_name, name_before, kept, closed_by_mark, up_to}
+use Rattle.rpl_parse.specs.Reading.{items, some_items, args, named, braces, loops, maps, word_of_one, word_of_two, converts, opened, prim, steps}
+use Rattle.rpl_parse.specs.Reading.{turn, if_word, if_loose, operator, chain, guarded, if_found, prefix_of, level, read_tree, turns_of, trees_of}
 use Rattle.rpl_parse.proofs.Marks.{same_mark}
 
 pub some_one : {A : Type 0} (x y : A) → Some x ≡ Some y → x ≡ y
@@ -23,7 +27,8 @@ pub and_then : {A B : Type 0} (o : Option A) (f : A → Option B) (y : B) → (o
 and_then None f y e = absurd (cc e)
 and_then (Some x) f y e = (x, refl, e)
 
-pub found : {A B P : Type 0} (o : Option A) (b : Option B) (f : A → Option B) (y : B) → if_found o b f ≡ Some y → (o ≡ None → b ≡ Some y → P) → ((x : A) → o ≡ Some x → f x ≡ Some y → P) → P
+pub found : {A B P : Type 0} (o : Option A) (b : Option B) (f : A → Option B) (y : B) → if_found o b f ≡ Some y → (o ≡ None → b ≡ Some y → P)
+    → ((x : A) → o ≡ Some x → f x ≡ Some y → P) → P
 found None b f y e stop go = stop refl e
 found (Some x) b f y e stop go = go x refl e
 
@@ -47,7 +52,8 @@ behind_sound m (text s ∷ vs) us e = absurd (cc e)
 pub name_sound : (ts : List Tok) (x : Named) → behind_name ts ≡ Some x → ts ≡ word x.called ∷ x.next
 name_sound [] x e = absurd (cc e)
 name_sound (mark n ∷ vs) x e = absurd (cc e)
-name_sound (word n ∷ vs) x e = let f : record { called = n; next = vs } ≡ x = some_one _ x e in subst (λ (y : Named). word n ∷ vs ≡ word y.called ∷ y.next) f refl
+name_sound (word n ∷ vs) x e = let f : record { called = n; next = vs } ≡ x =
+    some_one _ x e in subst (λ (y : Named). word n ∷ vs ≡ word y.called ∷ y.next) f refl
 name_sound (digits z ∷ vs) x e = absurd (cc e)
 name_sound (text s ∷ vs) x e = absurd (cc e)
 
@@ -153,19 +159,22 @@ second_form true p q ts rest e h = absurd (cc e)
 second_form false p q ts rest e h = h
 
 -- a name, and a mark behind it
-pub name_before_sound : (m : Mark) (ts : List Tok) (x : Named) → name_before m ts ≡ Some x → (mid : List Tok) × (ts ≡ word x.called ∷ mid) × (mid ≡ mark m ∷ x.next)
+pub name_before_sound : (m : Mark) (ts : List Tok) (x : Named) → name_before m ts ≡ Some x
+    → (mid : List Tok) × (ts ≡ word x.called ∷ mid) × (mid ≡ mark m ∷ x.next)
 name_before_sound m ts x e =
     let p = and_then (behind_name ts) _ x e in
     let q = and_then (behind m p.0.next) _ x p.2 in
     let f = some_one _ x q.2 in
-    subst (λ (y : Named). (mid : List Tok) × (ts ≡ word y.called ∷ mid) × (mid ≡ mark m ∷ y.next)) f (p.0.next, name_sound ts p.0 p.1, behind_sound m p.0.next q.0 q.1)
+    subst (λ (y : Named). (mid : List Tok) × (ts ≡ word y.called ∷ mid) × (mid ≡ mark m ∷ y.next)) f
+    (p.0.next, name_sound ts p.0 p.1, behind_sound m p.0.next q.0 q.1)
 
 -- a word that stands before an expression of its level
 pub record IsPrefix (k : ℕ) (w : OneWord) : Type 0 where
   pub level : looseness_of_one w ≡ k
   pub before : is_prefix w ≡ true
 
-prefix_is : (a b : Bool) (k : ℕ) (w : OneWord) → (a ≡ true → k ≡ 1) → (b ≡ true → k ≡ 5) → (if a then Some O.Minus else (if b then Some O.Not else None)) ≡ Some w → IsPrefix k w
+prefix_is : (a b : Bool) (k : ℕ) (w : OneWord) → (a ≡ true → k ≡ 1) → (b ≡ true → k ≡ 5)
+    → (if a then Some O.Minus else (if b then Some O.Not else None)) ≡ Some w → IsPrefix k w
 prefix_is true b k w f g e = subst (IsPrefix k) (some_one O.Minus w e) (record { level = sym (f refl); before = refl })
 prefix_is false true k w f g e = subst (IsPrefix k) (some_one O.Not w e) (record { level = sym (g refl); before = refl })
 prefix_is false false k w f g e = absurd (cc e)
@@ -179,13 +188,22 @@ module _ (inner : ℕ → List Tok → Read) (d : ℕ) (ih : (k : ℕ) (ts : Lis
       let p = and_then (inner 7 ts) (closed_by_mark m) g e in
       let q = and_then (behind m p.0.rest) (λ us. Some (got p.0.tree p.0.deep us)) g p.2 in
       let h = ih 7 ts p.0 p.1 in
-      subst (IsUpTo d m ts) (some_one _ g q.2) (record { spells = (p.0.rest, h.spells, behind_sound m p.0.rest q.0 q.1); deep = h.deep; within = h.within })
+      subst (IsUpTo d m ts) (some_one _ g q.2)
+      (record { spells = (p.0.rest, h.spells, behind_sound m p.0.rest q.0 q.1); deep = h.deep; within = h.within })
 
   items_sound : (n : ℕ) (a b : Many) → items inner d n a ≡ Some b → IsMore d a b
   unfolding items
-  items_sound zero a b e = subst (IsMore d a) (some_one a b e) (record { others = []; trees = sym (append-nil a.trees); spells = refl; most = omega arith; within = λ w. w })
+  items_sound zero a b e =
+      subst (IsMore d a) (some_one a b e) (record {
+        others = [];
+        trees = sym (append-nil a.trees);
+        spells = refl;
+        most = omega arith;
+        within = λ w. w;
+      })
   items_sound (suc n) a b e = found (behind M.Comma a.left) (Some a) _ b e
-      (λ none same. subst (IsMore d a) (some_one a b same) (record { others = []; trees = sym (append-nil a.trees); spells = refl; most = omega arith; within = λ w. w }))
+      (λ none same. subst (IsMore d a) (some_one a b same)
+      (record { others = []; trees = sym (append-nil a.trees); spells = refl; most = omega arith; within = λ w. w }))
       (λ us is go.
       let p = and_then (inner 7 us) _ b go in
       let g = p.0 in
@@ -205,9 +223,17 @@ module _ (inner : ℕ → List Tok → Read) (d : ℕ) (ih : (k : ℕ) (ts : Lis
       let g = p.0 in
       let h = ih 7 ts g p.1 in
       let r = items_sound (length g.rest) (many (g.tree ∷ []) g.deep g.rest) b p.2 in
-      record { first = g.tree; others = r.others; trees = r.trees; spells = (g.rest, h.spells, r.spells); most = r.most ∙ ap (λ x. max x (depths (trees_of r.others))) h.deep; within = r.within h.within }
+      record {
+        first = g.tree;
+        others = r.others;
+        trees = r.trees;
+        spells = (g.rest, h.spells, r.spells);
+        most = r.most ∙ ap (λ x. max x (depths (trees_of r.others))) h.deep;
+        within = r.within h.within;
+      }
 
-  closed_list : (m : Mark) (ts : List Tok) (f : Many → List Tok → Got) (g : Got) → (some_items inner d ts >>= (λ a. behind m a.left >>= (λ us. Some (f a us)))) ≡ Some g
+  closed_list : (m : Mark) (ts : List Tok) (f : Many → List Tok → Got) (g : Got)
+      → (some_items inner d ts >>= (λ a. behind m a.left >>= (λ us. Some (f a us)))) ≡ Some g
       → (a : Many) × (us : List Tok) × IsList d ts a × (a.left ≡ mark m ∷ us) × (f a us ≡ g)
   closed_list m ts f g e =
       let p = and_then (some_items inner d ts) _ g e in
@@ -227,7 +253,12 @@ module _ (inner : ℕ → List Tok → Read) (d : ℕ) (ih : (k : ℕ) (ts : Lis
       let m = h.most in
       subst (Is (suc d) 0 (mark M.LeftBrace ∷ ts)) p.4
       (subst (λ l. Is (suc d) 0 (mark M.LeftBrace ∷ ts) (got (list (trees_of l)) (a.most + 1) us)) (sym h.trees)
-      (record { spells = (ts, refl, (h.spells.0, h.spells.1, (a.left, h.spells.2, p.3))); loose = omega arith; deep = ap (λ n. n + 1) m; within = omega arith }))
+      (record {
+        spells = (ts, refl, (h.spells.0, h.spells.1, (a.left, h.spells.2, p.3)));
+        loose = omega arith;
+        deep = ap (λ n. n + 1) m;
+        within = omega arith;
+      }))
 
   args_sound : (n : List ℕ) (ts us : List Tok) (g : Got) → ts ≡ mark M.LeftParen ∷ us → args inner d n us ≡ Some g → Is (suc d) 0 (word n ∷ ts) g
   args_sound n ts us g front e = found (behind M.RightParen us) _ _ g e
@@ -239,34 +270,53 @@ module _ (inner : ℕ → List Tok → Read) (d : ℕ) (ih : (k : ℕ) (ts : Lis
       let m = h.most in
       subst (Is (suc d) 0 (word n ∷ ts)) p.4
       (subst (λ l. Is (suc d) 0 (word n ∷ ts) (got (call n (trees_of l)) (a.most + 1) p.1)) (sym h.trees)
-      (record { spells = (ts, refl, (us, front, (a.left, (h.spells.0, h.spells.1, h.spells.2), p.3))); loose = omega arith; deep = ap (λ n. n + 1) m; within = omega arith })))
+      (record {
+        spells = (ts, refl, (us, front, (a.left, (h.spells.0, h.spells.1, h.spells.2), p.3)));
+        loose = omega arith;
+        deep = ap (λ n. n + 1) m;
+        within = omega arith;
+      })))
       (λ vs is go. as_is 0 (word n ∷ ts) (got (call n no_trees) 1 vs) g
-      (record { spells = (ts, refl, (us, front, (us, refl, behind_sound M.RightParen us vs is))); loose = omega arith; deep = refl; within = omega arith }) go)
+      (record {
+        spells = (ts, refl, (us, front, (us, refl, behind_sound M.RightParen us vs is)));
+        loose = omega arith;
+        deep = refl;
+        within = omega arith;
+      }) go)
 
   named_sound : (n : List ℕ) (ts : List Tok) (g : Got) → named inner d n ts ≡ Some g → Is (suc d) 0 (word n ∷ ts) g
   named_sound n ts g e = found (behind M.LeftParen ts) _ _ g e
       (λ none go. found (behind M.Dot ts) _ _ g go
-      (λ none2 go2. as_is 0 (word n ∷ ts) (got (name n) 1 ts) g (record { spells = refl; loose = omega arith; deep = refl; within = omega arith }) go2)
+      (λ none2 go2. as_is 0 (word n ∷ ts) (got (name n) 1 ts) g
+      (record { spells = refl; loose = omega arith; deep = refl; within = omega arith }) go2)
       (λ us is go2.
       let p = and_then (behind_name us) _ g go2 in
       as_is 0 (word n ∷ ts) (got (slot n p.0.called) 1 p.0.next) g
-      (record { spells = (ts, refl, (us, behind_sound M.Dot ts us is, name_sound us p.0 p.1)); loose = omega arith; deep = refl; within = omega arith }) p.2))
+      (record {
+        spells = (ts, refl, (us, behind_sound M.Dot ts us is, name_sound us p.0 p.1));
+        loose = omega arith;
+        deep = refl;
+        within = omega arith;
+      }) p.2))
       (λ us is go. args_sound n ts us g (behind_sound M.LeftParen ts us is) go)
 
-  one_sound : (w : OneWord) (ts : List Tok) (g : Got) → is_prefix w ≡ false → looseness_of_one w ≡ 0 → word_of_one inner d w ts ≡ Some g → Is (suc d) 0 (mark (mark_of_one w) ∷ ts) g
+  one_sound : (w : OneWord) (ts : List Tok) (g : Got) → is_prefix w ≡ false → looseness_of_one w ≡ 0 → word_of_one inner d w ts ≡ Some g
+      → Is (suc d) 0 (mark (mark_of_one w) ∷ ts) g
   one_sound w ts g plain tight e =
       let q = and_then (behind M.LeftParen ts >>= up_to inner d M.RightParen) _ g e in
       let p = and_then (behind M.LeftParen ts) (up_to inner d M.RightParen) q.0 q.1 in
       let h = up_to_sound M.RightParen p.0 q.0 p.2 in
       let within = h.within in
       as_is 0 (mark (mark_of_one w) ∷ ts) _ g (record {
-        spells = second_form (is_prefix w) _ _ (mark (mark_of_one w) ∷ ts) q.0.rest plain (ts, refl, (p.0, behind_sound M.LeftParen ts p.0 p.1, h.spells));
+        spells =
+            second_form (is_prefix w) _ _ (mark (mark_of_one w) ∷ ts) q.0.rest plain (ts, refl, (p.0, behind_sound M.LeftParen ts p.0 p.1, h.spells));
         loose = omega (arith, tight);
         deep = ap (λ n. n + 1) h.deep;
         within = omega arith;
       }) q.2
 
-  two_sound : (w : TwoWord) (ts : List Tok) (g : Got) → is_operator w ≡ false → looseness_of w ≡ 0 → word_of_two inner d w ts ≡ Some g → Is (suc d) 0 (mark (mark_of w) ∷ ts) g
+  two_sound : (w : TwoWord) (ts : List Tok) (g : Got) → is_operator w ≡ false → looseness_of w ≡ 0 → word_of_two inner d w ts ≡ Some g
+      → Is (suc d) 0 (mark (mark_of w) ∷ ts) g
   two_sound w ts g plain tight e =
       let l = and_then (behind M.LeftParen ts >>= up_to inner d M.Comma) _ g e in
       let p = and_then (behind M.LeftParen ts) (up_to inner d M.Comma) l.0 l.1 in
@@ -370,7 +420,12 @@ module _ (inner : ℕ → List Tok → Read) (d : ℕ) (ih : (k : ℕ) (ts : Lis
       let p = and_then (up_to inner d M.RightParen ts) _ g e in
       let h = up_to_sound M.RightParen ts p.0 p.1 in
       let w = h.within in
-      as_is 0 (mark M.LeftParen ∷ ts) _ g (record { spells = (ts, refl, h.spells); loose = omega arith; deep = ap (λ n. n + 1) h.deep; within = omega arith }) p.2
+      as_is 0 (mark M.LeftParen ∷ ts) _ g (record {
+        spells = (ts, refl, h.spells);
+        loose = omega arith;
+        deep = ap (λ n. n + 1) h.deep;
+        within = omega arith;
+      }) p.2
   opened_sound M.LeftBrace ts g e = braces_sound ts g e
   opened_sound M.If ts g e =
       let p = and_then (up_to inner d M.Then ts) _ g e in
@@ -406,9 +461,12 @@ module _ (inner : ℕ → List Tok → Read) (d : ℕ) (ih : (k : ℕ) (ts : Lis
         deep = two_deep hp.deep hq.deep;
         within = omega arith;
       }) q.2
-  opened_sound M.True ts g e = as_is 0 (mark M.True ∷ ts) (got (truth true) 1 ts) g (record { spells = refl; loose = omega arith; deep = refl; within = omega arith }) e
-  opened_sound M.False ts g e = as_is 0 (mark M.False ∷ ts) (got (truth false) 1 ts) g (record { spells = refl; loose = omega arith; deep = refl; within = omega arith }) e
-  opened_sound M.Now ts g e = as_is 0 (mark M.Now ∷ ts) (got now 1 ts) g (record { spells = refl; loose = omega arith; deep = refl; within = omega arith }) e
+  opened_sound M.True ts g e =
+      as_is 0 (mark M.True ∷ ts) (got (truth true) 1 ts) g (record { spells = refl; loose = omega arith; deep = refl; within = omega arith }) e
+  opened_sound M.False ts g e =
+      as_is 0 (mark M.False ∷ ts) (got (truth false) 1 ts) g (record { spells = refl; loose = omega arith; deep = refl; within = omega arith }) e
+  opened_sound M.Now ts g e =
+      as_is 0 (mark M.Now ∷ ts) (got now 1 ts) g (record { spells = refl; loose = omega arith; deep = refl; within = omega arith }) e
   opened_sound M.For ts g e = loops_sound ts g e
   opened_sound M.Map ts g e = maps_sound ts g e
   opened_sound M.Known ts g e = one_sound O.Known ts g refl refl e
@@ -427,11 +485,17 @@ module _ (inner : ℕ → List Tok → Read) (d : ℕ) (ih : (k : ℕ) (ts : Lis
   prim_sound (mark m ∷ ts) g e = opened_sound m ts g e
   prim_sound (word n ∷ ts) g e = named_sound n ts g e
   prim_sound (text s ∷ ts) g e = absurd (cc e)
-  prim_sound (digits z ∷ []) g e = as_is 0 _ (got (literal z None) 1 []) g (record { spells = refl; loose = omega arith; deep = refl; within = omega arith }) e
-  prim_sound (digits z ∷ (text u ∷ ts)) g e = as_is 0 _ (got (literal z (Some u)) 1 ts) g (record { spells = (text u ∷ ts, refl, refl); loose = omega arith; deep = refl; within = omega arith }) e
-  prim_sound (digits z ∷ (mark m ∷ ts)) g e = as_is 0 _ (got (literal z None) 1 (mark m ∷ ts)) g (record { spells = refl; loose = omega arith; deep = refl; within = omega arith }) e
-  prim_sound (digits z ∷ (word n ∷ ts)) g e = as_is 0 _ (got (literal z None) 1 (word n ∷ ts)) g (record { spells = refl; loose = omega arith; deep = refl; within = omega arith }) e
-  prim_sound (digits z ∷ (digits y ∷ ts)) g e = as_is 0 _ (got (literal z None) 1 (digits y ∷ ts)) g (record { spells = refl; loose = omega arith; deep = refl; within = omega arith }) e
+  prim_sound (digits z ∷ []) g e =
+      as_is 0 _ (got (literal z None) 1 []) g (record { spells = refl; loose = omega arith; deep = refl; within = omega arith }) e
+  prim_sound (digits z ∷ (text u ∷ ts)) g e =
+      as_is 0 _ (got (literal z (Some u)) 1 ts) g
+      (record { spells = (text u ∷ ts, refl, refl); loose = omega arith; deep = refl; within = omega arith }) e
+  prim_sound (digits z ∷ (mark m ∷ ts)) g e =
+      as_is 0 _ (got (literal z None) 1 (mark m ∷ ts)) g (record { spells = refl; loose = omega arith; deep = refl; within = omega arith }) e
+  prim_sound (digits z ∷ (word n ∷ ts)) g e =
+      as_is 0 _ (got (literal z None) 1 (word n ∷ ts)) g (record { spells = refl; loose = omega arith; deep = refl; within = omega arith }) e
+  prim_sound (digits z ∷ (digits y ∷ ts)) g e =
+      as_is 0 _ (got (literal z None) 1 (digits y ∷ ts)) g (record { spells = refl; loose = omega arith; deep = refl; within = omega arith }) e
 
   steps_sound : (ts : List Tok) (n : ℕ) (g b : Got) → Is (suc d) 0 ts g → steps inner d n g ≡ Some b → Is (suc d) 0 ts b
   unfolding steps
@@ -453,7 +517,8 @@ module _ (inner : ℕ → List Tok → Read) (d : ℕ) (ih : (k : ℕ) (ts : Lis
         within = omega arith;
       }) p.2)
 
-  chain_sound : (ts : List Tok) (k n : ℕ) (g b : Got) → Is (suc d) k ts g → (k ≡ 4 → 4 * n + looseness g.tree ≤ 7) → chain inner d k n g ≡ Some b → Is (suc d) k ts b
+  chain_sound : (ts : List Tok) (k n : ℕ) (g b : Got) → Is (suc d) k ts g → (k ≡ 4 → 4 * n + looseness g.tree ≤ 7) → chain inner d k n g ≡ Some b
+      → Is (suc d) k ts b
   unfolding chain
   chain_sound ts k zero g b h room e = as_is k ts g b h e
   chain_sound ts k (suc n) g b h room e = found (turn k g.rest) _ _ b e
@@ -470,7 +535,9 @@ module _ (inner : ℕ → List Tok → Read) (d : ℕ) (ih : (k : ℕ) (ts : Lis
       let dg = h.deep in
       let rl : looseness p.0.tree ≤ looseness_of t.op - 1 = let z = r.loose in omega arith in
       chain_sound ts k n _ b (record {
-        spells = first_form (is_operator t.op) _ _ ts p.0.rest f.between (g.rest, (left_at t.op k n (looseness g.tree) f.level h.loose room, h.spells), (t.more, f.front, (rl, r.spells)));
+        spells =
+            first_form (is_operator t.op) _ _ ts p.0.rest f.between
+            (g.rest, (left_at t.op k n (looseness g.tree) f.level h.loose room, h.spells), (t.more, f.front, (rl, r.spells)));
         loose = omega arith;
         deep = two_deep dg dr;
         within = omega arith;
@@ -491,7 +558,8 @@ module _ (inner : ℕ → List Tok → Read) (d : ℕ) (ih : (k : ℕ) (ts : Lis
       (λ none go.
       let p = and_then (level inner d j ts) _ g go in
       let h = level_sound j ts p.0 p.1 in
-      chain_sound ts (suc j) (turns_of (suc j) d) p.0 g (looser j (suc j) ts p.0 (omega arith) h) (λ four. let z = h.loose in let o = one_turn (suc j) four in omega arith) p.2)
+      chain_sound ts (suc j) (turns_of (suc j) d) p.0 g (looser j (suc j) ts p.0 (omega arith) h)
+      (λ four. let z = h.loose in let o = one_turn (suc j) four in omega arith) p.2)
       (λ w is go. found (behind (mark_of_one w) ts) _ _ g go
       (λ none go2. looser j (suc j) ts g (omega arith) (level_sound j ts g go2))
       (λ us at go2.

@@ -1,5 +1,6 @@
 -- What statements are read is in the grammar.
-use Rattle.rw_base.proofs.Common.{◌≡◌, ◌≤◌, ◌+◌, ◌∙◌, ◌++◌, ℕ, zero, suc, Bool, true, false, if◌then◌else◌, List, [], ◌∷◌, length, max, Option, Some, None, refl, sym, ap, subst, arith, inl, inr}
+use Rattle.rw_base.proofs.Common.{◌≡◌, ◌≤◌, ◌+◌, ◌∙◌, ◌++◌, ℕ, zero, suc, Bool, true, false, if◌then◌else◌, List, [], ◌∷◌, length, max, Option, Some}
+use Rattle.rw_base.proofs.Common.{None, refl, sym, ap, subst, arith, inl, inr}
 use Rattle.std.proofs.lemmas.List.{append-nil, append_assoc}
 use Rattle.rpl_tree.specs.Tree.{Act, assign, branch, with_name}
 use Rattle.rpl_parse.specs.declared.token.Mark.{Mark}
@@ -9,7 +10,8 @@ use Rattle.rpl_parse.specs.Depth.{depth, act_depth, acts_depth}
 use Rattle.rpl_parse.specs.Grammar.{◌⨾◌, sign, token, Spells}
 use Rattle.rpl_parse.specs.Statements.{SpellsAct, SpellsActs, if_none, if_zero, ◌or◌}
 use Rattle.rpl_parse.specs.Reading.{Read, Got, ◌>>=◌, behind, behind_name, name_before, closed_by_mark, if_found, read_tree}
-use Rattle.rpl_parse.specs.ReadingActs.{Done, done, Step, read_step, Numbered, behind_number, ahead_of, Target, dated, target_read, acts_of, with_act, assigns, ended, others, branches, withs, one_act, no_room, begins_act, more_acts, read_acts}
+use Rattle.rpl_parse.specs.ReadingActs.{Done, done, Step, read_step, Numbered, behind_number, ahead_of, Target, dated, target_read, acts_of, with_act}
+use Rattle.rpl_parse.specs.ReadingActs.{assigns, ended, others, branches, withs, one_act, no_room, begins_act, more_acts, read_acts}
 use Rattle.rpl_parse.proofs.Sound.{some_one, and_then, found, behind_sound, name_sound, name_before_sound, sound, max_three, two_deep, three_deep}
 
 record IsValue (d : ℕ) (m : Mark) (ts : List Tok) (g : Got) : Type 0 where
@@ -31,7 +33,9 @@ record IsStep (d : ℕ) (ts : List Tok) (x : Step) : Type 0 where
 
 -- what is set, behind the name of its object
 abbrev IsTarget : List Tok → Target → Type 0
-IsTarget ts t = (sign M.Dot ⨾ token (word t.slot) ⨾ sign M.LeftBracket ⨾ sign M.Now ⨾ (if_zero t.ahead or (sign M.Plus ⨾ token (digits t.ahead))) ⨾ sign M.RightBracket ⨾ sign M.Assign) ts t.next
+IsTarget ts t =
+    (sign M.Dot ⨾ token (word t.slot) ⨾ sign M.LeftBracket ⨾ sign M.Now ⨾ (if_zero t.ahead or (sign M.Plus ⨾ token (digits t.ahead))) ⨾ sign
+    M.RightBracket ⨾ sign M.Assign) ts t.next
 
 pub number_sound : (ts : List Tok) (x : Numbered) → behind_number ts ≡ Some x → ts ≡ digits x.value ∷ x.next
 number_sound [] x e = absurd (cc e)
@@ -46,16 +50,32 @@ ahead_sound ts x e = found (behind M.Plus ts) _ _ x e
     (λ us is go. inr (us, behind_sound M.Plus ts us is, number_sound us x go))
 
 dated_sound : (s : List ℕ) (ts : List Tok) (t : Target) → dated s ts ≡ Some t
-    → (t.slot ≡ s) × (sign M.LeftBracket ⨾ sign M.Now ⨾ (if_zero t.ahead or (sign M.Plus ⨾ token (digits t.ahead))) ⨾ sign M.RightBracket ⨾ sign M.Assign) ts t.next
+    → (t.slot ≡ s) × (sign M.LeftBracket ⨾ sign M.Now ⨾ (if_zero t.ahead or (sign M.Plus ⨾ token (digits t.ahead))) ⨾ sign M.RightBracket ⨾ sign
+    M.Assign) ts t.next
 dated_sound s ts t e =
     let n = and_then (behind M.LeftBracket ts >>= behind M.Now >>= ahead_of) _ t e in
     let m = and_then (behind M.LeftBracket ts >>= behind M.Now) ahead_of n.0 n.1 in
     let l = and_then (behind M.LeftBracket ts) (behind M.Now) m.0 m.1 in
     let u = and_then (behind M.RightBracket n.0.next >>= behind M.Assign) _ t n.2 in
     let r = and_then (behind M.RightBracket n.0.next) (behind M.Assign) u.0 u.1 in
-    subst (λ (y : Target). (y.slot ≡ s) × (sign M.LeftBracket ⨾ sign M.Now ⨾ (if_zero y.ahead or (sign M.Plus ⨾ token (digits y.ahead))) ⨾ sign M.RightBracket ⨾ sign M.Assign) ts y.next)
-    (some_one (record { slot = s; ahead = n.0.value; next = u.0 }) t u.2)
-    (refl, (l.0, behind_sound M.LeftBracket ts l.0 l.1, (m.0, behind_sound M.Now l.0 m.0 l.2, (n.0.next, ahead_sound m.0 n.0 m.2, (r.0, behind_sound M.RightBracket n.0.next r.0 r.1, behind_sound M.Assign r.0 u.0 r.2)))))
+    subst (λ (y : Target). (y.slot ≡ s) × (sign M.LeftBracket ⨾ sign M.Now ⨾ (if_zero y.ahead or (sign M.Plus ⨾ token (digits y.ahead))) ⨾ sign
+    M.RightBracket ⨾ sign M.Assign) ts y.next)
+    (some_one (record { slot = s; ahead = n.0.value; next = u.0 }) t u.2) (
+      refl,
+      (
+        l.0,
+        behind_sound M.LeftBracket ts l.0 l.1,
+        (
+          m.0,
+          behind_sound M.Now l.0 m.0 l.2,
+          (
+            n.0.next,
+            ahead_sound m.0 n.0 m.2,
+            (r.0, behind_sound M.RightBracket n.0.next r.0 r.1, behind_sound M.Assign r.0 u.0 r.2),
+          ),
+        ),
+      ),
+    )
 
 target_sound : (ts : List Tok) (t : Target) → target_read ts ≡ Some t → IsTarget ts t
 target_sound ts t e =
@@ -66,7 +86,8 @@ target_sound ts t e =
     (p.0, behind_sound M.Dot ts p.0 p.1, (s.0.next, n, h.1))
 
 no_more : (d : ℕ) (a b : Done) → Some a ≡ Some b → IsActs d a b
-no_more d a b e = subst (IsActs d a) (some_one a b e) (record { more = []; acts = sym (append-nil a.acts); spells = refl; most = omega arith; within = λ w. w })
+no_more d a b e =
+    subst (IsActs d a) (some_one a b e) (record { more = []; acts = sym (append-nil a.acts); spells = refl; most = omega arith; within = λ w. w })
 
 module _ (d : ℕ) (value : List Tok → Read) (inner : List Tok → Option Done)
     (vih : (m : Mark) (ts : List Tok) (g : Got) → (value ts >>= closed_by_mark m) ≡ Some g → IsValue d m ts g)
@@ -135,12 +156,15 @@ module _ (d : ℕ) (value : List Tok → Read) (inner : List Tok → Option Done
       let wp = hp.within in
       let wq = hq.within in
       let wr = hr.within in
-      let whole : IsStep (suc d) (mark M.If ∷ ts) (read_step (branch p.0.tree (acts_of q.0.acts) (acts_of r.0.acts)) (max (max p.0.deep q.0.most) r.0.most + 1) s.0.left) = record {
+      let whole : IsStep (suc d) (mark M.If ∷ ts)
+      (read_step (branch p.0.tree (acts_of q.0.acts) (acts_of r.0.acts)) (max (max p.0.deep q.0.most) r.0.most + 1) s.0.left) = record {
         spells = (ts, refl, (hp.spells.0, hp.spells.1, (p.0.rest, hp.spells.2, (q.0.left, hq.spells, (r.0.left, hr.spells, hs.0)))));
         deep = three_deep hp.deep hq.most hr.most;
         within = omega arith;
       } in
-      subst (IsStep (suc d) (mark M.If ∷ ts)) (ap (λ (z : Done). read_step (branch p.0.tree (acts_of q.0.acts) (acts_of z.acts)) (max (max p.0.deep q.0.most) z.most + 1) z.left) (sym hs.1) ∙ some_one _ x s.2) whole
+      subst (IsStep (suc d) (mark M.If ∷ ts)) (ap
+      (λ (z : Done). read_step (branch p.0.tree (acts_of q.0.acts) (acts_of z.acts)) (max (max p.0.deep q.0.most) z.most + 1) z.left) (sym hs.1)
+      ∙ some_one _ x s.2) whole
 
   withs_sound : (ts : List Tok) (x : Step) → withs value inner ts ≡ Some x → IsStep (suc d) (mark M.With ∷ ts) x
   withs_sound ts x e =
@@ -154,12 +178,15 @@ module _ (d : ℕ) (value : List Tok → Read) (inner : List Tok → Option Done
       let hs = ended_sound M.EndWith q.0 s.0 q.2 in
       let wp = hp.within in
       let wq = hq.within in
-      let whole : IsStep (suc d) (mark M.With ∷ ts) (read_step (with_name n.0.called p.0.tree (acts_of q.0.acts)) (max p.0.deep q.0.most + 1) s.0.left) = record {
+      let whole : IsStep (suc d) (mark M.With ∷ ts)
+      (read_step (with_name n.0.called p.0.tree (acts_of q.0.acts)) (max p.0.deep q.0.most + 1) s.0.left) = record {
         spells = (ts, refl, (hn.0, hn.1, (n.0.next, hn.2, (hp.spells.0, hp.spells.1, (p.0.rest, hp.spells.2, (q.0.left, hq.spells, hs.0))))));
         deep = two_deep hp.deep hq.most;
         within = omega arith;
       } in
-      subst (IsStep (suc d) (mark M.With ∷ ts)) (ap (λ (z : Done). read_step (with_name n.0.called p.0.tree (acts_of z.acts)) (max p.0.deep z.most + 1) z.left) (sym hs.1) ∙ some_one _ x s.2) whole
+      subst (IsStep (suc d) (mark M.With ∷ ts))
+      (ap (λ (z : Done). read_step (with_name n.0.called p.0.tree (acts_of z.acts)) (max p.0.deep z.most + 1) z.left) (sym hs.1)
+      ∙ some_one _ x s.2) whole
 
   two_somes : (o : Option Step) (x : Step) → (o >>= (λ y. Some (Some y))) ≡ Some (Some x) → o ≡ Some x
   two_somes None x e = absurd (cc e)
@@ -181,7 +208,9 @@ module _ (d : ℕ) (one : List Tok → Option (Option Step)) (ih : (ts : List To
         more = x.new ∷ h.more;
         acts = h.acts ∙ append_assoc a.acts (x.new ∷ []) h.more;
         spells = (x.rest, s.spells, h.spells);
-        most = h.most ∙ (ap (λ n. max (max a.most n) (acts_depth (acts_of h.more))) s.deep ∙ max_three a.most (act_depth x.new) (acts_depth (acts_of h.more)));
+        most =
+            h.most ∙ (ap (λ n. max (max a.most n) (acts_depth (acts_of h.more))) s.deep
+            ∙ max_three a.most (act_depth x.new) (acts_depth (acts_of h.more)));
         within = λ l. let w = s.within in h.within (omega arith);
       }
 
@@ -192,7 +221,8 @@ module _ (d : ℕ) (one : List Tok → Option (Option Step)) (ih : (ts : List To
       let p = and_then (one a.left) _ b e in
       by_one p.0 p.1 p.2 (λ c f. more_sound n c b f)
     where
-      by_one : (o : Option Step) → one a.left ≡ Some o → if_found o (Some a) (λ x. more_acts one n (with_act a x)) ≡ Some b → ((c : Done) → more_acts one n c ≡ Some b → IsActs d c b) → IsActs d a b
+      by_one : (o : Option Step) → one a.left ≡ Some o → if_found o (Some a) (λ x. more_acts one n (with_act a x)) ≡ Some b
+          → ((c : Done) → more_acts one n c ≡ Some b → IsActs d c b) → IsActs d a b
       by_one None is go next = no_more d a b go
       by_one (Some x) is go next = joined a x b (ih a.left x is) (next (with_act a x) go)
 
@@ -201,7 +231,8 @@ value_sound d m ts g e =
     let p = and_then (read_tree d 7 ts) (closed_by_mark m) g e in
     let q = and_then (behind m p.0.rest) _ g p.2 in
     let h = sound d 7 ts p.0 p.1 in
-    subst (IsValue d m ts) (some_one _ g q.2) (record { spells = (p.0.rest, h.spells, behind_sound m p.0.rest q.0 q.1); deep = h.deep; within = h.within })
+    subst (IsValue d m ts) (some_one _ g q.2)
+    (record { spells = (p.0.rest, h.spells, behind_sound m p.0.rest q.0 q.1); deep = h.deep; within = h.within })
 
 nothing_there : (ts : List Tok) (x : Step) → no_room ts ≡ Some (Some x) → IsStep 0 ts x
 nothing_there ts x e = by_test (begins_act ts) e
@@ -213,4 +244,6 @@ nothing_there ts x e = by_test (begins_act ts) e
 pub acts_sound : (d : ℕ) (ts : List Tok) (b : Done) → read_acts d ts ≡ Some b → IsActs d (done [] 0 ts) b
 unfolding read_acts
 acts_sound zero ts b e = more_sound 0 no_room nothing_there (length ts) (done [] 0 ts) b e
-acts_sound (suc d) ts b e = more_sound (suc d) (one_act (read_tree d 7) (read_acts d)) (one_sound d (read_tree d 7) (read_acts d) (value_sound d) (acts_sound d)) (length ts) (done [] 0 ts) b e
+acts_sound (suc d) ts b e =
+    more_sound (suc d) (one_act (read_tree d 7) (read_acts d)) (one_sound d (read_tree d 7) (read_acts d) (value_sound d) (acts_sound d)) (length ts)
+    (done [] 0 ts) b e

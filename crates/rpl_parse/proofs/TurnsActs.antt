@@ -1,5 +1,6 @@
 -- One turn of the reading of statements.
-use Rattle.rw_base.proofs.Common.{◌≡◌, ◌<◌, ◌-◌, ◌+◌, ◌∙◌, ℕ, zero, suc, List, [], length, Option, Some, None, refl, sym, ap, arith, Result, Ok, Err, subst, IsErrAnd, Bor, Vec, Global}
+use Rattle.rw_base.proofs.Common.{◌≡◌, ◌<◌, ◌-◌, ◌+◌, ◌∙◌, ℕ, zero, suc, List, [], length, Option, Some, None, refl, sym, ap, arith, Result, Ok, Err}
+use Rattle.rw_base.proofs.Common.{subst, IsErrAnd, Bor, Vec, Global}
 use Rattle.rpl_tree.specs.declared.statement.Statement.{Statement}
 use Rattle.rpl_parse.specs.declared.token.TokenAt.{TokenAt}
 use Rattle.rpl_parse.specs.declared.stop.Stop.{Stop}
@@ -27,7 +28,8 @@ module _ (one : List Tok → Option (Option Step)) where
       let s : n - k ≡ suc (n - (k + 1)) = omega arith in
       ap (λ m. more_acts one m a) s ∙ acts_end (n - (k + 1)) a e
 
-  pub acts_go : (n k : ℕ) (a : Done) (x : Step) → k < n → one a.left ≡ Some (Some x) → more_acts one (n - k) a ≡ more_acts one (n - (k + 1)) (with_act a x)
+  pub acts_go : (n k : ℕ) (a : Done) (x : Step) → k < n → one a.left ≡ Some (Some x)
+      → more_acts one (n - k) a ≡ more_acts one (n - (k + 1)) (with_act a x)
   acts_go n k a x lt e =
       let s : n - k ≡ suc (n - (k + 1)) = omega arith in
       ap (λ m. more_acts one m a) s ∙ acts_turn (n - (k + 1)) a x e
@@ -37,6 +39,7 @@ unfolding read_acts
 acts_is zero n ts e = rw e refl
 acts_is (suc d) n ts e = rw e refl
 
-pub acts_fault : (source : List ℕ) (d : ℕ) (result : Result (Vec Statement Global × ℕ × Bor (List TokenAt)) Stop) (read : Option Done) (f : Stop) → IsErrAnd result (λ e. e ≡ f) → Fails f read → GivesActs source d result read
+pub acts_fault : (source : List ℕ) (d : ℕ) (result : Result (Vec Statement Global × ℕ × Bor (List TokenAt)) Stop) (read : Option Done) (f : Stop)
+    → IsErrAnd result (λ e. e ≡ f) → Fails f read → GivesActs source d result read
 acts_fault source d (Ok x) read f same why = absurd same
 acts_fault source d (Err e) read f same why = subst (λ g. Fails g read) (sym same) why

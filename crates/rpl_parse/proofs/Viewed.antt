@@ -2,7 +2,8 @@
 use Rattle.rw_base.proofs.Common.{◌≡◌, ℕ, List, [], ◌∷◌, map, refl, ap, ap₂, ◌∙◌, Vec, Global, Count}
 use Rattle.rpl_tree.specs.declared.expression.Expr.{Expr, Row_of-Expr, end_of-Expr, more_of-Expr, items-the_row-Expr, items_hidden-the_row-Expr-0}
 use Rattle.rpl_tree.specs.declared.expression.Expr.TheVariants.{Call, Call', List as Listed, List'}
-use Rattle.rpl_tree.specs.declared.statement.Statement.{Statement, Row_of-Statement, end_of-Statement, more_of-Statement, items-the_row-Statement, items_hidden-the_row-Statement-0}
+use Rattle.rpl_tree.specs.declared.statement.Statement.{Statement, Row_of-Statement, end_of-Statement, more_of-Statement, items-the_row-Statement}
+use Rattle.rpl_tree.specs.declared.statement.Statement.{items_hidden-the_row-Statement-0}
 use Rattle.rpl_tree.specs.declared.statement.Statement.TheVariants.{If as Branched, If', With, With'}
 use Rattle.rpl_tree.proofs.Common.{Trees, tree, call, list, Acts, act, branch, with_name, tree_of, act_of}
 use Rattle.rpl_tree.specs.Seen as Seen
@@ -43,14 +44,18 @@ second_row _ = (_, end_of-Statement)
 abbrev acts_by : List Statement → Acts
 acts_by ss = acts_of (map act_of ss)
 
-pub act_of_branch : (c : Expr) (ys ns : Vec Statement Global) → act_of (Branched c ys ns) ≡ branch (tree_of c) (acts_of (map act_of ys.items)) (acts_of (map act_of ns.items))
+pub act_of_branch : (c : Expr) (ys ns : Vec Statement Global)
+    → act_of (Branched c ys ns) ≡ branch (tree_of c) (acts_of (map act_of ys.items)) (acts_of (map act_of ns.items))
 act_of_branch c ys ns =
     let first = first_row (Branched c ys ns) in
     let second = second_row (Branched c ys ns) in
-    ap₂ (branch (tree_of c)) (row_acts first.0 first.1 ∙ ap acts_by (items_hidden-the_row-Statement-0 ys)) (row_acts second.0 second.1 ∙ ap acts_by (items_hidden-the_row-Statement-0 ns))
+    ap₂ (branch (tree_of c)) (row_acts first.0 first.1 ∙ ap acts_by (items_hidden-the_row-Statement-0 ys))
+    (row_acts second.0 second.1 ∙ ap acts_by (items_hidden-the_row-Statement-0 ns))
 
-pub act_of_with : (x : Vec ℕ Global) (e : Expr) (body : Vec Statement Global) → act_of (With x e body) ≡ with_name x.items (tree_of e) (acts_of (map act_of body.items))
-act_of_with x e body = let row = first_row (With x e body) in ap (with_name x.items (tree_of e)) (row_acts row.0 row.1 ∙ ap acts_by (items_hidden-the_row-Statement-0 body))
+pub act_of_with : (x : Vec ℕ Global) (e : Expr) (body : Vec Statement Global)
+    → act_of (With x e body) ≡ with_name x.items (tree_of e) (acts_of (map act_of body.items))
+act_of_with x e body = let row =
+    first_row (With x e body) in ap (with_name x.items (tree_of e)) (row_acts row.0 row.1 ∙ ap acts_by (items_hidden-the_row-Statement-0 body))
 
 -- the definitions of trees and the reading speak of a list in two ways
 pub acts_listed : (ss : List Statement) → Seen.acts_in ss ≡ acts_of (map act_of ss)

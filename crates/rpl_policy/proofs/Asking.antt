@@ -1,5 +1,7 @@
 -- Whatever a firing of code asks for, it can ask for: a slot that can be set, and a value that it can have.
-use Rattle.rw_base.proofs.Common.{◌≡◌, ℕ, zero, suc, ◌-◌, ◌<◌, ◌≤◌, ℤ, pos, unsigned_abs, Bool, true, false, ◌&&◌, nat_le, List, [], ◌∷◌, drop, length, take, reverse, All, All-append, All-cons, All-nil, Option, Some, None, refl, sym, subst, arith, if◌then◌else◌, nat_tests, none-some, slice_get, slice_get_within}
+use Rattle.rw_base.proofs.Common.{◌≡◌, ℕ, zero, suc, ◌-◌, ◌<◌, ◌≤◌, ℤ, pos, unsigned_abs, Bool, true, false, ◌&&◌, nat_le, List, [], ◌∷◌, drop}
+use Rattle.rw_base.proofs.Common.{length, take, reverse, All, All-append, All-cons, All-nil, Option, Some, None, refl, sym, subst, arith}
+use Rattle.rw_base.proofs.Common.{if◌then◌else◌, nat_tests, none-some, slice_get, slice_get_within}
 use Rattle.std.specs.Prelude.{is_ok}
 use Rattle.rw_base.specs.declared.number.Cell.{Cell}
 use Rattle.rw_base.proofs.Tests.{Decides-from_to}
@@ -11,14 +13,17 @@ use Rattle.rw_run.specs.Policy.{CanAsk}
 use Rattle.rpl_code.specs.declared.block.Block.{Block}
 use Rattle.rpl_code.specs.declared.instruction.Instruction.{Instruction}
 use Rattle.rpl_code.specs.declared.instruction.Instruction.TheVariants as I
-use Rattle.rpl_tree.proofs.Common.{Answer, Outcome, Trail, Value, World, a_date, a_number, a_slot, a_truth, bounds_at, can_set, ended, fire_of, gives, goes_on, is_stuck, is_within, numbers, put_of, slots, stuck, value, with_elements, within_or_end, ◌>>=◌}
+use Rattle.rpl_tree.proofs.Common.{Answer, Outcome, Trail, Value, World, a_date, a_number, a_slot, a_truth, bounds_at, can_set, ended, fire_of, gives}
+use Rattle.rpl_tree.proofs.Common.{goes_on, is_stuck, is_within, numbers, put_of, slots, stuck, value, with_elements, within_or_end, ◌>>=◌}
 use Rattle.rpl_tree.specs.World.{can_put_ahead, is_settable_slot, put_ahead}
 use Rattle.rpl_tree.proofs.PutsAhead.{is_near}
 use Rattle.rpl_tree.specs.Operators.{elements_of}
 use Rattle.rpl_tree.proofs.FramedTrees.{puts_in}
 use Rattle.rpl_verify.specs.Fits.{end_kinds, locals_of}
 use Rattle.rpl_verify.specs.Kinds.{are_same_kinds, element_kind, is_that_kind}
-use Rattle.rpl_verify.specs.Machine.{Frame, Running, State, act, at_place, branched, entered, fire_of_code, fired, first_frame, handed_back, in_loop, invoked, loaded, most_steps, onward, operated, put_by_frame, returned, row_in, run, step, step_at, step_by, step_in, stored, turned, with_made, yielded}
+use Rattle.rpl_verify.specs.Machine.{Frame, Running, State, act, at_place, branched, entered, fire_of_code, fired, first_frame, handed_back, in_loop}
+use Rattle.rpl_verify.specs.Machine.{invoked, loaded, most_steps, onward, operated, put_by_frame, returned, row_in, run, step, step_at, step_by}
+use Rattle.rpl_verify.specs.Machine.{step_in, stored, turned, with_made, yielded}
 use Rattle.rpl_verify.specs.Operations.{kind_of, kinds_of, operation}
 use Rattle.rpl_verify.specs.Places.{Loop, is_same_loop, mapping, visiting}
 use Rattle.rpl_verify.specs.Table.{operand_count, operands_behind}
@@ -42,7 +47,8 @@ can_ask : (basin : Draft) (s : ℕ) (ahead z : ℤ) → can_set basin s ≡ true
 can_ask basin s ahead z can near within =
     let there = slot_there (slot_at basin.objects s) can in
     let first : 1 ≤ s = first_known (all_slots basin.objects) s there.0 there.1 in
-    let below : s - 1 < length (all_slots basin.objects) = slice_get_within (all_slots basin.objects) (s - 1) there.0 (numbered-found (all_slots basin.objects) s there.0 there.1) in
+    let below : s - 1 < length (all_slots basin.objects) =
+    slice_get_within (all_slots basin.objects) (s - 1) there.0 (numbered-found (all_slots basin.objects) s there.0 there.1) in
     let between = (Decides-from_to (bounds_at basin s).0 (bounds_at basin s).1 z).0 within in
     record {
       slot = record { first = first; last = omega (arith, first, below) };
@@ -115,7 +121,8 @@ module _ (basin : Draft) where
     met_asks : (b : Bool) (f : Frame) → Asks (if b then gives (onward f.operands f) 1 else is_stuck)
     met_asks b f = by_test b (gives (onward f.operands f) 1) is_stuck (All-nil (CanAsk basin)) (All-nil (CanAsk basin))
 
-    elements_ask : (found : Option (List Value)) (go : List Value → Outcome Frame) → ((vs : List Value) → Asks (go vs)) → Asks (with_elements found go)
+    elements_ask : (found : Option (List Value)) (go : List Value → Outcome Frame) → ((vs : List Value) → Asks (go vs))
+        → Asks (with_elements found go)
     elements_ask None go asks = All-nil (CanAsk basin)
     elements_ask (Some vs) go asks = asks vs
 
@@ -125,13 +132,15 @@ module _ (basin : Draft) where
         by_test (is_that_kind (slice_get (locals_of x) n) (element_kind (kind_of v))) _ is_stuck
         (elements_ask (elements_of v) _ (λ elements. All-nil (CanAsk basin))) (All-nil (CanAsk basin))
 
-    in_loop_asks : (loop : Loop) (running : List Running) (go : Running → List Running → Outcome Frame) → ((r : Running) (rs : List Running) → Asks (go r rs)) → Asks (in_loop loop running go)
+    in_loop_asks : (loop : Loop) (running : List Running) (go : Running → List Running → Outcome Frame)
+        → ((r : Running) (rs : List Running) → Asks (go r rs)) → Asks (in_loop loop running go)
     in_loop_asks loop [] go asks = All-nil (CanAsk basin)
     in_loop_asks loop (r ∷ others) go asks = by_test (is_same_loop loop r.loop) (go r others) is_stuck (asks r others) (All-nil (CanAsk basin))
 
     yielded_asks : (vs : List Value) (f : Frame) → Asks (yielded vs f)
     yielded_asks (a_number z ∷ vs) f =
-        in_loop_asks mapping f.loops (λ r others. gives (turned (suc f.place) (with_made z r) r.left others (at_place f.place vs f)) 1) (λ r rs. All-nil (CanAsk basin))
+        in_loop_asks mapping f.loops (λ r others. gives (turned (suc f.place) (with_made z r) r.left others (at_place f.place vs f)) 1)
+        (λ r rs. All-nil (CanAsk basin))
     yielded_asks (a_truth b ∷ vs) f = All-nil (CanAsk basin)
     yielded_asks (a_date d ∷ vs) f = All-nil (CanAsk basin)
     yielded_asks (a_slot s ∷ vs) f = All-nil (CanAsk basin)
@@ -141,7 +150,8 @@ module _ (basin : Draft) where
 
     did_put : (slot : Option ℕ) (ahead : ℕ) (vs : List Value) (f : Frame) → Asks (put_by_frame basin slot ahead vs f)
     did_put slot ahead [] f = All-nil (CanAsk basin)
-    did_put slot ahead (v ∷ vs) f = bind (put_of basin slot (pos ahead) v) (λ done. gives (onward vs f) 0) (put_asks slot (pos ahead) v) (λ done. All-nil (CanAsk basin))
+    did_put slot ahead (v ∷ vs) f =
+        bind (put_of basin slot (pos ahead) v) (λ done. gives (onward vs f) 0) (put_asks slot (pos ahead) v) (λ done. All-nil (CanAsk basin))
 
     operated_asks : (x : Block) (i : Instruction) (f : Frame) → Asks (operated code w x i f)
     operated_asks x i f =
@@ -156,7 +166,8 @@ module _ (basin : Draft) where
     act_asks x (I.Branch to) f = branched_asks x to f.operands f
     act_asks x (I.Target kinds) f = met_asks _ f
     act_asks x (I.Foreach n) f = entered_asks x visiting n f.operands f
-    act_asks x I.Next f = in_loop_asks visiting f.loops (λ r others. gives (turned (suc f.place) r r.left others f) 1) (λ r rs. All-nil (CanAsk basin))
+    act_asks x I.Next f =
+        in_loop_asks visiting f.loops (λ r others. gives (turned (suc f.place) r r.left others f) 1) (λ r rs. All-nil (CanAsk basin))
     act_asks x (I.Map n) f = entered_asks x mapping n f.operands f
     act_asks x I.Yield f = yielded_asks f.operands f
     act_asks x (I.Put object slot ahead) f = did_put (slot_named basin.objects object slot) ahead f.operands f
@@ -175,10 +186,12 @@ module _ (basin : Draft) where
     at_asks : (o : Option Instruction) (x : Block) (f : Frame) (callers : List Frame) → Asks (step_at code w o x f callers)
     at_asks None x f callers =
         by_test _ (returned x f callers) is_stuck
-        (by_test (are_same_kinds (end_kinds x.head) (kinds_of f.operands)) (gives (handed_back f.operands callers) 0) is_stuck (All-nil (CanAsk basin)) (All-nil (CanAsk basin)))
+        (by_test (are_same_kinds (end_kinds x.head) (kinds_of f.operands)) (gives (handed_back f.operands callers) 0) is_stuck
+        (All-nil (CanAsk basin)) (All-nil (CanAsk basin)))
         (All-nil (CanAsk basin))
     at_asks (Some i) x f callers =
-        by_test (is_ok (operands_behind (row_in code w x i) (kinds_of f.operands))) (step_by code w x i f callers) is_stuck (by_asks x i f callers) (All-nil (CanAsk basin))
+        by_test (is_ok (operands_behind (row_in code w x i) (kinds_of f.operands))) (step_by code w x i f callers) is_stuck (by_asks x i f callers)
+        (All-nil (CanAsk basin))
 
     in_asks : (o : Option Block) (f : Frame) (callers : List Frame) → Asks (step_in code w o f callers)
     in_asks None f callers = All-nil (CanAsk basin)
@@ -198,7 +211,8 @@ module _ (basin : Draft) where
 
     fired_asks : (o : Option Frame) (fire : Fire) → fired code w o ≡ Some fire → All (CanAsk basin) fire.puts
     fired_asks None fire is = absurd (none-some fire is)
-    fired_asks (Some f) fire is = told_asks (run code w most_steps (f ∷ [])).answer (run code w most_steps (f ∷ [])).trail fire (run_asks most_steps (f ∷ [])) is
+    fired_asks (Some f) fire is =
+        told_asks (run code w most_steps (f ∷ [])).answer (run code w most_steps (f ∷ [])).trail fire (run_asks most_steps (f ∷ [])) is
 
 pub code_asks : (code : List Block) (basin : Draft) (rule step : ℕ) (values : Cell → Option ℤ) (fire : Fire)
     → fire_of_code code basin rule step values ≡ Some fire → All (CanAsk basin) fire.puts

@@ -1,5 +1,6 @@
 -- The policy of accepted code keeps what is asked of a policy.
-use Rattle.rw_base.proofs.Common.{◌≡◌, ◌∙◌, ℕ, zero, suc, ◌≤◌, ℤ, List, [], ◌∷◌, Option, Some, IsSome, arith, subst, sym, refl, get_or, slice_get-get_or}
+use Rattle.rw_base.proofs.Common.{◌≡◌, ◌∙◌, ℕ, zero, suc, ◌≤◌, ℤ, List, [], ◌∷◌, Option, Some, IsSome, arith, subst, sym, refl, get_or}
+use Rattle.rw_base.proofs.Common.{slice_get-get_or}
 use Rattle.rw_base.specs.declared.number.Cell.{Cell}
 use Rattle.rw_model.proofs.Common.{Draft}
 use Rattle.rw_series.specs.Fire.{Fire}
@@ -27,7 +28,8 @@ block_of code (suc r) first last = (
 )
 
 ends : (basin : Draft) (code : List Block) (budgets : List Budget) → AreSafe basin code budgets
-    → (rule step : ℕ) (values : Cell → Option ℤ) → IsRule (policy_of_code basin code) rule → IsSome ((policy_of_code basin code).fire rule step values)
+    → (rule step : ℕ) (values : Cell → Option ℤ) → IsRule (policy_of_code basin code) rule
+    → IsSome ((policy_of_code basin code).fire rule step values)
 ends basin code budgets safe rule step values known =
     let at = block_of code rule known.first known.last in
     let own = safe rule at.0 step values at.1 in
@@ -37,7 +39,8 @@ same_alike : (one other : Cell → Option ℤ) (cells : List Cell) → AreAlike 
 same_alike one other [] alike = tt
 same_alike one other (cell ∷ cells) alike = (alike.0, same_alike one other cells alike.1)
 
-pub code_promises : (basin : Draft) (code : List Block) (budgets : List Budget) → AreSafe basin code budgets → IsPolicyOf basin (policy_of_code basin code)
+pub code_promises : (basin : Draft) (code : List Block) (budgets : List Budget) → AreSafe basin code budgets
+    → IsPolicyOf basin (policy_of_code basin code)
 code_promises basin code budgets safe = record {
   ends = ends basin code budgets safe;
   framed = λ rule step one other fire is alike. code_framed code basin rule step one other fire is (same_alike one other fire.looked alike);

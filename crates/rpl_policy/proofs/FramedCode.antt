@@ -1,5 +1,6 @@
 -- A firing of code depends on the cells alone at which it looks: step by step.
-use Rattle.rw_base.proofs.Common.{◌≡◌, ◌≢◌, ℕ, zero, suc, ℤ, Bool, true, false, List, [], ◌∷◌, drop, take, reverse, Option, Some, None, refl, sym, subst, if◌then◌else◌, none-some, slice_get}
+use Rattle.rw_base.proofs.Common.{◌≡◌, ◌≢◌, ℕ, zero, suc, ℤ, Bool, true, false, List, [], ◌∷◌, drop, take, reverse, Option, Some, None, refl, sym}
+use Rattle.rw_base.proofs.Common.{subst, if◌then◌else◌, none-some, slice_get}
 use Rattle.std.specs.Prelude.{is_ok}
 use Rattle.rw_base.specs.declared.number.Cell.{Cell}
 use Rattle.rw_model.proofs.Common.{Draft, numbered}
@@ -12,7 +13,8 @@ use Rattle.rpl_tree.proofs.Common.{Outcome, Value, World, fire_of, gives, is_stu
 use Rattle.rpl_tree.specs.Frame.{AgreeAt}
 use Rattle.rpl_tree.proofs.Framed.{Same, same_bind, same_itself, same_known, same_read, same_then, world}
 use Rattle.rpl_tree.proofs.FramedTrees.{asks_nothing, looked_of}
-use Rattle.rpl_verify.specs.Machine.{Frame, State, act, fire_of_code, fired, first_frame, most_steps, onward, operated, row_in, run, step, step_at, step_by, step_in}
+use Rattle.rpl_verify.specs.Machine.{Frame, State, act, fire_of_code, fired, first_frame, most_steps, onward, operated, row_in, run, step, step_at}
+use Rattle.rpl_verify.specs.Machine.{step_by, step_in}
 use Rattle.rpl_verify.specs.Operations.{kinds_of, of_two, operation}
 use Rattle.rpl_verify.specs.Table.{operand_count, operands_behind}
 
@@ -62,10 +64,12 @@ module _ (one other : Cell → Option ℤ) (basin : Draft) (now : ℕ) (code : L
   by_test true r s q rs = rs
   by_test false r s q rs = same_itself one other q
 
-  same_at : (o : Option Instruction) (x : Block) (f : Frame) (callers : List Frame) → Like (step_at code w1 o x f callers) (step_at code w2 o x f callers)
+  same_at : (o : Option Instruction) (x : Block) (f : Frame) (callers : List Frame)
+      → Like (step_at code w1 o x f callers) (step_at code w2 o x f callers)
   same_at None x f callers = λ alike. refl
   same_at (Some i) x f callers =
-      by_test (is_ok (operands_behind (row_in code w1 x i) (kinds_of f.operands))) (step_by code w1 x i f callers) (step_by code w2 x i f callers) is_stuck
+      by_test (is_ok (operands_behind (row_in code w1 x i) (kinds_of f.operands))) (step_by code w1 x i f callers)
+      (step_by code w2 x i f callers) is_stuck
       (same_by x i f callers)
 
   same_in : (o : Option Block) (f : Frame) (callers : List Frame) → Like (step_in code w1 o f callers) (step_in code w2 o f callers)
@@ -76,7 +80,8 @@ module _ (one other : Cell → Option ℤ) (basin : Draft) (now : ℕ) (code : L
   same_run n [] = λ alike. refl
   same_run zero (f ∷ callers) = λ alike. refl
   same_run (suc n) (f ∷ callers) =
-      same_bind one other (step code w1 f callers) (step code w2 f callers) (run code w1 n) (run code w2 n) (same_in (numbered code f.block) f callers) (same_run n)
+      same_bind one other (step code w1 f callers) (step code w2 f callers) (run code w1 n) (run code w2 n)
+      (same_in (numbered code f.block) f callers) (same_run n)
 
   same_fired : (o : Option Frame) (fire : Fire) → fired code w1 o ≡ Some fire → AgreeAt one other fire.looked → fired code w2 o ≡ Some fire
   same_fired None fire is alike = absurd (none-some fire is)

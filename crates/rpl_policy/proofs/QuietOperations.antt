@@ -1,5 +1,6 @@
 -- An instruction that makes a value of its operands puts nothing, whatever they are.
-use Rattle.rw_base.proofs.Common.{◌≡◌, ℕ, ◌+◌, ℤ, pos, ◌+ℤ◌, ◌-ℤ◌, ◌*ℤ◌, Bool, true, false, nat_le, List, [], ◌∷◌, ◌++◌, length, Option, Some, None, refl, bytes_eq, if◌then◌else◌, int_le, int_lt, unsigned_abs}
+use Rattle.rw_base.proofs.Common.{◌≡◌, ℕ, ◌+◌, ℤ, pos, ◌+ℤ◌, ◌-ℤ◌, ◌*ℤ◌, Bool, true, false, nat_le, List, [], ◌∷◌, ◌++◌, length, Option, Some, None}
+use Rattle.rw_base.proofs.Common.{refl, bytes_eq, if◌then◌else◌, int_le, int_lt, unsigned_abs}
 use Rattle.std.specs.Ordering.{int_eq}
 use Rattle.rw_base.specs.Quotient.{floor_div}
 use Rattle.rw_calendar.specs.declared.moment.Moment.{Moment}
@@ -12,7 +13,11 @@ use Rattle.rpl_code.specs.declared.instruction.Instruction.TheVariants as I
 use Rattle.rpl_tree.specs.declared.words.ConvertWord.{ConvertWord}
 use Rattle.rpl_tree.specs.declared.words.ConvertWord.TheVariants.{ElevationToStorage, StorageToElevation}
 use Rattle.rpl_tree.specs.Operators.{compared}
-use Rattle.rpl_tree.proofs.Common.{Function, Outcome, Value, World, a_date, a_number, a_slot, a_truth, all_numbers, all_slot_values, append_of, at_most_of, convert_of, converted, date_part, difference_of, ends, equal_of, exactly, gives, in_place, is_quantity, is_step, is_stuck, item_of, item_or_end, known_of, length_of, less_of, list_of, negative_of, not_of, numbers, predefined_answer, predefined_functions, product_of, quotient_of, read_of, said_or_end, slot_or_stuck, slots, sum_of, table_named}
+use Rattle.rpl_tree.proofs.Common.{Function, Outcome, Value, World, a_date, a_number, a_slot, a_truth, all_numbers, all_slot_values, append_of}
+use Rattle.rpl_tree.proofs.Common.{at_most_of, convert_of, converted, date_part, difference_of, ends, equal_of, exactly, gives, in_place, is_quantity}
+use Rattle.rpl_tree.proofs.Common.{is_step, is_stuck, item_of, item_or_end, known_of, length_of, less_of, list_of, negative_of, not_of, numbers}
+use Rattle.rpl_tree.proofs.Common.{predefined_answer, predefined_functions, product_of, quotient_of, read_of, said_or_end, slot_or_stuck, slots}
+use Rattle.rpl_tree.proofs.Common.{sum_of, table_named}
 use Rattle.rpl_verify.specs.Operations.{of_function, of_one, of_two, operation, widen_of}
 use Rattle.rpl_verify.specs.Table.{function_named}
 
@@ -199,13 +204,16 @@ operation_quiet world I.Dle args = two_quiet args at_most_of (compared_quiet int
 operation_quiet world I.Not args = one_quiet args not_of not_quiet
 operation_quiet world I.Read args = two_quiet args (read_of world) (read_quiet world)
 operation_quiet world I.Known args = two_quiet args (known_of world) (known_quiet world)
-operation_quiet world I.Month args = one_quiet args (date_part world.basin (λ (m : Moment). m.month)) (part_quiet world.basin (λ (m : Moment). m.month))
+operation_quiet world I.Month args =
+    one_quiet args (date_part world.basin (λ (m : Moment). m.month)) (part_quiet world.basin (λ (m : Moment). m.month))
 operation_quiet world I.Day args = one_quiet args (date_part world.basin (λ (m : Moment). m.day)) (part_quiet world.basin (λ (m : Moment). m.day))
 operation_quiet world I.Year args = one_quiet args (date_part world.basin (λ (m : Moment). m.year)) (part_quiet world.basin (λ (m : Moment). m.year))
 operation_quiet world (I.ToElevation object) args =
-    one_quiet args (convert_of StorageToElevation (table_named world.basin object)) (convert_quiet StorageToElevation (table_named world.basin object))
+    one_quiet args (convert_of StorageToElevation (table_named world.basin object))
+    (convert_quiet StorageToElevation (table_named world.basin object))
 operation_quiet world (I.ToStorage object) args =
-    one_quiet args (convert_of ElevationToStorage (table_named world.basin object)) (convert_quiet ElevationToStorage (table_named world.basin object))
+    one_quiet args (convert_of ElevationToStorage (table_named world.basin object))
+    (convert_quiet ElevationToStorage (table_named world.basin object))
 operation_quiet world (I.Call name) args = call_quiet predefined_functions name args all_quiet
 operation_quiet world (I.List n) args = list_quiet args
 operation_quiet world I.Append args = two_quiet args append_of append_quiet

@@ -1,5 +1,6 @@
 -- Each firing in a run of accepted code is one of verified code.
-use Rattle.rw_base.proofs.Common.{◌≡◌, ◌∙◌, ℕ, ◌+◌, ℤ, Bool, true, false, nat_le, nat_lt, List, [], ◌∷◌, Option, Some, None, ap, refl, sym, subst, if◌then◌else◌, none-some, option_and_then, option_map, same_Some}
+use Rattle.rw_base.proofs.Common.{◌≡◌, ◌∙◌, ℕ, ◌+◌, ℤ, Bool, true, false, nat_le, nat_lt, List, [], ◌∷◌, Option, Some, None, ap, refl, sym, subst}
+use Rattle.rw_base.proofs.Common.{if◌then◌else◌, none-some, option_and_then, option_map, same_Some}
 use Rattle.std.specs.Option.{ForSome}
 use Rattle.rw_base.specs.declared.number.Cell.{Cell}
 use Rattle.rw_model.proofs.Common.{Draft, numbered}
@@ -10,7 +11,9 @@ use Rattle.rw_series.specs.declared.fire.FireEnd.{FireEnd}
 use Rattle.rw_series.specs.declared.fire.FireEnd.TheVariants.{Done, OutOfRange as BeyondRange, Unknown, ZeroDivisor as DividesByZero}
 use Rattle.rw_series.specs.declared.look.Look.{Look}
 use Rattle.rw_run.specs.declared.fault.RunFault.TheVariants.{ObjectLimit, RuleLimit}
-use Rattle.rw_run.proofs.Common.{Asked, Cells, Event, Leads, Log, after_objects, answered, asked_for, cells_of, denied_by, dispatch_of, dispatched, dispatches, end_in, fault, first_due, first_waiting, follows_in, given, inside, judged, looks_of, next_of, opened, or_fault, placed, rests, solved_by, standing, value_in}
+use Rattle.rw_run.proofs.Common.{Asked, Cells, Event, Leads, Log, after_objects, answered, asked_for, cells_of, denied_by, dispatch_of, dispatched}
+use Rattle.rw_run.proofs.Common.{dispatches, end_in, fault, first_due, first_waiting, follows_in, given, inside, judged, looks_of, next_of, opened}
+use Rattle.rw_run.proofs.Common.{or_fault, placed, rests, solved_by, standing, value_in}
 use Rattle.rw_run.specs.Next.{asked_next, ended, firing_of, firings}
 use Rattle.rw_run.specs.Runs.{IsRun, Standing, over}
 use Rattle.rpl_code.specs.declared.block.Block.{Block}
@@ -44,7 +47,8 @@ turn_of_end basin cells rule step fire (BeyondRange value) = refl
 turn_of_end basin cells rule step fire Unknown = refl
 turn_of_end basin cells rule step fire Done = refl
 
-denied_none : (denied : Option (ℤ × ℤ)) (object : ℕ) (put : Asked) (rest : Event) → turn_in rest ≡ None → turn_in (or_fault denied object put rest) ≡ None
+denied_none : (denied : Option (ℤ × ℤ)) (object : ℕ) (put : Asked) (rest : Event) → turn_in rest ≡ None
+    → turn_in (or_fault denied object put rest) ≡ None
 denied_none None object put rest none = none
 denied_none (Some values) object put rest none = refl
 
@@ -53,9 +57,11 @@ judged_none cells object [] rest none = none
 judged_none cells object (put ∷ puts) rest none =
     denied_none (denied_by (end_in cells put) put) object put (judged cells object puts rest) (judged_none cells object puts rest none)
 
-answered_none : (basin : Draft) (cells : Cells) (looked : List Look) (object step : ℕ) (solved : Solved) → turn_in (answered basin cells looked object step solved) ≡ None
+answered_none : (basin : Draft) (cells : Cells) (looked : List Look) (object step : ℕ) (solved : Solved)
+    → turn_in (answered basin cells looked object step solved) ≡ None
 answered_none basin cells looked object step Idle = refl
-answered_none basin cells looked object step (Puts puts) = judged_none cells object (asked_for basin object step puts) (dispatch_of cells looked object step (asked_for basin object step puts)) refl
+answered_none basin cells looked object step (Puts puts) =
+    judged_none cells object (asked_for basin object step puts) (dispatch_of cells looked object step (asked_for basin object step puts)) refl
 answered_none basin cells looked object step (Conflict place held solves) = refl
 answered_none basin cells looked object step (OutOfRange place value) = refl
 
@@ -96,12 +102,14 @@ module _ (basin : Draft) (code : List Block) (budgets : List Budget) (safe : Are
   told log event rule step (Some fire) does is = fires log event rule step fire does (same_Some _ event is)
 
   limited : (log : Log) (event : Event) (rule step : ℕ) (reached : Bool)
-      → (if reached then Some (fault (RuleLimit (record { 0 = rule }) (record { 0 = step }) (firings log rule))) else firing_of basin (policy_of_code basin code) (cells_of basin log) rule step) ≡ Some event
+      → (if reached then Some (fault (RuleLimit (record { 0 = rule }) (record { 0 = step }) (firings log rule))) else firing_of basin
+      (policy_of_code basin code) (cells_of basin log) rule step) ≡ Some event
       → Verified log event
   limited log event rule step true is = none_fires log event (ap turn_in (sym (same_Some _ event is)))
   limited log event rule step false is = told log event rule step (fire_of_code code basin rule step (value_in (cells_of basin log))) refl is
 
-  ruled : (log : Log) (event : Event) (step : ℕ) (due : Option ℕ) → after_objects basin (policy_of_code basin code) (cells_of basin log) log step due ≡ Some event → Verified log event
+  ruled : (log : Log) (event : Event) (step : ℕ) (due : Option ℕ)
+      → after_objects basin (policy_of_code basin code) (cells_of basin log) log step due ≡ Some event → Verified log event
   ruled log event step None is = none_fires log event (ap turn_in (sym (same_Some _ event is)))
   ruled log event step (Some rule) is = limited log event rule step (nat_le basin.control.rule_limit (firings log rule)) is
 
@@ -109,11 +117,14 @@ module _ (basin : Draft) (code : List Block) (budgets : List Budget) (safe : Are
 
   dispatched_none : (log : Log) (object step : ℕ) → turn_in (asked_next basin (cells_of basin log) log step object) ≡ None
   dispatched_none log object step =
-      by_limit (nat_le basin.control.object_limit (dispatches log object)) (fault (ObjectLimit (record { 0 = object }) (record { 0 = step }) (dispatches log object)))
+      by_limit (nat_le basin.control.object_limit (dispatches log object))
+      (fault (ObjectLimit (record { 0 = object }) (record { 0 = step }) (dispatches log object)))
       (dispatched basin (cells_of basin log) object step) refl
-      (answered_none basin (cells_of basin log) (looks_of basin (cells_of basin log) object step) object step (solved_by basin (cells_of basin log) object step))
+      (answered_none basin (cells_of basin log) (looks_of basin (cells_of basin log) object step) object step
+      (solved_by basin (cells_of basin log) object step))
 
-  chosen : (log : Log) (event : Event) (step : ℕ) (object : Option ℕ) → next_of basin (policy_of_code basin code) (cells_of basin log) log step object ≡ Some event → Verified log event
+  chosen : (log : Log) (event : Event) (step : ℕ) (object : Option ℕ)
+      → next_of basin (policy_of_code basin code) (cells_of basin log) log step object ≡ Some event → Verified log event
   chosen log event step None is = ruled log event step (first_due basin (policy_of_code basin code) (cells_of basin log) log) is
   chosen log event step (Some object) is = none_fires log event (ap turn_in (sym (same_Some _ event is)) ∙ dispatched_none log object step)
 
@@ -131,10 +142,12 @@ module _ (basin : Draft) (code : List Block) (budgets : List Budget) (safe : Are
   given_verified log (input ∷ inputs) verified =
       given_verified (given input.0 input.1 ∷ log) inputs (none_fires log (given input.0 input.1) refl, verified)
 
-  lead_verified : (old : Log) (events : List Event) (new : Log) → Leads basin (policy_of_code basin code) old events new → AreVerified basin code budgets old → AreVerified basin code budgets new
+  lead_verified : (old : Log) (events : List Event) (new : Log) → Leads basin (policy_of_code basin code) old events new
+      → AreVerified basin code budgets old → AreVerified basin code budgets new
   lead_verified old [] new is verified = subst (λ log. AreVerified basin code budgets log) (sym is) verified
   lead_verified old (event ∷ events) new leads verified =
       lead_verified (event ∷ old) events new leads.1 (stood old event (standing old) leads.0, verified)
 
-  pub firings_verified : (inputs : List (Cell × ℤ)) (log : Log) → IsRun basin (policy_of_code basin code) inputs log → AreVerified basin code budgets log
+  pub firings_verified : (inputs : List (Cell × ℤ)) (log : Log) → IsRun basin (policy_of_code basin code) inputs log
+      → AreVerified basin code budgets log
   firings_verified inputs log run = lead_verified (placed [] inputs) run.events log run.leads (given_verified [] inputs tt)

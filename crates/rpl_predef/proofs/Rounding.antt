@@ -1,5 +1,6 @@
 -- Rounding down by the remainder.
-use Rattle.rw_base.proofs.Common.{◌≡◌, ◌≢◌, zero, suc, ℤ, pos, negsuc, ◌-ℤ◌, ◌*ℤ◌, ◌≤ℤ◌, refl, ◌∙◌, ap, subst, arith, rules, FitsSigned, to_z, of_z, w64, int_div, int_rem, Option, Some, None, SomeIff, ints, quot-rem, to_z-of_z}
+use Rattle.rw_base.proofs.Common.{◌≡◌, ◌≢◌, zero, suc, ℤ, pos, negsuc, ◌-ℤ◌, ◌*ℤ◌, ◌≤ℤ◌, refl, ◌∙◌, ap, subst, arith, rules, FitsSigned, to_z, of_z}
+use Rattle.rw_base.proofs.Common.{w64, int_div, int_rem, Option, Some, None, SomeIff, ints, quot-rem, to_z-of_z}
 use Rattle.rw_base.specs.Quantity.{IsQuantity}
 use Rattle.rw_base.specs.Predefined.{rounded_down}
 

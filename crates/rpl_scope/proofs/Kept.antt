@@ -1,5 +1,7 @@
 -- That a map keeps the innermost place of each name, as names come and go.
-use Rattle.rw_base.proofs.Common.{◌≡◌, ℕ, ◌<◌, Bool, true, false, List, [], ◌∷◌, ◌++◌, reverse, length, Option, None, Some, bytes_eq, refl, sym, ap, ◌∙◌, arith, get_or, if◌then◌else◌, Bor, BTreeMap, slice_cmp, nat_cmp, get_or_append_left, length-reverse, reverse-append, get_or-append_seam, bytes_eq-Decides, btree_map_updates_str}
+use Rattle.rw_base.proofs.Common.{◌≡◌, ℕ, ◌<◌, Bool, true, false, List, [], ◌∷◌, ◌++◌, reverse, length, Option, None, Some, bytes_eq, refl, sym, ap}
+use Rattle.rw_base.proofs.Common.{◌∙◌, arith, get_or, if◌then◌else◌, Bor, BTreeMap, slice_cmp, nat_cmp, get_or_append_left, length-reverse}
+use Rattle.rw_base.proofs.Common.{reverse-append, get_or-append_seam, bytes_eq-Decides, btree_map_updates_str}
 use Rattle.std.specs.BTreeMap as tree
 use Rattle.rpl_scope.specs.declared.scope.Entry.{Entry}
 use Rattle.rpl_scope.specs.Scope.{IsKept, entries_of, first_named, outer_entries, place_in, place_named}

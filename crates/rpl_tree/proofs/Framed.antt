@@ -1,5 +1,6 @@
 -- What two outcomes have in common that differ in the values of cells alone.
-use Rattle.rw_base.proofs.Common.{◌≡◌, ℕ, ◌+◌, ℤ, Bool, true, false, List, [], ◌∷◌, ◌++◌, Option, Some, None, refl, ap, subst, if◌then◌else◌, is_some, unsigned_abs}
+use Rattle.rw_base.proofs.Common.{◌≡◌, ℕ, ◌+◌, ℤ, Bool, true, false, List, [], ◌∷◌, ◌++◌, Option, Some, None, refl, ap, subst, if◌then◌else◌, is_some}
+use Rattle.rw_base.proofs.Common.{unsigned_abs}
 use Rattle.rw_base.specs.declared.number.Cell.{Cell}
 use Rattle.rw_model.proofs.Common.{Draft, before_of}
 use Rattle.rpl_tree.specs.Value.{Value, a_number, a_truth, a_date, a_slot, numbers, slots}
@@ -47,22 +48,27 @@ module _ (one other : Cell → Option ℤ) where
       same_bind l m (λ x. r >>= (λ y. does x y)) (λ x. s >>= (λ y. does x y)) lm (λ x. same_then r s (λ y. does x y) rs)
 
   pub same_chosen : {A : Type 0} (x : Value) (r s p q : Outcome A) → Same r s → Same p q → Same (chosen x r p) (chosen x s q)
-  same_chosen (a_truth true) r s p q rs pq = same_after (spent 1) (r >>= (λ x. gives x 2)) (s >>= (λ x. gives x 2)) (same_then r s (λ x. gives x 2) rs)
-  same_chosen (a_truth false) r s p q rs pq = same_after (spent 2) (p >>= (λ x. gives x 1)) (q >>= (λ x. gives x 1)) (same_then p q (λ x. gives x 1) pq)
+  same_chosen (a_truth true) r s p q rs pq =
+      same_after (spent 1) (r >>= (λ x. gives x 2)) (s >>= (λ x. gives x 2)) (same_then r s (λ x. gives x 2) rs)
+  same_chosen (a_truth false) r s p q rs pq =
+      same_after (spent 2) (p >>= (λ x. gives x 1)) (q >>= (λ x. gives x 1)) (same_then p q (λ x. gives x 1) pq)
   same_chosen (a_number z) r s p q rs pq = same_itself is_stuck
   same_chosen (a_date d) r s p q rs pq = same_itself is_stuck
   same_chosen (a_slot n) r s p q rs pq = same_itself is_stuck
   same_chosen (numbers m zs) r s p q rs pq = same_itself is_stuck
   same_chosen (slots m ss) r s p q rs pq = same_itself is_stuck
 
-  pub same_elements : {A : Type 0} (vs : Option (List Value)) (f g : List Value → Outcome A) → ((ws : List Value) → Same (f ws) (g ws)) → Same (with_elements vs f) (with_elements vs g)
+  pub same_elements : {A : Type 0} (vs : Option (List Value)) (f g : List Value → Outcome A) → ((ws : List Value) → Same (f ws) (g ws))
+      → Same (with_elements vs f) (with_elements vs g)
   same_elements None f g fg = same_itself is_stuck
   same_elements (Some ws) f g fg = fg ws
 
-  pub same_turns : (words : ℕ) (f g : Value → Value → Outcome Value) → ((v total : Value) → Same (f v total) (g v total)) → (total : Value) (vs : List Value) → Same (turns words f total vs) (turns words g total vs)
+  pub same_turns : (words : ℕ) (f g : Value → Value → Outcome Value) → ((v total : Value) → Same (f v total) (g v total))
+      → (total : Value) (vs : List Value) → Same (turns words f total vs) (turns words g total vs)
   same_turns words f g fg total [] = same_itself (gives total 0)
   same_turns words f g fg total (v ∷ vs) =
-      same_bind (f v total) (g v total) (λ new. after (spent (words + 1)) (turns words f new vs)) (λ new. after (spent (words + 1)) (turns words g new vs)) (fg v total)
+      same_bind (f v total) (g v total) (λ new. after (spent (words + 1)) (turns words f new vs))
+      (λ new. after (spent (words + 1)) (turns words g new vs)) (fg v total)
       (λ new. same_after (spent (words + 1)) (turns words f new vs) (turns words g new vs) (same_turns words f g fg new vs))
 
   same_number : {A : Type 0} (v : Value) (f g : ℤ → Outcome A) → ((z : ℤ) → Same (f z) (g z)) → Same (with_number v f) (with_number v g)
@@ -110,7 +116,8 @@ module _ (one other : Cell → Option ℤ) where
     same_read (slots m ss) y = same_itself is_stuck
 
     pub same_known : (x y : Value) → Same (known_of (world one) x y) (known_of (world other) x y)
-    same_known (a_slot s) (a_date d) = look_at (is_step basin d) (cell_of s (unsigned_abs d)) (before_of basin.objects s d) (λ v. value (a_truth (is_some v)))
+    same_known (a_slot s) (a_date d) =
+        look_at (is_step basin d) (cell_of s (unsigned_abs d)) (before_of basin.objects s d) (λ v. value (a_truth (is_some v)))
     same_known (a_slot s) (a_number z) = same_itself is_stuck
     same_known (a_slot s) (a_truth b) = same_itself is_stuck
     same_known (a_slot s) (a_slot n) = same_itself is_stuck

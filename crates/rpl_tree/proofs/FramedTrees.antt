@@ -1,5 +1,6 @@
 -- A firing depends on the cells alone at which it looks: by recursion on its tree.
-use Rattle.rw_base.proofs.Common.{◌≡◌, ◌≢◌, ℕ, ◌+◌, ◌-◌, ◌==◌, ℤ, Bool, true, false, List, [], ◌∷◌, map, Option, Some, None, refl, ap, subst, sym, if◌then◌else◌, bytes_eq, none-some}
+use Rattle.rw_base.proofs.Common.{◌≡◌, ◌≢◌, ℕ, ◌+◌, ◌-◌, ◌==◌, ℤ, Bool, true, false, List, [], ◌∷◌, map, Option, Some, None, refl, ap, subst, sym}
+use Rattle.rw_base.proofs.Common.{if◌then◌else◌, bytes_eq, none-some}
 use Rattle.rw_base.specs.declared.number.Cell.{Cell}
 use Rattle.rw_calendar.specs.declared.moment.Moment.{Moment}
 use Rattle.rw_model.proofs.Common.{Draft, slot_named}
@@ -10,16 +11,22 @@ use Rattle.rw_series.specs.declared.fire.RulePut.{RulePut}
 use Rattle.rpl_tree.specs.declared.words.OneWord.{OneWord}
 use Rattle.rpl_tree.specs.declared.words.OneWord.TheVariants.{Not, Minus, Known, Length, Month, Day, Year}
 use Rattle.rpl_tree.specs.declared.words.TwoWord.{TwoWord}
-use Rattle.rpl_tree.specs.declared.words.TwoWord.TheVariants.{Or, And, Equal, Unequal, Less, LessEqual, Greater, GreaterEqual, Plus, Minus as Less_by, Times, Divide, Append, Item}
+use Rattle.rpl_tree.specs.declared.words.TwoWord.TheVariants.{Or, And, Equal, Unequal, Less, LessEqual, Greater, GreaterEqual, Plus, Minus as Less_by}
+use Rattle.rpl_tree.specs.declared.words.TwoWord.TheVariants.{Times, Divide, Append, Item}
 use Rattle.rpl_tree.specs.Value.{Kind, truth_kind, Value, a_truth, kind_of_value, numbers, room_of, weight, weights}
 use Rattle.rpl_tree.specs.Outcome.{Answer, Outcome, Trail, after, ended, gives, is_stuck, spent, stuck, value, ◌>>=◌}
-use Rattle.rpl_tree.specs.Operators.{append_of, at_most_of, chosen, difference_of, elements_of, equal_of, item_of, length_of, less_of, list_of, negative_of, not_of, product_of, quotient_of, sum_of, widened}
+use Rattle.rpl_tree.specs.Operators.{append_of, at_most_of, chosen, difference_of, elements_of, equal_of, item_of, length_of, less_of, list_of}
+use Rattle.rpl_tree.specs.Operators.{negative_of, not_of, product_of, quotient_of, sum_of, widened}
 use Rattle.rpl_tree.specs.World.{convert_of, date_part, known_of, put_of, read_of, slot_value, table_named}
-use Rattle.rpl_tree.specs.Tree.{Tree, Trees, literal, truth, now, slot, name, call, brackets, list, choice, bind, each, mapped, one, two, convert, at, no_trees, tree, Act, Acts, assign, branch, with_name, no_acts, act, Parameter, Declared, rule, function}
+use Rattle.rpl_tree.specs.Tree.{Tree, Trees, literal, truth, now, slot, name, call, brackets, list, choice, bind, each, mapped, one, two, convert, at}
+use Rattle.rpl_tree.specs.Tree.{no_trees, tree, Act, Acts, assign, branch, with_name, no_acts, act, Parameter, Declared, rule, function}
 use Rattle.rpl_tree.specs.Kinds.{Head, kind_of_type, tree_kind}
-use Rattle.rpl_tree.specs.Mean.{Env, Function, acts_done, act_done, arguments_of, both, called, fire_of, function_of, function_heads, kind_in, known_in, literal_value, mean, named, names_of_env, numbers_for, one_value, param_kinds, predefined_functions, rule_done, turns, two_value, value_of, values_of, with_arguments, with_elements}
+use Rattle.rpl_tree.specs.Mean.{Env, Function, acts_done, act_done, arguments_of, both, called, fire_of, function_of, function_heads, kind_in}
+use Rattle.rpl_tree.specs.Mean.{known_in, literal_value, mean, named, names_of_env, numbers_for, one_value, param_kinds, predefined_functions}
+use Rattle.rpl_tree.specs.Mean.{rule_done, turns, two_value, value_of, values_of, with_arguments, with_elements}
 use Rattle.rpl_tree.specs.Frame.{AgreeAt}
-use Rattle.rpl_tree.proofs.Framed.{Same, same_after, same_bind, same_both, same_chosen, same_elements, same_itself, same_known, same_numbers, same_read, same_then, same_turns, world}
+use Rattle.rpl_tree.proofs.Framed.{Same, same_after, same_bind, same_both, same_chosen, same_elements, same_itself, same_known, same_numbers}
+use Rattle.rpl_tree.proofs.Framed.{same_read, same_then, same_turns, world}
 
 -- a function, and what it does with the values of either
 pub record Twin : Type 0 where
@@ -63,7 +70,8 @@ module _ (one_of other_of : Cell → Option ℤ) where
       by_test (bytes_eq t.head.name f) (go (record { head = t.head; does = t.does_one })) (on (record { head = t.head; does = t.does_other }))
       (called (ones ts) f go) (called (others ts) f on) (each_like t.head t.does_one t.does_other likes.0) (same_called ts likes.1 f go on each_like)
 
-  same_one : (basin : Draft) (word : OneWord) (e d k j : Outcome Value) → Like e d → Like k j → Like (one_value basin word e k) (one_value basin word d j)
+  same_one : (basin : Draft) (word : OneWord) (e d k j : Outcome Value) → Like e d → Like k j
+      → Like (one_value basin word e k) (one_value basin word d j)
   same_one basin Not e d k j ed kj = same_then one_of other_of e d not_of ed
   same_one basin Minus e d k j ed kj = same_then one_of other_of e d negative_of ed
   same_one basin Known e d k j ed kj = kj
@@ -72,16 +80,19 @@ module _ (one_of other_of : Cell → Option ℤ) where
   same_one basin Day e d k j ed kj = same_then one_of other_of e d (date_part basin (λ (m : Moment). m.day)) ed
   same_one basin Year e d k j ed kj = same_then one_of other_of e d (date_part basin (λ (m : Moment). m.year)) ed
 
-  same_opposite : (l m r s : Outcome Value) (does : Value → Value → Outcome Value) → Like l m → Like r s → Like (both l r does >>= not_of) (both m s does >>= not_of)
+  same_opposite : (l m r s : Outcome Value) (does : Value → Value → Outcome Value) → Like l m → Like r s
+      → Like (both l r does >>= not_of) (both m s does >>= not_of)
   same_opposite l m r s does lm rs = same_then one_of other_of (both l r does) (both m s does) not_of (same_both one_of other_of l m r s does lm rs)
 
   same_two : (word : TwoWord) (l m r s : Outcome Value) → Like l m → Like r s → Like (two_value word l r) (two_value word m s)
   same_two Or l m r s lm rs =
-      same_bind one_of other_of l m (λ x. chosen x (gives (a_truth true) 1) (r >>= widened truth_kind)) (λ x. chosen x (gives (a_truth true) 1) (s >>= widened truth_kind)) lm
+      same_bind one_of other_of l m (λ x. chosen x (gives (a_truth true) 1) (r >>= widened truth_kind))
+      (λ x. chosen x (gives (a_truth true) 1) (s >>= widened truth_kind)) lm
       (λ x. same_chosen one_of other_of x (gives (a_truth true) 1) (gives (a_truth true) 1) (r >>= widened truth_kind) (s >>= widened truth_kind)
       (same_itself one_of other_of (gives (a_truth true) 1)) (same_then one_of other_of r s (widened truth_kind) rs))
   same_two And l m r s lm rs =
-      same_bind one_of other_of l m (λ x. chosen x (r >>= widened truth_kind) (gives (a_truth false) 1)) (λ x. chosen x (s >>= widened truth_kind) (gives (a_truth false) 1)) lm
+      same_bind one_of other_of l m (λ x. chosen x (r >>= widened truth_kind) (gives (a_truth false) 1))
+      (λ x. chosen x (s >>= widened truth_kind) (gives (a_truth false) 1)) lm
       (λ x. same_chosen one_of other_of x (r >>= widened truth_kind) (s >>= widened truth_kind) (gives (a_truth false) 1) (gives (a_truth false) 1)
       (same_then one_of other_of r s (widened truth_kind) rs) (same_itself one_of other_of (gives (a_truth false) 1)))
   same_two Equal l m r s lm rs = same_both one_of other_of l m r s equal_of lm rs
@@ -102,7 +113,8 @@ module _ (one_of other_of : Cell → Option ℤ) where
   same_widened k j r s e rs = subst (λ i. Like (r >>= widened k) (s >>= widened i)) e (same_then one_of other_of r s (widened k) rs)
 
   -- both parts looked at, by a look that is alike
-  same_looks : (l m r s : Outcome Value) (look at_other : Value → Value → Outcome Value) → Like l m → Like r s → ((x y : Value) → Like (look x y) (at_other x y)) → Like (both l r look) (both m s at_other)
+  same_looks : (l m r s : Outcome Value) (look at_other : Value → Value → Outcome Value) → Like l m → Like r s
+      → ((x y : Value) → Like (look x y) (at_other x y)) → Like (both l r look) (both m s at_other)
   same_looks l m r s look at_other lm rs looks =
       same_bind one_of other_of l m (λ x. r >>= (λ y. look x y)) (λ x. s >>= (λ y. at_other x y)) lm
       (λ x. same_bind one_of other_of r s (λ y. look x y) (λ y. at_other x y) rs (looks x))
@@ -114,7 +126,8 @@ module _ (one_of other_of : Cell → Option ℤ) where
     abbrev v2 : Env → Tree → Outcome Value
     v2 env t = value_of (world one_of other_of basin step other_of) (others ts) env t
 
-    kinds_same : (env : Env) (t : Tree) → kind_in (world one_of other_of basin step one_of) (ones ts) env t ≡ kind_in (world one_of other_of basin step other_of) (others ts) env t
+    kinds_same : (env : Env) (t : Tree) → kind_in (world one_of other_of basin step one_of) (ones ts) env t
+        ≡ kind_in (world one_of other_of basin step other_of) (others ts) env t
     kinds_same env t = ap (λ hs. tree_kind hs (names_of_env env) t) (same_heads ts)
 
     abbrev Claim : Tree → Type 0
@@ -125,14 +138,17 @@ module _ (one_of other_of : Cell → Option ℤ) where
         let k1 = kind_in (world one_of other_of basin step one_of) (ones ts) env (choice c y n) in
         let k2 = kind_in (world one_of other_of basin step other_of) (others ts) env (choice c y n) in
         same_bind one_of other_of (v1 env c) (v2 env c)
-        (λ x. chosen x (v1 env y >>= widened k1) (v1 env n >>= widened k1)) (λ x. chosen x (v2 env y >>= widened k2) (v2 env n >>= widened k2)) (pc env)
+        (λ x. chosen x (v1 env y >>= widened k1) (v1 env n >>= widened k1))
+        (λ x. chosen x (v2 env y >>= widened k2) (v2 env n >>= widened k2)) (pc env)
         (λ x. same_chosen one_of other_of x (v1 env y >>= widened k1) (v2 env y >>= widened k2) (v1 env n >>= widened k1) (v2 env n >>= widened k2)
-        (same_widened k1 k2 (v1 env y) (v2 env y) (kinds_same env (choice c y n)) (py env)) (same_widened k1 k2 (v1 env n) (v2 env n) (kinds_same env (choice c y n)) (pn env)))
+        (same_widened k1 k2 (v1 env y) (v2 env y) (kinds_same env (choice c y n)) (py env))
+        (same_widened k1 k2 (v1 env n) (v2 env n) (kinds_same env (choice c y n)) (pn env)))
 
     on_bind : (x : List ℕ) (e b : Tree) → Claim e → Claim b → Claim (bind x e b)
     on_bind x e b pe pb env =
         same_bind one_of other_of (v1 env e) (v2 env e)
-        (λ v. after (spent (weight (kind_of_value v))) (v1 ((x, v) ∷ env) b)) (λ v. after (spent (weight (kind_of_value v))) (v2 ((x, v) ∷ env) b)) (pe env)
+        (λ v. after (spent (weight (kind_of_value v))) (v1 ((x, v) ∷ env) b))
+        (λ v. after (spent (weight (kind_of_value v))) (v2 ((x, v) ∷ env) b)) (pe env)
         (λ v. same_after one_of other_of (spent (weight (kind_of_value v))) (v1 ((x, v) ∷ env) b) (v2 ((x, v) ∷ env) b) (pb ((x, v) ∷ env)))
 
     abbrev body1 : Env → List ℕ → List ℕ → Tree → Value → Value → Value → Outcome Value
@@ -157,10 +173,12 @@ module _ (one_of other_of : Cell → Option ℤ) where
         same_after one_of other_of (spent (words + 1))
         (with_elements (elements_of all) (turns words (body1 env x a b first) first) >>= (λ last. gives last words))
         (with_elements (elements_of all) (turns words (body2 env x a b first) first) >>= (λ last. gives last words))
-        (same_then one_of other_of (with_elements (elements_of all) (turns words (body1 env x a b first) first)) (with_elements (elements_of all) (turns words (body2 env x a b first) first)) (λ last. gives last words)
+        (same_then one_of other_of (with_elements (elements_of all) (turns words (body1 env x a b first) first))
+        (with_elements (elements_of all) (turns words (body2 env x a b first) first)) (λ last. gives last words)
         (same_elements one_of other_of (elements_of all) (turns words (body1 env x a b first) first) (turns words (body2 env x a b first) first)
         (same_turns one_of other_of words (body1 env x a b first) (body2 env x a b first)
-        (λ v total. same_then one_of other_of (v1 ((a, total) ∷ (x, v) ∷ env) b) (v2 ((a, total) ∷ (x, v) ∷ env) b) (widened (kind_of_value first)) (pb ((a, total) ∷ (x, v) ∷ env))) first)))
+        (λ v total. same_then one_of other_of (v1 ((a, total) ∷ (x, v) ∷ env) b) (v2 ((a, total) ∷ (x, v) ∷ env) b) (widened (kind_of_value first))
+        (pb ((a, total) ∷ (x, v) ∷ env))) first)))
 
     on_each : (x : List ℕ) (l : Tree) (a : List ℕ) (f b : Tree) → Claim l → Claim f → Claim b → Claim (each x l a f b)
     on_each x l a f b pl pf pb env =
@@ -177,8 +195,10 @@ module _ (one_of other_of : Cell → Option ℤ) where
         same_bind one_of other_of (v1 env l) (v2 env l)
         (λ all. after (spent 1) (kept all (with_elements (elements_of all) (numbers_for (λ v. v1 ((x, v) ∷ env) b)))))
         (λ all. after (spent 1) (kept all (with_elements (elements_of all) (numbers_for (λ v. v2 ((x, v) ∷ env) b))))) (pl env)
-        (λ all. same_after one_of other_of (spent 1) (kept all (with_elements (elements_of all) (numbers_for (λ v. v1 ((x, v) ∷ env) b)))) (kept all (with_elements (elements_of all) (numbers_for (λ v. v2 ((x, v) ∷ env) b))))
-        (same_then one_of other_of (with_elements (elements_of all) (numbers_for (λ v. v1 ((x, v) ∷ env) b))) (with_elements (elements_of all) (numbers_for (λ v. v2 ((x, v) ∷ env) b))) (λ zs. gives (numbers (room_of (kind_of_value all)) zs) 0)
+        (λ all. same_after one_of other_of (spent 1) (kept all (with_elements (elements_of all) (numbers_for (λ v. v1 ((x, v) ∷ env) b))))
+        (kept all (with_elements (elements_of all) (numbers_for (λ v. v2 ((x, v) ∷ env) b))))
+        (same_then one_of other_of (with_elements (elements_of all) (numbers_for (λ v. v1 ((x, v) ∷ env) b)))
+        (with_elements (elements_of all) (numbers_for (λ v. v2 ((x, v) ∷ env) b))) (λ zs. gives (numbers (room_of (kind_of_value all)) zs) 0)
         (same_elements one_of other_of (elements_of all) (numbers_for (λ v. v1 ((x, v) ∷ env) b)) (numbers_for (λ v. v2 ((x, v) ∷ env) b))
         (same_numbers one_of other_of (λ v. v1 ((x, v) ∷ env) b) (λ v. v2 ((x, v) ∷ env) b) (λ v. pb ((x, v) ∷ env))))))
 
@@ -205,12 +225,15 @@ module _ (one_of other_of : Cell → Option ℤ) where
     abbrev n2 : Env → Tree → Outcome Value
     n2 env t = known_in (world one_of other_of basin step other_of) (others ts) env t
 
-    on_tree : (e : Tree) (es : Trees) → Claim e → ((env : Env) → Like (l1 env es) (l2 env es)) → (env : Env) → Like (l1 env (tree e es)) (l2 env (tree e es))
+    on_tree : (e : Tree) (es : Trees) → Claim e → ((env : Env) → Like (l1 env es) (l2 env es)) → (env : Env)
+        → Like (l1 env (tree e es)) (l2 env (tree e es))
     on_tree e es pe pes env =
-        same_bind one_of other_of (v1 env e) (v2 env e) (λ v. l1 env es >>= (λ vs. gives (v ∷ vs) 0)) (λ v. l2 env es >>= (λ vs. gives (v ∷ vs) 0)) (pe env)
+        same_bind one_of other_of (v1 env e) (v2 env e) (λ v. l1 env es >>= (λ vs. gives (v ∷ vs) 0))
+        (λ v. l2 env es >>= (λ vs. gives (v ∷ vs) 0)) (pe env)
         (λ v. same_then one_of other_of (l1 env es) (l2 env es) (λ vs. gives (v ∷ vs) 0) (pes env))
 
-    on_argument : (e : Tree) (es : Trees) → Claim e → ((env : Env) (ks : List Kind) → Like (a1 env ks es) (a2 env ks es)) → (env : Env) (k : Kind) (ks : List Kind) → Like (a1 env (k ∷ ks) (tree e es)) (a2 env (k ∷ ks) (tree e es))
+    on_argument : (e : Tree) (es : Trees) → Claim e → ((env : Env) (ks : List Kind) → Like (a1 env ks es) (a2 env ks es))
+        → (env : Env) (k : Kind) (ks : List Kind) → Like (a1 env (k ∷ ks) (tree e es)) (a2 env (k ∷ ks) (tree e es))
     on_argument e es pe pes env k ks =
         same_bind one_of other_of (v1 env e >>= widened k) (v2 env e >>= widened k)
         (λ v. a1 env ks es >>= (λ vs. gives (v ∷ vs) 0)) (λ v. a2 env ks es >>= (λ vs. gives (v ∷ vs) 0))
@@ -235,12 +258,14 @@ module _ (one_of other_of : Cell → Option ℤ) where
       same_value (two word l r) env = same_two word (v1 env l) (v2 env l) (v1 env r) (v2 env r) (same_value l env) (same_value r env)
       same_value (convert word o e) env = same_then one_of other_of (v1 env e) (v2 env e) (convert_of word (table_named basin o)) (same_value e env)
       same_value (at s d) env =
-          same_looks (v1 env s) (v2 env s) (v1 env d) (v2 env d) (read_of (world one_of other_of basin step one_of)) (read_of (world one_of other_of basin step other_of))
+          same_looks (v1 env s) (v2 env s) (v1 env d) (v2 env d) (read_of (world one_of other_of basin step one_of))
+          (read_of (world one_of other_of basin step other_of))
           (same_value s env) (same_value d env) (same_read one_of other_of basin step)
 
       same_knowing : (t : Tree) (env : Env) → Like (n1 env t) (n2 env t)
       same_knowing (at s d) env =
-          same_looks (v1 env s) (v2 env s) (v1 env d) (v2 env d) (known_of (world one_of other_of basin step one_of)) (known_of (world one_of other_of basin step other_of))
+          same_looks (v1 env s) (v2 env s) (v1 env d) (v2 env d) (known_of (world one_of other_of basin step one_of))
+          (known_of (world one_of other_of basin step other_of))
           (same_value s env) (same_value d env) (same_known one_of other_of basin step)
       same_knowing (literal n unit) env = same_itself one_of other_of is_stuck
       same_knowing (truth b) env = same_itself one_of other_of is_stuck
@@ -282,13 +307,17 @@ module _ (one_of other_of : Cell → Option ℤ) where
 
     mutual
       same_act : (a : Act) (env : Env) → Like (s1 env a) (s2 env a)
-      same_act (assign o s ahead e) env = same_then one_of other_of (v1 env e) (v2 env e) (put_of basin (slot_named basin.objects o s) ahead) (same_value e env)
+      same_act (assign o s ahead e) env =
+          same_then one_of other_of (v1 env e) (v2 env e) (put_of basin (slot_named basin.objects o s) ahead) (same_value e env)
       same_act (branch c p q) env =
-          same_bind one_of other_of (v1 env c) (v2 env c) (λ x. chosen x (d1 env p) (d1 env q)) (λ x. chosen x (d2 env p) (d2 env q)) (same_value c env)
+          same_bind one_of other_of (v1 env c) (v2 env c) (λ x. chosen x (d1 env p) (d1 env q)) (λ x. chosen x (d2 env p) (d2 env q))
+          (same_value c env)
           (λ x. same_chosen one_of other_of x (d1 env p) (d2 env p) (d1 env q) (d2 env q) (same_acts p env) (same_acts q env))
       same_act (with_name x e body) env =
-          same_bind one_of other_of (v1 env e) (v2 env e) (λ v. after (spent (weight (kind_of_value v))) (d1 ((x, v) ∷ env) body)) (λ v. after (spent (weight (kind_of_value v))) (d2 ((x, v) ∷ env) body)) (same_value e env)
-          (λ v. same_after one_of other_of (spent (weight (kind_of_value v))) (d1 ((x, v) ∷ env) body) (d2 ((x, v) ∷ env) body) (same_acts body ((x, v) ∷ env)))
+          same_bind one_of other_of (v1 env e) (v2 env e) (λ v. after (spent (weight (kind_of_value v))) (d1 ((x, v) ∷ env) body))
+          (λ v. after (spent (weight (kind_of_value v))) (d2 ((x, v) ∷ env) body)) (same_value e env)
+          (λ v. same_after one_of other_of (spent (weight (kind_of_value v))) (d1 ((x, v) ∷ env) body) (d2 ((x, v) ∷ env) body)
+          (same_acts body ((x, v) ∷ env)))
 
       pub same_acts : (body : Acts) (env : Env) → Like (d1 env body) (d2 env body)
       same_acts no_acts env = same_itself one_of other_of (gives tt 0)
@@ -314,14 +343,17 @@ module _ (one_of other_of : Cell → Option ℤ) where
     by_number b r s p q rs pq = by_test b r s p q rs pq
 
     same_rule : (ds : List Declared) (ts : List Twin) → AreLike ts → (number : ℕ)
-        → Like (rule_done (world one_of other_of basin step one_of) (ones ts) ds number) (rule_done (world one_of other_of basin step other_of) (others ts) ds number)
+        → Like (rule_done (world one_of other_of basin step one_of) (ones ts) ds number)
+        (rule_done (world one_of other_of basin step other_of) (others ts) ds number)
     same_rule [] ts likes number = same_itself one_of other_of is_stuck
     same_rule (rule x body ∷ ds) ts likes number =
         by_number (number == 1) (d1 basin step ts likes [] body) (d2 basin step ts likes [] body)
-        (rule_done (world one_of other_of basin step one_of) (ones ts) ds (number - 1)) (rule_done (world one_of other_of basin step other_of) (others ts) ds (number - 1))
+        (rule_done (world one_of other_of basin step one_of) (ones ts) ds (number - 1))
+        (rule_done (world one_of other_of basin step other_of) (others ts) ds (number - 1))
         (same_acts basin step ts likes body []) (same_rule ds ts likes (number - 1))
     same_rule (function x params result body ∷ ds) ts likes number =
-        same_rule ds (twin_of basin step ts likes x params (kind_of_type result) body ∷ ts) (same_function basin step ts likes x params (kind_of_type result) body, likes) number
+        same_rule ds (twin_of basin step ts likes x params (kind_of_type result) body ∷ ts)
+        (same_function basin step ts likes x params (kind_of_type result) body, likes) number
 
 -- ---- firings
 

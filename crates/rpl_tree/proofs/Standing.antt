@@ -12,5 +12,6 @@ use Rattle.rpl_tree.specs.Mean.{Env, Function, kind_in, value_of}
 pub or_stands : (world : World) (functions : List Function) (env : Env) (l r : Tree) → kind_in world functions env r ≡ truth_kind
     → value_of world functions env (two Or l r) ≡ value_of world functions env (choice l (truth true) r)
 or_stands world functions env l r e =
-    ap (λ (k : Kind). value_of world functions env l >>= (λ x. chosen x (gives (a_truth true) 1 >>= widened (join truth_kind k)) (value_of world functions env r >>= widened (join truth_kind k))))
+    ap (λ (k : Kind). value_of world functions env l
+    >>= (λ x. chosen x (gives (a_truth true) 1 >>= widened (join truth_kind k)) (value_of world functions env r >>= widened (join truth_kind k))))
     (sym e)

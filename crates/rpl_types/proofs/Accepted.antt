@@ -1,8 +1,11 @@
 -- What is accepted is typed: by recursion on the tree, a line for each form.
-use Rattle.rw_base.proofs.Common.{◌≡◌, ◌+◌, ◌++◌, ℕ, ℤ, Bool, Result, true, false, refl, ap, sym, subst, List, [], ◌∷◌, Option, Some, None, is_some, Ok, Err, false≢true}
+use Rattle.rw_base.proofs.Common.{◌≡◌, ◌+◌, ◌++◌, ℕ, ℤ, Bool, Result, true, false, refl, ap, sym, subst, List, [], ◌∷◌, Option, Some, None, is_some}
+use Rattle.rw_base.proofs.Common.{Ok, Err, false≢true}
 use Rattle.rw_base.specs.Answers.{unless_refused}
 use Rattle.rw_model.specs.Draft.{Draft}
-use Rattle.rpl_tree.proofs.Common.{budget_of, Tree, Trees, literal, truth, now, slot, name, call, brackets, list, choice, bind, each, mapped, one, two, convert, at, no_trees, tree, Act, Acts, assign, branch, with_name, no_acts, act, Declared, Parameter, rule, function}
+use Rattle.rpl_tree.proofs.Common.{budget_of, Tree, Trees, literal, truth, now, slot, name, call, brackets, list, choice, bind, each, mapped, one}
+use Rattle.rpl_tree.proofs.Common.{two, convert, at, no_trees, tree, Act, Acts, assign, branch, with_name, no_acts, act, Declared, Parameter, rule}
+use Rattle.rpl_tree.proofs.Common.{function}
 use Rattle.rpl_tree.specs.declared.words.OneWord.{OneWord}
 use Rattle.rpl_tree.specs.declared.words.TwoWord.{TwoWord}
 use Rattle.rpl_tree.specs.declared.words.ConvertWord.{ConvertWord}
@@ -13,8 +16,10 @@ use Rattle.rpl_types.specs.Fits.{Typed, joined_type, misfit}
 use Rattle.rpl_types.specs.Forms.{TypeScope, choice_type, condition_misfit, element_type, target_misfit, total_type}
 use Rattle.rpl_types.specs.Functions.{Callable, Signature, param_scope, type_here}
 use Rattle.rpl_types.specs.HasType.{AllStand, AreDeclared, HasType, HaveTypes, IsDeclared, IsTyped, Stands}
-use Rattle.rpl_types.specs.Judged.{TypeRefusal, and_function, and_then, before_others, cost_refusal, declared_types, function_names, head_refusal, rules_judged, judged_from, refused_as_whole, with_budget}
-use Rattle.rpl_types.specs.Nodes.{Expression, Judged, RowTypes, Types, at_node, node_behind, expression, nodes, statement, types_of, types_of_act, types_of_acts, types_of_all, ◌>>=◌}
+use Rattle.rpl_types.specs.Judged.{TypeRefusal, and_function, and_then, before_others, cost_refusal, declared_types, function_names, head_refusal}
+use Rattle.rpl_types.specs.Judged.{rules_judged, judged_from, refused_as_whole, with_budget}
+use Rattle.rpl_types.specs.Nodes.{Expression, Judged, RowTypes, Types, at_node, node_behind, expression, nodes, statement, types_of, types_of_act}
+use Rattle.rpl_types.specs.Nodes.{types_of_acts, types_of_all, ◌>>=◌}
 
 -- ---- what was answered before
 
@@ -80,7 +85,8 @@ module _ (basin : Draft) (callable : Callable) where
   Claim t = (scope : TypeScope) (n : ℕ) (e : Expression) → types_of basin callable scope n t ≡ Ok e → HasType basin callable scope t e.own
 
   abbrev ClaimAll : Trees → Type 0
-  ClaimAll ts = (scope : TypeScope) (n : ℕ) (row : RowTypes) → types_of_all basin callable scope n ts ≡ Ok row → HaveTypes basin callable scope ts row.types
+  ClaimAll ts =
+      (scope : TypeScope) (n : ℕ) (row : RowTypes) → types_of_all basin callable scope n ts ≡ Ok row → HaveTypes basin callable scope ts row.types
 
   on_call : (f : List ℕ) (ts : Trees) → ClaimAll ts → Claim (call f ts)
   on_call f ts all scope n e h =
@@ -160,8 +166,11 @@ module _ (basin : Draft) (callable : Callable) where
       let a = bound (types_of basin callable scope (n + 1) l) _ e h in
       let total = bound (types_of basin callable scope (node_behind (n + 1) (nodes a.0)) f) _ e a.2 in
       let item = bound (at_node n (element_type a.0.own)) _ e total.2 in
-      let z = bound (types_of basin callable ((y, total.0.own) ∷ (x, item.0) ∷ scope) (node_behind (n + 1) (nodes a.0 ++ nodes total.0)) b) _ e item.2 in
-      let found = unrefused (misfit z.0.own total.0.own) total.0.own e.own (own_is n (nodes a.0 ++ nodes total.0 ++ nodes z.0) (total_type total.0.own z.0.own) e z.2) in
+      let z =
+      bound (types_of basin callable ((y, total.0.own) ∷ (x, item.0) ∷ scope) (node_behind (n + 1) (nodes a.0 ++ nodes total.0)) b) _ e item.2 in
+      let found =
+      unrefused (misfit z.0.own total.0.own) total.0.own e.own
+      (own_is n (nodes a.0 ++ nodes total.0 ++ nodes z.0) (total_type total.0.own z.0.own) e z.2) in
       subst (HasType basin callable scope (each x l y f b)) found.1 (
         a.0.own,
         item.0,

@@ -1,5 +1,6 @@
 -- Budgets and declarations, each in its place.
-use Rattle.rw_base.proofs.Common.{◌≡◌, ℕ, zero, suc, ◌+◌, ◌≤◌, ◌<◌, List, [], ◌∷◌, map, length, get_or, Some, option_map, ap, ◌∙◌, sym, arith, length-map, slice_get-get_or, slice_get-map, slice_get}
+use Rattle.rw_base.proofs.Common.{◌≡◌, ℕ, zero, suc, ◌+◌, ◌≤◌, ◌<◌, List, [], ◌∷◌, map, length, get_or, Some, option_map, ap, ◌∙◌, sym, arith}
+use Rattle.rw_base.proofs.Common.{length-map, slice_get-get_or, slice_get-map, slice_get}
 use Rattle.rpl_budget.proofs.Ordered.{budget_at, budgets_length}
 use Rattle.rpl_budget.specs.Budgets.{budgets_of}
 use Rattle.rpl_budget.specs.Seen.{budget_seen}

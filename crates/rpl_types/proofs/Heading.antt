@@ -1,5 +1,6 @@
 -- What the heads of functions say, parameter by parameter.
-use Rattle.rw_base.proofs.Common.{◌≡◌, ℕ, ◌+◌, ◌-◌, List, [], ◌∷◌, ◌++◌, map, Bool, true, false, Option, Some, None, Ok, Err, refl, sym, ap, ap₂, ◌∙◌, map-append, ◌||◌, bytes_eq, if◌then◌else◌, is_some, list_any}
+use Rattle.rw_base.proofs.Common.{◌≡◌, ℕ, ◌+◌, ◌-◌, List, [], ◌∷◌, ◌++◌, map, Bool, true, false, Option, Some, None, Ok, Err, refl, sym, ap, ap₂, ◌∙◌}
+use Rattle.rw_base.proofs.Common.{map-append, ◌||◌, bytes_eq, if◌then◌else◌, is_some, list_any}
 use Rattle.rpl_scope.specs.Scope.{first_named}
 use Rattle.rpl_tree.specs.Tree.{Parameter, TypeName}
 use Rattle.rpl_tree.specs.declared.rpl_type.RplType.{RplType}

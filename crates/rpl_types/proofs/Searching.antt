@@ -1,5 +1,7 @@
 -- The search for an object by its name, where some objects were looked at.
-use Rattle.rw_base.proofs.Common.{◌≡◌, ◌+◌, ◌-◌, ℕ, suc, Bool, true, false, List, [], ◌∷◌, drop, Option, Some, None, refl, sym, ap, ◌∙◌, arith, bytes_eq, slice_get, option_map, unwrap_or, is_some, if◌then◌else◌, false≢true, get_or_from_slice_get, slice_get_within}
+use Rattle.rw_base.proofs.Common.{◌≡◌, ◌+◌, ◌-◌, ℕ, suc, Bool, true, false, List, [], ◌∷◌, drop, Option, Some, None, refl, sym, ap, ◌∙◌, arith}
+use Rattle.rw_base.proofs.Common.{bytes_eq, slice_get, option_map, unwrap_or, is_some, if◌then◌else◌, false≢true, get_or_from_slice_get}
+use Rattle.rw_base.proofs.Common.{slice_get_within}
 use Rattle.std.proofs.Math.Seq.{drop-cons}
 use Rattle.rw_model.proofs.Common.{Object, object_at, object_from, numbered-known}
 

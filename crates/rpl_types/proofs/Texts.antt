@@ -1,11 +1,16 @@
 -- What is no text names no unit, no object and no slot.
-use Rattle.rw_base.proofs.Common.{◌≡◌, ◌<◌, ◌+◌, ◌==◌, ℕ, ℤ, Bool, true, false, List, [], ◌∷◌, ◌++◌, map, Option, Some, None, refl, sym, subst, ap, arith, inl, inr, ◌⊎◌, bytes_eq, nat_lt, option_and_then, AllByRecursion, list_all, IsAscii, IsUtf8, IsUtf8-from_ascii, IsAscii-nil, IsAscii-cons, and_parts, cases_Bool, ltb-true, recursion_from_All, bytes_eq-Decides}
+use Rattle.rw_base.proofs.Common.{◌≡◌, ◌<◌, ◌+◌, ◌==◌, ℕ, ℤ, Bool, true, false, List, [], ◌∷◌, ◌++◌, map, Option, Some, None, refl, sym, subst, ap}
+use Rattle.rw_base.proofs.Common.{arith, inl, inr, ◌⊎◌, bytes_eq, nat_lt, option_and_then, AllByRecursion, list_all, IsAscii, IsUtf8}
+use Rattle.rw_base.proofs.Common.{IsUtf8-from_ascii, IsAscii-nil, IsAscii-cons, and_parts, cases_Bool, ltb-true, recursion_from_All, bytes_eq-Decides}
 use Rattle.rw_base.specs.Dimension.{Dimension}
 use Rattle.rw_base.specs.Unit.{units, unit_in}
-use Rattle.rw_model.proofs.Common.{IsBasin, Draft, IsSound, IsKind, IsDigit, IsLetter, IsName, Object, Placed, all_slots, first_from, is_named, object_from, object_named, placed_from, slot_named, slots_from, Slot, of_range, all_quantities, slots_of, where_chosen}
+use Rattle.rw_model.proofs.Common.{IsBasin, Draft, IsSound, IsKind, IsDigit, IsLetter, IsName, Object, Placed, all_slots, first_from, is_named}
+use Rattle.rw_model.proofs.Common.{object_from, object_named, placed_from, slot_named, slots_from, Slot, of_range, all_quantities, slots_of}
+use Rattle.rw_model.proofs.Common.{where_chosen}
 use Rattle.rw_model.specs.declared.data_slots.DataSlot.{DataSlot}
 use Rattle.rw_model.specs.declared.kind.Kind.{Kind}
-use Rattle.rw_model.specs.declared.kind.Kind.TheVariants.{DataObject, Gage, Confluence, Bifurcation, Reach, Reservoir, WaterUser, Canal, PowerReservoir, RoutedReach}
+use Rattle.rw_model.specs.declared.kind.Kind.TheVariants.{DataObject, Gage, Confluence, Bifurcation, Reach, Reservoir, WaterUser, Canal}
+use Rattle.rw_model.specs.declared.kind.Kind.TheVariants.{PowerReservoir, RoutedReach}
 use Rattle.rw_model.specs.declared.kind.Supply.TheVariants.{Request, Rule}
 use Rattle.rw_model.specs.declared.role.Role.TheVariants.{Neither}
 
@@ -58,7 +63,8 @@ bytes_ascii (b ∷ bs) (inr digit, rest) = IsAscii-cons b bs (omega (arith, digi
 name_text : (word : List ℕ) → IsName word → IsUtf8 word
 name_text word h = IsUtf8-from_ascii word (bytes_ascii word (recursion_from_All (λ b. IsLetter b ⊎ IsDigit b) word h.goes_on))
 
-no_object_from : (n : ℕ) (objects : List Object) (name : List ℕ) → AllByRecursion IsSound objects → ¬ (IsUtf8 name) → object_from n objects name ≡ None
+no_object_from : (n : ℕ) (objects : List Object) (name : List ℕ) → AllByRecursion IsSound objects → ¬ (IsUtf8 name)
+    → object_from n objects name ≡ None
 no_object_from n [] name sound not = refl
 no_object_from n (object ∷ objects) name sound not = elim (cases_Bool (bytes_eq name object.name)) [
   | inl here ↦ absurd (not (same_text_back name object.name here (name_text object.name sound.0.name)))
@@ -118,15 +124,24 @@ kind_text (Reservoir initial_storage table local_inflow diversion return_flow ev
 kind_text (WaterUser depletion Request) h = (small_text _ refl, (small_text _ refl, (small_text _ refl, (small_text _ refl, tt))))
 kind_text (WaterUser depletion Rule) h = (small_text _ refl, (small_text _ refl, (small_text _ refl, (small_text _ refl, tt))))
 kind_text (Canal seepage) h = (small_text _ refl, (small_text _ refl, (small_text _ refl, tt)))
-kind_text (PowerReservoir initial_storage table max_release tailwater power) h =
-    (small_text _ refl, (small_text _ refl, (small_text _ refl, (small_text _ refl, (small_text _ refl, (small_text _ refl, (small_text _ refl, (small_text _ refl, tt))))))))
+kind_text (PowerReservoir initial_storage table max_release tailwater power) h = (
+  small_text _ refl,
+  (
+    small_text _ refl,
+    (
+      small_text _ refl,
+      (small_text _ refl, (small_text _ refl, (small_text _ refl, (small_text _ refl, (small_text _ refl, tt))))),
+    ),
+  ),
+)
 kind_text (RoutedReach initial_content release) h = (small_text _ refl, (small_text _ refl, (small_text _ refl, tt)))
 
 both_all : {X : Type 0} (P : X → Type 0) (xs ys : List X) → AllByRecursion P xs → AllByRecursion P ys → AllByRecursion P (xs ++ ys)
 both_all P [] ys h g = g
 both_all P (x ∷ xs) ys h g = (h.0, both_all P xs ys h.1 g)
 
-placed_text : (owner place : ℕ) (slots : List (Option Slot)) → AllByRecursion HasText slots → AllByRecursion IsNamedByText (placed_from owner place slots)
+placed_text : (owner place : ℕ) (slots : List (Option Slot)) → AllByRecursion HasText slots
+    → AllByRecursion IsNamedByText (placed_from owner place slots)
 placed_text owner place [] h = tt
 placed_text owner place (None ∷ slots) h = placed_text owner (place + 1) slots h.1
 placed_text owner place (Some slot ∷ slots) h = (h.0, placed_text owner (place + 1) slots h.1)

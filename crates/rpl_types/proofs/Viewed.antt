@@ -10,5 +10,6 @@ pub act_of_branch : (c : Expr) (ys ns : Vec Statement Global) → act_of (If c y
 act_of_branch c ys ns =
     Read.act_of_branch c ys ns ∙ ap₂ (branch (tree_of c)) (sym (Read.acts_listed ys.items)) (sym (Read.acts_listed ns.items))
 
-pub act_of_with : (x : Vec ℕ Global) (e : Expr) (body : Vec Statement Global) → act_of (With x e body) ≡ with_name x.items (tree_of e) (acts_in body.items)
+pub act_of_with : (x : Vec ℕ Global) (e : Expr) (body : Vec Statement Global)
+    → act_of (With x e body) ≡ with_name x.items (tree_of e) (acts_in body.items)
 act_of_with x e body = Read.act_of_with x e body ∙ ap (with_name x.items (tree_of e)) (sym (Read.acts_listed body.items))

@@ -1,18 +1,22 @@
 -- What is found on one way over a tree is what the definition gives: a claim for each form, over those of its parts.
-use Rattle.rw_base.proofs.Common.{◌≡◌, ◌+◌, ◌-◌, ℕ, arith, refl, ap, sym, ◌∙◌, List, [], ◌∷◌, ◌++◌, length, Some, None, is_some, Ok, Err, slice_set, set-append_seam}
+use Rattle.rw_base.proofs.Common.{◌≡◌, ◌+◌, ◌-◌, ℕ, arith, refl, ap, sym, ◌∙◌, List, [], ◌∷◌, ◌++◌, length, Some, None, is_some, Ok, Err, slice_set}
+use Rattle.rw_base.proofs.Common.{set-append_seam}
 use Rattle.std.proofs.lemmas.List.{append_assoc, append-nil, length-append}
 use Rattle.rw_model.proofs.Common.{Draft, object_named}
-use Rattle.rpl_tree.proofs.Common.{table_named, Tree, Trees, literal, truth, now, slot, name, call, brackets, list, choice, bind, each, mapped, one, two, convert, at, no_trees, tree}
+use Rattle.rpl_tree.proofs.Common.{table_named, Tree, Trees, literal, truth, now, slot, name, call, brackets, list, choice, bind, each, mapped, one}
+use Rattle.rpl_tree.proofs.Common.{two, convert, at, no_trees, tree}
 use Rattle.rpl_tree.specs.declared.words.OneWord.{OneWord}
 use Rattle.rpl_tree.specs.declared.words.TwoWord.{TwoWord}
 use Rattle.rpl_tree.specs.declared.words.ConvertWord.{ConvertWord}
 use Rattle.rpl_tree.specs.declared.rpl_type.RplType.{RplType}
 use Rattle.rpl_tree.specs.declared.rpl_type.RplType.TheVariants.{Boolean, Datetime}
 use Rattle.rpl_types.specs.Fits.{Typed}
-use Rattle.rpl_types.specs.Forms.{choice_type, convert_type, element_type, is_look, list_type, literal_type, look_type, mapped_type, name_type, one_type, slot_type, total_type, two_type}
+use Rattle.rpl_types.specs.Forms.{choice_type, convert_type, element_type, is_look, list_type, literal_type, look_type, mapped_type, name_type}
+use Rattle.rpl_types.specs.Forms.{one_type, slot_type, total_type, two_type}
 use Rattle.rpl_types.specs.Functions.{Callable, call_type}
 use Rattle.rpl_types.specs.Nodes.{Expression, Judged, RowTypes, Types, at_node, node_behind, expression, nodes, types_of, types_of_all, ◌>>=◌}
-use Rattle.rpl_types.specs.Visited.{Progress, RowVisit, Visit, node_filled, leaf, next_node, node_reserved, row_visit, node_settled, visit, visited, visited_all, with_variable, without_variable}
+use Rattle.rpl_types.specs.Visited.{Progress, RowVisit, Visit, node_filled, leaf, next_node, node_reserved, row_visit, node_settled, visit, visited}
+use Rattle.rpl_types.specs.Visited.{visited_all, with_variable, without_variable}
 
 -- what is known behind an expression whose nodes have those types
 abbrev pub answered : Progress → Expression → Visit
@@ -83,7 +87,8 @@ module _ (basin : Draft) (callable : Callable) where
   part t claim q n f g k number same =
       rw (claim q, number) (seen_then_same (types_of basin callable q.scope n t) (answered q) f g k same)
 
-  parts : {B : Type 0} (ts : Trees) → ClaimAll ts → (q : Progress) (n : ℕ) (f : RowVisit → Judged Visit) (g : RowTypes → Judged B) (k : B → Judged Visit)
+  parts : {B : Type 0} (ts : Trees) → ClaimAll ts
+      → (q : Progress) (n : ℕ) (f : RowVisit → Judged Visit) (g : RowTypes → Judged B) (k : B → Judged Visit)
       → length q.types + 1 ≡ n → ((row : RowTypes) → f (answered_all [] q row) ≡ (g row >>= k))
       → (visited_all basin callable [] q ts >>= f) ≡ ((types_of_all basin callable q.scope n ts >>= g) >>= k)
   parts ts claim q n f g k number same =

@@ -9,8 +9,10 @@ use Rattle.rpl_types.specs.Bodies.{own_and_nodes}
 use Rattle.rpl_types.specs.Forms.{TypeScope, condition_misfit, target_misfit}
 use Rattle.rpl_types.specs.Functions.{Callable}
 use Rattle.rpl_types.specs.Nodes.{Expression, Judged, Types, node_behind, nodes, statement, types_of, types_of_act, types_of_acts, ◌>>=◌}
-use Rattle.rpl_types.specs.Visited.{Progress, Visit, next_node, node_reserved, stands, visited, visited_act, visited_acts, with_variable, without_variable}
-use Rattle.rpl_types.proofs.Visiting.{answered, claim, first_number, one_more, part, second_number, seen_then_same, third_number, three_more, two_more}
+use Rattle.rpl_types.specs.Visited.{Progress, Visit, next_node, node_reserved, stands, visited, visited_act, visited_acts, with_variable}
+use Rattle.rpl_types.specs.Visited.{without_variable}
+use Rattle.rpl_types.proofs.Visiting.{answered, claim, first_number, one_more, part, second_number, seen_then_same, third_number, three_more}
+use Rattle.rpl_types.proofs.Visiting.{two_more}
 
 -- what is known behind statements whose nodes have those types
 abbrev pub with_nodes : Progress → Types → Progress
@@ -30,10 +32,12 @@ number_behind all a = simp length-append (omega arith)
 
 module _ (basin : Draft) (callable : Callable) where
   abbrev pub ClaimAct : Act → Type 0
-  ClaimAct a = (p : Progress) → visited_act basin callable p a ≡ (types_of_act basin callable p.scope (next_node p) a >>= λ below. Ok (with_nodes p below))
+  ClaimAct a =
+      (p : Progress) → visited_act basin callable p a ≡ (types_of_act basin callable p.scope (next_node p) a >>= λ below. Ok (with_nodes p below))
 
   abbrev pub ClaimActs : Acts → Type 0
-  ClaimActs ss = (p : Progress) → visited_acts basin callable p ss ≡ (types_of_acts basin callable p.scope (next_node p) ss >>= λ below. Ok (with_nodes p below))
+  ClaimActs ss =
+      (p : Progress) → visited_acts basin callable p ss ≡ (types_of_acts basin callable p.scope (next_node p) ss >>= λ below. Ok (with_nodes p below))
 
   list_part : {B C : Type 0} (ss : Acts) → ClaimActs ss → (q : Progress) (n : ℕ) (f : Progress → Judged C) (g : Types → Judged B) (k : B → Judged C)
       → length q.types + 1 ≡ n → ((below : Types) → f (with_nodes q below) ≡ (g below >>= k))

@@ -1,5 +1,7 @@
 -- Accepted code is safe: its blocks fit, and their budgets are what they may come to.
-use Rattle.rw_base.proofs.Common.{◌≡◌, ℕ, zero, suc, ◌+◌, ◌-◌, ◌≤◌, ◌<◌, ◌==◌, ℤ, Bool, true, false, nat_lt, nat_le, List, [], ◌∷◌, ◌++◌, length, take, Option, Some, None, Result, Ok, Err, refl, sym, ap, ap₂, ◌∙◌, subst, arith, append_assoc, append-nil, length-append, if◌then◌else◌, slice_get, option_and_then, option_map, slice_get_within, length-take, nat_tests}
+use Rattle.rw_base.proofs.Common.{◌≡◌, ℕ, zero, suc, ◌+◌, ◌-◌, ◌≤◌, ◌<◌, ◌==◌, ℤ, Bool, true, false, nat_lt, nat_le, List, [], ◌∷◌, ◌++◌, length}
+use Rattle.rw_base.proofs.Common.{take, Option, Some, None, Result, Ok, Err, refl, sym, ap, ap₂, ◌∙◌, subst, arith, append_assoc, append-nil}
+use Rattle.rw_base.proofs.Common.{length-append, if◌then◌else◌, slice_get, option_and_then, option_map, slice_get_within, length-take, nat_tests}
 use Rattle.rw_base.specs.declared.number.Cell.{Cell}
 use Rattle.rw_model.proofs.Common.{Draft, numbered}
 use Rattle.rw_series.specs.Fire.{Fire}
@@ -9,8 +11,10 @@ use Rattle.rpl_code.specs.declared.block.BlockHead.TheVariants.{Rule, Function}
 use Rattle.rpl_tree.proofs.Common.{Budget, capped, limits, Answer, Trail, ended, stuck, value, World, fire_of}
 use Rattle.rpl_verify.specs.declared.verify_kind.VerifyKind.TheVariants.{TooMany}
 use Rattle.rpl_verify.specs.Names.{Scope}
-use Rattle.rpl_verify.specs.Fits.{Before, Misplaced, at_place, before, befores, block_befores, count_alike, each_block, is_alike, parameters_of, scope_of}
-use Rattle.rpl_verify.specs.Budget.{AreAccepted, IsWithinLimits, at_a_time, block_ruling, budget_by, count_of, looks_of, most, part_of, puts_of, summed, within_limits}
+use Rattle.rpl_verify.specs.Fits.{Before, Misplaced, at_place, before, befores, block_befores, count_alike, each_block, is_alike, parameters_of}
+use Rattle.rpl_verify.specs.Fits.{scope_of}
+use Rattle.rpl_verify.specs.Budget.{AreAccepted, IsWithinLimits, at_a_time, block_ruling, budget_by, count_of, looks_of, most, part_of, puts_of}
+use Rattle.rpl_verify.specs.Budget.{summed, within_limits}
 use Rattle.rpl_verify.specs.Machine.{Frame, begin, fired, first_frame, most_steps, rule_from, run}
 use Rattle.rpl_verify.specs.Safety.{AreSafe, firing_from, look_count_in, most_words, puts_from, states}
 use Rattle.rpl_verify.proofs.Rulings.{at_place_ok, in_block_ok, same_budget, then_do_ok, within}
@@ -51,14 +55,16 @@ get_taken (suc n) (suc k) (y ∷ xs) x lt h = get_taken n k xs x (omega (arith, 
 -- ---- blocks, one after the other
 
 module _ {A : Type 0} (judge : List Block → List A → Block → Result A Misplaced) where
-  front : (earlier : List Block) (done : List A) (xs : List Block) (all : List A) → each_block judge earlier done xs ≡ Ok all → (ds : List A) × (done ++ ds ≡ all)
+  front : (earlier : List Block) (done : List A) (xs : List Block) (all : List A) → each_block judge earlier done xs ≡ Ok all
+      → (ds : List A) × (done ++ ds ≡ all)
   front earlier done [] all h = ([], append-nil done ∙ cc h)
   front earlier done (x ∷ xs) all h =
       let q = in_block_ok (suc (length earlier)) (judge earlier done x) (λ a. each_block judge (earlier ++ x ∷ []) (done ++ a ∷ []) xs) all h in
       let r = front (earlier ++ x ∷ []) (done ++ q.0 ∷ []) xs all q.2 in
       (q.0 ∷ r.0, sym (append_assoc done (q.0 ∷ []) r.0) ∙ r.1)
 
-  pub judged_at : (earlier : List Block) (done : List A) (xs : List Block) (all : List A) (k : ℕ) (x : Block) → each_block judge earlier done xs ≡ Ok all → slice_get xs k ≡ Some x
+  pub judged_at : (earlier : List Block) (done : List A) (xs : List Block) (all : List A) (k : ℕ) (x : Block)
+      → each_block judge earlier done xs ≡ Ok all → slice_get xs k ≡ Some x
       → (a : A) × (judge (earlier ++ take k xs) (take (length done + k) all) x ≡ Ok a) × (slice_get all (length done + k) ≡ Some a)
   judged_at earlier done [] all k x h e = absurd (cc e)
   judged_at earlier done (y ∷ xs) all zero x h e =
@@ -111,19 +117,23 @@ module _ (basin : Draft) (code : List Block) (budgets : List Budget) (accepted :
       let z : 0 + k ≡ k = omega arith in
       let y : suc (length (take k code)) ≡ n = omega (arith, length-take k code, slice_get_within code k x s.0, s.1) in
       let b = then_do_ok (block_befores basin code (take k code) x) (λ (places : List Before).
-      at_place (length x.lines) (within_limits (budget_by (scope_of basin code (suc (length (take k code))) x) (take (0 + k) budgets) places x.lines)) (λ d. Ok d)) j.0 j.1 in
+      at_place (length x.lines) (within_limits (budget_by (scope_of basin code (suc (length (take k code))) x) (take (0 + k) budgets) places x.lines))
+      (λ d. Ok d)) j.0 j.1 in
       let spends : Budget = budget_by (scope_of basin code (suc (length (take k code))) x) (take (0 + k) budgets) b.0 x.lines in
       let w = at_place_ok (length x.lines) (within_limits spends) j.0 b.2 in
       record {
         places = b.0;
-        fit = ap (λ m. befores (scope_of basin code m x) 0 (before [] []) x.lines) (sym y) ∙ few (nat_lt (count_alike x.head (take k code)) 200) _ b.0 b.1;
+        fit =
+            ap (λ m. befores (scope_of basin code m x) 0 (before [] []) x.lines) (sym y)
+            ∙ few (nat_lt (count_alike x.head (take k code)) 200) _ b.0 b.1;
         budget_is = j.0;
         at = numbered_by budgets n j.0 (ap (slice_get budgets) (sym z) ∙ j.2) s.1;
         same = ap₂ (λ m i. budget_by (scope_of basin code m x) (take i budgets) b.0 x.lines) (sym y) (sym z) ∙ same_budget spends j.0 w;
         limited = within spends j.0 w;
       }
     where
-      few : (t : Bool) (r : Result (List Before) Misplaced) (l : List Before) → (if t then r else Err (record { misfit = TooMany; place = 0 })) ≡ Ok l → r ≡ Ok l
+      few : (t : Bool) (r : Result (List Before) Misplaced) (l : List Before)
+          → (if t then r else Err (record { misfit = TooMany; place = 0 })) ≡ Ok l → r ≡ Ok l
       few true r l h = h
       few false r l h = absurd (cc h)
 
@@ -146,9 +156,12 @@ module _ (basin : Draft) (code : List Block) (budgets : List Budget) (accepted :
       let r = ruled n x e in
       let sc : Scope = scope_of basin code n x in
       let same : budget_by sc (earlier n) (bs n) x.lines ≡ r.budget_is = ap (λ l. budget_by sc (earlier n) l x.lines) (bs_is n x e) ∙ r.same in
-      let m1 : capped limits.count (most (summed sc (earlier n) (count_of sc (earlier n))) (bs n) x.lines) ≡ r.budget_is.count = ap (λ (d : Budget). d.count) same in
-      let m2 : capped limits.looks (most (summed sc (earlier n) (looks_of sc (earlier n))) (bs n) x.lines) ≡ r.budget_is.looks = ap (λ (d : Budget). d.looks) same in
-      let m3 : capped limits.puts (most (summed sc (earlier n) (puts_of sc (earlier n))) (bs n) x.lines) ≡ r.budget_is.puts = ap (λ (d : Budget). d.puts) same in
+      let m1 : capped limits.count (most (summed sc (earlier n) (count_of sc (earlier n))) (bs n) x.lines) ≡ r.budget_is.count =
+      ap (λ (d : Budget). d.count) same in
+      let m2 : capped limits.looks (most (summed sc (earlier n) (looks_of sc (earlier n))) (bs n) x.lines) ≡ r.budget_is.looks =
+      ap (λ (d : Budget). d.looks) same in
+      let m3 : capped limits.puts (most (summed sc (earlier n) (puts_of sc (earlier n))) (bs n) x.lines) ≡ r.budget_is.puts =
+      ap (λ (d : Budget). d.puts) same in
       let m4 : capped limits.words (most (at_a_time sc (earlier n)) (bs n) x.lines) ≡ r.budget_is.words = ap (λ (d : Budget). d.words) same in
       record {
         count = sym (uncapped limits.count _ (omega (arith, m1, r.limited.count))) ∙ m1;
@@ -158,19 +171,27 @@ module _ (basin : Draft) (code : List Block) (budgets : List Budget) (accepted :
       }
 
   module _ (values : Cell → Option ℤ) (now : ℕ) where
-    pub covered : (n k : ℕ) (x y : Block) → numbered code n ≡ Some x → nat_lt k n ≡ true → numbered code k ≡ Some y → Covers basin code values now bs earlier fits n k
+    pub covered : (n k : ℕ) (x y : Block) → numbered code n ≡ Some x → nat_lt k n ≡ true → numbered code k ≡ Some y
+        → Covers basin code values now bs earlier fits n k
     covered n k x y h lt e =
         let r = ruled k y e in
         let q = exact k y e in
         let b : block_or (numbered code k) ≡ y = ap block_or e in
         let s = numbered_is budgets k r.budget_is r.at in
         let less : k < n = grind (arith, nat_tests, lt) in
-        let d : numbered (earlier n) k ≡ Some r.budget_is = numbered_by (earlier n) k r.budget_is (get_taken (n - 1) (k - 1) budgets r.budget_is (omega (arith, less, s.1)) s.0) s.1 in
-        let m1 : C (scope_of basin code k (block_or (numbered code k))) (earlier k) (count_of (scope_of basin code k (block_or (numbered code k))) (earlier k)) (block_or (numbered code k)).lines (bs k) 0 ≡ r.budget_is.count =
+        let d : numbered (earlier n) k ≡ Some r.budget_is =
+        numbered_by (earlier n) k r.budget_is (get_taken (n - 1) (k - 1) budgets r.budget_is (omega (arith, less, s.1)) s.0) s.1 in
+        let m1 : C (scope_of basin code k (block_or (numbered code k))) (earlier k)
+        (count_of (scope_of basin code k (block_or (numbered code k))) (earlier k)) (block_or (numbered code k)).lines (bs k) 0
+        ≡ r.budget_is.count =
         ap (λ (z : Block). C (scope_of basin code k z) (earlier k) (count_of (scope_of basin code k z) (earlier k)) z.lines (bs k) 0) b ∙ q.count in
-        let m2 : C (scope_of basin code k (block_or (numbered code k))) (earlier k) (looks_of (scope_of basin code k (block_or (numbered code k))) (earlier k)) (block_or (numbered code k)).lines (bs k) 0 ≡ r.budget_is.looks =
+        let m2 : C (scope_of basin code k (block_or (numbered code k))) (earlier k)
+        (looks_of (scope_of basin code k (block_or (numbered code k))) (earlier k)) (block_or (numbered code k)).lines (bs k) 0
+        ≡ r.budget_is.looks =
         ap (λ (z : Block). C (scope_of basin code k z) (earlier k) (looks_of (scope_of basin code k z) (earlier k)) z.lines (bs k) 0) b ∙ q.looks in
-        let m3 : C (scope_of basin code k (block_or (numbered code k))) (earlier k) (puts_of (scope_of basin code k (block_or (numbered code k))) (earlier k)) (block_or (numbered code k)).lines (bs k) 0 ≡ r.budget_is.puts =
+        let m3 : C (scope_of basin code k (block_or (numbered code k))) (earlier k)
+        (puts_of (scope_of basin code k (block_or (numbered code k))) (earlier k)) (block_or (numbered code k)).lines (bs k) 0
+        ≡ r.budget_is.puts =
         ap (λ (z : Block). C (scope_of basin code k z) (earlier k) (puts_of (scope_of basin code k z) (earlier k)) z.lines (bs k) 0) b ∙ q.puts in
         let m4 : W (scope_of basin code k (block_or (numbered code k))) (earlier k) (block_or (numbered code k)).lines (bs k) 0 ≡ r.budget_is.words =
         ap (λ (z : Block). W (scope_of basin code k z) (earlier k) z.lines (bs k) 0) b ∙ q.words in
@@ -189,18 +210,21 @@ module _ (basin : Draft) (code : List Block) (budgets : List Budget) (accepted :
     alike_rule Rule e = refl
     alike_rule (Function result ps) e = absurd (cc e)
 
-    pub rule_there : (m : ℕ) (xs : List Block) (rule n : ℕ) → rule_from m xs rule ≡ Some n → (x : Block) × (slice_get xs (n - m) ≡ Some x) × (x.head ≡ Rule) × (m ≤ n)
+    pub rule_there : (m : ℕ) (xs : List Block) (rule n : ℕ) → rule_from m xs rule ≡ Some n
+        → (x : Block) × (slice_get xs (n - m) ≡ Some x) × (x.head ≡ Rule) × (m ≤ n)
     rule_there m [] rule n h = absurd (cc h)
     rule_there m (x ∷ xs) rule n h = by (is_alike Rule x.head) refl h (λ r e. further (rule_there (suc m) xs r n e))
       where
         shifted : (d : ℕ) (y : Block) → suc m ≤ n → n - suc m ≡ d → slice_get xs d ≡ Some y → slice_get (x ∷ xs) (n - m) ≡ Some y
         shifted d y le e g = let z : n - m ≡ suc d = omega (arith, e, le) in ap (slice_get (x ∷ xs)) z ∙ g
 
-        further : (y : Block) × (slice_get xs (n - suc m) ≡ Some y) × (y.head ≡ Rule) × (suc m ≤ n) → (y : Block) × (slice_get (x ∷ xs) (n - m) ≡ Some y) × (y.head ≡ Rule) × (m ≤ n)
+        further : (y : Block) × (slice_get xs (n - suc m) ≡ Some y) × (y.head ≡ Rule) × (suc m ≤ n)
+            → (y : Block) × (slice_get (x ∷ xs) (n - m) ≡ Some y) × (y.head ≡ Rule) × (m ≤ n)
         further q = (q.0, shifted (n - suc m) q.0 q.3 refl q.1, q.2, omega (arith, q.3))
 
         here : is_alike Rule x.head ≡ true → Some m ≡ Some n → (y : Block) × (slice_get (x ∷ xs) (n - m) ≡ Some y) × (y.head ≡ Rule) × (m ≤ n)
-        here e f = let q : m ≡ n = cc f in let z : n - m ≡ 0 = omega (arith, q) in (x, ap (slice_get (x ∷ xs)) z, alike_rule x.head e, omega (arith, q))
+        here e f = let q : m ≡ n = cc f in let z : n - m ≡ 0 =
+            omega (arith, q) in (x, ap (slice_get (x ∷ xs)) z, alike_rule x.head e, omega (arith, q))
 
         by_number : (t : Bool) → is_alike Rule x.head ≡ true → (if t then Some m else rule_from (suc m) xs (rule - 1)) ≡ Some n
             → ((r : ℕ) → rule_from (suc m) xs r ≡ Some n → (y : Block) × (slice_get (x ∷ xs) (n - m) ≡ Some y) × (y.head ≡ Rule) × (m ≤ n))
@@ -208,7 +232,8 @@ module _ (basin : Draft) (code : List Block) (budgets : List Budget) (accepted :
         by_number true e f later = here e f
         by_number false e f later = later (rule - 1) f
 
-        by : (t : Bool) → is_alike Rule x.head ≡ t → (if t then (if rule == 1 then Some m else rule_from (suc m) xs (rule - 1)) else rule_from (suc m) xs rule) ≡ Some n
+        by : (t : Bool) → is_alike Rule x.head ≡ t
+            → (if t then (if rule == 1 then Some m else rule_from (suc m) xs (rule - 1)) else rule_from (suc m) xs rule) ≡ Some n
             → ((r : ℕ) → rule_from (suc m) xs r ≡ Some n → (y : Block) × (slice_get (x ∷ xs) (n - m) ≡ Some y) × (y.head ≡ Rule) × (m ≤ n))
             → (y : Block) × (slice_get (x ∷ xs) (n - m) ≡ Some y) × (y.head ≡ Rule) × (m ≤ n)
         by true e f later = by_number (rule == 1) e f later
@@ -222,7 +247,8 @@ module _ (basin : Draft) (code : List Block) (budgets : List Budget) (accepted :
       count : fire.count ≡ t.count
       looked : fire.looked ≡ t.looked
 
-    comes : (f : Frame) (a : Answer (Unit {0})) (t : Trail) → EndsOn basin code values now bs earlier fits (f ∷ []) (states code the_world most_steps (f ∷ [])) a t → Comes f a t
+    comes : (f : Frame) (a : Answer (Unit {0})) (t : Trail)
+        → EndsOn basin code values now bs earlier fits (f ∷ []) (states code the_world most_steps (f ∷ [])) a t → Comes f a t
     comes f (value done) t e = record { fire = _; is = refl; ran = e; count = refl; looked = refl }
     comes f (ended end) t e = record { fire = _; is = refl; ran = e; count = refl; looked = refl }
     comes f stuck t e = absurd e
@@ -235,20 +261,27 @@ module _ (basin : Draft) (code : List Block) (budgets : List Budget) (accepted :
       let b : Budget = d.budget_is in
       let x = exact n r.0 e in
       let f : Frame = begin n r.0 [] in
-      let fits_first : Fits basin code values step bs earlier fits [] f = begun basin code values step bs earlier fits n r.0 [] e (ap parameters_of (sym r.2)) tt in
+      let fits_first : Fits basin code values step bs earlier fits [] f =
+      begun basin code values step bs earlier fits n r.0 [] e (ap parameters_of (sym r.2)) tt in
       let y : block_or (numbered code n) ≡ r.0 = ap block_or e in
-      let m1 : C (scope_of basin code n (block_or (numbered code n))) (earlier n) (count_of (scope_of basin code n (block_or (numbered code n))) (earlier n)) (block_or (numbered code n)).lines (bs n) 0 ≡ b.count =
+      let m1 : C (scope_of basin code n (block_or (numbered code n))) (earlier n)
+      (count_of (scope_of basin code n (block_or (numbered code n))) (earlier n)) (block_or (numbered code n)).lines (bs n) 0 ≡ b.count =
       ap (λ (z : Block). C (scope_of basin code n z) (earlier n) (count_of (scope_of basin code n z) (earlier n)) z.lines (bs n) 0) y ∙ x.count in
-      let m2 : C (scope_of basin code n (block_or (numbered code n))) (earlier n) (looks_of (scope_of basin code n (block_or (numbered code n))) (earlier n)) (block_or (numbered code n)).lines (bs n) 0 ≡ b.looks =
+      let m2 : C (scope_of basin code n (block_or (numbered code n))) (earlier n)
+      (looks_of (scope_of basin code n (block_or (numbered code n))) (earlier n)) (block_or (numbered code n)).lines (bs n) 0 ≡ b.looks =
       ap (λ (z : Block). C (scope_of basin code n z) (earlier n) (looks_of (scope_of basin code n z) (earlier n)) z.lines (bs n) 0) y ∙ x.looks in
-      let m3 : C (scope_of basin code n (block_or (numbered code n))) (earlier n) (puts_of (scope_of basin code n (block_or (numbered code n))) (earlier n)) (block_or (numbered code n)).lines (bs n) 0 ≡ b.puts =
+      let m3 : C (scope_of basin code n (block_or (numbered code n))) (earlier n)
+      (puts_of (scope_of basin code n (block_or (numbered code n))) (earlier n)) (block_or (numbered code n)).lines (bs n) 0 ≡ b.puts =
       ap (λ (z : Block). C (scope_of basin code n z) (earlier n) (puts_of (scope_of basin code n z) (earlier n)) z.lines (bs n) 0) y ∙ x.puts in
       let m4 : W (scope_of basin code n (block_or (numbered code n))) (earlier n) (block_or (numbered code n)).lines (bs n) 0 ≡ b.words =
       ap (λ (z : Block). W (scope_of basin code n z) (earlier n) z.lines (bs n) 0) y ∙ x.words in
       let limit : b.count ≤ 1000000 = d.limited.count in
-      let done = comes values step f (run code (the_world values step) most_steps (f ∷ [])).answer (run code (the_world values step) most_steps (f ∷ [])).trail
+      let done =
+      comes values step f (run code (the_world values step) most_steps (f ∷ [])).answer
+      (run code (the_world values step) most_steps (f ∷ [])).trail
       (runs basin code values step bs earlier fits (covered values step) most_steps (f ∷ []) (fits_first, tt) (omega (arith, m1, limit))) in
-      let q : first_frame code rule ≡ Some f = ap (option_and_then (λ n. option_map (λ x. begin n x []) (numbered code n))) h ∙ ap (option_map (λ x. begin n x [])) e in (
+      let q : first_frame code rule ≡ Some f =
+      ap (option_and_then (λ n. option_map (λ x. begin n x []) (numbered code n))) h ∙ ap (option_map (λ x. begin n x [])) e in (
         b,
         d.at,
         record {

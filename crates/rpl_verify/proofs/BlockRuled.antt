@@ -1,5 +1,6 @@
 -- The code's two passes over a block are its ruling.
-use Rattle.rw_base.proofs.Common.{◌≡◌, ◌<◌, ◌+◌, ℕ, suc, Bool, true, nat_lt, List, [], ◌∷◌, length, Result, Ok, Err, refl, sym, ap, ◌∙◌, arith, if◌then◌else◌, nat_tests}
+use Rattle.rw_base.proofs.Common.{◌≡◌, ◌<◌, ◌+◌, ℕ, suc, Bool, true, nat_lt, List, [], ◌∷◌, length, Result, Ok, Err, refl, sym, ap, ◌∙◌, arith}
+use Rattle.rw_base.proofs.Common.{if◌then◌else◌, nat_tests}
 use Rattle.rw_model.specs.Draft.{Draft}
 use Rattle.rpl_code.specs.declared.block.Block.{Block}
 use Rattle.rpl_code.specs.declared.instruction.Instruction.{Instruction}
@@ -20,7 +21,13 @@ use Rattle.rpl_verify.proofs.Caps.{most_is}
 
 module _ (scope : Scope) (budgets : List Budget) where
   budget_is : (bs : List Before) (is : List Instruction) → budget_noted (notes_of scope budgets bs is) is ≡ budget_by scope budgets bs is
-  budget_is bs is = rw (most_is scope budgets Count bs is, most_is scope budgets Looks bs is, most_is scope budgets Puts bs is, most_is scope budgets Words bs is) refl
+  budget_is bs is =
+      rw (
+        most_is scope budgets Count bs is,
+        most_is scope budgets Looks bs is,
+        most_is scope budgets Puts bs is,
+        most_is scope budgets Words bs is,
+      ) refl
 
   length-notes : (bs : List Before) (is : List Instruction) → length (notes_of scope budgets bs is) ≡ length is + 1
   length-notes bs [] = refl
@@ -35,7 +42,8 @@ module _ (basin : Draft) (blocks earlier : List Block) (budgets : List Budget) (
   abbrev here : Scope
   here = scope_of basin blocks (suc (length earlier)) block
 
-  pub same_noted : (number : ℕ) (locals : List ValueKind) (lines : List Instruction) → number ≡ suc (length earlier) → locals ≡ locals_of block → lines ≡ block.lines
+  pub same_noted : (number : ℕ) (locals : List ValueKind) (lines : List Instruction) → number ≡ suc (length earlier) → locals ≡ locals_of block
+      → lines ≡ block.lines
       → noted_block (scope_in basin blocks number block.head locals (spots lines)) budgets lines ≡ noted_block here budgets block.lines
   same_noted number locals lines n k l = rw (n, k, l) refl
 
@@ -54,10 +62,12 @@ module _ (basin : Draft) (blocks earlier : List Block) (budgets : List Budget) (
           → measured found ≡ at_place (length block.lines) (within_limits (budget_noted ns block.lines)) (λ b. Ok b)
       by (Ok bs) e =
           let same : notes_of here budgets bs block.lines ≡ ns = same_ok (notes_of here budgets bs block.lines) ns e in
-          ap (λ b. at_place (length block.lines) (within_limits b) (λ b. Ok b)) (sym (budget_is here budgets bs block.lines) ∙ ap (λ ns. budget_noted ns block.lines) same)
+          ap (λ b. at_place (length block.lines) (within_limits b) (λ b. Ok b))
+          (sym (budget_is here budgets bs block.lines) ∙ ap (λ ns. budget_noted ns block.lines) same)
       by (Err other) e = absurd (cc e)
 
   -- a budget that a limit refuses, or that keeps them all
-  pub ruled_by : (ns : List Note) (b : Budget) (r : Result Budget VerifyKind) → count_alike block.head earlier < 200 → noted_block here budgets block.lines ≡ Ok ns → b ≡ budget_noted ns block.lines → within_limits b ≡ r
+  pub ruled_by : (ns : List Note) (b : Budget) (r : Result Budget VerifyKind) → count_alike block.head earlier < 200
+      → noted_block here budgets block.lines ≡ Ok ns → b ≡ budget_noted ns block.lines → within_limits b ≡ r
       → block_ruling basin blocks earlier budgets block ≡ at_place (length block.lines) r (λ b. Ok b)
   ruled_by ns b r h e k w = ruled h ns e ∙ ap (λ r. at_place (length block.lines) r (λ b. Ok b)) (ap within_limits (sym k) ∙ w)

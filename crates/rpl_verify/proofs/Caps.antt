@@ -1,5 +1,6 @@
 -- Numbers that stop at a limit, and the table of them.
-use Rattle.rw_base.proofs.Common.{◌≡◌, ℕ, zero, suc, ◌+◌, ◌-◌, ◌*◌, ◌≤◌, ◌<◌, max, Bool, true, false, nat_lt, List, [], ◌∷◌, map, length, refl, sym, ap, ap₂, ◌∙◌, subst, arith, drop, set, slice_index, nat_tests, drop-set}
+use Rattle.rw_base.proofs.Common.{◌≡◌, ℕ, zero, suc, ◌+◌, ◌-◌, ◌*◌, ◌≤◌, ◌<◌, max, Bool, true, false, nat_lt, List, [], ◌∷◌, map, length, refl, sym}
+use Rattle.rw_base.proofs.Common.{ap, ap₂, ◌∙◌, subst, arith, drop, set, slice_index, nat_tests, drop-set}
 use Rattle.rpl_code.specs.declared.instruction.Instruction.{Instruction}
 use Rattle.rpl_tree.specs.Budget.{Budget, capped, limits}
 use Rattle.rpl_verify.specs.declared.notes.Note.{Note}
@@ -45,7 +46,8 @@ max_capped : (l a b x y : ℕ) → a ≡ capped l x → b ≡ capped l y → max
 max_capped l a b x y h g = omega (arith, h, g)
 
 -- what is joined of numbers that stop
-pub joined_stops : (part : Part) (a b x y : ℕ) → a ≡ capped (limit_of part) x → b ≡ capped (limit_of part) y → capped (limit_of part) (part_joined part a b) ≡ capped (limit_of part) (part_joined part x y)
+pub joined_stops : (part : Part) (a b x y : ℕ) → a ≡ capped (limit_of part) x → b ≡ capped (limit_of part) y
+    → capped (limit_of part) (part_joined part a b) ≡ capped (limit_of part) (part_joined part x y)
 joined_stops Count a b x y h g = capped_sum limits.count a b x y h g
 joined_stops Looks a b x y h g = capped_sum limits.looks a b x y h g
 joined_stops Puts a b x y h g = capped_sum limits.puts a b x y h g
@@ -54,7 +56,8 @@ joined_stops Words a b x y h g = capped_most limits.words a b x y h g
 times_stops : (l room a x : ℕ) → a ≡ capped l x → capped l (room * a) ≡ capped l (room * x)
 times_stops l room a x h = ap (λ n. capped l (room * n)) h ∙ capped_times l room x
 
-pub repeated_stops : (part : Part) (room a x : ℕ) → a ≡ capped (limit_of part) x → capped (limit_of part) (repeated part room a) ≡ capped (limit_of part) (repeated part room x)
+pub repeated_stops : (part : Part) (room a x : ℕ) → a ≡ capped (limit_of part) x
+    → capped (limit_of part) (repeated part room a) ≡ capped (limit_of part) (repeated part room x)
 repeated_stops Count room a x h = times_stops limits.count room a x h
 repeated_stops Looks room a x h = times_stops limits.looks room a x h
 repeated_stops Puts room a x h = times_stops limits.puts room a x h
@@ -80,24 +83,31 @@ module _ (scope : Scope) (budgets : List Budget) where
   measure_repeats Words room a = refl
 
   module _ (part : Part) where
-    join_stops : (a b x y : ℕ) → a ≡ capped (limit_of part) x → b ≡ capped (limit_of part) y → capped (limit_of part) (part_joined part a b) ≡ capped (limit_of part) ((measure_of scope budgets part).joined x y)
+    join_stops : (a b x y : ℕ) → a ≡ capped (limit_of part) x → b ≡ capped (limit_of part) y
+        → capped (limit_of part) (part_joined part a b) ≡ capped (limit_of part) ((measure_of scope budgets part).joined x y)
     join_stops a b x y h g = joined_stops part a b x y h g ∙ ap (capped (limit_of part)) (sym (measure_joins part x y))
 
-    repeat_stops : (room a x : ℕ) → a ≡ capped (limit_of part) x → capped (limit_of part) (repeated part room a) ≡ capped (limit_of part) ((measure_of scope budgets part).repeated room x)
+    repeat_stops : (room a x : ℕ) → a ≡ capped (limit_of part) x
+        → capped (limit_of part) (repeated part room a) ≡ capped (limit_of part) ((measure_of scope budgets part).repeated room x)
     repeat_stops room a x h = repeated_stops part room a x h ∙ ap (capped (limit_of part)) (sym (measure_repeats part room x))
 
     -- an entry made of numbers that stop is the entry that stops
-    pub most_stops : (place : ℕ) (way : Going) (price price2 room room2 : ℕ) (is : List Instruction) (from from2 : ℕ → ℕ) → price2 ≡ capped (limit_of part) price → room2 ≡ room → ((d : ℕ) → from2 d ≡ capped (limit_of part) (from d))
-        → most_from (stopping part) place way price2 room2 is from2 ≡ capped (limit_of part) (most_from (measure_of scope budgets part) place way price room is from)
+    pub most_stops : (place : ℕ) (way : Going) (price price2 room room2 : ℕ) (is : List Instruction) (from from2 : ℕ → ℕ)
+        → price2 ≡ capped (limit_of part) price → room2 ≡ room → ((d : ℕ) → from2 d ≡ capped (limit_of part) (from d))
+        → most_from (stopping part) place way price2 room2 is from2
+        ≡ capped (limit_of part) (most_from (measure_of scope budgets part) place way price room is from)
     most_stops place onward price price2 room room2 is from from2 p r h = join_stops price2 _ price _ p (h (suc place))
     most_stops place (jumping to) price price2 room room2 is from from2 p r h = join_stops price2 _ price _ p (h to)
     most_stops place (branching to) price price2 room room2 is from from2 p r h =
         join_stops price2 _ price _ p (max_capped (limit_of part) (from2 (suc place)) (from2 to) (from (suc place)) (from to) (h (suc place)) (h to))
     most_stops place entering price price2 room room2 is from from2 p r h =
-        join_stops price2 _ price _ p (join_stops _ _ _ _ (repeat_stops room2 (from2 (suc place)) (from (suc place)) (h (suc place)) ∙ ap (λ n. capped (limit_of part) ((measure_of scope budgets part).repeated n (from (suc place)))) r) (h (loop_end (suc place) is)))
+        join_stops price2 _ price _ p (join_stops _ _ _ _
+        (repeat_stops room2 (from2 (suc place)) (from (suc place)) (h (suc place))
+        ∙ ap (λ n. capped (limit_of part) ((measure_of scope budgets part).repeated n (from (suc place)))) r) (h (loop_end (suc place) is)))
     most_stops place turning price price2 room room2 is from from2 p r h = p
 
-    price_stops : (q : Part) (b : Before) (i : Instruction) → price_in q (note_of scope budgets b i) ≡ capped (limit_of q) ((measure_of scope budgets q).price b i)
+    price_stops : (q : Part) (b : Before) (i : Instruction)
+        → price_in q (note_of scope budgets b i) ≡ capped (limit_of q) ((measure_of scope budgets q).price b i)
     price_stops Count b i = refl
     price_stops Looks b i = refl
     price_stops Puts b i = refl
@@ -110,26 +120,32 @@ module _ (scope : Scope) (budgets : List Budget) where
     end_stops Words b = refl
 
     -- the table by notes is the table of all numbers, each of which stops
-    pub noted_is : (place : ℕ) (bs : List Before) (is : List Instruction) → noted part place (notes_of scope budgets bs is) is ≡ map (capped (limit_of part)) (table (measure_of scope budgets part) place bs is)
+    pub noted_is : (place : ℕ) (bs : List Before) (is : List Instruction)
+        → noted part place (notes_of scope budgets bs is) is ≡ map (capped (limit_of part)) (table (measure_of scope budgets part) place bs is)
     noted_is place bs [] = ap (λ n. n ∷ []) (end_stops part (first_before bs))
     noted_is place bs (i ∷ is) =
         let m = measure_of scope budgets part in
         let b = first_before bs in
         let behind = table m (suc place) (rest_of bs) is in
         let e = noted_is (suc place) (rest_of bs) is in
-        let stops : (d : ℕ) → slice_index (noted part (suc place) (notes_of scope budgets (rest_of bs) is) is) (d - suc place) ≡ capped (limit_of part) (slice_index behind (d - suc place)) =
+        let stops : (d : ℕ) → slice_index (noted part (suc place) (notes_of scope budgets (rest_of bs) is) is) (d - suc place)
+        ≡ capped (limit_of part) (slice_index behind (d - suc place)) =
         λ d. ap (λ ns. slice_index ns (d - suc place)) e ∙ index_capped (limit_of part) behind (d - suc place) in
         ap₂ (λ n ns. n ∷ ns)
-        (most_stops place (going_of i) (m.price b i) (price_in part (note_of scope budgets b i)) (room_on_top b.kinds) (room_on_top b.kinds) is (λ to. slice_index behind (to - suc place))
+        (most_stops place (going_of i) (m.price b i) (price_in part (note_of scope budgets b i)) (room_on_top b.kinds) (room_on_top b.kinds) is
+        (λ to. slice_index behind (to - suc place))
         (λ to. slice_index (noted part (suc place) (notes_of scope budgets (rest_of bs) is) is) (to - suc place)) (price_stops part b i) refl stops)
         e
 
-    pub most_is : (bs : List Before) (is : List Instruction) → slice_index (noted part 0 (notes_of scope budgets bs is) is) 0 ≡ capped (limit_of part) (most (measure_of scope budgets part) bs is)
+    pub most_is : (bs : List Before) (is : List Instruction)
+        → slice_index (noted part 0 (notes_of scope budgets bs is) is) 0 ≡ capped (limit_of part) (most (measure_of scope budgets part) bs is)
     most_is bs is = ap (λ ns. slice_index ns 0) (noted_is 0 bs is) ∙ index_capped (limit_of part) (table (measure_of scope budgets part) 0 bs is) 0
 
 -- one place of the table, from those behind it
-pub noted_on : (part : Part) (most most2 : List ℕ) (p q : ℕ) (n : Note) (ns left : List Note) (i : Instruction) (is on : List Instruction) (x : ℕ) → q ≡ p + 1 → drop q most ≡ noted part q ns is → left ≡ n ∷ ns → on ≡ i ∷ is → p < length most → most2 ≡ set most p x
-    → x ≡ most_from (stopping part) p (going_of i) (price_in part n) n.room is (λ to. slice_index (drop (suc p) most) (to - suc p)) → drop p most2 ≡ noted part p left on
+pub noted_on : (part : Part) (most most2 : List ℕ) (p q : ℕ) (n : Note) (ns left : List Note) (i : Instruction) (is on : List Instruction) (x : ℕ)
+    → q ≡ p + 1 → drop q most ≡ noted part q ns is → left ≡ n ∷ ns → on ≡ i ∷ is → p < length most → most2 ≡ set most p x
+    → x ≡ most_from (stopping part) p (going_of i) (price_in part n) n.room is (λ to. slice_index (drop (suc p) most) (to - suc p))
+    → drop p most2 ≡ noted part p left on
 noted_on part most most2 p q n ns left i is on x z h l o lt s v =
     let z2 : q ≡ suc p = omega (arith, z) in
     let z3 : p + 1 ≡ suc p = omega arith in

@@ -1,11 +1,13 @@
 -- The most that there is from each place on, and that a way from place to place never comes to more.
-use Rattle.rw_base.proofs.Common.{◌≡◌, ℕ, zero, suc, ◌+◌, ◌-◌, ◌*◌, max, ◌≤◌, ◌<◌, List, [], ◌∷◌, length, drop, Some, refl, sym, ap, ap₂, ◌∙◌, arith, mul-le-mul_right, suc-mul, slice_get, slice_index, get_or-drop, slice_get_within}
+use Rattle.rw_base.proofs.Common.{◌≡◌, ℕ, zero, suc, ◌+◌, ◌-◌, ◌*◌, max, ◌≤◌, ◌<◌, List, [], ◌∷◌, length, drop, Some, refl, sym, ap, ap₂, ◌∙◌, arith}
+use Rattle.rw_base.proofs.Common.{mul-le-mul_right, suc-mul, slice_get, slice_index, get_or-drop, slice_get_within}
 use Rattle.rpl_code.specs.declared.instruction.Instruction.{Instruction}
 use Rattle.rpl_verify.specs.Places.{loop_end, rest_of}
 use Rattle.rpl_tree.specs.Budget.{Budget}
 use Rattle.rpl_verify.specs.Names.{Scope}
 use Rattle.rpl_verify.specs.Fits.{Before, before_at, room_on_top}
-use Rattle.rpl_verify.specs.Budget.{Measure, Going, onward, jumping, branching, entering, turning, going_of, at_a_time, first_before, most_from, summed, table, words_at, words_before}
+use Rattle.rpl_verify.specs.Budget.{Measure, Going, onward, jumping, branching, entering, turning, going_of, at_a_time, first_before, most_from}
+use Rattle.rpl_verify.specs.Budget.{summed, table, words_at, words_before}
 use Rattle.rpl_verify.specs.Machine.{Running}
 use Rattle.rpl_verify.proofs.Loops.{drop_at}
 use Rattle.rpl_verify.proofs.Frames.{Flow, to_next, to_other, not_taken, is_taken, goes_in, goes_over, turns_back, goes_out}
@@ -35,7 +37,8 @@ drop_all [] = refl
 drop_all (x ∷ xs) = drop_all xs
 
 module _ (m : Measure) where
-  tail_of : (place : ℕ) (bs : List Before) (is : List Instruction) (k : ℕ) → k ≤ length is → drop k (table m place bs is) ≡ table m (place + k) (drop k bs) (drop k is)
+  tail_of : (place : ℕ) (bs : List Before) (is : List Instruction) (k : ℕ) → k ≤ length is
+      → drop k (table m place bs is) ≡ table m (place + k) (drop k bs) (drop k is)
   tail_of place bs is zero le = let z : place ≡ place + 0 = omega arith in ap (λ n. table m n bs is) z
   tail_of place bs [] (suc k) le = absurd (omega (arith, le))
   tail_of place bs (i ∷ is) (suc k) le =
@@ -65,7 +68,8 @@ module _ (m : Measure) where
     at_head : (p : ℕ) → M p ≡ slice_index (drop p T) 0
     at_head p = let z : p + 0 ≡ p = omega arith in sym (index_drop p 0 T ∙ ap (slice_index T) z)
 
-    pub entry_is : (p : ℕ) (i : Instruction) → slice_get lines p ≡ Some i → M p ≡ most_from m p (going_of i) (m.price (before_at bs p) i) (room_on_top (before_at bs p).kinds) (drop (suc p) lines) (look p)
+    pub entry_is : (p : ℕ) (i : Instruction) → slice_get lines p ≡ Some i
+        → M p ≡ most_from m p (going_of i) (m.price (before_at bs p) i) (room_on_top (before_at bs p).kinds) (drop (suc p) lines) (look p)
     entry_is p i e =
         let le : p ≤ length lines = omega (arith, slice_get_within lines p i e) in
         at_head p ∙ ap (λ ns. slice_index ns 0) (tail p le ∙ ap (table m p (drop p bs)) (drop_at lines p i e))
@@ -74,7 +78,8 @@ module _ (m : Measure) where
     pub end_is : M (length lines) ≡ m.at_end (before_at bs (length lines))
     end_is =
         let n : ℕ = length lines in
-        at_head n ∙ ap (λ ns. slice_index ns 0) (tail n (omega arith) ∙ ap (table m n (drop n bs)) (drop_all lines)) ∙ ap (λ b. m.at_end b) (first_drop n bs)
+        at_head n ∙ ap (λ ns. slice_index ns 0) (tail n (omega arith) ∙ ap (table m n (drop n bs)) (drop_all lines))
+        ∙ ap (λ b. m.at_end b) (first_drop n bs)
 
     abbrev pub past : ℕ → ℕ
     past start = loop_end (suc start) (drop (suc start) lines)
@@ -109,7 +114,8 @@ module _ (m : Measure) where
       by_entry h = by_way entering h ∙ ap (λ n. m.joined here (m.joined (m.repeated room n) (look p (past p)))) (look_is p (suc p) le (omega arith))
 
       pub by_far_entry : going_of i ≡ entering → p < past p → M p ≡ m.joined here (m.joined (m.repeated room (M (suc p))) (M (past p)))
-      by_far_entry h far = by_entry h ∙ ap (λ n. m.joined here (m.joined (m.repeated room (M (suc p))) n)) (look_is p (past p) le (omega (arith, far)))
+      by_far_entry h far =
+          by_entry h ∙ ap (λ n. m.joined here (m.joined (m.repeated room (M (suc p))) n)) (look_is p (past p) le (omega (arith, far)))
 
       pub by_turn : going_of i ≡ turning → M p ≡ here
       by_turn h = by_way turning h
@@ -120,7 +126,8 @@ one_more : (n m k : ℕ) → suc n ≡ m → m * k ≡ k + n * k
 one_more n m k h = ap (λ m. m * k) (sym h) ∙ suc-mul n k ∙ omega arith
 
 at_most_so_many : (n m k : ℕ) → suc n ≤ m → k + n * k ≤ m * k
-at_most_so_many n m k h = let q : suc n * k ≤ m * k = mul-le-mul_right k h in let e : suc n * k ≡ k + n * k = one_more n (suc n) k refl in omega (arith, q, e)
+at_most_so_many n m k h = let q : suc n * k ≤ m * k = mul-le-mul_right k h in let e : suc n * k ≡ k + n * k =
+    one_more n (suc n) k refl in omega (arith, q, e)
 
 module _ (scope : Scope) (budgets : List Budget) (price : Before → Instruction → ℕ) (lines : List Instruction) (bs : List Before) where
   abbrev pub C : ℕ → ℕ
@@ -137,15 +144,24 @@ module _ (scope : Scope) (budgets : List Budget) (price : Before → Instruction
   abbrev m : Measure
   m = summed scope budgets price
 
-  pub flow_costs : (p q : ℕ) (i : Instruction) (rs ss : List Running) → slice_get lines p ≡ Some i → Flow ends (going_of i) (room_on_top (before_at bs p).kinds) p q rs ss
+  pub flow_costs : (p q : ℕ) (i : Instruction) (rs ss : List Running) → slice_get lines p ≡ Some i
+      → Flow ends (going_of i) (room_on_top (before_at bs p).kinds) p q rs ss
       → price (before_at bs p) i + (C q + loops_cost ss) ≤ C p + loops_cost rs
   flow_costs p q i rs ss e (to_next w h l) = omega (arith, by_next m lines bs p i e w, ap C h, ap loops_cost l)
   flow_costs p q i rs ss e (to_other w far l) = omega (arith, by_jump m lines bs p i e q w far, ap loops_cost l)
   flow_costs p q i rs ss e (not_taken to w h l) = omega (arith, by_branch m lines bs p i e to w, ap C h, ap loops_cost l)
   flow_costs p q i rs ss e (is_taken w far l) = omega (arith, by_far_branch m lines bs p i e q w far, ap loops_cost l)
   flow_costs p q i rs ss e (goes_in r w far h l s rm few) =
-      let start : length r.left * C (suc r.start) + C (ends r.start) ≡ length r.left * C (suc p) + C (ends p) = ap (λ a. length r.left * C (suc a) + C (ends a)) s in
-      omega (arith, by_far_entry m lines bs p i e w far, ap C h, ap loops_cost l, start, at_most_so_many (length r.left) (room_on_top (before_at bs p).kinds) (C (suc p)) few)
+      let start : length r.left * C (suc r.start) + C (ends r.start) ≡ length r.left * C (suc p) + C (ends p) =
+      ap (λ a. length r.left * C (suc a) + C (ends a)) s in
+      omega (
+        arith,
+        by_far_entry m lines bs p i e w far,
+        ap C h,
+        ap loops_cost l,
+        start,
+        at_most_so_many (length r.left) (room_on_top (before_at bs p).kinds) (C (suc p)) few,
+      )
   flow_costs p q i rs ss e (goes_over w h far l) =
       let z : p < ends p = omega (arith, far, h) in
       omega (arith, by_far_entry m lines bs p i e w z, ap C h, ap loops_cost l)
@@ -178,7 +194,8 @@ module _ (scope : Scope) (budgets : List Budget) (lines : List Instruction) (bs 
   loops_words [] = 0
   loops_words (r ∷ rs) = max (W (suc r.start)) (max (W (ending r.start)) (loops_words rs))
 
-  pub flow_words : (p q : ℕ) (i : Instruction) (rs ss : List Running) → slice_get lines p ≡ Some i → Flow ending (going_of i) (room_on_top (before_at bs p).kinds) p q rs ss
+  pub flow_words : (p q : ℕ) (i : Instruction) (rs ss : List Running) → slice_get lines p ≡ Some i
+      → Flow ending (going_of i) (room_on_top (before_at bs p).kinds) p q rs ss
       → max (words_at scope budgets (before_at bs p) i) (max (W q) (loops_words ss)) ≤ max (W p) (loops_words rs)
   flow_words p q i rs ss e (to_next w h l) = omega (arith, by_next at_once lines bs p i e w, ap W h, ap loops_words l)
   flow_words p q i rs ss e (to_other w far l) = omega (arith, by_jump at_once lines bs p i e q w far, ap loops_words l)

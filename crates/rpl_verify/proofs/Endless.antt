@@ -19,5 +19,6 @@ mutual
 nothing_of : (answer : Answer (Unit {0})) (trail : Trail) → answer ≡ stuck → fire_of answer trail ≡ None
 nothing_of answer trail e = ap (λ a. fire_of a trail) e
 
-pub nothing_fired : (world : World) (n : ℕ) → fire_of (run endless world n (standing 0 ∷ [])).answer (run endless world n (standing 0 ∷ [])).trail ≡ None
+pub nothing_fired : (world : World) (n : ℕ)
+    → fire_of (run endless world n (standing 0 ∷ [])).answer (run endless world n (standing 0 ∷ [])).trail ≡ None
 nothing_fired world n = nothing_of (run endless world n (standing 0 ∷ [])).answer (run endless world n (standing 0 ∷ [])).trail (at_target world n)

@@ -20,10 +20,12 @@ counted None n h = absurd (cc h)
 counted (Some known) n h = let e : takes_count known ≡ n = cc h in ap (λ k. takes (replicate k K.N) (K.N ∷ [])) e
 
 -- a fault at its place
-pub goes_at : (A B : Type 0) (place : ℕ) (given : Result Before VerifyKind) (old new : Walked) (fault : PlaceFault) (result : BlockFault) → result ≡ placed_at place fault → Goes {B = A} given old new (Err fault) → GoesAt {B = B} place given old new (Err result)
+pub goes_at : (A B : Type 0) (place : ℕ) (given : Result Before VerifyKind) (old new : Walked) (fault : PlaceFault) (result : BlockFault)
+    → result ≡ placed_at place fault → Goes {B = A} given old new (Err fault) → GoesAt {B = B} place given old new (Err result)
 goes_at A B place given old new (Misfit misfit) result e h = subst (λ r. GoesAt {B = B} place given old new (Err r)) (sym e) (h, refl)
 goes_at A B place given old new NoMemory result e h = subst (λ r. GoesAt {B = B} place given old new (Err r)) (sym e) tt
 
 -- an instruction whose names are there
-pub named : (scope : Scope) (place : ℕ) (b : Before) (i : Instruction) → name_misfit scope i ≡ None → judged_at scope place b i ≡ behind_instruction scope place b i
+pub named : (scope : Scope) (place : ℕ) (b : Before) (i : Instruction) → name_misfit scope i ≡ None
+    → judged_at scope place b i ≡ behind_instruction scope place b i
 named scope place b i h = ap (λ misfit. unless_misfit misfit (behind_instruction scope place b i)) h

@@ -1,5 +1,6 @@
 -- What holds before each place of a block that fits, and what each instruction does to the open loops.
-use Rattle.rw_base.proofs.Common.{◌≡◌, ℕ, zero, suc, ◌+◌, Bool, true, false, ◌&&◌, nat_lt, List, [], ◌∷◌, ◌++◌, length, take, drop, reverse, Option, Some, None, Result, Ok, Err, refl, sym, ap, ◌∙◌, subst, arith, if◌then◌else◌, slice_get}
+use Rattle.rw_base.proofs.Common.{◌≡◌, ℕ, zero, suc, ◌+◌, Bool, true, false, ◌&&◌, nat_lt, List, [], ◌∷◌, ◌++◌, length, take, drop, reverse, Option}
+use Rattle.rw_base.proofs.Common.{Some, None, Result, Ok, Err, refl, sym, ap, ◌∙◌, subst, arith, if◌then◌else◌, slice_get}
 use Rattle.rpl_code.specs.declared.kind.ValueKind.{ValueKind}
 use Rattle.rpl_code.specs.declared.kind.ValueKind.TheVariants as K
 use Rattle.rpl_code.specs.declared.instruction.Instruction.{Instruction}
@@ -10,12 +11,15 @@ use Rattle.rpl_verify.specs.Kinds.{are_same_kinds, is_that_kind, list_room, elem
 use Rattle.rpl_verify.specs.Table.{OperandRow, goes_by, operand_row, left_of, of_list, on_top_of, operand_count, operands_behind, or_wrong}
 use Rattle.rpl_verify.specs.Places.{Loop, visiting, mapping, is_same_loop, Bracket, opening, closing, level, bracket}
 use Rattle.rpl_verify.specs.Names.{Scope, name_misfit}
-use Rattle.rpl_verify.specs.Fits.{Open, Before, Misplaced, at_place, before, before_at, befores, behind_instruction, behind_loop, carried, closed, declared_at, element_on_top, end_kinds, ended_block, found, if_fits, judged_at, opened, restarted, room_on_top, shut, taken, then_do}
+use Rattle.rpl_verify.specs.Fits.{Open, Before, Misplaced, at_place, before, before_at, befores, behind_instruction, behind_loop, carried, closed}
+use Rattle.rpl_verify.specs.Fits.{declared_at, element_on_top, end_kinds, ended_block, found, if_fits, judged_at, opened, restarted, room_on_top}
+use Rattle.rpl_verify.specs.Fits.{shut, taken, then_do}
 use Rattle.rpl_verify.proofs.KindFacts.{and_true, same_kinds_true, is_kind_true, then_do_ok, same_ok, fits_ok, no_misfit}
 
 -- ---- steps of a judgement
 
-pub at_place_ok : {A B : Type 0} (place : ℕ) (r : Result A VerifyKind) (go : A → Result B Misplaced) (y : B) → at_place place r go ≡ Ok y → (x : A) × (r ≡ Ok x) × (go x ≡ Ok y)
+pub at_place_ok : {A B : Type 0} (place : ℕ) (r : Result A VerifyKind) (go : A → Result B Misplaced) (y : B) → at_place place r go ≡ Ok y
+    → (x : A) × (r ≡ Ok x) × (go x ≡ Ok y)
 at_place_ok place (Ok x) go y h = (x, refl, h)
 at_place_ok place (Err m) go y h = absurd (cc h)
 
@@ -29,11 +33,13 @@ pub record Taken (r : OperandRow) (ks ls : List ValueKind) : Type 0 where
 pub taken_ok : (r : OperandRow) (ks ls : List ValueKind) → operands_behind r ks ≡ Ok ls → Taken r ks ls
 taken_ok r ks ls h = by (nat_lt (length ks) (operand_count r)) refl h
   where
-    on_top : (a : Result (List ValueKind) VerifyKind) → left_of r (take (operand_count r) ks) ≡ a → nat_lt (length ks) (operand_count r) ≡ false → on_top_of (drop (operand_count r) ks) a ≡ Ok ls → Taken r ks ls
+    on_top : (a : Result (List ValueKind) VerifyKind) → left_of r (take (operand_count r) ks) ≡ a → nat_lt (length ks) (operand_count r) ≡ false
+        → on_top_of (drop (operand_count r) ks) a ≡ Ok ls → Taken r ks ls
     on_top (Ok left) e f h = record { left = left; leaves = e; whole = sym (same_ok (left ++ drop (operand_count r) ks) ls h); enough = f }
     on_top (Err m) e f h = absurd (cc h)
 
-    by : (t : Bool) → nat_lt (length ks) (operand_count r) ≡ t → (if t then Err MissingOperand else on_top_of (drop (operand_count r) ks) (left_of r (take (operand_count r) ks))) ≡ Ok ls → Taken r ks ls
+    by : (t : Bool) → nat_lt (length ks) (operand_count r) ≡ t
+        → (if t then Err MissingOperand else on_top_of (drop (operand_count r) ks) (left_of r (take (operand_count r) ks))) ≡ Ok ls → Taken r ks ls
     by true e h = absurd (cc h)
     by false e h = on_top (left_of r (take (operand_count r) ks)) refl e h
 
@@ -55,7 +61,8 @@ OpenRel p (closing loop) os c = (o : Open) × (os ≡ o ∷ c.loops) × (c.kinds
 OpenRel p level os c = c.loops ≡ os
 
 module _ (scope : Scope) where
-  pub taken_is : (i : Instruction) (b c : Before) → taken scope i b ≡ Ok c → (operands_behind (operand_row scope.heads scope.locals i) b.kinds ≡ Ok c.kinds) × (c.loops ≡ b.loops)
+  pub taken_is : (i : Instruction) (b c : Before) → taken scope i b ≡ Ok c
+      → (operands_behind (operand_row scope.heads scope.locals i) b.kinds ≡ Ok c.kinds) × (c.loops ≡ b.loops)
   taken_is i b c h =
       let q = then_do_ok (operands_behind (operand_row scope.heads scope.locals i) b.kinds) (λ kinds. Ok (before kinds b.loops)) c h in
       let s : before q.0 b.loops ≡ c = same_ok (before q.0 b.loops) c q.2 in
@@ -87,10 +94,12 @@ module _ (scope : Scope) where
       by (K.SList m) left e w = let q : left ≡ [] = cc e in (K.SList m, ap (λ l. K.SList m ∷ l) (sym (w ∙ ap (λ l. l ++ ks) q)))
       by _ left e w = absurd (cc e)
 
-  pub opens_by : (p : ℕ) (loop : Loop) (n : ℕ) (i : Instruction) (b c : Before) → operand_row scope.heads scope.locals i ≡ goes_by 1 (of_list []) → opened scope p loop n i b ≡ Ok c → Opens p loop n b c
+  pub opens_by : (p : ℕ) (loop : Loop) (n : ℕ) (i : Instruction) (b c : Before) → operand_row scope.heads scope.locals i ≡ goes_by 1 (of_list [])
+      → opened scope p loop n i b ≡ Ok c → Opens p loop n b c
   opens_by p loop n i b c r h =
       let q = then_do_ok (taken scope i b) (λ (c : Before).
-      if_fits (is_that_kind (slice_get scope.locals n) (element_on_top b.kinds)) (before c.kinds (record { start = p; loop = loop; room = room_on_top b.kinds; under = c.kinds } ∷ b.loops))) c h in
+      if_fits (is_that_kind (slice_get scope.locals n) (element_on_top b.kinds))
+      (before c.kinds (record { start = p; loop = loop; room = room_on_top b.kinds; under = c.kinds } ∷ b.loops))) c h in
       let t = taken_is i b q.0 q.1 in
       let l = list_taken b.kinds q.0.kinds (ap (λ r. operands_behind r b.kinds) (sym r) ∙ t.0) in
       let f = fits_ok (is_that_kind (slice_get scope.locals n) (element_on_top b.kinds)) _ c q.2 in
@@ -106,8 +115,13 @@ module _ (scope : Scope) where
       }
 
   open_rel : (p : ℕ) (loop : Loop) (n : ℕ) (b c : Before) → Opens p loop n b c → OpenRel p (opening loop) b.loops c
-  open_rel p loop n b c o =
-      (record { start = p; loop = loop; room = list_room o.list; under = o.under }, ap (λ (b : Before). b.loops) o.news, ap (λ (b : Before). b.kinds) o.news, refl, refl)
+  open_rel p loop n b c o = (
+    record { start = p; loop = loop; room = list_room o.list; under = o.under },
+    ap (λ (b : Before). b.loops) o.news,
+    ap (λ (b : Before). b.kinds) o.news,
+    refl,
+    refl,
+  )
 
   -- a loop that ends
   pub record Closes (loop : Loop) (i : Instruction) (b c : Before) : Type 0 where
@@ -122,8 +136,13 @@ module _ (scope : Scope) where
   shut_is loop kinds [] c h = absurd (cc h)
   shut_is loop kinds (o ∷ os) c h =
       let f = fits_ok (is_same_loop loop o.loop && are_same_kinds o.under kinds) _ c h in
-      let t = and_true (is_same_loop loop o.loop) (are_same_kinds o.under kinds) f.0 in
-      (o, ap (λ (b : Before). o ∷ b.loops) f.1, sym (same_loop_true loop o.loop t.0), same_kinds_true o.under kinds t.1, ap (λ (b : Before). b.kinds) (sym f.1))
+      let t = and_true (is_same_loop loop o.loop) (are_same_kinds o.under kinds) f.0 in (
+        o,
+        ap (λ (b : Before). o ∷ b.loops) f.1,
+        sym (same_loop_true loop o.loop t.0),
+        same_kinds_true o.under kinds t.1,
+        ap (λ (b : Before). b.kinds) (sym f.1),
+      )
 
   pub closes_by : (loop : Loop) (i : Instruction) (b c : Before) → closed scope loop i b ≡ Ok c → Closes loop i b c
   closes_by loop i b c h =
@@ -135,7 +154,8 @@ module _ (scope : Scope) where
   close_rel : (p : ℕ) (loop : Loop) (i : Instruction) (b c : Before) → Closes loop i b c → OpenRel p (closing loop) b.loops c
   close_rel p loop i b c s = (s.last, s.top, s.leaves, s.same)
 
-  pub named : (p : ℕ) (b : Before) (i : Instruction) (c : Before) → judged_at scope p b i ≡ Ok c → (name_misfit scope i ≡ None) × (behind_instruction scope p b i ≡ Ok c)
+  pub named : (p : ℕ) (b : Before) (i : Instruction) (c : Before) → judged_at scope p b i ≡ Ok c
+      → (name_misfit scope i ≡ None) × (behind_instruction scope p b i ≡ Ok c)
   named p b i c h = no_misfit (name_misfit scope i) (behind_instruction scope p b i) c h
 
   behind_rel : (p : ℕ) (b : Before) (i : Instruction) (c : Before) → behind_instruction scope p b i ≡ Ok c → OpenRel p (bracket i) b.loops c
@@ -167,7 +187,8 @@ module _ (scope : Scope) where
     pub there : befores scope (suc place) onto is ≡ Ok others
     pub whole : b ∷ others ≡ bs
 
-  pub parts : (place : ℕ) (b : Before) (i : Instruction) (is : List Instruction) (bs : List Before) → befores scope place b (i ∷ is) ≡ Ok bs → Parts place b i is bs
+  pub parts : (place : ℕ) (b : Before) (i : Instruction) (is : List Instruction) (bs : List Before) → befores scope place b (i ∷ is) ≡ Ok bs
+      → Parts place b i is bs
   parts place b i is bs h =
       let p = at_place_ok place (judged_at scope place b i) (λ c. then_do (befores scope (suc place) c is) (λ bs. Ok (b ∷ bs))) bs h in
       let q = then_do_ok (befores scope (suc place) p.0 is) (λ bs. Ok (b ∷ bs)) bs p.2 in
@@ -178,7 +199,8 @@ module _ (scope : Scope) where
     pub known : end_kinds scope.head ≡ b.kinds
     pub shut_all : b.loops ≡ []
 
-  ends_by : (place : ℕ) (b : Before) (os : List Open) (bs : List Before) → os ≡ b.loops → at_place place (ended_block scope.head b os) (λ c. Ok (c ∷ [])) ≡ Ok bs → Ends b bs
+  ends_by : (place : ℕ) (b : Before) (os : List Open) (bs : List Before) → os ≡ b.loops
+      → at_place place (ended_block scope.head b os) (λ c. Ok (c ∷ [])) ≡ Ok bs → Ends b bs
   ends_by place b [] bs e h =
       let p = at_place_ok place (ended_block scope.head b []) (λ c. Ok (c ∷ [])) bs h in
       let q = carried_is scope (end_kinds scope.head) b p.0 p.1 in
@@ -189,7 +211,8 @@ module _ (scope : Scope) where
   begins place b [] bs h = ap (λ l. before_at l 0) (sym ((ends_by place b b.loops bs refl h).whole))
   begins place b (i ∷ is) bs h = ap (λ l. before_at l 0) (sym ((parts place b i is bs h).whole))
 
-  pub places_fit : (place : ℕ) (b : Before) (is : List Instruction) (bs : List Before) (k : ℕ) (i : Instruction) → befores scope place b is ≡ Ok bs → slice_get is k ≡ Some i
+  pub places_fit : (place : ℕ) (b : Before) (is : List Instruction) (bs : List Before) (k : ℕ) (i : Instruction) → befores scope place b is ≡ Ok bs
+      → slice_get is k ≡ Some i
       → judged_at scope (place + k) (before_at bs k) i ≡ Ok (before_at bs (suc k))
   places_fit place b [] bs k i h e = absurd (cc e)
   places_fit place b (j ∷ is) bs zero i h e =
@@ -206,7 +229,8 @@ module _ (scope : Scope) where
       subst (λ l. judged_at scope (place + suc k) (before_at l (suc k)) i ≡ Ok (before_at l (suc (suc k)))) p.whole
       (subst (λ n. judged_at scope n (before_at p.others k) i ≡ Ok (before_at p.others (suc k))) z r)
 
-  pub end_shut : (place : ℕ) (b : Before) (is : List Instruction) (bs : List Before) (k : ℕ) → befores scope place b is ≡ Ok bs → slice_get is k ≡ None → (before_at bs k).loops ≡ []
+  pub end_shut : (place : ℕ) (b : Before) (is : List Instruction) (bs : List Before) (k : ℕ) → befores scope place b is ≡ Ok bs
+      → slice_get is k ≡ None → (before_at bs k).loops ≡ []
   end_shut place b [] bs k h e =
       let n = ends_by place b b.loops bs refl h in
       subst (λ l. (before_at l k).loops ≡ []) n.whole (at_end k n.shut_all)
@@ -219,7 +243,8 @@ module _ (scope : Scope) where
       let p = parts place b i is bs h in
       subst (λ l. (before_at l (suc k)).loops ≡ []) p.whole (end_shut (suc place) p.onto is p.others k p.there e)
 
-  pub end_known : (place : ℕ) (b : Before) (is : List Instruction) (bs : List Before) → befores scope place b is ≡ Ok bs → end_kinds scope.head ≡ (before_at bs (length is)).kinds
+  pub end_known : (place : ℕ) (b : Before) (is : List Instruction) (bs : List Before) → befores scope place b is ≡ Ok bs
+      → end_kinds scope.head ≡ (before_at bs (length is)).kinds
   end_known place b [] bs h =
       let n = ends_by place b b.loops bs refl h in
       subst (λ l. end_kinds scope.head ≡ (before_at l 0).kinds) n.whole n.known

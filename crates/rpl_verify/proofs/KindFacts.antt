@@ -1,5 +1,6 @@
 -- What tests on kinds and on results mean, and values of kinds.
-use Rattle.rw_base.proofs.Common.{◌≡◌, ℕ, zero, suc, ◌≤◌, ℤ, Bool, true, false, ◌&&◌, List, [], ◌∷◌, ◌++◌, length, map, take, drop, set, Option, Some, None, Result, Ok, Err, refl, sym, ap, ap₂, ◌∙◌, subst, arith, rules, if◌then◌else◌, slice_get}
+use Rattle.rw_base.proofs.Common.{◌≡◌, ℕ, zero, suc, ◌≤◌, ℤ, Bool, true, false, ◌&&◌, List, [], ◌∷◌, ◌++◌, length, map, take, drop, set, Option, Some}
+use Rattle.rw_base.proofs.Common.{None, Result, Ok, Err, refl, sym, ap, ap₂, ◌∙◌, subst, arith, rules, if◌then◌else◌, slice_get}
 use Rattle.rpl_code.specs.declared.kind.ValueKind.{ValueKind}
 use Rattle.rpl_code.specs.declared.kind.ValueKind.TheVariants as K
 use Rattle.rpl_tree.specs.Value.{Value, a_number, a_truth, a_date, a_slot, numbers, slots}
@@ -33,7 +34,8 @@ same_kind_refl (K.SList m) = search rules
 
 pub same_kinds_true : (ks ls : List ValueKind) → are_same_kinds ks ls ≡ true → ks ≡ ls
 same_kinds_true [] [] h = refl
-same_kinds_true (k ∷ ks) (l ∷ ls) h = let p = and_true (is_same_value_kind k l) (are_same_kinds ks ls) h in ap₂ (λ a b. a ∷ b) (same_kind_true k l p.0) (same_kinds_true ks ls p.1)
+same_kinds_true (k ∷ ks) (l ∷ ls) h = let p =
+    and_true (is_same_value_kind k l) (are_same_kinds ks ls) h in ap₂ (λ a b. a ∷ b) (same_kind_true k l p.0) (same_kinds_true ks ls p.1)
 same_kinds_true _ _ h = absurd (cc h)
 
 pub same_kinds_refl : (ks : List ValueKind) → are_same_kinds ks ks ≡ true
@@ -67,7 +69,8 @@ pub test_ok : {A E : Type 0} (test : Bool) (r : Result A E) (e : E) (y : A) → 
 test_ok true r e y h = (refl, h)
 test_ok false r e y h = absurd (cc h)
 
-pub no_misfit : {A : Type 0} (misfit : Option VerifyKind) (r : Result A VerifyKind) (y : A) → unless_misfit misfit r ≡ Ok y → (misfit ≡ None) × (r ≡ Ok y)
+pub no_misfit : {A : Type 0} (misfit : Option VerifyKind) (r : Result A VerifyKind) (y : A) → unless_misfit misfit r ≡ Ok y
+    → (misfit ≡ None) × (r ≡ Ok y)
 no_misfit None r y h = (refl, h)
 no_misfit (Some m) r y h = absurd (cc h)
 
@@ -125,12 +128,14 @@ pub kinds_length : (vs : List Value) → length (kinds_of vs) ≡ length vs
 kinds_length [] = refl
 kinds_length (v ∷ vs) = ap suc (kinds_length vs)
 
-pub kinds_get : (vs : List Value) (n : ℕ) (k : ValueKind) → slice_get (kinds_of vs) n ≡ Some k → (v : Value) × (slice_get vs n ≡ Some v) × (kind_of v ≡ k)
+pub kinds_get : (vs : List Value) (n : ℕ) (k : ValueKind) → slice_get (kinds_of vs) n ≡ Some k
+    → (v : Value) × (slice_get vs n ≡ Some v) × (kind_of v ≡ k)
 kinds_get [] n k e = absurd (cc e)
 kinds_get (v ∷ vs) zero k e = let q : kind_of v ≡ k = cc e in (v, refl, q)
 kinds_get (v ∷ vs) (suc n) k e = kinds_get vs n k e
 
-pub kinds_set : (vs : List Value) (n : ℕ) (v : Value) (k : ValueKind) → slice_get (kinds_of vs) n ≡ Some k → kind_of v ≡ k → kinds_of (set vs n v) ≡ kinds_of vs
+pub kinds_set : (vs : List Value) (n : ℕ) (v : Value) (k : ValueKind) → slice_get (kinds_of vs) n ≡ Some k → kind_of v ≡ k
+    → kinds_of (set vs n v) ≡ kinds_of vs
 kinds_set [] n v k e h = refl
 kinds_set (u ∷ vs) zero v k e h = let q : kind_of u ≡ k = cc e in ap (λ l. l ∷ kinds_of vs) (h ∙ sym q)
 kinds_set (u ∷ vs) (suc n) v k e h = ap (λ l. kind_of u ∷ l) (kinds_set vs n v k e h)
@@ -182,7 +187,8 @@ one_is (x ∷ []) k h = let q : kind_of x ≡ k = cc h in (x, refl, q)
 one_is [] k h = absurd (cc h)
 one_is (x ∷ y ∷ vs) k h = absurd (cc h)
 
-pub two_are : (vs : List Value) (k l : ValueKind) → k ∷ l ∷ [] ≡ kinds_of vs → (y : Value) × (x : Value) × (vs ≡ y ∷ x ∷ []) × (kind_of y ≡ k) × (kind_of x ≡ l)
+pub two_are : (vs : List Value) (k l : ValueKind) → k ∷ l ∷ [] ≡ kinds_of vs
+    → (y : Value) × (x : Value) × (vs ≡ y ∷ x ∷ []) × (kind_of y ≡ k) × (kind_of x ≡ l)
 two_are (y ∷ x ∷ []) k l h = let q : kind_of y ≡ k = cc h in let r : kind_of x ≡ l = cc h in (y, x, refl, q, r)
 two_are [] k l h = absurd (cc h)
 two_are (y ∷ []) k l h = absurd (cc h)

@@ -1,13 +1,16 @@
 -- Loops and jumps of a block that fits.
-use Rattle.rw_base.proofs.Common.{◌≡◌, ℕ, zero, suc, ◌+◌, ◌≤◌, ◌<◌, Bool, true, false, nat_lt, List, [], ◌∷◌, length, drop, reverse, Option, Some, None, Ok, refl, sym, ap, ap₂, ◌∙◌, subst, arith, rules, if◌then◌else◌, slice_get, slice_index, nat_tests}
+use Rattle.rw_base.proofs.Common.{◌≡◌, ℕ, zero, suc, ◌+◌, ◌≤◌, ◌<◌, Bool, true, false, nat_lt, List, [], ◌∷◌, length, drop, reverse, Option, Some}
+use Rattle.rw_base.proofs.Common.{None, Ok, refl, sym, ap, ap₂, ◌∙◌, subst, arith, rules, if◌then◌else◌, slice_get, slice_index, nat_tests}
 use Rattle.rpl_code.specs.declared.kind.ValueKind.{ValueKind}
 use Rattle.rpl_code.specs.declared.instruction.Instruction.{Instruction}
 use Rattle.rpl_code.specs.declared.instruction.Instruction.TheVariants as I
 use Rattle.rpl_verify.specs.declared.verify_kind.VerifyKind.TheVariants.{BackwardJump, JumpOutside}
 use Rattle.rpl_verify.specs.Kinds.{top_of}
-use Rattle.rpl_verify.specs.Places.{Loop, is_same_loop, Bracket, opening, closing, level, bracket, Opener, closed as closed_by, declared_by, ends_before, loop_end, loop_ends, openers_behind, rest_of, start_of, Spot, spots, spots_from}
+use Rattle.rpl_verify.specs.Places.{Loop, is_same_loop, Bracket, opening, closing, level, bracket, Opener, closed as closed_by, declared_by}
+use Rattle.rpl_verify.specs.Places.{ends_before, loop_end, loop_ends, openers_behind, rest_of, start_of, Spot, spots, spots_from}
 use Rattle.rpl_verify.specs.Names.{Scope}
-use Rattle.rpl_verify.specs.Fits.{Open, Before, before, before_at, befores, behind_loop, found, innermost, is_same_place, judged_at, landing, lands_on}
+use Rattle.rpl_verify.specs.Fits.{Open, Before, before, before_at, befores, behind_loop, found, innermost, is_same_place, judged_at, landing}
+use Rattle.rpl_verify.specs.Fits.{lands_on}
 use Rattle.rpl_verify.proofs.KindFacts.{same_ok, test_ok}
 use Rattle.rpl_verify.proofs.Judged.{OpenRel, begins, carried_is, end_shut, named, parts, places_fit, rel_of, same_loop_refl}
 
@@ -31,10 +34,12 @@ innermost_is (o ∷ os) = refl
 
 openers_by : (p : ℕ) (b : Bracket) (os : List Open) (c : Before) → OpenRel p b os c → openers_behind b p (openers os) ≡ openers c.loops
 openers_by p (opening loop) os c r =
-    let z : openers_behind (opening loop) p (openers os) ≡ openers (r.0 ∷ os) = ap₂ (λ n l. record { start = n; loop = l } ∷ openers os) (sym r.3) (sym r.4) in
+    let z : openers_behind (opening loop) p (openers os) ≡ openers (r.0 ∷ os) =
+    ap₂ (λ n l. record { start = n; loop = l } ∷ openers os) (sym r.3) (sym r.4) in
     z ∙ ap openers (sym r.1)
 openers_by p (closing loop) os c r =
-    ap (λ os. closed_by loop (openers os)) r.1 ∙ ap (λ l. closed_by l (openers (r.0 ∷ c.loops))) (sym r.3) ∙ by (is_same_loop r.0.loop r.0.loop) (same_loop_refl r.0.loop)
+    ap (λ os. closed_by loop (openers os)) r.1 ∙ ap (λ l. closed_by l (openers (r.0 ∷ c.loops))) (sym r.3)
+    ∙ by (is_same_loop r.0.loop r.0.loop) (same_loop_refl r.0.loop)
   where
     by : (t : Bool) → t ≡ true → (if t then openers c.loops else openers (r.0 ∷ c.loops)) ≡ openers c.loops
     by true h = refl
@@ -48,20 +53,26 @@ same_place_is _ _ h = absurd (cc h)
 
 module _ (scope : Scope) where
   -- what a jump asks of a place is what is there
-  spot_is : (q : ℕ) (b : Before) (is : List Instruction) (bs : List Before) (k : ℕ) (s : Spot) → befores scope q b is ≡ Ok bs → slice_get (spots_from q (openers b.loops) is) k ≡ Some s
+  spot_is : (q : ℕ) (b : Before) (is : List Instruction) (bs : List Before) (k : ℕ) (s : Spot) → befores scope q b is ≡ Ok bs
+      → slice_get (spots_from q (openers b.loops) is) k ≡ Some s
       → (i : Instruction) × (slice_get is k ≡ Some i) × (s.declares ≡ declared_by i) × (s.innermost ≡ innermost (before_at bs k).loops)
   spot_is q b [] bs k s h e = absurd (cc e)
   spot_is q b (i ∷ is) bs zero s h e =
       let z : record { innermost = start_of (top_of (openers b.loops)); declares = declared_by i } ≡ s = cc e in
-      let n = begins scope q b (i ∷ is) bs h in
-      (i, refl, ap (λ (s : Spot). s.declares) (sym z), ap (λ (s : Spot). s.innermost) (sym z) ∙ innermost_is b.loops ∙ ap (λ (k : Before). innermost k.loops) (sym n))
+      let n = begins scope q b (i ∷ is) bs h in (
+        i,
+        refl,
+        ap (λ (s : Spot). s.declares) (sym z),
+        ap (λ (s : Spot). s.innermost) (sym z) ∙ innermost_is b.loops ∙ ap (λ (k : Before). innermost k.loops) (sym n),
+      )
   spot_is q b (i ∷ is) bs (suc k) s h e =
       let p = parts scope q b i is bs h in
       let st = openers_by q (bracket i) b.loops p.onto (rel_of scope q b i p.onto p.here) in
       let r = spot_is (suc q) p.onto is p.others k s p.there (ap (λ os. slice_get (spots_from (suc q) os is) k) (sym st) ∙ e) in
       (r.0, r.1, r.2, r.3 ∙ ap (λ l. innermost (before_at l (suc k)).loops) p.whole)
 
-module _ (scope : Scope) (lines : List Instruction) (bs : List Before) (spotted : scope.spots ≡ spots lines) (fits : befores scope 0 (before [] []) lines ≡ Ok bs) where
+module _ (scope : Scope) (lines : List Instruction) (bs : List Before) (spotted : scope.spots ≡ spots lines)
+    (fits : befores scope 0 (before [] []) lines ≡ Ok bs) where
   abbrev pub B : ℕ → Before
   B p = before_at bs p
 
@@ -100,11 +111,13 @@ module _ (scope : Scope) (lines : List Instruction) (bs : List Before) (spotted 
   linked_down c ends d [] l = tt
   linked_down c ends d (o ∷ os) l = (l.0, linked_down c ends (suc d) os l.1)
 
-  linked_by : (p : ℕ) (b : Bracket) (os : List Open) (c : Before) → P p ≡ ends_before b p (P (suc p)) → OpenRel p b os c → Linked (P p) 0 os → Linked (P (suc p)) 0 c.loops
+  linked_by : (p : ℕ) (b : Bracket) (os : List Open) (c : Before) → P p ≡ ends_before b p (P (suc p)) → OpenRel p b os c → Linked (P p) 0 os
+      → Linked (P (suc p)) 0 c.loops
   linked_by p (opening loop) os c h r l =
       let z : past r.0.start ≡ slice_index (P (suc p)) 0 = ap past r.3 in
       subst (λ l. Linked (P (suc p)) 0 l) (sym r.1) (z, linked_up (P (suc p)) 0 os (subst (λ ends. Linked ends 0 os) h l))
-  linked_by p (closing loop) os c h r l = linked_down (suc p) (P (suc p)) 0 c.loops ((subst (λ os. Linked (suc p ∷ P (suc p)) 0 os) r.1 (subst (λ ends. Linked ends 0 os) h l)).1)
+  linked_by p (closing loop) os c h r l =
+      linked_down (suc p) (P (suc p)) 0 c.loops ((subst (λ os. Linked (suc p ∷ P (suc p)) 0 os) r.1 (subst (λ ends. Linked ends 0 os) h l)).1)
   linked_by p level os c h r l = subst (λ l. Linked (P (suc p)) 0 l) (sym r) (subst (λ ends. Linked ends 0 os) h l)
 
   pub shut_at : (p : ℕ) → slice_get lines p ≡ None → (B p).loops ≡ []
@@ -159,7 +172,8 @@ module _ (scope : Scope) (lines : List Instruction) (bs : List Before) (spotted 
   target_known : (q : ℕ) (i : Instruction) (ks : List ValueKind) → declared_by i ≡ Some ks → slice_get lines q ≡ Some i → (B q).kinds ≡ ks
   target_known q (I.Target kinds) ks d e =
       let k : reverse kinds ≡ ks = cc d in
-      sym ((carried_is scope (reverse kinds) (B q) (B (suc q)) ((named scope q (B q) (I.Target kinds) (B (suc q)) (spot q (I.Target kinds) e)).1)).0) ∙ k
+      sym ((carried_is scope (reverse kinds) (B q) (B (suc q))
+      ((named scope q (B q) (I.Target kinds) (B (suc q)) (spot q (I.Target kinds) e)).1)).0) ∙ k
   target_known q _ ks d e = absurd (cc d)
 
   pub land : (p q : ℕ) (ls : List ValueKind) → found scope p q (B p) ≡ Ok ls → (p < q) × Landed q ls ((B p).loops)
@@ -167,7 +181,8 @@ module _ (scope : Scope) (lines : List Instruction) (bs : List Before) (spotted 
       let t = test_ok (nat_lt p q) (landing (innermost (B p).loops) (slice_get scope.spots q)) BackwardJump ls h in
       (grind (arith, nat_tests, t.0), by (slice_get scope.spots q) refl t.1)
     where
-      told : (s : Spot) (o : Option (List ValueKind)) → slice_get scope.spots q ≡ Some s → s.declares ≡ o → lands_on (innermost (B p).loops) s o ≡ Ok ls → Landed q ls ((B p).loops)
+      told : (s : Spot) (o : Option (List ValueKind)) → slice_get scope.spots q ≡ Some s → s.declares ≡ o
+          → lands_on (innermost (B p).loops) s o ≡ Ok ls → Landed q ls ((B p).loops)
       told s None e f h = absurd (cc h)
       told s (Some ks) e f h =
           let t = test_ok (is_same_place (innermost (B p).loops) s.innermost) (Ok ks) JumpOutside ls h in
@@ -212,22 +227,33 @@ module _ (scope : Scope) (lines : List Instruction) (bs : List Before) (spotted 
   past_end (x ∷ xs) (suc p) i e l = past_end xs p i e (omega (arith, l))
 
   further : (p ends : ℕ) (os : List Open) → Closed (suc p) ends os → Closed p ends os
-  further p ends os c = record { end = c.end; is = c.is; later = omega (arith, c.later); loop = c.loop; closer = c.closer; at = c.at; closes = c.closes; same = c.same }
+  further p ends os c =
+      record { end = c.end; is = c.is; later = omega (arith, c.later); loop = c.loop; closer = c.closer; at = c.at; closes = c.closes; same = c.same }
 
   -- so many instructions are left, at most
-  close : (left p d : ℕ) (o : Open) (os : List Open) (x : Option Instruction) → slice_get lines p ≡ x → length lines ≤ p + left → Since d (o ∷ os) ((B p).loops) → Closed p (slice_index (P p) d) (o ∷ os)
+  close : (left p d : ℕ) (o : Open) (os : List Open) (x : Option Instruction) → slice_get lines p ≡ x → length lines ≤ p + left
+      → Since d (o ∷ os) ((B p).loops) → Closed p (slice_index (P p) d) (o ∷ os)
   close left p d o os None e lt w = absurd (inside d o os _ w (shut_at p e))
   close zero p d o os (Some i) e lt w = absurd (past_end lines p i e (omega (arith, lt)))
-  close (suc left) p d o os (Some i) e lt w = by (bracket i) d refl (ends_at p i e) (rel p i e) w (λ m v. close left (suc p) m o os (slice_get lines (suc p)) refl (omega (arith, lt)) v)
+  close (suc left) p d o os (Some i) e lt w =
+      by (bracket i) d refl (ends_at p i e) (rel p i e) w (λ m v. close left (suc p) m o os (slice_get lines (suc p)) refl (omega (arith, lt)) v)
     where
-      by : (b : Bracket) (d : ℕ) → bracket i ≡ b → P p ≡ ends_before b p (P (suc p)) → OpenRel p b ((B p).loops) (B (suc p)) → Since d (o ∷ os) ((B p).loops)
-          → ((m : ℕ) → Since m (o ∷ os) ((B (suc p)).loops) → Closed (suc p) (slice_index (P (suc p)) m) (o ∷ os)) → Closed p (slice_index (P p) d) (o ∷ os)
-      by (opening loop) d f h r w k = subst (λ n. Closed p n (o ∷ os)) (sym (ap (λ ends. slice_index ends d) h ∙ index_rest (P (suc p)) d)) (further p _ (o ∷ os) (k (suc d) (r.0, (B p).loops, r.1, w)))
-      by (closing loop) zero f h r w k = record { end = p; is = ap (λ ends. slice_index ends 0) h; later = omega arith; loop = loop; closer = i; at = e; closes = f; same = w }
+      by : (b : Bracket) (d : ℕ) → bracket i ≡ b → P p ≡ ends_before b p (P (suc p)) → OpenRel p b ((B p).loops) (B (suc p))
+          → Since d (o ∷ os) ((B p).loops)
+          → ((m : ℕ) → Since m (o ∷ os) ((B (suc p)).loops) → Closed (suc p) (slice_index (P (suc p)) m) (o ∷ os))
+          → Closed p (slice_index (P p) d) (o ∷ os)
+      by (opening loop) d f h r w k =
+          subst (λ n. Closed p n (o ∷ os)) (sym (ap (λ ends. slice_index ends d) h ∙ index_rest (P (suc p)) d))
+          (further p _ (o ∷ os) (k (suc d) (r.0, (B p).loops, r.1, w)))
+      by (closing loop) zero f h r w k =
+          record { end = p; is = ap (λ ends. slice_index ends 0) h; later = omega arith; loop = loop; closer = i; at = e; closes = f; same = w }
       by (closing loop) (suc d) f h r w k =
           let q : w.1 ≡ (B (suc p)).loops = cc (w.2, r.1) in
-          subst (λ n. Closed p n (o ∷ os)) (sym (ap (λ ends. slice_index ends (suc d)) h)) (further p _ (o ∷ os) (k d (subst (λ l. Since d (o ∷ os) l) q w.3)))
-      by level d f h r w k = subst (λ n. Closed p n (o ∷ os)) (sym (ap (λ ends. slice_index ends d) h)) (further p _ (o ∷ os) (k d (subst (λ l. Since d (o ∷ os) l) (sym r) w)))
+          subst (λ n. Closed p n (o ∷ os)) (sym (ap (λ ends. slice_index ends (suc d)) h))
+          (further p _ (o ∷ os) (k d (subst (λ l. Since d (o ∷ os) l) q w.3)))
+      by level d f h r w k =
+          subst (λ n. Closed p n (o ∷ os)) (sym (ap (λ ends. slice_index ends d) h))
+          (further p _ (o ∷ os) (k d (subst (λ l. Since d (o ∷ os) l) (sym r) w)))
 
   -- behind a loop: its end lies behind its beginning, with the operands and loops that were there before, and a mapping's list
   pub record Past (start : ℕ) (o : Open) (os : List Open) : Type 0 where
@@ -242,7 +268,16 @@ module _ (scope : Scope) (lines : List Instruction) (bs : List Before) (spotted 
   pub past_it : (start : ℕ) (o : Open) (os : List Open) → (B (suc start)).loops ≡ o ∷ os → Past start o os
   past_it start o os h =
       let c = close (length lines) (suc start) 0 o os (slice_get lines (suc start)) refl (omega arith) h in
-      let r : OpenRel c.end (closing c.loop) ((B c.end).loops) (B (suc c.end)) = subst (λ b. OpenRel c.end b ((B c.end).loops) (B (suc c.end))) c.closes (rel c.end c.closer c.at) in
+      let r : OpenRel c.end (closing c.loop) ((B c.end).loops) (B (suc c.end)) =
+      subst (λ b. OpenRel c.end b ((B c.end).loops) (B (suc c.end))) c.closes (rel c.end c.closer c.at) in
       let a : o ≡ r.0 = cc (c.same, r.1) in
       let l : (B (suc c.end)).loops ≡ os = cc (c.same, r.1) in
-      record { end = c.end; is = c.is; later = c.later; closer = c.closer; at = c.at; kinds = r.2 ∙ ap (λ (o : Open). behind_loop o.loop o.room o.under) (sym a); loops = l }
+      record {
+        end = c.end;
+        is = c.is;
+        later = c.later;
+        closer = c.closer;
+        at = c.at;
+        kinds = r.2 ∙ ap (λ (o : Open). behind_loop o.loop o.room o.under) (sym a);
+        loops = l;
+      }

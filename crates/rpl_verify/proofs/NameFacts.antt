@@ -1,5 +1,6 @@
 -- Names that are looked up.
-use Rattle.rw_base.proofs.Common.{◌≡◌, ℕ, zero, suc, ◌+◌, ◌<◌, true, false, nat_le, ◌-◌, List, [], ◌∷◌, length, drop, Option, Some, None, option_map, option_and_then, bytes_eq, refl, sym, ap, ◌∙◌, arith, if◌then◌else◌, slice_get, nat_tests}
+use Rattle.rw_base.proofs.Common.{◌≡◌, ℕ, zero, suc, ◌+◌, ◌<◌, true, false, nat_le, ◌-◌, List, [], ◌∷◌, length, drop, Option, Some, None, option_map}
+use Rattle.rw_base.proofs.Common.{option_and_then, bytes_eq, refl, sym, ap, ◌∙◌, arith, if◌then◌else◌, slice_get, nat_tests}
 use Rattle.rw_model.proofs.Common.{Object, object_at, object_from, object_named, Draft}
 use Rattle.rw_model.specs.declared.kind.Kind.{Kind}
 use Rattle.rpl_tree.specs.World.{table_in, table_named}
@@ -29,30 +30,41 @@ at_is objects place =
     let m : suc place - 1 ≡ place = omega arith in
     ap (object_at objects) z ∙ ap (λ t. if t then slice_get objects (suc place - 1) else None) b ∙ ap (slice_get objects) m
 
-name_is : (objects : List Object) (place : ℕ) (text : List ℕ) (h : Here objects place) → option_map (λ (o : Object). o.name) (object_at objects (place + 1)) ≡ Some text → h.object.name ≡ text
+name_is : (objects : List Object) (place : ℕ) (text : List ℕ) (h : Here objects place)
+    → option_map (λ (o : Object). o.name) (object_at objects (place + 1)) ≡ Some text → h.object.name ≡ text
 name_is objects place text h e = let a = ap (option_map (λ (o : Object). o.name)) (sym h.is ∙ sym (at_is objects place)) ∙ e in cc a
 
-next : (objects : List Object) (name text : List ℕ) (place : ℕ) → place < length objects → option_map (λ (o : Object). o.name) (object_at objects (place + 1)) ≡ Some text
-    → object_from (place + 1) (drop place objects) name ≡ (if bytes_eq name text then Some (place + 1) else object_from (place + 1 + 1) (drop (place + 1) objects) name)
+next : (objects : List Object) (name text : List ℕ) (place : ℕ) → place < length objects
+    → option_map (λ (o : Object). o.name) (object_at objects (place + 1)) ≡ Some text
+    → object_from (place + 1) (drop place objects) name
+    ≡ (if bytes_eq name text then Some (place + 1) else object_from (place + 1 + 1) (drop (place + 1) objects) name)
 next objects name text place lt e =
     let h = here objects place lt in
     ap (λ l. object_from (place + 1) l name) h.rest
-    ∙ ap (λ t. if bytes_eq name t then Some (place + 1) else object_from (place + 1 + 1) (drop (place + 1) objects) name) (name_is objects place text h e)
+    ∙ ap (λ t. if bytes_eq name t then Some (place + 1) else object_from (place + 1 + 1) (drop (place + 1) objects) name)
+    (name_is objects place text h e)
 
-pub left_on : (objects : List Object) (name text : List ℕ) (place : ℕ) → IsLeft objects name place → place < length objects → option_map (λ (o : Object). o.name) (object_at objects (place + 1)) ≡ Some text → bytes_eq name text ≡ false → IsLeft objects name (place + 1)
+pub left_on : (objects : List Object) (name text : List ℕ) (place : ℕ) → IsLeft objects name place → place < length objects
+    → option_map (λ (o : Object). o.name) (object_at objects (place + 1)) ≡ Some text → bytes_eq name text ≡ false → IsLeft objects name (place + 1)
 left_on objects name text place l lt e n =
-    sym (next objects name text place lt e ∙ ap (λ b. if b then Some (place + 1) else object_from (place + 1 + 1) (drop (place + 1) objects) name) n) ∙ l
+    sym (next objects name text place lt e ∙ ap
+    (λ b. if b then Some (place + 1) else object_from (place + 1 + 1) (drop (place + 1) objects) name) n) ∙ l
 
-pub found_here : (objects : List Object) (name text : List ℕ) (place : ℕ) → IsLeft objects name place → place < length objects → option_map (λ (o : Object). o.name) (object_at objects (place + 1)) ≡ Some text → bytes_eq name text ≡ true
+pub found_here : (objects : List Object) (name text : List ℕ) (place : ℕ) → IsLeft objects name place → place < length objects
+    → option_map (λ (o : Object). o.name) (object_at objects (place + 1)) ≡ Some text → bytes_eq name text ≡ true
     → object_named objects name ≡ Some (place + 1)
 found_here objects name text place l lt e y =
-    sym l ∙ next objects name text place lt e ∙ ap (λ b. if b then Some (place + 1) else object_from (place + 1 + 1) (drop (place + 1) objects) name) y
+    sym l ∙ next objects name text place lt e
+    ∙ ap (λ b. if b then Some (place + 1) else object_from (place + 1 + 1) (drop (place + 1) objects) name) y
 
 -- the table of the object that is found
-pub tabled : (basin : Draft) (name : List ℕ) (n : ℕ) (kind : Kind) → object_named basin.objects name ≡ Some n → option_map (λ (o : Object). o.kind) (object_at basin.objects n) ≡ Some kind → table_named basin name ≡ table_in kind
+pub tabled : (basin : Draft) (name : List ℕ) (n : ℕ) (kind : Kind) → object_named basin.objects name ≡ Some n
+    → option_map (λ (o : Object). o.kind) (object_at basin.objects n) ≡ Some kind → table_named basin name ≡ table_in kind
 tabled basin name n kind found k =
-    ap (λ n. option_and_then (λ (object : Object). table_in object.kind) (option_and_then (λ number. object_at basin.objects number) n)) found ∙ by (object_at basin.objects n) k
+    ap (λ n. option_and_then (λ (object : Object). table_in object.kind) (option_and_then (λ number. object_at basin.objects number) n)) found
+    ∙ by (object_at basin.objects n) k
   where
-    by : (o : Option Object) → option_map (λ (o : Object). o.kind) o ≡ Some kind → option_and_then (λ (object : Object). table_in object.kind) o ≡ table_in kind
+    by : (o : Option Object) → option_map (λ (o : Object). o.kind) o ≡ Some kind
+        → option_and_then (λ (object : Object). table_in object.kind) o ≡ table_in kind
     by (Some o) k = let e : o.kind ≡ kind = cc k in ap table_in e
     by None k = absurd (cc k)

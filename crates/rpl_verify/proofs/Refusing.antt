@@ -1,17 +1,20 @@
 -- Why code is refused: for its first misfit, or for a budget above a limit.
-use Rattle.rw_base.proofs.Common.{◌≡◌, ◌⊎◌, inl, inr, ℕ, suc, Bool, true, false, nat_lt, List, [], ◌∷◌, ◌++◌, length, Some, Result, Ok, Err, if◌then◌else◌, refl, ap, ◌∙◌, subst}
+use Rattle.rw_base.proofs.Common.{◌≡◌, ◌⊎◌, inl, inr, ℕ, suc, Bool, true, false, nat_lt, List, [], ◌∷◌, ◌++◌, length, Some, Result, Ok, Err}
+use Rattle.rw_base.proofs.Common.{if◌then◌else◌, refl, ap, ◌∙◌, subst}
 use Rattle.rw_model.specs.Draft.{Draft}
 use Rattle.rpl_code.specs.declared.block.Block.{Block}
 use Rattle.rpl_tree.specs.Budget.{Budget, limits}
 use Rattle.rpl_verify.specs.declared.verify_kind.VerifyKind.{VerifyKind}
 use Rattle.rpl_verify.specs.declared.verify_kind.VerifyKind.TheVariants.{TooCostly, TooManyReads, TooManyPuts, TooDeep}
-use Rattle.rpl_verify.specs.Fits.{AreFit, Before, Misplaced, Refusal, at_place, block_befores, each_block, first_code_refusal, in_block, refusal, refusal_in_result, scope_of, then_do}
+use Rattle.rpl_verify.specs.Fits.{AreFit, Before, Misplaced, Refusal, at_place, block_befores, each_block, first_code_refusal, in_block, refusal}
+use Rattle.rpl_verify.specs.Fits.{refusal_in_result, scope_of, then_do}
 use Rattle.rpl_verify.specs.Budget.{IsOverLimit, block_ruling, budget_by, ruling, within_limits}
 use Rattle.rpl_verify.proofs.Rulings.{then_do_ok}
 
 -- ---- a block
 
-over_or : (t : Bool) (misfit why : VerifyKind) (r : Result Budget VerifyKind) → (if t then Err misfit else r) ≡ Err why → (misfit ≡ why) ⊎ (r ≡ Err why)
+over_or : (t : Bool) (misfit why : VerifyKind) (r : Result Budget VerifyKind) → (if t then Err misfit else r) ≡ Err why
+    → (misfit ≡ why) ⊎ (r ≡ Err why)
 over_or true misfit why r h = inl (cc h)
 over_or false misfit why r h = inr h
 
@@ -30,7 +33,8 @@ over b why h = elim (over_or (nat_lt limits.count b.count) TooCostly why _ h) [
   ]
 ]
 
-over_at : (place : ℕ) (r : Result Budget VerifyKind) (wrong : Misplaced) → ((why : VerifyKind) → r ≡ Err why → IsOverLimit why) → at_place place r (λ b. Ok b) ≡ Err wrong → IsOverLimit wrong.misfit
+over_at : (place : ℕ) (r : Result Budget VerifyKind) (wrong : Misplaced) → ((why : VerifyKind) → r ≡ Err why → IsOverLimit why)
+    → at_place place r (λ b. Ok b) ≡ Err wrong → IsOverLimit wrong.misfit
 over_at place (Ok b) wrong each h = absurd (cc h)
 over_at place (Err why) wrong each h =
     let e : record { misfit = why; place = place } ≡ wrong = cc h in
@@ -56,9 +60,11 @@ module _ (basin : Draft) (code : List Block) where
 
   -- a block and the blocks behind it, where what is told of those is at hand
   told_of : (earlier : List Block) (budgets : List Budget) (done : List (List Before)) (x : Block) (xs : List Block) (why : Refusal)
-      → ((b : Budget) (bs : List Before) → each_block (block_ruling basin code) (earlier ++ x ∷ []) (budgets ++ b ∷ []) xs ≡ Err why → Told (earlier ++ x ∷ []) (done ++ bs ∷ []) xs why)
+      → ((b : Budget) (bs : List Before) → each_block (block_ruling basin code) (earlier ++ x ∷ []) (budgets ++ b ∷ []) xs ≡ Err why
+      → Told (earlier ++ x ∷ []) (done ++ bs ∷ []) xs why)
       → (r : Result Budget Misplaced) → block_ruling basin code earlier budgets x ≡ r
-      → in_block (suc (length earlier)) r (λ b. each_block (block_ruling basin code) (earlier ++ x ∷ []) (budgets ++ b ∷ []) xs) ≡ Err why → Told earlier done (x ∷ xs) why
+      → in_block (suc (length earlier)) r (λ b. each_block (block_ruling basin code) (earlier ++ x ∷ []) (budgets ++ b ∷ []) xs) ≡ Err why
+      → Told earlier done (x ∷ xs) why
   told_of earlier budgets done x xs why on (Ok b) e h =
       let q = then_do_ok (block_befores basin code earlier x) _ b e in
       let s = ap (λ r. refusal_in_result (in_block (suc (length earlier)) r (λ bs. each_block fit (earlier ++ x ∷ []) (done ++ bs ∷ []) xs))) q.1 in

@@ -1,18 +1,21 @@
 -- What is accepted fits, and keeps within the limits.
-use Rattle.rw_base.proofs.Common.{◌≡◌, ◌≤◌, ℕ, suc, Bool, true, false, nat_lt, if◌then◌else◌, List, [], ◌∷◌, ◌++◌, length, Result, Ok, Err, refl, ap, ◌∙◌, subst, arith, All, nat_tests, All-push}
+use Rattle.rw_base.proofs.Common.{◌≡◌, ◌≤◌, ℕ, suc, Bool, true, false, nat_lt, if◌then◌else◌, List, [], ◌∷◌, ◌++◌, length, Result, Ok, Err, refl, ap}
+use Rattle.rw_base.proofs.Common.{◌∙◌, subst, arith, All, nat_tests, All-push}
 use Rattle.rw_model.specs.Draft.{Draft}
 use Rattle.rpl_code.specs.declared.block.Block.{Block}
 use Rattle.rpl_tree.specs.Budget.{Budget, limits}
 use Rattle.rpl_verify.specs.declared.verify_kind.VerifyKind.{VerifyKind}
 use Rattle.rpl_verify.specs.declared.verify_kind.VerifyKind.TheVariants.{TooCostly, TooManyReads, TooManyPuts, TooDeep}
-use Rattle.rpl_verify.specs.Fits.{AreFit, Before, Misplaced, Refusal, at_place, block_befores, each_block, in_block, refusal_in_result, scope_of, then_do}
+use Rattle.rpl_verify.specs.Fits.{AreFit, Before, Misplaced, Refusal, at_place, block_befores, each_block, in_block, refusal_in_result, scope_of}
+use Rattle.rpl_verify.specs.Fits.{then_do}
 use Rattle.rpl_verify.specs.Budget.{AreAccepted, IsWithinLimits, block_ruling, budget_by, within_limits}
 
 pub then_do_ok : {A B E : Type 0} (r : Result A E) (go : A → Result B E) (b : B) → then_do r go ≡ Ok b → (a : A) × (r ≡ Ok a) × (go a ≡ Ok b)
 then_do_ok (Ok a) go b h = (a, refl, h)
 then_do_ok (Err e) go b h = absurd (cc h)
 
-pub in_block_ok : {A B : Type 0} (n : ℕ) (r : Result A Misplaced) (go : A → Result B Refusal) (b : B) → in_block n r go ≡ Ok b → (a : A) × (r ≡ Ok a) × (go a ≡ Ok b)
+pub in_block_ok : {A B : Type 0} (n : ℕ) (r : Result A Misplaced) (go : A → Result B Refusal) (b : B) → in_block n r go ≡ Ok b
+    → (a : A) × (r ≡ Ok a) × (go a ≡ Ok b)
 in_block_ok n (Ok a) go b h = (a, refl, h)
 in_block_ok n (Err e) go b h = absurd (cc h)
 
@@ -22,8 +25,10 @@ ok_same (Err e) x y one other = absurd (cc one)
 
 -- where one way to judge lets nothing pass that another doesn't, all blocks that pass by the one pass by the other
 module _ {A B : Type 0} (strict : List Block → List A → Block → Result A Misplaced) (mild : List Block → List B → Block → Result B Misplaced)
-    (milder : (earlier : List Block) (ds : List A) (es : List B) (x : Block) (a : A) → strict earlier ds x ≡ Ok a → (b : B) × (mild earlier es x ≡ Ok b)) where
-  pass_too : (earlier : List Block) (ds : List A) (es : List B) (xs : List Block) (all : List A) → each_block strict earlier ds xs ≡ Ok all → (bs : List B) × (each_block mild earlier es xs ≡ Ok bs)
+    (milder : (earlier : List Block) (ds : List A) (es : List B) (x : Block) (a : A) → strict earlier ds x ≡ Ok a
+    → (b : B) × (mild earlier es x ≡ Ok b)) where
+  pass_too : (earlier : List Block) (ds : List A) (es : List B) (xs : List Block) (all : List A) → each_block strict earlier ds xs ≡ Ok all
+      → (bs : List B) × (each_block mild earlier es xs ≡ Ok bs)
   pass_too earlier ds es [] all h = (es, refl)
   pass_too earlier ds es (x ∷ xs) all h =
       let q = in_block_ok (suc (length earlier)) (strict earlier ds x) (λ a. each_block strict (earlier ++ x ∷ []) (ds ++ a ∷ []) xs) all h in
@@ -46,7 +51,8 @@ all_pass P judge each earlier ds (x ∷ xs) all so_far h =
     let q = in_block_ok (suc (length earlier)) (judge earlier ds x) (λ a. each_block judge (earlier ++ x ∷ []) (ds ++ a ∷ []) xs) all h in
     all_pass P judge each (earlier ++ x ∷ []) (ds ++ q.0 ∷ []) xs all (All-push P ds q.0 so_far (each earlier ds x q.0 q.1)) q.2
 
-not_over : (test : Bool) (misfit : VerifyKind) (r : Result Budget VerifyKind) (c : Budget) → (if test then Err misfit else r) ≡ Ok c → (test ≡ false) × (r ≡ Ok c)
+not_over : (test : Bool) (misfit : VerifyKind) (r : Result Budget VerifyKind) (c : Budget) → (if test then Err misfit else r) ≡ Ok c
+    → (test ≡ false) × (r ≡ Ok c)
 not_over true misfit r c h = absurd (cc h)
 not_over false misfit r c h = (refl, h)
 
@@ -78,7 +84,8 @@ pub at_place_ok : (place : ℕ) (r : Result Budget VerifyKind) (c : Budget) → 
 at_place_ok place (Ok b) c h = cc h
 at_place_ok place (Err misfit) c h = absurd (cc h)
 
-block_within : (basin : Draft) (blocks earlier : List Block) (ds : List Budget) (x : Block) (b : Budget) → block_ruling basin blocks earlier ds x ≡ Ok b → IsWithinLimits b
+block_within : (basin : Draft) (blocks earlier : List Block) (ds : List Budget) (x : Block) (b : Budget)
+    → block_ruling basin blocks earlier ds x ≡ Ok b → IsWithinLimits b
 block_within basin blocks earlier ds x b h =
     let found : List Before → Budget = λ bs. budget_by (scope_of basin blocks (suc (length earlier)) x) ds bs x.lines in
     let q = then_do_ok (block_befores basin blocks earlier x) (λ bs. at_place (length x.lines) (within_limits (found bs)) (λ c. Ok c)) b h in

@@ -1,5 +1,7 @@
 -- Lists by number.
-use Rattle.rw_base.proofs.Common.{◌≡◌, ◌≢◌, ℕ, zero, suc, ◌≤◌, ◌<◌, ◌+◌, ◌==◌, ◌&&◌, Bool, true, false, cond, List, [], ◌∷◌, ◌++◌, length, Option, Some, None, nat_tests, refl, sym, ap, ap₂, ◌∙◌, subst, arith, length-append, ◌⊎◌, slice_get, lookup, take, inl, inr, ◌-◌, get_or, Equal-is, nat_cmp, BTreeMap, get, Updates, is_at, exact_unsigned, slice_get_within, slice_get_read}
+use Rattle.rw_base.proofs.Common.{◌≡◌, ◌≢◌, ℕ, zero, suc, ◌≤◌, ◌<◌, ◌+◌, ◌==◌, ◌&&◌, Bool, true, false, cond, List, [], ◌∷◌, ◌++◌, length, Option}
+use Rattle.rw_base.proofs.Common.{Some, None, nat_tests, refl, sym, ap, ap₂, ◌∙◌, subst, arith, length-append, ◌⊎◌, slice_get, lookup, take, inl, inr}
+use Rattle.rw_base.proofs.Common.{◌-◌, get_or, Equal-is, nat_cmp, BTreeMap, get, Updates, is_at, exact_unsigned, slice_get_within, slice_get_read}
 use Rattle.rpl_code.specs.declared.kind.ValueKind.{ValueKind}
 use Rattle.rpl_code.specs.declared.kind.ValueKind.TheVariants as K
 use Rattle.rpl_verify.specs.declared.stacks.Node.{Node}
@@ -19,14 +21,16 @@ at-seam [] x (suc n) h = absurd (omega (arith, h))
 at-seam (l ∷ ls) x zero h = absurd (omega (arith, h))
 at-seam (l ∷ ls) x (suc n) h = at-seam ls x n (omega (arith, h))
 
-lists_after-push : (ls : List (List ValueKind)) (ns : List Node) (n : Node) → lists_after ls (ns ++ n ∷ []) ≡ lists_after ls ns ++ (n.kind ∷ at (lists_after ls ns) n.below) ∷ []
+lists_after-push : (ls : List (List ValueKind)) (ns : List Node) (n : Node)
+    → lists_after ls (ns ++ n ∷ []) ≡ lists_after ls ns ++ (n.kind ∷ at (lists_after ls ns) n.below) ∷ []
 lists_after-push ls [] n = refl
 lists_after-push ls (m ∷ ns) n = lists_after-push (ls ++ (m.kind ∷ at ls m.below) ∷ []) ns n
 
 pub lists-push : (ns : List Node) (n : Node) → lists (ns ++ n ∷ []) ≡ lists ns ++ (n.kind ∷ at (lists ns) n.below) ∷ []
 lists-push ns n = lists_after-push ([] ∷ []) ns n
 
-got_push : {A : Type 0} (xs : List A) (x y : A) (k : ℕ) → slice_get (xs ++ x ∷ []) k ≡ Some y → ((k < length xs) × (slice_get xs k ≡ Some y)) ⊎ ((k ≡ length xs) × (x ≡ y))
+got_push : {A : Type 0} (xs : List A) (x y : A) (k : ℕ) → slice_get (xs ++ x ∷ []) k ≡ Some y
+    → ((k < length xs) × (slice_get xs k ≡ Some y)) ⊎ ((k ≡ length xs) × (x ≡ y))
 got_push [] x y zero h = inr (refl, cc h)
 got_push [] x y (suc k) h = absurd (cc h)
 got_push (z ∷ xs) x y zero h = inl (omega arith, h)
@@ -42,35 +46,58 @@ got_new [] x = refl
 got_new (z ∷ xs) x = got_new xs x
 
 -- lookups after an insertion
-finds_old : (m n : BTreeMap ℕ ℕ) (k v q x : ℕ) → get nat_cmp m k ≡ None → Updates nat_cmp m n k (Some v) → get nat_cmp m q ≡ Some x → get nat_cmp n q ≡ Some x
+finds_old : (m n : BTreeMap ℕ ℕ) (k v q x : ℕ) → get nat_cmp m k ≡ None → Updates nat_cmp m n k (Some v) → get nat_cmp m q ≡ Some x
+    → get nat_cmp n q ≡ Some x
 finds_old m n k v q x absent u h = by (is_at (nat_cmp k) q) refl
   where
     by : (b : Bool) → is_at (nat_cmp k) q ≡ b → get nat_cmp n q ≡ Some x
     by true e = let same : k ≡ q = exact_unsigned k q ((Equal-is (nat_cmp k q)).0 e) in absurd (let g = ap (get nat_cmp m) same in cc (g, absent, h))
     by false e = u.0 q ∙ ap (λ b. cond b (Some v) (get nat_cmp m q)) e ∙ h
 
-found_in : (m n : BTreeMap ℕ ℕ) (k v q x : ℕ) → Updates nat_cmp m n k (Some v) → get nat_cmp n q ≡ Some x → ((k ≡ q) × (v ≡ x)) ⊎ (get nat_cmp m q ≡ Some x)
+found_in : (m n : BTreeMap ℕ ℕ) (k v q x : ℕ) → Updates nat_cmp m n k (Some v) → get nat_cmp n q ≡ Some x
+    → ((k ≡ q) × (v ≡ x)) ⊎ (get nat_cmp m q ≡ Some x)
 found_in m n k v q x u h = by (is_at (nat_cmp k) q) refl
   where
     by : (b : Bool) → is_at (nat_cmp k) q ≡ b → ((k ≡ q) × (v ≡ x)) ⊎ (get nat_cmp m q ≡ Some x)
-    by true e = inl (exact_unsigned k q ((Equal-is (nat_cmp k q)).0 e), let g = sym (u.0 q ∙ ap (λ b. cond b (Some v) (get nat_cmp m q)) e) in cc (g, h))
+    by true e =
+        inl (exact_unsigned k q ((Equal-is (nat_cmp k q)).0 e), let g = sym (u.0 q ∙ ap (λ b. cond b (Some v) (get nat_cmp m q)) e) in cc (g, h))
     by false e = inr (sym (u.0 q ∙ ap (λ b. cond b (Some v) (get nat_cmp m q)) e) ∙ h)
 
 node_kept : (ns : List Node) (n m : Node) (k : ℕ) → length (lists ns) ≡ suc (length ns) → k < length ns → IsNode ns k m → IsNode (ns ++ n ∷ []) k m
 node_kept ns n m k w lt h =
     let e = lists-push ns n in
     let new = (n.kind ∷ at (lists ns) n.below) ∷ [] in
-    let a : at (lists (ns ++ n ∷ [])) (suc k) ≡ at (lists ns) (suc k) = ap (λ l. at l (suc k)) e ∙ at-append (lists ns) new (suc k) (omega (arith, w, lt)) in
-    let b : at (lists (ns ++ n ∷ [])) m.below ≡ at (lists ns) m.below = ap (λ l. at l m.below) e ∙ at-append (lists ns) new m.below (omega (arith, w, lt, h.low)) in
-    record { low = h.low; made = a ∙ h.made ∙ ap (λ l. m.kind ∷ l) (sym b); high = h.high ∙ ap (λ l. suc (length l)) (sym b); flat = h.flat; heavy = h.heavy ∙ ap (λ l. capped limits.words (words_of_all (m.kind ∷ l))) (sym b); small = h.small }
+    let a : at (lists (ns ++ n ∷ [])) (suc k) ≡ at (lists ns) (suc k) =
+    ap (λ l. at l (suc k)) e ∙ at-append (lists ns) new (suc k) (omega (arith, w, lt)) in
+    let b : at (lists (ns ++ n ∷ [])) m.below ≡ at (lists ns) m.below =
+    ap (λ l. at l m.below) e ∙ at-append (lists ns) new m.below (omega (arith, w, lt, h.low)) in
+    record {
+      low = h.low;
+      made = a ∙ h.made ∙ ap (λ l. m.kind ∷ l) (sym b);
+      high = h.high ∙ ap (λ l. suc (length l)) (sym b);
+      flat = h.flat;
+      heavy = h.heavy ∙ ap (λ l. capped limits.words (words_of_all (m.kind ∷ l))) (sym b);
+      small = h.small;
+    }
 
-node_new : (ns : List Node) (n : Node) → length (lists ns) ≡ suc (length ns) → n.below ≤ length ns → n.height ≡ suc (length (at (lists ns) n.below)) → n.height ≤ suc (length ns) → n.words ≡ capped limits.words (words_of_all (n.kind ∷ at (lists ns) n.below)) → kind_code n.kind < 262144 → IsNode (ns ++ n ∷ []) (length ns) n
+node_new : (ns : List Node) (n : Node) → length (lists ns) ≡ suc (length ns) → n.below ≤ length ns → n.height ≡ suc (length (at (lists ns) n.below))
+    → n.height ≤ suc (length ns) → n.words ≡ capped limits.words (words_of_all (n.kind ∷ at (lists ns) n.below)) → kind_code n.kind < 262144
+    → IsNode (ns ++ n ∷ []) (length ns) n
 node_new ns n w lt hi fl he sm =
     let e = lists-push ns n in
     let new = n.kind ∷ at (lists ns) n.below in
-    let a : at (lists (ns ++ n ∷ [])) (suc (length ns)) ≡ new = ap (λ l. at l (suc (length ns))) e ∙ at-seam (lists ns) new (suc (length ns)) (sym w) in
-    let b : at (lists (ns ++ n ∷ [])) n.below ≡ at (lists ns) n.below = ap (λ l. at l n.below) e ∙ at-append (lists ns) (new ∷ []) n.below (omega (arith, w, lt)) in
-    record { low = lt; made = a ∙ ap (λ l. n.kind ∷ l) (sym b); high = hi ∙ ap (λ l. suc (length l)) (sym b); flat = fl; heavy = he ∙ ap (λ l. capped limits.words (words_of_all (n.kind ∷ l))) (sym b); small = sm }
+    let a : at (lists (ns ++ n ∷ [])) (suc (length ns)) ≡ new =
+    ap (λ l. at l (suc (length ns))) e ∙ at-seam (lists ns) new (suc (length ns)) (sym w) in
+    let b : at (lists (ns ++ n ∷ [])) n.below ≡ at (lists ns) n.below =
+    ap (λ l. at l n.below) e ∙ at-append (lists ns) (new ∷ []) n.below (omega (arith, w, lt)) in
+    record {
+      low = lt;
+      made = a ∙ ap (λ l. n.kind ∷ l) (sym b);
+      high = hi ∙ ap (λ l. suc (length l)) (sym b);
+      flat = fl;
+      heavy = he ∙ ap (λ l. capped limits.words (words_of_all (n.kind ∷ l))) (sym b);
+      small = sm;
+    }
 
 got_same : {A : Type 0} (xs : List A) (x : A) (k : ℕ) → k < length xs → slice_get (xs ++ x ∷ []) k ≡ slice_get xs k
 got_same [] x k h = absurd (omega (arith, h))
@@ -94,10 +121,12 @@ pub record IsNew (ns : List Node) (n : Node) : Type 0 where
   pub heavy : n.words ≡ capped limits.words (words_of_all (n.kind ∷ at (lists ns) n.below))
   pub small : kind_code n.kind < 262144
 
-nodes_push : (ns : List Node) (n : Node) (m : BTreeMap ℕ ℕ) → IsKept ns m → IsNew ns n → (k : ℕ) (x : Node) → slice_get (ns ++ n ∷ []) k ≡ Some x → IsNode (ns ++ n ∷ []) k x
+nodes_push : (ns : List Node) (n : Node) (m : BTreeMap ℕ ℕ) → IsKept ns m → IsNew ns n → (k : ℕ) (x : Node) → slice_get (ns ++ n ∷ []) k ≡ Some x
+    → IsNode (ns ++ n ∷ []) k x
 nodes_push ns n m h new k x g = elim (got_push ns n x k g) [
   | inl p ↦ node_kept ns n x k h.wide p.0 (h.nodes k x p.1)
-  | inr p ↦ subst (λ y. IsNode (ns ++ n ∷ []) k y) p.1 (subst (λ j. IsNode (ns ++ n ∷ []) j n) (sym p.0) (node_new ns n h.wide new.low new.high new.flat new.heavy new.small))
+  | inr p ↦ subst (λ y. IsNode (ns ++ n ∷ []) k y) p.1
+      (subst (λ j. IsNode (ns ++ n ∷ []) j n) (sym p.0) (node_new ns n h.wide new.low new.high new.flat new.heavy new.small))
 ]
 
 apart_push : (ns : List Node) (n : Node) (m : BTreeMap ℕ ℕ) → IsKept ns m → (n.below ≢ length ns → is_next (ns ++ n ∷ []) n.below n.kind ≡ false)
@@ -143,11 +172,13 @@ kept_newest ns n m h new newest =
       known = λ q v g. known_push ns n q v (h.known q v g);
     }
 
-pub made_push : (ns : List Node) (n : Node) (v : ℕ) → length (lists ns) ≡ suc (length ns) → v ≡ suc (length ns) → IsPushed (lists ns) (lists (ns ++ n ∷ [])) n.kind n.below v
+pub made_push : (ns : List Node) (n : Node) (v : ℕ) → length (lists ns) ≡ suc (length ns) → v ≡ suc (length ns)
+    → IsPushed (lists ns) (lists (ns ++ n ∷ [])) n.kind n.below v
 made_push ns n v w e =
     let l = lists-push ns n in
     record {
-      within = subst (λ ls. v < length ls) (sym l) (let z = length-append (lists ns) ((n.kind ∷ at (lists ns) n.below) ∷ []) in omega (arith, z, w, e));
+      within =
+          subst (λ ls. v < length ls) (sym l) (let z = length-append (lists ns) ((n.kind ∷ at (lists ns) n.below) ∷ []) in omega (arith, z, w, e));
       made = ap (λ ls. at ls v) l ∙ at-seam (lists ns) _ v (omega (arith, w, e));
     }
 
@@ -167,7 +198,8 @@ code_is (K.SList m) (K.SList n) h = ap K.SList (omega (arith, h))
 code_is _ _ h = absurd (omega (arith, h))
 
 -- a list that was looked up
-pub made_known : (ns : List Node) (m : BTreeMap ℕ ℕ) (b v : ℕ) (k : ValueKind) → IsKept ns m → kind_code k < 262144 → get nat_cmp m (key_of b k) ≡ Some v → IsPushed (lists ns) (lists ns) k b v
+pub made_known : (ns : List Node) (m : BTreeMap ℕ ℕ) (b v : ℕ) (k : ValueKind) → IsKept ns m → kind_code k < 262144
+    → get nat_cmp m (key_of b k) ≡ Some v → IsPushed (lists ns) (lists ns) k b v
 made_known ns m b v k h sm g =
     let w = h.known (key_of b k) v g in
     let n = h.nodes w.place w.node w.here in
@@ -180,7 +212,8 @@ made_known ns m b v k h sm g =
     }
 
 -- a list that has the next number
-pub made_next : (ns : List Node) (m : BTreeMap ℕ ℕ) (b : ℕ) (k : ValueKind) → IsKept ns m → is_next ns b k ≡ true → IsPushed (lists ns) (lists ns) k b (b + 1)
+pub made_next : (ns : List Node) (m : BTreeMap ℕ ℕ) (b : ℕ) (k : ValueKind) → IsKept ns m → is_next ns b k ≡ true
+    → IsPushed (lists ns) (lists ns) k b (b + 1)
 made_next ns m b k h t = by (slice_get ns b) refl t
   where
     by : (o : Option Node) → slice_get ns b ≡ o → stands_on b k o ≡ true → IsPushed (lists ns) (lists ns) k b (b + 1)
@@ -208,10 +241,12 @@ next_is ns k n g e =
     ap (stands_on k n.kind) g ∙ ap₂ (λ a b. a && b) t (same_kind_refl n.kind)
 
 -- two nodes of one list stand at one place
-same_place : (ns : List Node) (m : BTreeMap ℕ ℕ) (a b : ℕ) (p q : Node) → IsKept ns m → slice_get ns a ≡ Some p → slice_get ns b ≡ Some q → p.below ≡ q.below → p.kind ≡ q.kind → a ≡ b
+same_place : (ns : List Node) (m : BTreeMap ℕ ℕ) (a b : ℕ) (p q : Node) → IsKept ns m → slice_get ns a ≡ Some p → slice_get ns b ≡ Some q
+    → p.below ≡ q.below → p.kind ≡ q.kind → a ≡ b
 same_place ns m a b p q h pa qb low kind = by (p.below == a) (q.below == b) refl refl
   where
-    clash : (x y : Node) (j k : ℕ) → slice_get ns j ≡ Some x → slice_get ns k ≡ Some y → x.below ≡ j → y.below ≢ k → x.below ≡ y.below → x.kind ≡ y.kind → ⊥
+    clash : (x y : Node) (j k : ℕ) → slice_get ns j ≡ Some x → slice_get ns k ≡ Some y → x.below ≡ j → y.below ≢ k → x.below ≡ y.below
+        → x.kind ≡ y.kind → ⊥
     clash x y j k gx gy here there low kind =
         let t : is_next ns y.below y.kind ≡ true = ap₂ (λ b k. is_next ns b k) (sym low ∙ here) (sym kind) ∙ next_is ns j x gx here in
         let f = h.apart k y gy there in
@@ -239,7 +274,8 @@ same_place ns m a b p q h pa qb low kind = by (p.below == a) (q.below == b) refl
         let w : Some (suc a) ≡ Some (suc b) = sym u ∙ t ∙ v in
         cc w
 
-one : (ns : List Node) (m : BTreeMap ℕ ℕ) → IsKept ns m → (ks : List ValueKind) (a b : ℕ) → a < suc (length ns) → b < suc (length ns) → at (lists ns) a ≡ ks → at (lists ns) b ≡ ks → a ≡ b
+one : (ns : List Node) (m : BTreeMap ℕ ℕ) → IsKept ns m → (ks : List ValueKind) (a b : ℕ) → a < suc (length ns) → b < suc (length ns)
+    → at (lists ns) a ≡ ks → at (lists ns) b ≡ ks → a ≡ b
 one ns m h ks zero zero la lb ea eb = refl
 one ns m h [] zero (suc b) la lb ea eb = let q = nodes_at ns b (omega (arith, lb)) in absurd (let z = (h.nodes b q.0 q.1).made in cc (z, eb))
 one ns m h [] (suc a) b la lb ea eb = let q = nodes_at ns a (omega (arith, la)) in absurd (let z = (h.nodes a q.0 q.1).made in cc (z, ea))
@@ -256,13 +292,17 @@ one ns m h (k ∷ ks) (suc a) (suc b) la lb ea eb =
     let kb : q.0.kind ≡ k = cc (ym, eb) in
     let ta : at (lists ns) p.0.below ≡ ks = cc (xm, ea) in
     let tb : at (lists ns) q.0.below ≡ ks = cc (ym, eb) in
-    let low : p.0.below ≡ q.0.below = one ns m h ks p.0.below q.0.below (let z = x.low in omega (arith, z, la)) (let z = y.low in omega (arith, z, lb)) ta tb in
+    let low : p.0.below ≡ q.0.below =
+    one ns m h ks p.0.below q.0.below (let z = x.low in omega (arith, z, la)) (let z = y.low in omega (arith, z, lb)) ta tb in
     ap suc (same_place ns m a b p.0 q.0 h p.1 q.1 low (ka ∙ sym kb))
 
-pub same_is : (ns : List Node) (m : BTreeMap ℕ ℕ) (a b : ℕ) → IsKept ns m → a < length (lists ns) → b < length (lists ns) → are_same_kinds (at (lists ns) a) (at (lists ns) b) ≡ true → a ≡ b
-same_is ns m a b h la lb e = let w = h.wide in one ns m h (at (lists ns) a) a b (omega (arith, w, la)) (omega (arith, w, lb)) refl (sym (same_kinds_true _ _ e))
+pub same_is : (ns : List Node) (m : BTreeMap ℕ ℕ) (a b : ℕ) → IsKept ns m → a < length (lists ns) → b < length (lists ns)
+    → are_same_kinds (at (lists ns) a) (at (lists ns) b) ≡ true → a ≡ b
+same_is ns m a b h la lb e = let w =
+    h.wide in one ns m h (at (lists ns) a) a b (omega (arith, w, la)) (omega (arith, w, lb)) refl (sym (same_kinds_true _ _ e))
 
-pub differ : (ns : List Node) (m : BTreeMap ℕ ℕ) (a b : ℕ) → IsKept ns m → a < length (lists ns) → b < length (lists ns) → a ≢ b → are_same_kinds (at (lists ns) a) (at (lists ns) b) ≡ false
+pub differ : (ns : List Node) (m : BTreeMap ℕ ℕ) (a b : ℕ) → IsKept ns m → a < length (lists ns) → b < length (lists ns) → a ≢ b
+    → are_same_kinds (at (lists ns) a) (at (lists ns) b) ≡ false
 differ ns m a b h la lb ne = by (are_same_kinds (at (lists ns) a) (at (lists ns) b)) refl
   where
     by : (t : Bool) → are_same_kinds (at (lists ns) a) (at (lists ns) b) ≡ t → t ≡ false
@@ -277,7 +317,8 @@ pub record IsAt (ls : List (List ValueKind)) (n : ℕ) (x : Node) : Type 0 where
   pub flat : x.height ≤ n
   pub heavy : x.words ≡ capped limits.words (words_of_all (at ls n))
 
-pub node_of : (ns : List Node) (m : BTreeMap ℕ ℕ) (ls : List (List ValueKind)) (n : ℕ) (x : Node) → lists ns ≡ ls → IsKept ns m → n ≢ 0 → n < length ls → x ≡ get_or ns (n - 1) x → IsAt ls n x
+pub node_of : (ns : List Node) (m : BTreeMap ℕ ℕ) (ls : List (List ValueKind)) (n : ℕ) (x : Node) → lists ns ≡ ls → IsKept ns m → n ≢ 0
+    → n < length ls → x ≡ get_or ns (n - 1) x → IsAt ls n x
 node_of ns m ls zero x v h nz lt e = absurd (nz refl)
 node_of ns m ls (suc k) x v h nz lt e =
     let w = h.wide in
@@ -287,7 +328,13 @@ node_of ns m ls (suc k) x v h nz lt e =
     let g = slice_get_read ns (length ns) k x refl (omega (arith, w, l, lt)) y in
     let i = h.nodes k x g in
     let lo = i.low in
-    subst (λ ls. IsAt ls (suc k) x) v (record { made = i.made; low = omega (arith, w, l, lt, lo); high = i.high ∙ sym (ap length i.made); flat = i.flat; heavy = i.heavy ∙ sym (ap (λ l. capped limits.words (words_of_all l)) i.made) })
+    subst (λ ls. IsAt ls (suc k) x) v (record {
+      made = i.made;
+      low = omega (arith, w, l, lt, lo);
+      high = i.high ∙ sym (ap length i.made);
+      flat = i.flat;
+      heavy = i.heavy ∙ sym (ap (λ l. capped limits.words (words_of_all l)) i.made);
+    })
 
 pub flat_at : (ns : List Node) (m : BTreeMap ℕ ℕ) (n : ℕ) → IsKept ns m → n < length (lists ns) → length (at (lists ns) n) ≤ n
 flat_at ns m zero h lt = let e = ap length h.empty in omega (arith, e)
@@ -306,4 +353,11 @@ kept_cut (m ∷ ns) n (suc k) h = ap (λ l. m ∷ l) (kept_cut ns n k (omega (ar
 pub kept_same : (ns : List Node) (m m2 : BTreeMap ℕ ℕ) → m2.entries ≡ m.entries → IsKept ns m → IsKept ns m2
 kept_same ns m m2 e h =
     let same : (q : ℕ) → get nat_cmp m2 q ≡ get nat_cmp m q = λ q. ap (λ es. lookup (is_at (nat_cmp q)) es) e in
-    record { wide = h.wide; empty = h.empty; nodes = h.nodes; told = λ k n g older. same (key_of n.below n.kind) ∙ h.told k n g older; apart = h.apart; known = λ q v g. h.known q v (sym (same q) ∙ g) }
+    record {
+      wide = h.wide;
+      empty = h.empty;
+      nodes = h.nodes;
+      told = λ k n g older. same (key_of n.below n.kind) ∙ h.told k n g older;
+      apart = h.apart;
+      known = λ q v g. h.known q v (sym (same q) ∙ g);
+    }

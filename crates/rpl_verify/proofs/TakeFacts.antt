@@ -1,5 +1,6 @@
 -- Taking operands one by one.
-use Rattle.rw_base.proofs.Common.{◌≡◌, ℕ, zero, suc, ◌≤◌, Bool, true, false, ◌&&◌, nat_lt, List, [], ◌∷◌, length, take, drop, reverse, Option, Some, None, option_map, Ok, Err, refl, sym, ap, ◌∙◌, arith, if◌then◌else◌, list_all, nat_tests}
+use Rattle.rw_base.proofs.Common.{◌≡◌, ℕ, zero, suc, ◌≤◌, Bool, true, false, ◌&&◌, nat_lt, List, [], ◌∷◌, length, take, drop, reverse, Option, Some}
+use Rattle.rw_base.proofs.Common.{None, option_map, Ok, Err, refl, sym, ap, ◌∙◌, arith, if◌then◌else◌, list_all, nat_tests}
 use Rattle.rpl_code.specs.declared.kind.ValueKind.{ValueKind}
 use Rattle.rpl_verify.specs.declared.verify_kind.VerifyKind.TheVariants.{MissingOperand, WrongOperand}
 use Rattle.rpl_verify.specs.declared.place_fault.PlaceFault.{PlaceFault}
@@ -17,8 +18,11 @@ enough : (n : ℕ) (ks : List ValueKind) → n ≤ length ks → nat_lt (length 
 enough n ks h = grind (arith, nat_tests)
 
 -- where there are as many operands as the row takes
-pub behind_enough : (r : OperandRow) (ks : List ValueKind) → operand_count r ≤ length ks → operands_behind r ks ≡ on_top_of (drop (operand_count r) ks) (left_of r (take (operand_count r) ks))
-behind_enough r ks h = ap (λ t. if t then Err MissingOperand else on_top_of (drop (operand_count r) ks) (left_of r (take (operand_count r) ks))) (enough (operand_count r) ks h)
+pub behind_enough : (r : OperandRow) (ks : List ValueKind) → operand_count r ≤ length ks
+    → operands_behind r ks ≡ on_top_of (drop (operand_count r) ks) (left_of r (take (operand_count r) ks))
+behind_enough r ks h =
+    ap (λ t. if t then Err MissingOperand else on_top_of (drop (operand_count r) ks) (left_of r (take (operand_count r) ks)))
+    (enough (operand_count r) ks h)
 
 -- ---- operands of a row, from the last one down
 
@@ -36,12 +40,14 @@ pub record IsRunning (kind : ValueKind) (n : ℕ) (start cur : List ValueKind) (
   pub enough : left ≤ length cur
 
 -- a list of operands of the kind on top
-pub gathers : (n : ℕ) (b : Before) (k : ValueKind) → 1 ≤ n → n ≤ length b.kinds → top_of b.kinds ≡ Some k → taken_by (goes_by n (listed n)) b ≡ then_do (run_taken k n b) (gathered_into (list_value_kind n k))
+pub gathers : (n : ℕ) (b : Before) (k : ValueKind) → 1 ≤ n → n ≤ length b.kinds → top_of b.kinds ≡ Some k
+    → taken_by (goes_by n (listed n)) b ≡ then_do (run_taken k n b) (gathered_into (list_value_kind n k))
 gathers zero b k one m t = absurd (omega (arith, one))
 gathers (suc n) b k one m t = at b.kinds m t
   where
     by : (rest : List ValueKind) (alike itself : Bool) (list : Option ValueKind) → itself ≡ true
-        → then_do (on_top_of (drop n rest) (or_wrong (if alike then option_map (λ kind. kind ∷ []) list else None))) (λ kinds. Ok (before kinds b.loops))
+        → then_do (on_top_of (drop n rest) (or_wrong (if alike then option_map (λ kind. kind ∷ []) list else None)))
+        (λ kinds. Ok (before kinds b.loops))
         ≡ then_do (if itself && alike then Ok (before (drop n rest) b.loops) else Err WrongOperand) (gathered_into list)
     by rest true true None e = refl
     by rest true true (Some list) e = refl
@@ -49,7 +55,8 @@ gathers (suc n) b k one m t = at b.kinds m t
     by rest alike false list e = absurd (cc e)
 
     at : (ks : List ValueKind) → suc n ≤ length ks → top_of ks ≡ Some k
-        → then_do (operands_behind (goes_by (suc n) (listed (suc n))) ks) (λ kinds. Ok (before kinds b.loops)) ≡ then_do (run_taken k (suc n) (before ks b.loops)) (gathered_into (list_value_kind (suc n) k))
+        → then_do (operands_behind (goes_by (suc n) (listed (suc n))) ks) (λ kinds. Ok (before kinds b.loops))
+        ≡ then_do (run_taken k (suc n) (before ks b.loops)) (gathered_into (list_value_kind (suc n) k))
     at [] m t = absurd (cc t)
     at (x ∷ rest) m t =
         let o : x ≡ k = cc t in
@@ -58,7 +65,8 @@ gathers (suc n) b k one m t = at b.kinds m t
         ∙ by rest (list_all (is_same_value_kind k) (take n rest)) (is_same_value_kind k k) (list_value_kind (suc n) k) (same_kind_refl k)
         ∙ ap (λ y. then_do (run_taken k (suc n) (before (y ∷ rest) b.loops)) (gathered_into (list_value_kind (suc n) k))) (sym o)
 
-pub gather_fails : (A B : Type 0) (n : ℕ) (k : ValueKind) (old new : Walked) (fault : PlaceFault) → 1 ≤ n → n ≤ length old.before.kinds → top_of old.before.kinds ≡ Some k → Goes {B = A} (run_taken k n old.before) old new (Err fault)
+pub gather_fails : (A B : Type 0) (n : ℕ) (k : ValueKind) (old new : Walked) (fault : PlaceFault) → 1 ≤ n → n ≤ length old.before.kinds
+    → top_of old.before.kinds ≡ Some k → Goes {B = A} (run_taken k n old.before) old new (Err fault)
     → Goes {B = B} (taken_by (goes_by n (listed n)) old.before) old new (Err fault)
 gather_fails A B n k old new (Misfit misfit) one m t h = gathers n old.before k one m t ∙ ap (λ v. then_do v (gathered_into (list_value_kind n k))) h
 gather_fails A B n k old new NoMemory one m t h = tt

@@ -1,5 +1,6 @@
 -- How many rules and functions accepted code has, and where its rules stand.
-use Rattle.rw_base.proofs.Common.{◌≡◌, ◌≤◌, ◌<◌, ◌+◌, ◌-◌, ◌==◌, ℕ, zero, suc, Bool, true, false, nat_lt, List, [], ◌∷◌, ◌++◌, length, Some, Result, Ok, Err, refl, sym, ap, ap₂, ◌∙◌, subst, arith, append_assoc, length-append, if◌then◌else◌, slice_get, nat_tests}
+use Rattle.rw_base.proofs.Common.{◌≡◌, ◌≤◌, ◌<◌, ◌+◌, ◌-◌, ◌==◌, ℕ, zero, suc, Bool, true, false, nat_lt, List, [], ◌∷◌, ◌++◌, length, Some, Result}
+use Rattle.rw_base.proofs.Common.{Ok, Err, refl, sym, ap, ap₂, ◌∙◌, subst, arith, append_assoc, length-append, if◌then◌else◌, slice_get, nat_tests}
 use Rattle.std.proofs.lemmas.List.{append-nil}
 use Rattle.rw_model.specs.Draft.{Draft}
 use Rattle.rpl_code.specs.declared.block.BlockHead.{BlockHead}
@@ -21,7 +22,8 @@ pub length-rules : (n : ℕ) (xs : List Block) → length (rules_from n xs) ≡ 
 length-rules n [] = refl
 length-rules n (x ∷ xs) = by (is_alike Rule x.head) (length-rules (suc n) xs)
   where
-    by : (t : Bool) → length (rules_from (suc n) xs) ≡ count_alike Rule xs → length (if t then n ∷ rules_from (suc n) xs else rules_from (suc n) xs) ≡ (if t then suc (count_alike Rule xs) else count_alike Rule xs)
+    by : (t : Bool) → length (rules_from (suc n) xs) ≡ count_alike Rule xs
+        → length (if t then n ∷ rules_from (suc n) xs else rules_from (suc n) xs) ≡ (if t then suc (count_alike Rule xs) else count_alike Rule xs)
     by true e = ap suc e
     by false e = e
 
@@ -30,7 +32,9 @@ pub rule_is : (n : ℕ) (xs : List Block) (r : ℕ) → rule_from n xs (suc r) �
 rule_is n [] r = refl
 rule_is n (x ∷ xs) r = by (is_alike Rule x.head) r (rule_is (suc n) xs)
   where
-    by : (t : Bool) (r : ℕ) → ((r : ℕ) → rule_from (suc n) xs (suc r) ≡ slice_get (rules_from (suc n) xs) r) → (if t then (if suc r == 1 then Some n else rule_from (suc n) xs (suc r - 1)) else rule_from (suc n) xs (suc r)) ≡ slice_get (if t then n ∷ rules_from (suc n) xs else rules_from (suc n) xs) r
+    by : (t : Bool) (r : ℕ) → ((r : ℕ) → rule_from (suc n) xs (suc r) ≡ slice_get (rules_from (suc n) xs) r)
+        → (if t then (if suc r == 1 then Some n else rule_from (suc n) xs (suc r - 1)) else rule_from (suc n) xs (suc r))
+        ≡ slice_get (if t then n ∷ rules_from (suc n) xs else rules_from (suc n) xs) r
     by true zero on = refl
     by true (suc r) on =
         let e : (suc (suc r) == 1) ≡ false = grind (arith, nat_tests) in
@@ -60,11 +64,13 @@ count_same : (h k : BlockHead) (xs : List Block) → is_alike h k ≡ true → c
 count_same h k [] e = refl
 count_same h k (x ∷ xs) e = ap₂ (λ (t : Bool) n. if t then suc n else n) (alike_same h k x.head e) (count_same h k xs e)
 
-count-push : (h : BlockHead) (xs : List Block) (x : Block) → count_alike h (xs ++ x ∷ []) ≡ (if is_alike h x.head then suc (count_alike h xs) else count_alike h xs)
+count-push : (h : BlockHead) (xs : List Block) (x : Block)
+    → count_alike h (xs ++ x ∷ []) ≡ (if is_alike h x.head then suc (count_alike h xs) else count_alike h xs)
 count-push h [] x = refl
 count-push h (y ∷ xs) x = ap (λ n. if is_alike h y.head then suc n else n) (count-push h xs x) ∙ by (is_alike h y.head) (is_alike h x.head)
   where
-    by : (s t : Bool) → (if s then suc (if t then suc (count_alike h xs) else count_alike h xs) else (if t then suc (count_alike h xs) else count_alike h xs))
+    by : (s t : Bool) → (if s then suc (if t then suc (count_alike h xs) else count_alike h xs) else
+        (if t then suc (count_alike h xs) else count_alike h xs))
         ≡ (if t then suc (if s then suc (count_alike h xs) else count_alike h xs) else (if s then suc (count_alike h xs) else count_alike h xs))
     by true true = refl
     by true false = refl
@@ -72,31 +78,44 @@ count-push h (y ∷ xs) x = ap (λ n. if is_alike h y.head then suc n else n) (c
     by false false = refl
 
 -- a block that passes isn't one too many
-passes : (basin : Draft) (blocks earlier : List Block) (done : List Budget) (x : Block) (b : Budget) → block_ruling basin blocks earlier done x ≡ Ok b → count_alike x.head earlier < 200
-passes basin blocks earlier done x b h = let q = then_do_ok (block_befores basin blocks earlier x) _ b h in by q.0 q.1 (nat_lt (count_alike x.head earlier) 200) refl
+passes : (basin : Draft) (blocks earlier : List Block) (done : List Budget) (x : Block) (b : Budget) → block_ruling basin blocks earlier done x ≡ Ok b
+    → count_alike x.head earlier < 200
+passes basin blocks earlier done x b h = let q =
+    then_do_ok (block_befores basin blocks earlier x) _ b h in by q.0 q.1 (nat_lt (count_alike x.head earlier) 200) refl
   where
-    by : (bs : List Before) → block_befores basin blocks earlier x ≡ Ok bs → (t : Bool) → nat_lt (count_alike x.head earlier) 200 ≡ t → count_alike x.head earlier < 200
+    by : (bs : List Before) → block_befores basin blocks earlier x ≡ Ok bs → (t : Bool) → nat_lt (count_alike x.head earlier) 200 ≡ t
+        → count_alike x.head earlier < 200
     by bs found true e = grind (arith, nat_tests)
     by bs found false e =
-        let no = ap (λ (t : Bool). if t then befores (scope_of basin blocks (suc (length earlier)) x) 0 (before [] []) x.lines else Err (record { misfit = TooMany; place = 0 })) e in
+        let no =
+        ap (λ (t : Bool). if t then befores (scope_of basin blocks (suc (length earlier)) x) 0 (before [] []) x.lines else Err
+        (record { misfit = TooMany; place = 0 })) e in
         absurd (cc (no, found))
 
 module _ (basin : Draft) (blocks : List Block) where
-  few_from : (h : BlockHead) (earlier xs : List Block) (done all : List Budget) → each_block (block_ruling basin blocks) earlier done xs ≡ Ok all → count_alike h earlier ≤ 200 → count_alike h (earlier ++ xs) ≤ 200
+  few_from : (h : BlockHead) (earlier xs : List Block) (done all : List Budget) → each_block (block_ruling basin blocks) earlier done xs ≡ Ok all
+      → count_alike h earlier ≤ 200 → count_alike h (earlier ++ xs) ≤ 200
   few_from h earlier [] done all e few = subst (λ l. count_alike h l ≤ 200) (sym (append-nil earlier)) few
   few_from h earlier (x ∷ xs) done all e few =
-      let q = in_block_ok (suc (length earlier)) (block_ruling basin blocks earlier done x) (λ b. each_block (block_ruling basin blocks) (earlier ++ x ∷ []) (done ++ b ∷ []) xs) all e in
-      let more : count_alike h (earlier ++ x ∷ []) ≤ 200 = subst (λ n. n ≤ 200) (sym (count-push h earlier x)) (by (is_alike h x.head) refl (passes basin blocks earlier done x q.0 q.1)) in
+      let q =
+      in_block_ok (suc (length earlier)) (block_ruling basin blocks earlier done x)
+      (λ b. each_block (block_ruling basin blocks) (earlier ++ x ∷ []) (done ++ b ∷ []) xs) all e in
+      let more : count_alike h (earlier ++ x ∷ []) ≤ 200 =
+      subst (λ n. n ≤ 200) (sym (count-push h earlier x)) (by (is_alike h x.head) refl (passes basin blocks earlier done x q.0 q.1)) in
       subst (λ l. count_alike h l ≤ 200) (append_assoc earlier (x ∷ []) xs) (few_from h (earlier ++ x ∷ []) xs (done ++ q.0 ∷ []) all q.2 more)
     where
-      by : (t : Bool) → is_alike h x.head ≡ t → count_alike x.head earlier < 200 → (if t then suc (count_alike h earlier) else count_alike h earlier) ≤ 200
+      by : (t : Bool) → is_alike h x.head ≡ t → count_alike x.head earlier < 200
+          → (if t then suc (count_alike h earlier) else count_alike h earlier) ≤ 200
       by true e lt = let s = count_same h x.head earlier e in omega (arith, s, lt)
       by false e lt = few
 
-  each_from : (earlier xs : List Block) (done all : List Budget) → each_block (block_ruling basin blocks) earlier done xs ≡ Ok all → length all ≡ length done + length xs
+  each_from : (earlier xs : List Block) (done all : List Budget) → each_block (block_ruling basin blocks) earlier done xs ≡ Ok all
+      → length all ≡ length done + length xs
   each_from earlier [] done all e = let s = ap length (same_ok done all e) in omega (arith, s)
   each_from earlier (x ∷ xs) done all e =
-      let q = in_block_ok (suc (length earlier)) (block_ruling basin blocks earlier done x) (λ b. each_block (block_ruling basin blocks) (earlier ++ x ∷ []) (done ++ b ∷ []) xs) all e in
+      let q =
+      in_block_ok (suc (length earlier)) (block_ruling basin blocks earlier done x)
+      (λ b. each_block (block_ruling basin blocks) (earlier ++ x ∷ []) (done ++ b ∷ []) xs) all e in
       let r = each_from (earlier ++ x ∷ []) xs (done ++ q.0 ∷ []) all q.2 in
       let a = length-append done (q.0 ∷ []) in
       omega (arith, r, a)
@@ -130,7 +149,8 @@ unchanged basin blocks a h = let i = is_answered basin blocks a h in i.unchanged
 pub answered : (basin : Draft) (blocks : List Block) (a : Accepted) → verified basin blocks ≡ Ok a → AreAccepted basin a.blocks a.budgets
 answered basin blocks a h = let i = is_answered basin blocks a h in i.accepted
 
-pub answered_resolved : (basin : Draft) (blocks : List Block) (a : Accepted) → verified basin blocks ≡ Ok a → a.resolved ≡ resolved_code basin a.blocks
+pub answered_resolved : (basin : Draft) (blocks : List Block) (a : Accepted) → verified basin blocks ≡ Ok a
+    → a.resolved ≡ resolved_code basin a.blocks
 answered_resolved basin blocks a h = let i = is_answered basin blocks a h in i.resolved
 
 pub answers : (basin : Draft) (blocks : List Block) (budgets : List Budget) → AreAccepted basin blocks budgets

@@ -1,5 +1,7 @@
 -- Ways through a block that fits: none comes to more than the table's number, and one comes to that.
-use Rattle.rw_base.proofs.Common.{◌≡◌, ◌⊎◌, inl, inr, ℕ, zero, suc, ◌+◌, ◌*◌, ◌≤◌, ◌<◌, max, Bool, true, false, nat_le, List, [], ◌∷◌, length, drop, Option, Some, None, Ok, IsSomeAnd, refl, sym, ap, ap₂, ◌∙◌, subst, arith, nat_tests, slice_get, slice_get_within, slice_index}
+use Rattle.rw_base.proofs.Common.{◌≡◌, ◌⊎◌, inl, inr, ℕ, zero, suc, ◌+◌, ◌*◌, ◌≤◌, ◌<◌, max, Bool, true, false, nat_le, List, [], ◌∷◌, length, drop}
+use Rattle.rw_base.proofs.Common.{Option, Some, None, Ok, IsSomeAnd, refl, sym, ap, ap₂, ◌∙◌, subst, arith, nat_tests, slice_get, slice_get_within}
+use Rattle.rw_base.proofs.Common.{slice_index}
 use Rattle.std.proofs.lemmas.Option.{slice_get_past}
 use Rattle.std.proofs.Math.Nat.{mul-add, mul-le-mul_left, mul_assoc, mul_left_comm}
 use Rattle.rpl_code.specs.declared.instruction.Instruction.{Instruction}
@@ -75,7 +77,8 @@ module _ (join : ℕ → ℕ → ℕ) (lines : List Instruction) (here rest : �
 
 -- ---- in a block that fits
 
-module _ (scope : Scope) (lines : List Instruction) (bs : List Before) (spotted : scope.spots ≡ spots lines) (fits : befores scope 0 (before [] []) lines ≡ Ok bs) where
+module _ (scope : Scope) (lines : List Instruction) (bs : List Before) (spotted : scope.spots ≡ spots lines)
+    (fits : befores scope 0 (before [] []) lines ≡ Ok bs) where
   abbrev B : ℕ → Before
   B p = before_at bs p
 
@@ -88,18 +91,22 @@ module _ (scope : Scope) (lines : List Instruction) (bs : List Before) (spotted 
         → join (here p) (rest (suc p)) ≡ rest p
     pub jump : (p : ℕ) (i : Instruction) (to : ℕ) → slice_get lines p ≡ Some i → going_of i ≡ jumping to → p < to → (B to).loops ≡ (B p).loops
         → join (here p) (rest to) ≡ rest p
-    pub branch : (p : ℕ) (i : Instruction) (to : ℕ) → slice_get lines p ≡ Some i → going_of i ≡ branching to → p < to → (B (suc p)).loops ≡ (B p).loops → (B to).loops ≡ (B p).loops
+    pub branch : (p : ℕ) (i : Instruction) (to : ℕ) → slice_get lines p ≡ Some i → going_of i ≡ branching to → p < to
+        → (B (suc p)).loops ≡ (B p).loops → (B to).loops ≡ (B p).loops
         → max (join (here p) (rest (suc p))) (join (here p) (rest to)) ≡ rest p
-    pub enter : (p : ℕ) (i : Instruction) (o : Open) → slice_get lines p ≡ Some i → going_of i ≡ entering → p < past p → (B (suc p)).loops ≡ o ∷ (B p).loops → o.start ≡ p → o.room ≡ room_on_top (B p).kinds
+    pub enter : (p : ℕ) (i : Instruction) (o : Open) → slice_get lines p ≡ Some i → going_of i ≡ entering → p < past p
+        → (B (suc p)).loops ≡ o ∷ (B p).loops → o.start ≡ p → o.room ≡ room_on_top (B p).kinds
         → join (here p) (rest (suc p)) ≡ rest p
-    pub turn : (p : ℕ) (i : Instruction) (o : Open) → slice_get lines p ≡ Some i → going_of i ≡ turning → (B p).loops ≡ o ∷ (B (suc p)).loops → past o.start ≡ suc p
+    pub turn : (p : ℕ) (i : Instruction) (o : Open) → slice_get lines p ≡ Some i → going_of i ≡ turning → (B p).loops ≡ o ∷ (B (suc p)).loops
+        → past o.start ≡ suc p
         → join (here p) (rest (suc p)) ≡ rest p
 
   module _ (join : ℕ → ℕ → ℕ) (here rest : ℕ → ℕ) (c : Cases join here rest) where
     abbrev Stepped : ℕ → Instruction → Type 0
     Stepped p i = Step join lines here rest p i
 
-    one_next : (p : ℕ) (i : Instruction) → slice_get lines p ≡ Some i → ((q : ℕ) → LeadsTo i p q → q ≡ suc p) → LeadsTo i p (suc p) → join (here p) (rest (suc p)) ≡ rest p → Stepped p i
+    one_next : (p : ℕ) (i : Instruction) → slice_get lines p ≡ Some i → ((q : ℕ) → LeadsTo i p q → q ≡ suc p) → LeadsTo i p (suc p)
+        → join (here p) (rest (suc p)) ≡ rest p → Stepped p i
     one_next p i e one l r =
         record {
           below = λ q h. at q (one q h);
@@ -113,22 +120,32 @@ module _ (scope : Scope) (lines : List Instruction) (bs : List Before) (spotted 
         at : (q : ℕ) → q ≡ suc p → join (here p) (rest q) ≤ rest p
         at q h = let z = ap (λ q. join (here p) (rest q)) h in omega (arith, z, r)
 
-    opening_step : (p : ℕ) (loop : Loop) (n : ℕ) (i : Instruction) → slice_get lines p ≡ Some i → going_of i ≡ entering → Opens scope p loop n (B p) (B (suc p)) → join (here p) (rest (suc p)) ≡ rest p
+    opening_step : (p : ℕ) (loop : Loop) (n : ℕ) (i : Instruction) → slice_get lines p ≡ Some i → going_of i ≡ entering
+        → Opens scope p loop n (B p) (B (suc p)) → join (here p) (rest (suc p)) ≡ rest p
     opening_step p loop n i e w o =
-        let l : (B (suc p)).loops ≡ record { start = p; loop = loop; room = room_on_top (B p).kinds; under = o.under } ∷ (B p).loops = ap (λ (b : Before). b.loops) o.news ∙ ap (λ m. record { start = p; loop = loop; room = m; under = o.under } ∷ (B p).loops) (sym (ap room_on_top o.top)) in
-        let q = past_it scope lines bs spotted fits p (record { start = p; loop = loop; room = room_on_top (B p).kinds; under = o.under }) ((B p).loops) l in
+        let l : (B (suc p)).loops ≡ record { start = p; loop = loop; room = room_on_top (B p).kinds; under = o.under } ∷ (B p).loops =
+        ap (λ (b : Before). b.loops) o.news ∙ ap (λ m. record { start = p; loop = loop; room = m; under = o.under } ∷ (B p).loops)
+        (sym (ap room_on_top o.top)) in
+        let q =
+        past_it scope lines bs spotted fits p (record { start = p; loop = loop; room = room_on_top (B p).kinds; under = o.under })
+        ((B p).loops) l in
         c.enter p i _ e w (omega (arith, q.is, q.later)) l refl refl
 
-    closing_step : (p : ℕ) (loop : Loop) (i : Instruction) → slice_get lines p ≡ Some i → going_of i ≡ turning → loop_ends p (drop p lines) ≡ suc p ∷ loop_ends (suc p) (drop (suc p) lines)
+    closing_step : (p : ℕ) (loop : Loop) (i : Instruction) → slice_get lines p ≡ Some i → going_of i ≡ turning
+        → loop_ends p (drop p lines) ≡ suc p ∷ loop_ends (suc p) (drop (suc p) lines)
         → OpenRel p (closing loop) ((B p).loops) (B (suc p)) → join (here p) (rest (suc p)) ≡ rest p
     closing_step p loop i e w ends r =
-        let k = subst (λ os. (past r.0.start ≡ slice_index (loop_ends p (drop p lines)) 0)) r.1 (first_linked ((B p).loops) r.0 ((B (suc p)).loops) r.1 (linked scope lines bs spotted fits p)) in
+        let k =
+        subst (λ os. (past r.0.start ≡ slice_index (loop_ends p (drop p lines)) 0)) r.1
+        (first_linked ((B p).loops) r.0 ((B (suc p)).loops) r.1 (linked scope lines bs spotted fits p)) in
         c.turn p i r.0 e w r.1 (k ∙ ap (λ ns. slice_index ns 0) ends)
       where
-        first_linked : (ls : List Open) (o : Open) (os : List Open) → ls ≡ o ∷ os → Linked scope lines bs spotted fits (loop_ends p (drop p lines)) 0 ls → past o.start ≡ slice_index (loop_ends p (drop p lines)) 0
+        first_linked : (ls : List Open) (o : Open) (os : List Open) → ls ≡ o ∷ os
+            → Linked scope lines bs spotted fits (loop_ends p (drop p lines)) 0 ls → past o.start ≡ slice_index (loop_ends p (drop p lines)) 0
         first_linked ls o os h l = (subst (Linked scope lines bs spotted fits (loop_ends p (drop p lines)) 0) h l).0
 
-    branch_step : (p to : ℕ) → slice_get lines p ≡ Some (I.Branch to) → p < to → to ≤ length lines → max (join (here p) (rest (suc p))) (join (here p) (rest to)) ≡ rest p → Stepped p (I.Branch to)
+    branch_step : (p to : ℕ) → slice_get lines p ≡ Some (I.Branch to) → p < to → to ≤ length lines
+        → max (join (here p) (rest (suc p))) (join (here p) (rest to)) ≡ rest p → Stepped p (I.Branch to)
     branch_step p to e far le r = by (nat_le (join (here p) (rest to)) (join (here p) (rest (suc p)))) refl
       where
         low : (q : ℕ) → (q ≡ suc p) ⊎ (q ≡ to) → join (here p) (rest q) ≤ rest p
@@ -138,7 +155,14 @@ module _ (scope : Scope) (lines : List Instruction) (bs : List Before) (spotted 
         by : (t : Bool) → nat_le (join (here p) (rest to)) (join (here p) (rest (suc p))) ≡ t → Stepped p (I.Branch to)
         by true h =
             let g : join (here p) (rest to) ≤ join (here p) (rest (suc p)) = grind (arith, nat_tests) in
-            record { below = low; next = suc p; leads = inl refl; later = omega arith; inside = omega (arith, slice_get_within lines p (I.Branch to) e); reached = omega (arith, g, r) }
+            record {
+              below = low;
+              next = suc p;
+              leads = inl refl;
+              later = omega arith;
+              inside = omega (arith, slice_get_within lines p (I.Branch to) e);
+              reached = omega (arith, g, r);
+            }
         by false h =
             let g : join (here p) (rest (suc p)) < join (here p) (rest to) = grind (arith, nat_tests) in
             record { below = low; next = to; leads = inr refl; later = far; inside = le; reached = omega (arith, g, r) }
@@ -146,23 +170,41 @@ module _ (scope : Scope) (lines : List Instruction) (bs : List Before) (spotted 
     pub step : (p : ℕ) (i : Instruction) → slice_get lines p ≡ Some i → Stepped p i
     step p (I.Jump to) e =
         let n = named scope p (B p) (I.Jump to) (B (suc p)) (spot scope lines bs spotted fits p (I.Jump to) e) in
-        let a = then_do_ok (found scope p to (B p)) (λ declared. then_do (carried declared (B p)) (restarted (declared_at (slice_get scope.spots (suc p))))) (B (suc p)) n.1 in
+        let a =
+        then_do_ok (found scope p to (B p)) (λ declared.
+        then_do (carried declared (B p)) (restarted (declared_at (slice_get scope.spots (suc p))))) (B (suc p)) n.1 in
         let l = land scope lines bs spotted fits p to a.0 a.1 in
         let r = c.jump p (I.Jump to) to e refl l.0 l.1.same in
-        record { below = λ q h. let z = ap (λ q. join (here p) (rest q)) h in omega (arith, z, r); next = to; leads = refl; later = l.0; inside = omega (arith, slice_get_within lines to l.1.target l.1.at); reached = r }
+        record {
+          below = λ q h. let z = ap (λ q. join (here p) (rest q)) h in
+              omega (arith, z, r);
+          next = to;
+          leads = refl;
+          later = l.0;
+          inside =
+              omega (arith, slice_get_within lines to l.1.target l.1.at);
+          reached = r;
+        }
     step p (I.Branch to) e =
         let n = named scope p (B p) (I.Branch to) (B (suc p)) (spot scope lines bs spotted fits p (I.Branch to) e) in
         let a = then_do_ok (found scope p to (B p)) (λ declared. then_do (taken scope (I.Branch to) (B p)) (carried declared)) (B (suc p)) n.1 in
         let l = land scope lines bs spotted fits p to a.0 a.1 in
-        branch_step p to e l.0 (omega (arith, slice_get_within lines to l.1.target l.1.at)) (c.branch p (I.Branch to) to e refl l.0 (rel scope lines bs spotted fits p (I.Branch to) e) l.1.same)
+        branch_step p to e l.0 (omega (arith, slice_get_within lines to l.1.target l.1.at))
+        (c.branch p (I.Branch to) to e refl l.0 (rel scope lines bs spotted fits p (I.Branch to) e) l.1.same)
     step p (I.Foreach n) e =
         let m = named scope p (B p) (I.Foreach n) (B (suc p)) (spot scope lines bs spotted fits p (I.Foreach n) e) in
-        one_next p (I.Foreach n) e (λ q h. h) refl (opening_step p visiting n (I.Foreach n) e refl (opens_by scope p visiting n (I.Foreach n) (B p) (B (suc p)) refl m.1))
+        one_next p (I.Foreach n) e (λ q h. h) refl
+        (opening_step p visiting n (I.Foreach n) e refl (opens_by scope p visiting n (I.Foreach n) (B p) (B (suc p)) refl m.1))
     step p (I.Map n) e =
         let m = named scope p (B p) (I.Map n) (B (suc p)) (spot scope lines bs spotted fits p (I.Map n) e) in
-        one_next p (I.Map n) e (λ q h. h) refl (opening_step p mapping n (I.Map n) e refl (opens_by scope p mapping n (I.Map n) (B p) (B (suc p)) refl m.1))
-    step p I.Next e = one_next p I.Next e (λ q h. h) refl (closing_step p visiting I.Next e refl (ends_at scope lines bs spotted fits p I.Next e) (rel scope lines bs spotted fits p I.Next e))
-    step p I.Yield e = one_next p I.Yield e (λ q h. h) refl (closing_step p mapping I.Yield e refl (ends_at scope lines bs spotted fits p I.Yield e) (rel scope lines bs spotted fits p I.Yield e))
+        one_next p (I.Map n) e (λ q h. h) refl (opening_step p mapping n (I.Map n) e refl
+        (opens_by scope p mapping n (I.Map n) (B p) (B (suc p)) refl m.1))
+    step p I.Next e =
+        one_next p I.Next e (λ q h. h) refl (closing_step p visiting I.Next e refl (ends_at scope lines bs spotted fits p I.Next e)
+        (rel scope lines bs spotted fits p I.Next e))
+    step p I.Yield e =
+        one_next p I.Yield e (λ q h. h) refl (closing_step p mapping I.Yield e refl (ends_at scope lines bs spotted fits p I.Yield e)
+        (rel scope lines bs spotted fits p I.Yield e))
     step p i e = one_next p i e (λ q h. h) refl (c.on p i e refl (rel scope lines bs spotted fits p i e))
 
   -- ---- counts
@@ -191,7 +233,8 @@ module _ (scope : Scope) (lines : List Instruction) (bs : List Before) (spotted 
     here_is : (p : ℕ) (i : Instruction) → slice_get lines p ≡ Some i → here p ≡ turns_in_loops (B p).loops * price (B p) i
     here_is p i e = ap (counted price (B p)) e
 
-    moved : (p q : ℕ) (i : Instruction) → slice_get lines p ≡ Some i → (B q).loops ≡ (B p).loops → here p + rest q ≡ turns_in_loops (B p).loops * (price (B p) i + D q) + outer (B p).loops
+    moved : (p q : ℕ) (i : Instruction) → slice_get lines p ≡ Some i → (B q).loops ≡ (B p).loops
+        → here p + rest q ≡ turns_in_loops (B p).loops * (price (B p) i + D q) + outer (B p).loops
     moved p q i e l =
         let a : rest q ≡ rest_in ((B p).loops) q = ap (λ os. rest_in os q) l in
         omega (arith, here_is p i e, a, mul-add (turns_in_loops (B p).loops) (price (B p) i) (D q))
@@ -214,13 +257,17 @@ module _ (scope : Scope) (lines : List Instruction) (bs : List Before) (spotted 
             let e : max a b ≡ a = omega (arith, g) in
             omega (arith, ap (λ n. w * n) e, mul-le-mul_left w g)
 
-    on_case : (p : ℕ) (i : Instruction) → slice_get lines p ≡ Some i → going_of i ≡ onward → (B (suc p)).loops ≡ (B p).loops → here p + rest (suc p) ≡ rest p
+    on_case : (p : ℕ) (i : Instruction) → slice_get lines p ≡ Some i → going_of i ≡ onward → (B (suc p)).loops ≡ (B p).loops
+        → here p + rest (suc p) ≡ rest p
     on_case p i e w l = moved p (suc p) i e l ∙ ap (λ n. turns_in_loops (B p).loops * n + outer (B p).loops) (sym (by_next m lines bs p i e w))
 
-    jump_case : (p : ℕ) (i : Instruction) (to : ℕ) → slice_get lines p ≡ Some i → going_of i ≡ jumping to → p < to → (B to).loops ≡ (B p).loops → here p + rest to ≡ rest p
-    jump_case p i to e w far l = moved p to i e l ∙ ap (λ n. turns_in_loops (B p).loops * n + outer (B p).loops) (sym (by_jump m lines bs p i e to w far))
+    jump_case : (p : ℕ) (i : Instruction) (to : ℕ) → slice_get lines p ≡ Some i → going_of i ≡ jumping to → p < to → (B to).loops ≡ (B p).loops
+        → here p + rest to ≡ rest p
+    jump_case p i to e w far l =
+        moved p to i e l ∙ ap (λ n. turns_in_loops (B p).loops * n + outer (B p).loops) (sym (by_jump m lines bs p i e to w far))
 
-    branch_case : (p : ℕ) (i : Instruction) (to : ℕ) → slice_get lines p ≡ Some i → going_of i ≡ branching to → p < to → (B (suc p)).loops ≡ (B p).loops → (B to).loops ≡ (B p).loops
+    branch_case : (p : ℕ) (i : Instruction) (to : ℕ) → slice_get lines p ≡ Some i → going_of i ≡ branching to → p < to
+        → (B (suc p)).loops ≡ (B p).loops → (B to).loops ≡ (B p).loops
         → max (here p + rest (suc p)) (here p + rest to) ≡ rest p
     branch_case p i to e w far l k =
         let n : ℕ = price (B p) i in
@@ -228,21 +275,28 @@ module _ (scope : Scope) (lines : List Instruction) (bs : List Before) (spotted 
         let s : max (n + D (suc p)) (n + D to) ≡ D p = omega (arith, by_far_branch m lines bs p i e to w far) in
         omega (arith, moved p (suc p) i e l, moved p to i e k, larger t (n + D (suc p)) (n + D to), ap (λ x. t * x) s)
 
-    enter_case : (p : ℕ) (i : Instruction) (o : Open) → slice_get lines p ≡ Some i → going_of i ≡ entering → p < past p → (B (suc p)).loops ≡ o ∷ (B p).loops → o.start ≡ p → o.room ≡ room_on_top (B p).kinds
+    enter_case : (p : ℕ) (i : Instruction) (o : Open) → slice_get lines p ≡ Some i → going_of i ≡ entering → p < past p
+        → (B (suc p)).loops ≡ o ∷ (B p).loops → o.start ≡ p → o.room ≡ room_on_top (B p).kinds
         → here p + rest (suc p) ≡ rest p
     enter_case p i o e w far l s r =
         let t : ℕ = turns_in_loops (B p).loops in
         let n : ℕ = price (B p) i in
         let a : rest (suc p) ≡ (o.room * t) * D (suc p) + (t * D (past o.start) + outer (B p).loops) = ap (λ os. rest_in os (suc p)) l in
-        let b : (o.room * t) * D (suc p) + (t * D (past o.start) + outer (B p).loops) ≡ (o.room * t) * D (suc p) + (t * D (past p) + outer (B p).loops) = ap (λ q. (o.room * t) * D (suc p) + (t * D (past q) + outer (B p).loops)) s in
-        let d : t * (n + (o.room * D (suc p) + D (past p))) + outer (B p).loops ≡ rest p = ap (λ x. t * (n + (x * D (suc p) + D (past p))) + outer (B p).loops) r ∙ ap (λ x. t * x + outer (B p).loops) (sym (by_far_entry m lines bs p i e w far)) in
+        let b : (o.room * t) * D (suc p) + (t * D (past o.start) + outer (B p).loops)
+        ≡ (o.room * t) * D (suc p) + (t * D (past p) + outer (B p).loops) =
+        ap (λ q. (o.room * t) * D (suc p) + (t * D (past q) + outer (B p).loops)) s in
+        let d : t * (n + (o.room * D (suc p) + D (past p))) + outer (B p).loops ≡ rest p =
+        ap (λ x. t * (n + (x * D (suc p) + D (past p))) + outer (B p).loops) r
+        ∙ ap (λ x. t * x + outer (B p).loops) (sym (by_far_entry m lines bs p i e w far)) in
         ap₂ (λ x y. x + y) (here_is p i e) (a ∙ b) ∙ through t n o.room (D (suc p)) (D (past p)) (outer (B p).loops) ∙ d
 
-    turn_case : (p : ℕ) (i : Instruction) (o : Open) → slice_get lines p ≡ Some i → going_of i ≡ turning → (B p).loops ≡ o ∷ (B (suc p)).loops → past o.start ≡ suc p → here p + rest (suc p) ≡ rest p
+    turn_case : (p : ℕ) (i : Instruction) (o : Open) → slice_get lines p ≡ Some i → going_of i ≡ turning → (B p).loops ≡ o ∷ (B (suc p)).loops
+        → past o.start ≡ suc p → here p + rest (suc p) ≡ rest p
     turn_case p i o e w l s =
         let t : ℕ = turns_in_loops (B p).loops in
         let a : outer (B p).loops ≡ turns_in_loops (B (suc p)).loops * D (past o.start) + outer (B (suc p)).loops = ap outer l in
-        let b : turns_in_loops (B (suc p)).loops * D (past o.start) ≡ turns_in_loops (B (suc p)).loops * D (suc p) = ap (λ q. turns_in_loops (B (suc p)).loops * D q) s in
+        let b : turns_in_loops (B (suc p)).loops * D (past o.start) ≡ turns_in_loops (B (suc p)).loops * D (suc p) =
+        ap (λ q. turns_in_loops (B (suc p)).loops * D q) s in
         let d : t * price (B p) i ≡ t * D p = ap (λ n. t * n) (sym (by_turn m lines bs p i e w)) in
         omega (arith, here_is p i e, a, b, d)
 
@@ -291,21 +345,28 @@ module _ (scope : Scope) (lines : List Instruction) (bs : List Before) (spotted 
     words_are : (p : ℕ) (i : Instruction) → slice_get lines p ≡ Some i → words_here p ≡ words_at scope budgets (B p) i
     words_are p i e = ap (words_kept_at scope budgets (B p)) e
 
-    on_words : (p : ℕ) (i : Instruction) → slice_get lines p ≡ Some i → going_of i ≡ onward → (B (suc p)).loops ≡ (B p).loops → max (words_here p) (words_from (suc p)) ≡ words_from p
+    on_words : (p : ℕ) (i : Instruction) → slice_get lines p ≡ Some i → going_of i ≡ onward → (B (suc p)).loops ≡ (B p).loops
+        → max (words_here p) (words_from (suc p)) ≡ words_from p
     on_words p i e w l = omega (arith, words_are p i e, by_next at_once lines bs p i e w, ap outer_words l)
 
-    jump_words : (p : ℕ) (i : Instruction) (to : ℕ) → slice_get lines p ≡ Some i → going_of i ≡ jumping to → p < to → (B to).loops ≡ (B p).loops → max (words_here p) (words_from to) ≡ words_from p
+    jump_words : (p : ℕ) (i : Instruction) (to : ℕ) → slice_get lines p ≡ Some i → going_of i ≡ jumping to → p < to → (B to).loops ≡ (B p).loops
+        → max (words_here p) (words_from to) ≡ words_from p
     jump_words p i to e w far l = omega (arith, words_are p i e, by_jump at_once lines bs p i e to w far, ap outer_words l)
 
-    branch_words : (p : ℕ) (i : Instruction) (to : ℕ) → slice_get lines p ≡ Some i → going_of i ≡ branching to → p < to → (B (suc p)).loops ≡ (B p).loops → (B to).loops ≡ (B p).loops
+    branch_words : (p : ℕ) (i : Instruction) (to : ℕ) → slice_get lines p ≡ Some i → going_of i ≡ branching to → p < to
+        → (B (suc p)).loops ≡ (B p).loops → (B to).loops ≡ (B p).loops
         → max (max (words_here p) (words_from (suc p))) (max (words_here p) (words_from to)) ≡ words_from p
-    branch_words p i to e w far l k = omega (arith, words_are p i e, by_far_branch at_once lines bs p i e to w far, ap outer_words l, ap outer_words k)
+    branch_words p i to e w far l k =
+        omega (arith, words_are p i e, by_far_branch at_once lines bs p i e to w far, ap outer_words l, ap outer_words k)
 
-    enter_words : (p : ℕ) (i : Instruction) (o : Open) → slice_get lines p ≡ Some i → going_of i ≡ entering → p < past p → (B (suc p)).loops ≡ o ∷ (B p).loops → o.start ≡ p → o.room ≡ room_on_top (B p).kinds
+    enter_words : (p : ℕ) (i : Instruction) (o : Open) → slice_get lines p ≡ Some i → going_of i ≡ entering → p < past p
+        → (B (suc p)).loops ≡ o ∷ (B p).loops → o.start ≡ p → o.room ≡ room_on_top (B p).kinds
         → max (words_here p) (words_from (suc p)) ≡ words_from p
-    enter_words p i o e w far l s r = omega (arith, words_are p i e, by_far_entry at_once lines bs p i e w far, ap outer_words l, ap (λ q. V (past q)) s)
+    enter_words p i o e w far l s r =
+        omega (arith, words_are p i e, by_far_entry at_once lines bs p i e w far, ap outer_words l, ap (λ q. V (past q)) s)
 
-    turn_words : (p : ℕ) (i : Instruction) (o : Open) → slice_get lines p ≡ Some i → going_of i ≡ turning → (B p).loops ≡ o ∷ (B (suc p)).loops → past o.start ≡ suc p
+    turn_words : (p : ℕ) (i : Instruction) (o : Open) → slice_get lines p ≡ Some i → going_of i ≡ turning → (B p).loops ≡ o ∷ (B (suc p)).loops
+        → past o.start ≡ suc p
         → max (words_here p) (words_from (suc p)) ≡ words_from p
     turn_words p i o e w l s = omega (arith, words_are p i e, by_turn at_once lines bs p i e w, ap outer_words l, ap V s)
 

@@ -1,5 +1,8 @@
 -- Which rules are marked, by their turns and by what they looked at.
-use Rattle.rw_base.proofs.Common.{◌≡◌, ◌∙◌, ◌≢◌, ◌+◌, ◌-◌, ◌<◌, ◌≤◌, ◌/◌, ◌%◌, ◌^◌, ◌==◌, ◌||◌, ◌&&◌, ◌⊎◌, ℕ, zero, suc, inl, inr, All, Bool, true, false, false≢true, not, List, [], ◌∷◌, Option, None, Some, ap, ap₂, arith, drop, find, get_or, get_or-replicate, get_or-set_other, get_or-set_same, get_or_past, if◌then◌else◌, length, length-replicate, length-set, list_any, map, nat_eq, nat_lt, nat_tests, none-some, refl, replicate, set, slice_index_or, subst, sym}
+use Rattle.rw_base.proofs.Common.{◌≡◌, ◌∙◌, ◌≢◌, ◌+◌, ◌-◌, ◌<◌, ◌≤◌, ◌/◌, ◌%◌, ◌^◌, ◌==◌, ◌||◌, ◌&&◌, ◌⊎◌, ℕ, zero, suc, inl, inr, All, Bool, true}
+use Rattle.rw_base.proofs.Common.{false, false≢true, not, List, [], ◌∷◌, Option, None, Some, ap, ap₂, arith, drop, find, get_or, get_or-replicate}
+use Rattle.rw_base.proofs.Common.{get_or-set_other, get_or-set_same, get_or_past, if◌then◌else◌, length, length-replicate, length-set, list_any, map}
+use Rattle.rw_base.proofs.Common.{nat_eq, nat_lt, nat_tests, none-some, refl, replicate, set, slice_index_or, subst, sym}
 use Rattle.std.proofs.Math.ListN.{get_or-map}
 use Rattle.std.proofs.Math.Bool.{or-false}
 use Rattle.std.proofs.lemmas.Bool.{cases_lt}
@@ -21,7 +24,8 @@ use Rattle.rw_run.specs.Dispatch.{cell_at}
 use Rattle.rw_run.specs.Index.{is_touched}
 use Rattle.rw_run.specs.Log.{Cells}
 use Rattle.rw_run.specs.Next.{agenda_of, is_changed}
-use Rattle.rw_agenda.specs.Agenda.{AreMarkedFresh, AreWatching, Entry, IsIndexed, KeepsRules, agenda_of_marks, first_due_in, forgotten, is_due_in, unfired}
+use Rattle.rw_agenda.specs.Agenda.{AreMarkedFresh, AreWatching, Entry, IsIndexed, KeepsRules, agenda_of_marks, first_due_in, forgotten, is_due_in}
+use Rattle.rw_agenda.specs.Agenda.{unfired}
 use Rattle.rw_model.specs.Objects.{numbered}
 use Rattle.rw_agenda.specs.CellIndex.{CellIndex, is_met, is_watching}
 use Rattle.rw_agenda.specs.declared.watch.Watch.{Watch}
@@ -70,7 +74,8 @@ turns_added order flags old new place kept near same is = record {
         ap (λ n. has_turn new (agenda_turn order n other)) (length-set flags place true)
         ∙ is (agenda_turn order (length flags) other)
         ∙ ap (λ t. t || has_turn old (agenda_turn order (length flags) other))
-        (ap (λ k. agenda_turn order (length flags) k == agenda_turn order (length flags) place) is_place ∙ own_turn (agenda_turn order (length flags) place))
+        (ap (λ k. agenda_turn order (length flags) k == agenda_turn order (length flags) place) is_place
+        ∙ own_turn (agenda_turn order (length flags) place))
         ∙ sym (ap (λ k. get_or (set flags place true) k true) is_place ∙ get_or-set_same flags place true true near)
     by other there false here =
         let apart : other ≢ place = grind (arith, nat_tests, here) in
@@ -96,7 +101,8 @@ turns_taken order flags old new place kept near same is = record {
         ap (λ n. has_turn new (agenda_turn order n other)) (length-set flags place false)
         ∙ is (agenda_turn order (length flags) other)
         ∙ ap (λ t. not t && has_turn old (agenda_turn order (length flags) other))
-        (ap (λ k. agenda_turn order (length flags) k == agenda_turn order (length flags) place) is_place ∙ own_turn (agenda_turn order (length flags) place))
+        (ap (λ k. agenda_turn order (length flags) k == agenda_turn order (length flags) place) is_place
+        ∙ own_turn (agenda_turn order (length flags) place))
         ∙ sym (ap (λ k. get_or (set flags place false) k true) is_place ∙ get_or-set_same flags place false true near)
     by other there false here =
         let apart : other ≢ place = grind (arith, nat_tests, here) in

@@ -1,5 +1,7 @@
 -- Whose turn it is in an agenda, and what a look through turns has found so far.
-use Rattle.rw_base.proofs.Common.{ℕ, zero, suc, ◌+◌, ◌-◌, ◌≤◌, ◌<◌, ◌≡◌, ◌⊎◌, Bool, true, false, [], ◌∷◌, ◌++◌, Some, None, inl, inr, length, length-append, length-reverse, reverse, drop, drop-cons, find, get_or, get_or_append_left, get_or_default, get_or_from_slice_get, slice_get-get_or, refl, sym, ap, subst, arith, ◌∙◌, if◌then◌else◌}
+use Rattle.rw_base.proofs.Common.{ℕ, zero, suc, ◌+◌, ◌-◌, ◌≤◌, ◌<◌, ◌≡◌, ◌⊎◌, Bool, true, false, [], ◌∷◌, ◌++◌, Some, None, inl, inr, length}
+use Rattle.rw_base.proofs.Common.{length-append, length-reverse, reverse, drop, drop-cons, find, get_or, get_or_append_left, get_or_default}
+use Rattle.rw_base.proofs.Common.{get_or_from_slice_get, slice_get-get_or, refl, sym, ap, subst, arith, ◌∙◌, if◌then◌else◌}
 use Rattle.std.proofs.Math.ListN.{drop_of_length-le}
 use Rattle.std.proofs.lemmas.Bool.{cases_lt}
 use Rattle.std.proofs.lemmas.List.{get_or-reverse, get_or_push}
@@ -55,7 +57,8 @@ turn_drops order n k rule lt turn =
     ∙ ap (λ x. x ∷ drop (suc k) (agenda_of order n)) (get_or_from_slice_get (agenda_of order n) k rule rule turn)
 
 -- the rule whose turn it is passes the test, or it doesn't
-by_test : (test : ℕ → Bool) (order : AgendaOrder) (n k rule : ℕ) (answer : Bool) → k < n → slice_get (agenda_of order n) k ≡ Some rule → test rule ≡ answer
+by_test : (test : ℕ → Bool) (order : AgendaOrder) (n k rule : ℕ) (answer : Bool) → k < n → slice_get (agenda_of order n) k ≡ Some rule
+    → test rule ≡ answer
     → find test (drop k (agenda_of order n)) ≡ (if answer then Some rule else find test (drop (suc k) (agenda_of order n)))
 by_test test order n k rule answer lt turn is =
     ap (find test) (turn_drops order n k rule lt turn) ∙ ap (λ (t : Bool). if t then Some rule else find test (drop (suc k) (agenda_of order n))) is
@@ -65,7 +68,8 @@ pub found_in_turn : (test : ℕ → Bool) (order : AgendaOrder) (n k rule : ℕ)
 found_in_turn test order n k rule lt turn is before = sym (by_test test order n k rule true lt turn is) ∙ before
 
 pub not_in_turn : (test : ℕ → Bool) (order : AgendaOrder) (n k rule : ℕ) → k < n → slice_get (agenda_of order n) k ≡ Some rule → test rule ≡ false
-    → find test (drop k (agenda_of order n)) ≡ find test (agenda_of order n) → find test (drop (k + 1) (agenda_of order n)) ≡ find test (agenda_of order n)
+    → find test (drop k (agenda_of order n)) ≡ find test (agenda_of order n)
+    → find test (drop (k + 1) (agenda_of order n)) ≡ find test (agenda_of order n)
 not_in_turn test order n k rule lt turn is before =
     let next : k + 1 ≡ suc k = omega arith in
     ap (λ j. find test (drop j (agenda_of order n))) next ∙ sym (by_test test order n k rule false lt turn is) ∙ before

@@ -1,5 +1,9 @@
 -- Rules that are met, going from watch to watch.
-use Rattle.rw_base.proofs.Common.{◌≡◌, ◌∙◌, ◌+◌, ◌-◌, ◌<◌, ◌≤◌, ◌==◌, ◌||◌, ℕ, zero, suc, Bool, true, false, List, [], ◌∷◌, ◌++◌, Option, None, Some, IfSome, IsSomeAnd, All, All-push, take, take_more, ap, ap₂, arith, if◌then◌else◌, false≢true, get_or, get_or-set_other, get_or-set_same, get_or_append_left, get_or_from_slice_get, length, length-append, nat_eq, nat_eq_equiv, nat_le, nat_tests, none-some, option_map, refl, set, slice_get-get_or, slice_get_within, slice_index_or, subst, sym, unwrap_or}
+use Rattle.rw_base.proofs.Common.{◌≡◌, ◌∙◌, ◌+◌, ◌-◌, ◌<◌, ◌≤◌, ◌==◌, ◌||◌, ℕ, zero, suc, Bool, true, false, List, [], ◌∷◌, ◌++◌, Option, None, Some}
+use Rattle.rw_base.proofs.Common.{IfSome, IsSomeAnd, All, All-push, take, take_more, ap, ap₂, arith, if◌then◌else◌, false≢true, get_or}
+use Rattle.rw_base.proofs.Common.{get_or-set_other, get_or-set_same, get_or_append_left, get_or_from_slice_get, length, length-append, nat_eq}
+use Rattle.rw_base.proofs.Common.{nat_eq_equiv, nat_le, nat_tests, none-some, option_map, refl, set, slice_get-get_or, slice_get_within}
+use Rattle.rw_base.proofs.Common.{slice_index_or, subst, sym, unwrap_or}
 use Rattle.std.proofs.lemmas.List.{get_or_push}
 use Rattle.std.proofs.lemmas.Option.{slice_get_past}
 use Rattle.std.specs.List.{slice_get}
@@ -18,7 +22,8 @@ numbered_first : (watches : List Watch) (number : ℕ) (watch : Watch) → numbe
 numbered_first watches zero watch is = absurd (none-some watch is)
 numbered_first watches (suc number) watch is = omega arith
 
-numbered_more : (watches more : List Watch) (number : ℕ) (watch : Watch) → numbered watches number ≡ Some watch → numbered (watches ++ more) number ≡ Some watch
+numbered_more : (watches more : List Watch) (number : ℕ) (watch : Watch) → numbered watches number ≡ Some watch
+    → numbered (watches ++ more) number ≡ Some watch
 numbered_more watches more number watch is =
     let found = numbered-found watches number watch is in
     let near = slice_get_within watches (number - 1) watch found in
@@ -44,7 +49,8 @@ met_more watches more (suc times) (suc most) number rule few is =
     by None there later is = absurd (false≢true is)
     by (Some watch) there later is =
         ap (met_in (watches ++ more) most rule) (numbered_more watches more number watch there)
-        ∙ or_either (watch.rule == rule) (is_met watches times watch.before rule) (is_met (watches ++ more) most watch.before rule) (later watch.before) is
+        ∙ or_either (watch.rule == rule) (is_met watches times watch.before rule) (is_met (watches ++ more) most watch.before rule)
+        (later watch.before) is
 
 -- ---- going on from watch to watch
 
@@ -198,10 +204,12 @@ watching_in_place index rule looks place cell all there = by (slice_get looks pl
         ∙ all place look (slice_get_within looks place look is)
 
 -- an index without watches
-pub idle : (slots steps room : ℕ) (newest : List ℕ) (watches : List Watch) (full : Bool) → full ≡ false → length watches ≡ 0 → (cell : Cell) (rule : ℕ)
+pub idle : (slots steps room : ℕ) (newest : List ℕ) (watches : List Watch) (full : Bool) → full ≡ false → length watches ≡ 0
+    → (cell : Cell) (rule : ℕ)
     → is_watching (record { slots = slots; steps = steps; newest = newest; watches = watches; room = room; is_full = full }) cell rule ≡ false
 idle slots steps room newest watches full spare none cell rule =
-    ap₂ (λ f n. f || is_met watches n (newest_at (record { slots = slots; steps = steps; newest = newest; watches = watches; room = room; is_full = full }) cell) rule) spare none
+    ap₂ (λ f n. f || is_met watches n (newest_at
+    (record { slots = slots; steps = steps; newest = newest; watches = watches; room = room; is_full = full }) cell) rule) spare none
 
 -- the cell of the last look
 pub watching_last : (index : CellIndex) (rule : ℕ) (last : Option Cell) (cell : Cell) → IfSome last (λ seen. is_watching index seen rule ≡ true)

@@ -1,9 +1,12 @@
 -- Turns as bits of words.
-use Rattle.rw_base.proofs.Common.{◌≡◌, ◌∙◌, ◌≢◌, ◌*◌, ◌+◌, ◌-◌, ◌/◌, ◌%◌, ◌^◌, ◌<◌, ◌≤◌, ◌==◌, ◌||◌, ◌&&◌, ◌⊎◌, ℕ, inl, inr, Bool, true, false, not, List, None, Some, ap, arith, get_or, get_or-set_other, get_or-set_same, get_or_past, if◌then◌else◌, length, nat_eq, nat_tests, refl, set, slice_index_or, subst, sym, w64}
+use Rattle.rw_base.proofs.Common.{◌≡◌, ◌∙◌, ◌≢◌, ◌*◌, ◌+◌, ◌-◌, ◌/◌, ◌%◌, ◌^◌, ◌<◌, ◌≤◌, ◌==◌, ◌||◌, ◌&&◌, ◌⊎◌, ℕ, inl, inr, Bool, true, false, not}
+use Rattle.rw_base.proofs.Common.{List, None, Some, ap, arith, get_or, get_or-set_other, get_or-set_same, get_or_past, if◌then◌else◌, length, nat_eq}
+use Rattle.rw_base.proofs.Common.{nat_tests, refl, set, slice_index_or, subst, sym, w64}
 use Rattle.std.proofs.Math.Nat.{div-div-eq-div-mul}
 use Rattle.std.proofs.lemmas.Bool.{cases_lt}
 use Rattle.std.proofs.lemmas.Nat.{pow-add, shr_le}
-use Rattle.std.proofs.lemmas.Nat.Bits.{bit_at-trailing_zeros, bit_at-zero, bit_at_above, bit_at_clear_other, bit_at_clear_same, bit_at_set_other, bit_at_set_same}
+use Rattle.std.proofs.lemmas.Nat.Bits.{bit_at-trailing_zeros, bit_at-zero, bit_at_above, bit_at_clear_other, bit_at_clear_same, bit_at_set_other}
+use Rattle.std.proofs.lemmas.Nat.Bits.{bit_at_set_same}
 use Rattle.std.specs.Int.{bit_at, bit_not, trailing_zeros}
 use Rattle.std.specs.Int.Bits.{bit_and}
 use Rattle.std.specs.Int.RustNames.{bit_or}

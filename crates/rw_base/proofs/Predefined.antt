@@ -1,5 +1,6 @@
 -- The predefined functions lead from quantities to quantities.
-use Rattle.rw_base.proofs.Common.{ℕ, zero, suc, ◌*ℤ◌, Bool, true, false, ℤ, pos, negsuc, arith, ◌==◌, if◌then◌else◌, ints, clamps, int_min, int_max, inl, inr}
+use Rattle.rw_base.proofs.Common.{ℕ, zero, suc, ◌*ℤ◌, Bool, true, false, ℤ, pos, negsuc, arith, ◌==◌, if◌then◌else◌, ints, clamps, int_min, int_max}
+use Rattle.rw_base.proofs.Common.{inl, inr}
 use Rattle.rw_base.specs.Quantity.{IsQuantity}
 use Rattle.rw_base.specs.Predefined.{size_of, rounded_down, sign_of, nearest_quantity, mul_div, predefined_of, IsFromZeroTo}
 use Rattle.rw_base.specs.Quotient.{floor_div}

@@ -1,5 +1,6 @@
 -- Products of quantities, and their quotients.
-use Rattle.rw_base.proofs.Common.{◌≡◌, ◌≢◌, ℕ, zero, suc, ◌*◌, ◌≤◌, ℤ, pos, negsuc, ◌-ℤ◌, ◌*ℤ◌, ◌≤ℤ◌, refl, arith, unsigned_abs, ints, unsigned_abs-mul}
+use Rattle.rw_base.proofs.Common.{◌≡◌, ◌≢◌, ℕ, zero, suc, ◌*◌, ◌≤◌, ℤ, pos, negsuc, ◌-ℤ◌, ◌*ℤ◌, ◌≤ℤ◌, refl, arith, unsigned_abs, ints}
+use Rattle.rw_base.proofs.Common.{unsigned_abs-mul}
 use Rattle.std.proofs.Math.Nat.{mul-le-mul}
 use Rattle.rw_base.specs.Quantity.{IsQuantity, quantity_max}
 use Rattle.rw_base.specs.Quotient.{floor_div}

@@ -1,5 +1,6 @@
 -- What floor division gives.
-use Rattle.rw_base.proofs.Common.{◌≡◌, ◌≢◌, ℕ, zero, suc, ◌+◌, ◌<◌, ◌≤◌, ℤ, pos, negsuc, neg_ℤ, ◌+ℤ◌, ◌*ℤ◌, ◌≤ℤ◌, ◌<ℤ◌, refl, ap, ◌∙◌, arith, ints, by_lt_z, div-add-mod', mod-lt, +ℤ_one, suc_ℤ-*ℤ, *ℤ-negsuc, int_div_euclid, up, down}
+use Rattle.rw_base.proofs.Common.{◌≡◌, ◌≢◌, ℕ, zero, suc, ◌+◌, ◌<◌, ◌≤◌, ℤ, pos, negsuc, neg_ℤ, ◌+ℤ◌, ◌*ℤ◌, ◌≤ℤ◌, ◌<ℤ◌, refl, ap, ◌∙◌, arith, ints}
+use Rattle.rw_base.proofs.Common.{by_lt_z, div-add-mod', mod-lt, +ℤ_one, suc_ℤ-*ℤ, *ℤ-negsuc, int_div_euclid, up, down}
 use Rattle.std.proofs.Math.Nat.{mul-le-mul_right}
 use Rattle.rw_base.specs.Quotient.{floor_div, IsFloor}
 

@@ -1,5 +1,6 @@
 -- What rounding down gives.
-use Rattle.rw_base.proofs.Common.{◌≡◌, ◌≢◌, ℕ, zero, suc, ◌*◌, ◌/◌, ◌<◌, ◌≤◌, ℤ, pos, negsuc, ◌*ℤ◌, refl, ap, ◌∙◌, arith, int_div, unsigned_abs, ints, quot-rem, unsigned_abs-mul, cases_lt, div-add-mod', mod-lt, mod-le, inl, inr, ⊎_elim}
+use Rattle.rw_base.proofs.Common.{◌≡◌, ◌≢◌, ℕ, zero, suc, ◌*◌, ◌/◌, ◌<◌, ◌≤◌, ℤ, pos, negsuc, ◌*ℤ◌, refl, ap, ◌∙◌, arith, int_div, unsigned_abs, ints}
+use Rattle.rw_base.proofs.Common.{quot-rem, unsigned_abs-mul, cases_lt, div-add-mod', mod-lt, mod-le, inl, inr, ⊎_elim}
 use Rattle.std.proofs.Math.Nat.{mul-le-mul_right}
 use Rattle.rw_base.specs.Predefined.{rounded_down, IsFromZeroTo, IsMultipleOf, distance}
 

@@ -1,5 +1,6 @@
 -- Tests on numbers, and choices by tests.
-use Rattle.rw_base.proofs.Common.{◌≡◌, ◌≤◌, ℕ, nat_le, ℤ, ◌≤ℤ◌, ◌<ℤ◌, int_le, int_lt, Bool, true, false, if◌then◌else◌, Option, None, Some, refl, sym, arith, inl, inr, ◌⊎◌, Decides, both_ways, nat_tests, Decides-and, ints, by_lt_z, ⊎_elim}
+use Rattle.rw_base.proofs.Common.{◌≡◌, ◌≤◌, ℕ, nat_le, ℤ, ◌≤ℤ◌, ◌<ℤ◌, int_le, int_lt, Bool, true, false, if◌then◌else◌, Option, None, Some, refl, sym}
+use Rattle.rw_base.proofs.Common.{arith, inl, inr, ◌⊎◌, Decides, both_ways, nat_tests, Decides-and, ints, by_lt_z, ⊎_elim}
 use Rattle.rw_base.specs.Range.{is_from_to}
 
 below-or-not : (a b : ℤ) → (a <ℤ b) ⊎ (b ≤ℤ a)

@@ -1,5 +1,6 @@
 -- Which words a table of units has.
-use Rattle.rw_base.proofs.Common.{◌≡◌, ◌≢◌, ◌↔◌, ℕ, zero, suc, ◌<◌, ℤ, List, [], ◌∷◌, length, Bool, true, false, Option, Some, None, refl, sym, ◌∙◌, arith, bytes_eq, if◌then◌else◌, Contains, slice_index_or, false_from_ne_true, false≢true, bytes_eq-Decides}
+use Rattle.rw_base.proofs.Common.{◌≡◌, ◌≢◌, ◌↔◌, ℕ, zero, suc, ◌<◌, ℤ, List, [], ◌∷◌, length, Bool, true, false, Option, Some, None, refl, sym, ◌∙◌}
+use Rattle.rw_base.proofs.Common.{arith, bytes_eq, if◌then◌else◌, Contains, slice_index_or, false_from_ne_true, false≢true, bytes_eq-Decides}
 use Rattle.rw_base.specs.Dimension.{Dimension}
 use Rattle.rw_base.specs.Unit.{words_of_units, unit_in}
 
@@ -22,7 +23,8 @@ passed_over : (t : Bool) {X : Type 0} (x : X) (rest : Option X) → (if t then S
 passed_over true x rest e = absurd (cc)
 passed_over false x rest e = (refl, e)
 
-somewhere : (rows : List (List ℕ × Dimension × ℤ)) (word : List ℕ) (k : ℕ) → k < length (words_of_units rows) → slice_index_or (words_of_units rows) k word ≡ word → unit_in rows word ≡ None → ⊥
+somewhere : (rows : List (List ℕ × Dimension × ℤ)) (word : List ℕ) (k : ℕ) → k < length (words_of_units rows)
+    → slice_index_or (words_of_units rows) k word ≡ word → unit_in rows word ≡ None → ⊥
 somewhere [] word k h e none = omega arith
 somewhere (row ∷ rows) word zero h e none = false≢true (sym (passed_over _ _ _ none).0 ∙ (bytes_eq-Decides row.0 word).1 e)
 somewhere (row ∷ rows) word (suc k) h e none = somewhere rows word k (omega arith) e (passed_over _ _ _ none).1

@@ -1,8 +1,10 @@
 -- What the library's dates and times show, as moments.
-use Rattle.rw_base.proofs.Common.{◌≡◌, ℕ, ◌<◌, ◌≤◌, inl, inr, MatchOption, min, ℤ, pos, negsuc, ◌+ℤ◌, ◌*ℤ◌, ◌≤ℤ◌, unsigned_abs, refl, sym, ◌∙◌, arith, cases_lt, Result, Ok, Err, IsOk, IfOk, result_ok}
+use Rattle.rw_base.proofs.Common.{◌≡◌, ℕ, ◌<◌, ◌≤◌, inl, inr, MatchOption, min, ℤ, pos, negsuc, ◌+ℤ◌, ◌*ℤ◌, ◌≤ℤ◌, unsigned_abs, refl, sym, ◌∙◌, arith}
+use Rattle.rw_base.proofs.Common.{cases_lt, Result, Ok, Err, IsOk, IfOk, result_ok}
 use Rattle.jiff_core.specs.Calendar.{days_in_month}
 use Rattle.jiff_core.proofs.SignedLemmas.{signed_arith}
-use Rattle.jiff_core.proofs.CalendarLemmas.{days_in_month_bounds, days_from_civil-day_count, day_count-day_of_year, day_count-later_year, day_count-next_year, day_count-end}
+use Rattle.jiff_core.proofs.CalendarLemmas.{days_in_month_bounds, days_from_civil-day_count, day_count-day_of_year, day_count-later_year}
+use Rattle.jiff_core.proofs.CalendarLemmas.{day_count-next_year, day_count-end}
 use Rattle.jiff_core.proofs.DateLemmas.{epoch_day_injective}
 use Rattle.jiff_core.proofs.DateTimeLemmas.{civil_nanos-parts, civil_nanos_injective, civil_nanos_range, time_nanos_injective}
 use Rattle.jiff.specs.Types.{DateTime}
@@ -79,14 +81,25 @@ shows dt m h within e =
 -- 10000-01-01 and each later day lies past the library's
 beyond : (m : Moment) → IsMoment m → 9999 < m.year → IsCivilNanos (nanos_of m) → ⊥
 beyond m h past fits =
-    omega (arith, signed_arith, fits, days_from_civil-day_count (pos m.year) m.month m.day, day_count-day_of_year (pos m.year) m.month m.day h.day.0, day_count-later_year (pos 9999) (pos m.year) (omega (arith, signed_arith)) (omega (arith, signed_arith)), day_count-next_year (pos 9999) (pos 10000) (omega (arith, signed_arith)) refl, day_count-end)
+    omega (
+      arith,
+      signed_arith,
+      fits,
+      days_from_civil-day_count (pos m.year) m.month m.day,
+      day_count-day_of_year (pos m.year) m.month m.day h.day.0,
+      day_count-later_year (pos 9999) (pos m.year) (omega (arith, signed_arith)) (omega (arith, signed_arith)),
+      day_count-next_year (pos 9999) (pos 10000) (omega (arith, signed_arith)) refl,
+      day_count-end,
+    )
 
 IsCivilNanos-nanos_of : (m : Moment) → IsMoment m → m.year ≤ 9999 → IsCivilNanos (nanos_of m)
 IsCivilNanos-nanos_of m h within =
     rw (← civil_nanos-datetime_of m h within) (civil_nanos_range (datetime_of m h within))
 
 -- what the library's arithmetic reaches is the moment with those nanoseconds, and it fails exactly past year 9999
-pub reached : {E : Type 0} (r : Result DateTime E) (n : ℤ) (m : Moment) → IsMoment m → n ≡ nanos_of m → (IsOk r → IsCivilNanos n) → (m.year ≤ 9999 → IsCivilNanos n → IsOk r) → IfOk r (λ dt. civil_nanos dt ≡ n) → MatchOption (result_ok r) (9999 < m.year) (λ dt. ShowsMoment dt m)
+pub reached : {E : Type 0} (r : Result DateTime E) (n : ℤ) (m : Moment) → IsMoment m → n ≡ nanos_of m → (IsOk r → IsCivilNanos n)
+    → (m.year ≤ 9999 → IsCivilNanos n → IsOk r) → IfOk r (λ dt. civil_nanos dt ≡ n)
+    → MatchOption (result_ok r) (9999 < m.year) (λ dt. ShowsMoment dt m)
 reached (Ok dt) n m h e fits found value =
     elim (cases_lt 9999 m.year) [
       | inl past ↦ absurd (beyond m h past (rw e at (fits refl)))
@@ -103,13 +116,17 @@ pub record IsShifted (dt : DateTime) (m : Moment) (k : ℕ) : Type 0 where
   pub year : shifted_year dt.date (pos k) ≡ pos m.year
   pub nanos : add_months dt.date (pos k) *ℤ pos 86_400_000_000_000 +ℤ pos (time_nanos dt.time) ≡ nanos_of m
 
-pub months_later_shifted : (dt : DateTime) (k : ℕ) → IsOnTheHour dt → dt.date.day ≡ 1 → dt.time.hour ≡ 0 → IsShifted dt (months_later (moment_at dt) k) k
+pub months_later_shifted : (dt : DateTime) (k : ℕ) → IsOnTheHour dt → dt.date.day ≡ 1 → dt.time.hour ≡ 0
+    → IsShifted dt (months_later (moment_at dt) k) k
 months_later_shifted dt k h first midnight =
     let m = months_later (moment_at dt) k in
     let later = months_later_is (moment_at dt) k (IsMoment-moment_at dt h) first midnight in
-    let year : shifted_year dt.date (pos k) ≡ pos m.year = omega (arith, signed_arith, later.number, later.moment.month, year_is dt.date.year h.year, dt.date.month_in) in
-    let month : shifted_month dt.date (pos k) ≡ m.month = omega (arith, signed_arith, later.number, later.moment.month, year_is dt.date.year h.year, dt.date.month_in) in
-    let day : min dt.date.day (days_in_month (shifted_year dt.date (pos k)) (shifted_month dt.date (pos k))) ≡ m.day = omega (arith, first, later.day, days_in_month_bounds (shifted_year dt.date (pos k)) (shifted_month dt.date (pos k))) in
+    let year : shifted_year dt.date (pos k) ≡ pos m.year =
+    omega (arith, signed_arith, later.number, later.moment.month, year_is dt.date.year h.year, dt.date.month_in) in
+    let month : shifted_month dt.date (pos k) ≡ m.month =
+    omega (arith, signed_arith, later.number, later.moment.month, year_is dt.date.year h.year, dt.date.month_in) in
+    let day : min dt.date.day (days_in_month (shifted_year dt.date (pos k)) (shifted_month dt.date (pos k))) ≡ m.day =
+    omega (arith, first, later.day, days_in_month_bounds (shifted_year dt.date (pos k)) (shifted_month dt.date (pos k))) in
     record {
       year = year;
       nanos = rw (day, year, month) (omega (arith, signed_arith, h.sharp, midnight, later.hour));

@@ -145,7 +145,8 @@ years_of_hours m k (suc more) h =
     rw next (omega (arith, f.later, years_of_hours m k more h))
 
 -- nor step by step
-pub years_of_steps : (m : Moment) (length : StepLength) (k later : ℕ) → IsMoment m → CanBegin length m → k ≤ later → (moment_after m length k).year ≤ (moment_after m length later).year
+pub years_of_steps : (m : Moment) (length : StepLength) (k later : ℕ) → IsMoment m → CanBegin length m → k ≤ later
+    → (moment_after m length k).year ≤ (moment_after m length later).year
 years_of_steps m (Hours hours) k later h begin le =
     let more : later * hours - k * hours + k * hours ≡ later * hours = omega (arith, mul-le-mul_right hours le) in
     rw more at (years_of_hours m (k * hours) (later * hours - k * hours) h)

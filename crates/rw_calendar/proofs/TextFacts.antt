@@ -1,5 +1,6 @@
 -- What the formatter writes of a number with leading zeros is the number in so many digits.
-use Rattle.rw_base.proofs.Common.{◌≡◌, ℕ, ◌+◌, ◌-◌, ◌/◌, ◌%◌, ◌<◌, ◌≤◌, ◌^◌, inl, inr, List, [], ◌∷◌, ◌++◌, ap, ◌∙◌, arith, cases_lt, decimal_digit, decimal_step, format_spec, styled_decimal, decimal}
+use Rattle.rw_base.proofs.Common.{◌≡◌, ℕ, ◌+◌, ◌-◌, ◌/◌, ◌%◌, ◌<◌, ◌≤◌, ◌^◌, inl, inr, List, [], ◌∷◌, ◌++◌, ap, ◌∙◌, arith, cases_lt, decimal_digit}
+use Rattle.rw_base.proofs.Common.{decimal_step, format_spec, styled_decimal, decimal}
 use Rattle.std.specs.Fmt.{padded_integral, char_count}
 use Rattle.rw_calendar.specs.Stamps.{in_digits}
 
@@ -11,10 +12,13 @@ decimal_two : (n : ℕ) → 10 ≤ n → n < 100 → decimal n ≡ (48 + n / 10)
 decimal_two n ten h = decimal_step n ten (omega arith) ∙ ap (λ ds. ds ++ (48 + n % 10) ∷ []) (decimal_digit (n / 10) (omega arith))
 
 decimal_three : (n : ℕ) → 100 ≤ n → n < 1000 → decimal n ≡ (48 + n / 10 / 10) ∷ (48 + n / 10 % 10) ∷ (48 + n % 10) ∷ []
-decimal_three n hundred h = decimal_step n (omega arith) (omega arith) ∙ ap (λ ds. ds ++ (48 + n % 10) ∷ []) (decimal_two (n / 10) (omega arith) (omega arith))
+decimal_three n hundred h =
+    decimal_step n (omega arith) (omega arith) ∙ ap (λ ds. ds ++ (48 + n % 10) ∷ []) (decimal_two (n / 10) (omega arith) (omega arith))
 
-decimal_four : (n : ℕ) → 1000 ≤ n → n < 10000 → decimal n ≡ (48 + n / 10 / 10 / 10) ∷ (48 + n / 10 / 10 % 10) ∷ (48 + n / 10 % 10) ∷ (48 + n % 10) ∷ []
-decimal_four n thousand h = decimal_step n (omega arith) (omega arith) ∙ ap (λ ds. ds ++ (48 + n % 10) ∷ []) (decimal_three (n / 10) (omega arith) (omega arith))
+decimal_four : (n : ℕ) → 1000 ≤ n → n < 10000
+    → decimal n ≡ (48 + n / 10 / 10 / 10) ∷ (48 + n / 10 / 10 % 10) ∷ (48 + n / 10 % 10) ∷ (48 + n % 10) ∷ []
+decimal_four n thousand h =
+    decimal_step n (omega arith) (omega arith) ∙ ap (λ ds. ds ++ (48 + n % 10) ∷ []) (decimal_three (n / 10) (omega arith) (omega arith))
 
 pub two_digits : (n : ℕ) → n < 100 → with_zeros 2 n ≡ in_digits 2 n
 unfolding padded_integral char_count

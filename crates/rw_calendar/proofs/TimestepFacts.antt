@@ -49,6 +49,7 @@ are_stamped start length steps some few can =
       few = few;
       dated = λ k within. record {
         moment = moment_there (moment_of start) length k m can.begin;
-        within = (let last = can.within in let years = years_of_steps (moment_of start) length k steps m can.begin within in omega (arith, last, years));
+        within =
+            (let last = can.within in let years = years_of_steps (moment_of start) length k steps m can.begin within in omega (arith, last, years));
       };
     }

@@ -9,11 +9,13 @@ use Rattle.rw_run.specs.Frame.{IsFault}
 use Rattle.rw_run.specs.Log.{Asked, Cells, Event, asked_in, looks_in}
 use Rattle.rw_dispatch.specs.Answer.{asked_by_solution as puts_in}
 
-calm_one : (values : Option (ℤ × ℤ)) (object : ℕ) (put : Asked) (rest : Event) → (¬ IsFault (or_fault values object put rest)) → or_fault values object put rest ≡ rest
+calm_one : (values : Option (ℤ × ℤ)) (object : ℕ) (put : Asked) (rest : Event) → (¬ IsFault (or_fault values object put rest))
+    → or_fault values object put rest ≡ rest
 calm_one None object put rest calm = refl
 calm_one (Some values) object put rest calm = absurd (calm tt)
 
-calm_all : (cells : Cells) (object : ℕ) (puts : List Asked) (rest : Event) → (¬ IsFault (judged cells object puts rest)) → judged cells object puts rest ≡ rest
+calm_all : (cells : Cells) (object : ℕ) (puts : List Asked) (rest : Event) → (¬ IsFault (judged cells object puts rest))
+    → judged cells object puts rest ≡ rest
 calm_all cells object [] rest calm = refl
 calm_all cells object (put ∷ puts) rest calm =
     let one = calm_one (denied_by (end_in cells put) put) object put (judged cells object puts rest) calm in
@@ -24,7 +26,8 @@ module _ (basin : Draft) (cells : Cells) (looked : List Look) (object step : ℕ
       → asked_for basin object step (puts_in solved) ≡ asked_in (answered basin cells looked object step solved)
   asked_told Idle calm = refl
   asked_told (Puts puts) calm =
-      ap asked_in (sym (calm_all cells object (asked_for basin object step puts) (dispatch_of cells looked object step (asked_for basin object step puts)) calm))
+      ap asked_in (sym (calm_all cells object (asked_for basin object step puts)
+      (dispatch_of cells looked object step (asked_for basin object step puts)) calm))
   asked_told (Conflict place held solves) calm = absurd (calm tt)
   asked_told (OutOfRange place value) calm = absurd (calm tt)
 
@@ -33,6 +36,7 @@ module _ (basin : Draft) (cells : Cells) (looked : List Look) (object step : ℕ
       → looks_in (answered basin cells looked object step solved) ≡ looked
   looks_told Idle calm = refl
   looks_told (Puts puts) calm =
-      ap looks_in (calm_all cells object (asked_for basin object step puts) (dispatch_of cells looked object step (asked_for basin object step puts)) calm)
+      ap looks_in (calm_all cells object (asked_for basin object step puts)
+      (dispatch_of cells looked object step (asked_for basin object step puts)) calm)
   looks_told (Conflict place held solves) calm = absurd (calm tt)
   looks_told (OutOfRange place value) calm = absurd (calm tt)

@@ -1,5 +1,6 @@
 -- Numbers as bits of words.
-use Rattle.rw_base.proofs.Common.{Bool, List, ap, arith, false, get_or, get_or-set_other, get_or-set_same, length, nat_eq, nat_tests, refl, set, slice_index_or, suc, sym, true, w64, zero, ℕ, ◌%◌, ◌*◌, ◌/◌, ◌<◌, ◌==◌, ◌^◌, ◌||◌, ◌∙◌, ◌≡◌, ◌≢◌}
+use Rattle.rw_base.proofs.Common.{Bool, List, ap, arith, false, get_or, get_or-set_other, get_or-set_same, length, nat_eq, nat_tests, refl, set}
+use Rattle.rw_base.proofs.Common.{slice_index_or, suc, sym, true, w64, zero, ℕ, ◌%◌, ◌*◌, ◌/◌, ◌<◌, ◌==◌, ◌^◌, ◌||◌, ◌∙◌, ◌≡◌, ◌≢◌}
 use Rattle.std.proofs.lemmas.Nat.Bits.{bit_at-zero, bit_at_set_other, bit_at_set_same}
 use Rattle.std.specs.Int.{bit_at}
 use Rattle.std.specs.Int.RustNames.{bit_or}
@@ -56,7 +57,8 @@ bit_added words number other near = by (nat_eq (other / 64) (number / 64)) refl
         → has_bit (set words (number / 64) new) other ≡ (other == number || has_bit words other)
     by true same =
         let place : other / 64 ≡ number / 64 = grind (arith, nat_tests, same) in
-        ap (λ k. bit_at k (other % 64) == 1) (ap (λ p. get_or (set words (number / 64) new) p 0) place ∙ get_or-set_same words (number / 64) new 0 near)
+        ap (λ k. bit_at k (other % 64) == 1) (ap (λ p. get_or (set words (number / 64) new) p 0) place
+        ∙ get_or-set_same words (number / 64) new 0 near)
         ∙ bit (nat_eq (other % 64) (number % 64)) place refl
         ∙ ap (λ p. other == number || (bit_at (get_or words p 0) (other % 64) == 1)) (sym place)
     by false apart =

@@ -1,5 +1,10 @@
 -- The names that proofs cite, passed on from one place. Declares nothing.
-pub use Rattle.rw_base.proofs.Common.{All, All-push, Any-from_list_any, Bool, IfSome, IsSome, List, None, Option, Some, [], add-one, and_parts, ap, append-nil, append_assoc, ap₂, arith, cond, drop, drop-cons, eqb-true, false, filter, filter-append, get_or, get_or-map-range_with_len, get_or_default, if◌then◌else◌, int_le, ints, length, list_any, list_any_more, map, map-append, nat_eq, nat_lt, nat_tests, not, option_and_then, option_map, option_or, pos, refl, rules, set, slice_get, slice_index_or, subst, suc, sym, take, take_all, true, unwrap_or, zero, ℕ, ℤ, ◌&&◌, ◌++◌, ◌+◌, ◌-◌, ◌<◌, ◌==◌, ◌||◌, ◌∙◌, ◌∷◌, ◌≡◌, ◌≤ℤ◌, ◌≤◌}
+pub use Rattle.rw_base.proofs.Common.{All, All-push, Any-from_list_any, Bool, IfSome, IsSome, List, None, Option, Some, [], add-one, and_parts, ap}
+pub use Rattle.rw_base.proofs.Common.{append-nil, append_assoc, ap₂, arith, cond, drop, drop-cons, eqb-true, false, filter, filter-append, get_or}
+pub use Rattle.rw_base.proofs.Common.{get_or-map-range_with_len, get_or_default, if◌then◌else◌, int_le, ints, length, list_any, list_any_more, map}
+pub use Rattle.rw_base.proofs.Common.{map-append, nat_eq, nat_lt, nat_tests, not, option_and_then, option_map, option_or, pos, refl, rules, set}
+pub use Rattle.rw_base.proofs.Common.{slice_get, slice_index_or, subst, suc, sym, take, take_all, true, unwrap_or, zero, ℕ, ℤ, ◌&&◌, ◌++◌, ◌+◌, ◌-◌}
+pub use Rattle.rw_base.proofs.Common.{◌<◌, ◌==◌, ◌||◌, ◌∙◌, ◌∷◌, ◌≡◌, ◌≤ℤ◌, ◌≤◌}
 pub use Rattle.rw_base.specs.declared.number.Cell.{Cell}
 pub use Rattle.rw_base.specs.declared.number.ObjectNo.{ObjectNo}
 pub use Rattle.rw_base.specs.declared.number.SlotNo.{SlotNo}

@@ -1,5 +1,7 @@
 -- A list that is filled place by place.
-use Rattle.rw_base.proofs.Common.{append-nil, ◌≡◌, ◌<◌, ◌+◌, ℕ, List, [], ◌∷◌, ◌++◌, drop, drop_more, map, set, length, sym, ap, ap₂, ◌∙◌, arith, append_assoc, get_or-map-range_with_len, range_with_len, set-append_seam, slice_index_or, map-range_with_len_more, length-map-range_with_len, IfSome, None, Option, Some, refl}
+use Rattle.rw_base.proofs.Common.{append-nil, ◌≡◌, ◌<◌, ◌+◌, ℕ, List, [], ◌∷◌, ◌++◌, drop, drop_more, map, set, length, sym, ap, ap₂, ◌∙◌, arith}
+use Rattle.rw_base.proofs.Common.{append_assoc, get_or-map-range_with_len, range_with_len, set-append_seam, slice_index_or, map-range_with_len_more}
+use Rattle.rw_base.proofs.Common.{length-map-range_with_len, IfSome, None, Option, Some, refl}
 use Rattle.std.proofs.Math.ListN.{drop_of_length-le}
 use Rattle.rw_base.specs.declared.number.SlotNo.{SlotNo}
 use Rattle.rw_model.specs.Draft.{IsSlot}
@@ -33,13 +35,15 @@ filled-all f before now count all at many is =
 
 -- ---- the numbers of an object's slots
 
-pub number_there : (objects : List Object) (object place : ℕ) (numbers : List (Option ℕ)) → numbers ≡ map (slot_in_place objects object) (range_with_len 0 12) → place < 12
+pub number_there : (objects : List Object) (object place : ℕ) (numbers : List (Option ℕ))
+    → numbers ≡ map (slot_in_place objects object) (range_with_len 0 12) → place < 12
     → slice_index_or numbers place None ≡ slot_in_place objects object place
 number_there objects object place numbers are near =
     let at : 0 + place ≡ place = omega arith in
     ap (λ ns. slice_index_or ns place None) are ∙ get_or-map-range_with_len (slot_in_place objects object) 0 12 place place None near at
 
-pub number_known : (objects : List Object) (object place : ℕ) (number : Option ℕ) → number ≡ slot_in_place objects object place → IfSome number (IsSlot objects)
+pub number_known : (objects : List Object) (object place : ℕ) (number : Option ℕ) → number ≡ slot_in_place objects object place
+    → IfSome number (IsSlot objects)
 number_known objects object place None is = tt
 number_known objects object place (Some number) is = known_in_place objects object place number (sym is)
 

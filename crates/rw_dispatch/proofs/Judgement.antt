@@ -1,5 +1,6 @@
 -- Puts are judged one after another, all by what the cells hold before the first of them.
-use Rattle.rw_dispatch.proofs.Common.{All, All-push, Bool, CanPut, Content, IsPassed, List, Option, Put, [], ap, append_assoc, arith, cond, false, filter-append, length, map-append, sym, true, ℕ, ◌++◌, ◌+◌, ◌∙◌, ◌∷◌, ◌≡◌, ◌≤◌}
+use Rattle.rw_dispatch.proofs.Common.{All, All-push, Bool, CanPut, Content, IsPassed, List, Option, Put, [], ap, append_assoc, arith, cond, false}
+use Rattle.rw_dispatch.proofs.Common.{filter-append, length, map-append, sym, true, ℕ, ◌++◌, ◌+◌, ◌∙◌, ◌∷◌, ◌≡◌, ◌≤◌}
 use Rattle.std.proofs.lemmas.List.{length-append, append-nil}
 use Rattle.rw_model.specs.Draft.{Draft}
 use Rattle.rw_model.specs.Put.{end_of_put}
@@ -9,7 +10,8 @@ use Rattle.rw_run.proofs.Common.{Asked, Cells, Event, asked_by, asked_for, denie
 pub record IsJudging (basin : Draft) (cells : Cells) (object step : ℕ) (all left written : List Put) : Type 0 where
   pub writes : asked_for basin object step written ++ puts_written cells (asked_for basin object step left)
       ≡ puts_written cells (asked_for basin object step all)
-  pub passes : (rest : Event) → judged cells object (asked_for basin object step left) rest ≡ judged cells object (asked_for basin object step all) rest
+  pub passes : (rest : Event) → judged cells object (asked_for basin object step left) rest
+      ≡ judged cells object (asked_for basin object step all) rest
 
 -- what is noted: no more than so many puts of the object, and what they write
 pub record IsNoted (basin : Draft) (object step count : ℕ) (written : List Put) (writes : List Asked) : Type 0 where
@@ -18,7 +20,8 @@ pub record IsNoted (basin : Draft) (object step count : ℕ) (written : List Put
   pub can : All (λ (put : Put). CanPut basin object put) written
   pub is : writes ≡ asked_for basin object step written
 
-few_more : {X : Type 0} (xs new : List X) (x : X) (count : ℕ) (is : Bool) → new ≡ xs ++ cond is (x ∷ []) [] → length xs ≤ count → length new ≤ count + 1
+few_more : {X : Type 0} (xs new : List X) (x : X) (count : ℕ) (is : Bool) → new ≡ xs ++ cond is (x ∷ []) [] → length xs ≤ count
+    → length new ≤ count + 1
 few_more xs new x count true is few = let long = ap length is ∙ length-append xs (x ∷ []) in omega (arith, few, long)
 few_more xs new x count false is few = let long = ap length is ∙ length-append xs [] in omega (arith, few, long)
 
@@ -45,7 +48,8 @@ module _ (basin : Draft) (object step : ℕ) (written new : List Put) (put : Put
   }
 
 module _ (basin : Draft) (cells : Cells) (object step : ℕ) (all left rest written : List Put) (put : Put) (held : Option Content)
-    (first : left ≡ put ∷ rest) (was : IsJudging basin cells object step all left written) (same : cells (asked_by basin object step put).cell ≡ held) where
+    (first : left ≡ put ∷ rest) (was : IsJudging basin cells object step all left written)
+    (same : cells (asked_by basin object step put).cell ≡ held) where
   abbrev own : Asked
   own = asked_by basin object step put
 

@@ -1,5 +1,7 @@
 -- Puts are made one after another.
-use Rattle.rw_dispatch.proofs.Common.{AreBounded, Bool, CanPut, Cell, Content, List, None, Option, Put, Series, Sets, Some, [], ap, drop, false, held, if◌then◌else◌, is_shared, length, option_map, option_or, pos, refl, slice_index_or, subst, sym, true, unwrap_or, ℕ, ◌+◌, ◌<◌, ◌∙◌, ◌∷◌, ◌≡◌}
+use Rattle.rw_dispatch.proofs.Common.{AreBounded, Bool, CanPut, Cell, Content, List, None, Option, Put, Series, Sets, Some, [], ap, drop, false, held}
+use Rattle.rw_dispatch.proofs.Common.{if◌then◌else◌, is_shared, length, option_map, option_or, pos, refl, slice_index_or, subst, sym, true, unwrap_or}
+use Rattle.rw_dispatch.proofs.Common.{ℕ, ◌+◌, ◌<◌, ◌∙◌, ◌∷◌, ◌≡◌}
 use Rattle.rw_model.proofs.Common.{slot_in_place, Draft, IsBetween, bounds_in}
 use Rattle.std.proofs.lemmas.List.{drop_more}
 use Rattle.rw_series.proofs.Bounds.{bounds-shared}
@@ -21,7 +23,8 @@ put-set basin put old new sets cell = sets cell ∙ chosen (is_shared basin put.
 
 -- what is left to be put, over what was put, is what was to be put
 abbrev pub IsPutting : Draft → Cells → Cells → List Asked → List Asked → Type 0
-IsPutting basin first now all left = (cell : Cell) → option_or (last_put basin left cell) (now cell) ≡ option_or (last_put basin all cell) (first cell)
+IsPutting basin first now all left =
+    (cell : Cell) → option_or (last_put basin left cell) (now cell) ≡ option_or (last_put basin all cell) (first cell)
 
 both : {X : Type 0} (a b c : Option X) → option_or a (option_or b c) ≡ option_or (option_or a b) c
 both None b c = refl
@@ -43,14 +46,16 @@ next-put items puts place put same near is =
 
 -- ---- what is put is within bounds
 
-put_between : (basin : Draft) (object step : ℕ) (put : Put) (slot : ℕ) → slot_in_place basin.objects object put.place ≡ Some slot → CanPut basin object put
+put_between : (basin : Draft) (object step : ℕ) (put : Put) (slot : ℕ) → slot_in_place basin.objects object put.place ≡ Some slot
+    → CanPut basin object put
     → IsBetween (bounds_in basin.objects basin.links basin.bounds slot) put.value
 put_between basin object step put slot at can =
     subst (λ bounds. IsBetween bounds put.value)
     (ap (λ s. unwrap_or (option_map (bounds_in basin.objects basin.links basin.bounds) s) (pos 0, pos 0)) at) can.between
 
 -- what an object can put can be written
-pub can_write : (basin : Draft) (object step : ℕ) (put : Put) → IsTurn basin object step → CanPut basin object put → CanWrite basin (asked_by basin object step put)
+pub can_write : (basin : Draft) (object step : ℕ) (put : Put) → IsTurn basin object step → CanPut basin object put
+    → CanWrite basin (asked_by basin object step put)
 can_write basin object step put turn can =
     let slot = there (slot_in_place basin.objects object put.place) can.slot in
     let at : slot_or_none basin object put.place ≡ slot.0 = ap (λ s. unwrap_or s 0) slot.1 in
@@ -79,7 +84,8 @@ held_between basin put cell content held between before true shared is =
 held_between basin put cell content held between before false apart is = before is
 
 -- what is put within bounds leaves what is held within bounds
-pub AreBounded-put : (basin : Draft) (put : Asked) (old new : Series) → IsBetween (bounds_in basin.objects basin.links basin.bounds put.cell.slot.0) put.content.value
+pub AreBounded-put : (basin : Draft) (put : Asked) (old new : Series)
+    → IsBetween (bounds_in basin.objects basin.links basin.bounds put.cell.slot.0) put.content.value
     → AreBounded basin (held old) → Sets basin put.cell (Some put.content) old new → AreBounded basin (held new)
 AreBounded-put basin put old new between bounded sets = λ cell content known is.
     held_between basin put cell content (held old cell) between

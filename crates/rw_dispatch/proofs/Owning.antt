@@ -1,5 +1,6 @@
 -- Who owns a slot that puts reach.
-use Rattle.rw_dispatch.proofs.Common.{Bool, List, SlotNo, [], ap, ap₂, arith, eqb-true, false, length, list_any, list_any_more, not, Option, refl, slice_index_or, subst, sym, take, take_all, true, ℕ, ◌&&◌, ◌+◌, ◌-◌, ◌<◌, ◌==◌, ◌||◌, ◌∙◌, ◌∷◌, ◌≡◌, ◌≤◌}
+use Rattle.rw_dispatch.proofs.Common.{Bool, List, SlotNo, [], ap, ap₂, arith, eqb-true, false, length, list_any, list_any_more, not, Option, refl}
+use Rattle.rw_dispatch.proofs.Common.{slice_index_or, subst, sym, take, take_all, true, ℕ, ◌&&◌, ◌+◌, ◌-◌, ◌<◌, ◌==◌, ◌||◌, ◌∙◌, ◌∷◌, ◌≡◌, ◌≤◌}
 use Rattle.rw_model.proofs.Common.{numbers_of, Draft, group_of, owner_of}
 use Rattle.rw_run.specs.Log.{Asked}
 use Rattle.rw_run.specs.Waiting.{is_at, is_but, is_owner, slots_at}
@@ -21,17 +22,20 @@ alike_but but p q reached same has = record {
   behind = λ object far. sym (same object) ∙ has.behind object far;
 }
 
-alike : (but : Option ℕ) (p q : ℕ → Bool) (reached : Reached) → ((object : ℕ) → p object ≡ q object) → HasReached but p reached → HasReached but q reached
+alike : (but : Option ℕ) (p q : ℕ → Bool) (reached : Reached) → ((object : ℕ) → p object ≡ q object) → HasReached but p reached
+    → HasReached but q reached
 alike but p q reached same = alike_but but p q reached (λ object. ap (λ test. not (is_but but object) && test) (same object))
 
 -- ---- one object more
 
 module _ (but : Option ℕ) (object : ℕ) (seen : ℕ → Bool) where
   -- the one that is left out isn't reached
-  pub left-out : (reached : Reached) → is_but but object ≡ true → HasReached but seen reached → HasReached but (λ other. object == other || seen other) reached
+  pub left-out : (reached : Reached) → is_but but object ≡ true → HasReached but seen reached
+      → HasReached but (λ other. object == other || seen other) reached
   left-out reached out = alike_but but seen (λ other. object == other || seen other) reached (λ other. by other (object == other) refl)
     where
-      by : (other : ℕ) (same : Bool) → (object == other) ≡ same → (not (is_but but other) && seen other) ≡ (not (is_but but other) && (same || seen other))
+      by : (other : ℕ) (same : Bool) → (object == other) ≡ same
+          → (not (is_but but other) && seen other) ≡ (not (is_but but other) && (same || seen other))
       by other true same =
           let own : is_but but other ≡ true = ap (is_but but) (sym (eqb-true object other same)) ∙ out in
           ap (λ t. not t && seen other) own ∙ sym (ap (λ t. not t && (true || seen other)) own)
@@ -93,7 +97,8 @@ any_more test slots k d near =
 
 pub other-more : (but : Option ℕ) (basin : Draft) (seen : ℕ → Bool) (group : List SlotNo) (k : ℕ) (d : SlotNo) (owner : ℕ) (reached : Reached)
     → k < length group → owner ≡ owner_of basin.objects (slice_index_or group k d).0
-    → HasReached but (λ object. owner == object || (list_any (λ other. owner_of basin.objects other == object) (numbers_of (take k group)) || seen object)) reached
+    → HasReached but (λ object. owner == object
+    || (list_any (λ other. owner_of basin.objects other == object) (numbers_of (take k group)) || seen object)) reached
     → HasReached but (λ object. list_any (λ other. owner_of basin.objects other == object) (numbers_of (take (k + 1) group)) || seen object) reached
 other-more but basin seen group k d owner reached near own = alike but _ _ reached
     (λ object.

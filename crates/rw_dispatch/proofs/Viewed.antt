@@ -1,6 +1,11 @@
 -- What an object sees is a view of its kind.
-use Rattle.rw_dispatch.proofs.Common.{AreBounded, Bool, Content, IsBounded, IsViewOf, Kind, List, None, Option, Some, View, [], and_parts, ap, arith, bounds_in_view, eqb-true, false, get_or-map-range_with_len, if◌then◌else◌, known, known_value, length, map, nat_tests, option_and_then, option_map, pos, refl, slice_get, slice_index_or, subst, suc, sym, take, true, unwrap_or, zero, ℕ, ℤ, ◌&&◌, ◌+◌, ◌-◌, ◌<◌, ◌==◌, ◌∙◌, ◌∷◌, ◌≡◌, ◌≤ℤ◌, ◌≤◌}
-use Rattle.rw_model.proofs.Common.{place_of, IsKind, Slot, Bounds, IsInside, slots_of, slot_in, Object, Placed, placed_from, slots_from, all_slots, object_at, slot_at, slot_in_place, first_from, is_in_place, Draft, IsObject, IsBetween, bounds_in, IsBasin, numbered-known, StandsAt-stored, first_from-all_slots, IsOfOwner-is_in_place, known_in_place, bounds_in-within}
+use Rattle.rw_dispatch.proofs.Common.{AreBounded, Bool, Content, IsBounded, IsViewOf, Kind, List, None, Option, Some, View, [], and_parts, ap, arith}
+use Rattle.rw_dispatch.proofs.Common.{bounds_in_view, eqb-true, false, get_or-map-range_with_len, if◌then◌else◌, known, known_value, length, map}
+use Rattle.rw_dispatch.proofs.Common.{nat_tests, option_and_then, option_map, pos, refl, slice_get, slice_index_or, subst, suc, sym, take, true}
+use Rattle.rw_dispatch.proofs.Common.{unwrap_or, zero, ℕ, ℤ, ◌&&◌, ◌+◌, ◌-◌, ◌<◌, ◌==◌, ◌∙◌, ◌∷◌, ◌≡◌, ◌≤ℤ◌, ◌≤◌}
+use Rattle.rw_model.proofs.Common.{place_of, IsKind, Slot, Bounds, IsInside, slots_of, slot_in, Object, Placed, placed_from, slots_from, all_slots}
+use Rattle.rw_model.proofs.Common.{object_at, slot_at, slot_in_place, first_from, is_in_place, Draft, IsObject, IsBetween, bounds_in, IsBasin}
+use Rattle.rw_model.proofs.Common.{numbered-known, StandsAt-stored, first_from-all_slots, IsOfOwner-is_in_place, known_in_place, bounds_in-within}
 use Rattle.rw_run.proofs.Common.{Cells, cell_at, content_in, bounds_in_place, past_value, places, view_of}
 
 -- ---- an object's slot in a place is its kind's
@@ -11,7 +16,8 @@ record IsFound (n k : ℕ) (test : Placed → Bool) (slots : List Placed) : Type
   found : slice_get slots (k - n) ≡ Some placed
   passes : test placed ≡ true
 
-found_here : (n k : ℕ) (test : Placed → Bool) (first : Placed) (rest : List Placed) → (first_from (n + 1) test rest ≡ Some k → IsFound (n + 1) k test rest)
+found_here : (n k : ℕ) (test : Placed → Bool) (first : Placed) (rest : List Placed)
+    → (first_from (n + 1) test rest ≡ Some k → IsFound (n + 1) k test rest)
     → (here : Bool) → test first ≡ here → (if here then Some n else first_from (n + 1) test rest) ≡ Some k → IsFound n k test (first ∷ rest)
 found_here n k test first rest later true here found =
     let at : n ≡ k = cc in
@@ -37,7 +43,8 @@ pub record StandsIn (objects : List Object) (kind : Kind) (place number : ℕ) :
   pub found : slot_at objects number ≡ Some placed
   pub slot : slot_in kind place ≡ Some placed.slot
 
-pub stands_in : (objects : List Object) (owner place number : ℕ) (kind : Kind) → option_map (λ (object : Object). object.kind) (object_at objects owner) ≡ Some kind
+pub stands_in : (objects : List Object) (owner place number : ℕ) (kind : Kind)
+    → option_map (λ (object : Object). object.kind) (object_at objects owner) ≡ Some kind
     → slot_in_place objects owner place ≡ Some number → StandsIn objects kind place number
 stands_in objects owner place number kind is at =
     let found = found_at 1 number (is_in_place owner place) (all_slots objects) at in
@@ -65,7 +72,8 @@ has_place owner start n (suc j) at (Some first ∷ slots) slot place found =
     let there : (owner == owner && start == at) ≡ false = grind (arith, nat_tests) in (later.0, rw there later.1)
 
 -- an object has the slots of its kind
-pub has_slot : (objects : List Object) (owner place : ℕ) (kind : Kind) (slot : Slot) → 1 ≤ owner → option_map (λ (object : Object). object.kind) (object_at objects owner) ≡ Some kind
+pub has_slot : (objects : List Object) (owner place : ℕ) (kind : Kind) (slot : Slot) → 1 ≤ owner
+    → option_map (λ (object : Object). object.kind) (object_at objects owner) ≡ Some kind
     → slot_in kind place ≡ Some slot → (number : ℕ) × (slot_in_place objects owner place ≡ Some number)
 has_slot objects owner place kind slot first is found =
     let before = length (slots_from 1 (take (owner - 1) objects)) in
@@ -73,19 +81,23 @@ has_slot objects owner place kind slot first is found =
     let own = has_place owner 0 (before + 1) place place (slots_of kind) slot at found in
     (own.0, sym (first_from-all_slots objects owner kind (is_in_place owner place) before first (IsOfOwner-is_in_place owner place) is refl) ∙ own.1)
 
-no_slot : (objects : List Object) (owner place : ℕ) (kind : Kind) (found : Option ℕ) → option_map (λ (object : Object). object.kind) (object_at objects owner) ≡ Some kind
+no_slot : (objects : List Object) (owner place : ℕ) (kind : Kind) (found : Option ℕ)
+    → option_map (λ (object : Object). object.kind) (object_at objects owner) ≡ Some kind
     → slot_in kind place ≡ None → slot_in_place objects owner place ≡ found → slot_in_place objects owner place ≡ None
 no_slot objects owner place kind None is none found = found
-no_slot objects owner place kind (Some number) is none found = let stands = stands_in objects owner place number kind is found in let slot = stands.slot in absurd (cc)
+no_slot objects owner place kind (Some number) is none found = let stands = stands_in objects owner place number kind is found in let slot =
+    stands.slot in absurd (cc)
 
 -- ---- the view
 
-pub known-view : (basin : Draft) (cells : Cells) (object step place : ℕ) → place < 12 → known (view_of basin cells object step) place ≡ content_in basin cells object step place
+pub known-view : (basin : Draft) (cells : Cells) (object step place : ℕ) → place < 12
+    → known (view_of basin cells object step) place ≡ content_in basin cells object step place
 known-view basin cells object step place near =
     let at : 0 + place ≡ place = omega arith in
     get_or-map-range_with_len (content_in basin cells object step) 0 12 place place None near at
 
-pub bounds_at-view : (basin : Draft) (cells : Cells) (object step place : ℕ) → place < 12 → bounds_in_view (view_of basin cells object step) place ≡ bounds_in_place basin object place
+pub bounds_at-view : (basin : Draft) (cells : Cells) (object step place : ℕ) → place < 12
+    → bounds_in_view (view_of basin cells object step) place ≡ bounds_in_place basin object place
 bounds_at-view basin cells object step place near =
     let at : 0 + place ≡ place = omega arith in
     get_or-map-range_with_len (bounds_in_place basin object) 0 12 place place (pos 0, pos 0) near at
@@ -100,7 +112,8 @@ value_bounded (Some content) bounds between z found =
 
 bounded_by : (seen bounds : Bounds) (slot : Slot) (seen_value value : Option ℤ) → seen ≡ bounds → seen_value ≡ value → IsInside bounds slot.widest
     → ((z : ℤ) → value ≡ Some z → (bounds.0 ≤ℤ z) × (z ≤ℤ bounds.1)) → IsBounded seen slot seen_value
-bounded_by seen bounds slot seen_value value same same_value inside between = rw (same, same_value) (record { low = inside.low; high = inside.high; inside = between })
+bounded_by seen bounds slot seen_value value same same_value inside between =
+    rw (same, same_value) (record { low = inside.low; high = inside.high; inside = between })
 
 pub bounds-slot : (basin : Draft) (object place number : ℕ) → slot_in_place basin.objects object place ≡ Some number
     → bounds_in_place basin object place ≡ bounds_in basin.objects basin.links basin.bounds number
@@ -112,13 +125,15 @@ pub content-slot : (basin : Draft) (cells : Cells) (object step place : ℕ) (fo
 content-slot basin cells object step place found is = ap (λ slot. option_and_then cells (option_map (λ s. cell_at s step) slot)) is
 
 pub IsViewOf-view : (basin : Draft) (cells : Cells) (object step : ℕ) (kind : Kind) → IsBasin basin → IsObject basin.objects object
-    → option_map (λ (found : Object). found.kind) (object_at basin.objects object) ≡ Some kind → IsKind kind → 1 ≤ step → step ≤ basin.control.stamps.count
+    → option_map (λ (found : Object). found.kind) (object_at basin.objects object) ≡ Some kind → IsKind kind → 1 ≤ step
+    → step ≤ basin.control.stamps.count
     → AreBounded basin cells → IsViewOf kind (view_of basin cells object step)
 IsViewOf-view basin cells object step kind valid own is sound first last bounded = record {
   parameters = sound;
   absent = λ place near none.
       known-view basin cells object step place near
-      ∙ content-slot basin cells object step place None (no_slot basin.objects object place kind (slot_in_place basin.objects object place) is none refl);
+      ∙ content-slot basin cells object step place None
+      (no_slot basin.objects object place kind (slot_in_place basin.objects object place) is none refl);
   bounded = λ place slot near found.
       let at = has_slot basin.objects object place kind slot own.first is found in
       let stands = stands_in basin.objects object place at.0 kind is at.1 in
@@ -137,10 +152,17 @@ IsViewOf-view basin cells object step kind valid own is sound first last bounded
 
 -- ---- a view that is filled place by place
 
-pub filled-view : (basin : Draft) (cells : Cells) (object step : ℕ) (view : View) → view.own.0 ≡ object → view.now ≡ map (content_in basin cells object step) places
-    → view.past ≡ past_value basin cells object step → view.bounds ≡ map (bounds_in_place basin object) places → view ≡ view_of basin cells object step
+pub filled-view : (basin : Draft) (cells : Cells) (object step : ℕ) (view : View) → view.own.0 ≡ object
+    → view.now ≡ map (content_in basin cells object step) places
+    → view.past ≡ past_value basin cells object step → view.bounds ≡ map (bounds_in_place basin object) places
+    → view ≡ view_of basin cells object step
 filled-view basin cells object step view own now past bounds =
     ap (λ o. record view { own = record { 0 = o } }) own
     ∙ ap (λ z. record view { own = record { 0 = object }; now = z }) now
     ∙ ap (λ z. record view { own = record { 0 = object }; now = map (content_in basin cells object step) places; past = z }) past
-    ∙ ap (λ z. record view { own = record { 0 = object }; now = map (content_in basin cells object step) places; past = past_value basin cells object step; bounds = z }) bounds
+    ∙ ap (λ z. record view {
+      own = record { 0 = object };
+      now = map (content_in basin cells object step) places;
+      past = past_value basin cells object step;
+      bounds = z;
+    }) bounds

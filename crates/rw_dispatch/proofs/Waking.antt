@@ -1,5 +1,6 @@
 -- Whom a dispatch wakes, by what it writes.
-use Rattle.rw_dispatch.proofs.Common.{ArePuts, Cell, List, Option, Some, [], ap, append-nil, arith, held, length, option_or, Put, refl, subst, sym, ℕ, ◌++◌, ◌∙◌, ◌≡◌}
+use Rattle.rw_dispatch.proofs.Common.{ArePuts, Cell, List, Option, Some, [], ap, append-nil, arith, held, length, option_or, Put, refl, subst, sym, ℕ}
+use Rattle.rw_dispatch.proofs.Common.{◌++◌, ◌∙◌, ◌≡◌}
 use Rattle.rw_model.specs.Draft.{Draft}
 use Rattle.rw_series.specs.declared.look.Look.{Look}
 use Rattle.rw_run.specs.Dispatch.{asked_for}
@@ -21,7 +22,8 @@ of_answer : (basin : Draft) (looked : List Look) (object step : ℕ) (answer : D
 of_answer basin looked object step (Solved asked written) = refl
 of_answer basin looked object step answer = refl
 
-written_of : (basin : Draft) (looked : List Look) (object step : ℕ) (event : Event) (answer : Dispatched) → Tells basin looked object step event answer
+written_of : (basin : Draft) (looked : List Look) (object step : ℕ) (event : Event) (answer : Dispatched)
+    → Tells basin looked object step event answer
     → asked_for basin object step (written_in answer) ≡ written_by event
 written_of basin looked object step event answer tells = of_answer basin looked object step answer ∙ ap written_by (sym tells.is)
 
@@ -51,7 +53,8 @@ queue_after basin looked object step (Solved asked written) queue = refl
 queue_after basin looked object step answer queue = none_woken basin (Some object) queue
 
 -- what an answer's event writes is made, and wakes those that it reaches
-pub leaves_written : (basin : Draft) (looked : List Look) (object step : ℕ) (event : Event) (answer : Dispatched) (writes : List Asked) (old new : RunStage)
+pub leaves_written : (basin : Draft) (looked : List Look) (object step : ℕ) (event : Event) (answer : Dispatched) (writes : List Asked)
+    (old new : RunStage)
     → event ≡ event_of basin looked object step answer → writes ≡ written_by event
     → ((cell : Cell) → held new.series cell ≡ option_or (last_put basin writes cell) (held old.series cell))
     → new.queue.waiting ≡ old.queue.waiting ++ woken basin (Some object) old.queue.waiting (slots_at step writes) → Leaves basin event old new

@@ -1,5 +1,7 @@
 -- Passing a timestep again, by its record.
-use Rattle.rw_engine.proofs.Common.{Cell, Cells, Draft, Event, Leads, List, Log, None, Option, Policy, Some, State, [], ap, append_assoc, cells_of, closed, held, last_put, length, lines, opened, option_or, refl, rests, seen, standing, subst, sym, trace_of, ℕ, ◌++◌, ◌+◌, ◌∙◌, ◌∷◌, ◌≡◌, ◌≤◌}
+use Rattle.rw_engine.proofs.Common.{Cell, Cells, Draft, Event, Leads, List, Log, None, Option, Policy, Some, State, [], ap, append_assoc, cells_of}
+use Rattle.rw_engine.proofs.Common.{closed, held, last_put, length, lines, opened, option_or, refl, rests, seen, standing, subst, sym, trace_of, ℕ}
+use Rattle.rw_engine.proofs.Common.{◌++◌, ◌+◌, ◌∙◌, ◌∷◌, ◌≡◌, ◌≤◌}
 use Rattle.std.specs.Prelude.{Contains, Err, IfSome, IsErrAnd, Ok, Result, ◌⊎◌}
 use Rattle.std.specs.List.{flat_map}
 use Rattle.rw_base.proofs.Common.{arith, inl, inr}
@@ -30,7 +32,8 @@ pub record Closing (step : ℕ) (whole : Log) : Type 0 where
   pub is : whole ≡ closed step ∷ before
   pub within : standing before ≡ inside step
 
-pub closing : (step : ℕ) (event : Event) (events : List Event) (log : Log) → IsStepFrom step event events → standing log ≡ inside step → Closing step (log_after (event ∷ events) log)
+pub closing : (step : ℕ) (event : Event) (events : List Event) (log : Log) → IsStepFrom step event events → standing log ≡ inside step
+    → Closing step (log_after (event ∷ events) log)
 closing step event [] log goes at = record { before = log; is = ap (λ e. e ∷ log) goes; within = at }
 closing step event (next ∷ events) log goes at = closing step next events (event ∷ log) goes.1 (sym (alone event log) ∙ goes.0)
 
@@ -46,14 +49,17 @@ looked_again basin before was now events looked are same one = (to, from)
           new.is ∙ same one.cell,
         )
 
-    by : Contains [] one ⊎ IsNew now [] (cells_noted looked) one → Contains (flat_map (reached_by basin) events) one.cell × (one.content ≡ before one.cell)
+    by : Contains [] one ⊎ IsNew now [] (cells_noted looked) one
+        → Contains (flat_map (reached_by basin) events) one.cell × (one.content ≡ before one.cell)
     by (inl none) = absurd (omega (arith, none.1))
     by (inr new) = of_new new
 
-    to : Contains (noted_after now [] (cells_noted looked)) one → Contains (flat_map (reached_by basin) events) one.cell × (one.content ≡ before one.cell)
+    to : Contains (noted_after now [] (cells_noted looked)) one
+        → Contains (flat_map (reached_by basin) events) one.cell × (one.content ≡ before one.cell)
     to has = by (old_or now [] (cells_noted looked) one has)
 
-    from : Contains (flat_map (reached_by basin) events) one.cell × (one.content ≡ before one.cell) → Contains (noted_after now [] (cells_noted looked)) one
+    from : Contains (flat_map (reached_by basin) events) one.cell × (one.content ≡ before one.cell)
+        → Contains (noted_after now [] (cells_noted looked)) one
     from has =
         let it : Held = record { cell = one.cell; content = was one.cell } in
         new_in now [] (cells_noted looked) one (record {
@@ -62,13 +68,15 @@ looked_again basin before was now events looked are same one = (to, from)
           is = has.1 ∙ sym (same one.cell);
         })
 
-noted_again : (basin : Draft) (before was now : Cells) (events : List Event) (looked : List Held) (old new : Option (List Held)) → new ≡ with_noted now (cells_noted looked) (cleared old)
+noted_again : (basin : Draft) (before was now : Cells) (events : List Event) (looked : List Held) (old new : Option (List Held))
+    → new ≡ with_noted now (cells_noted looked) (cleared old)
     → AreLooked basin was events looked → ((cell : Cell) → now cell ≡ before cell)
     → IfSome new (λ noted. AreLooked basin before events noted × AreOnce noted)
 noted_again basin before was now events looked old new is are same =
     subst (λ found. IfSome found (λ noted. AreLooked basin before events noted × AreOnce noted)) (sym is) (by old)
   where
-    by : (found : Option (List Held)) → IfSome (with_noted now (cells_noted looked) (cleared found)) (λ noted. AreLooked basin before events noted × AreOnce noted)
+    by : (found : Option (List Held)) → IfSome (with_noted now (cells_noted looked) (cleared found))
+        (λ noted. AreLooked basin before events noted × AreOnce noted)
     by None = tt
     by (Some found) = (
       looked_again basin before was now events looked are same,
@@ -76,12 +84,14 @@ noted_again basin before was now events looked old new is are same =
     )
 
 -- memory wants for it
-pub unpassed_again : (basin : Draft) (kept : StepRecord) (old new : State) (result : Result (Unit {0}) NoMemory) (why : NoMemory) → IsErrAnd result (λ fault. fault ≡ why)
+pub unpassed_again : (basin : Draft) (kept : StepRecord) (old new : State) (result : Result (Unit {0}) NoMemory) (why : NoMemory)
+    → IsErrAnd result (λ fault. fault ≡ why)
     → HasReplayed basin kept old new (Err why) → HasReplayed basin kept old new result
 unpassed_again basin kept old new (Ok done) why is has = absurd is
 unpassed_again basin kept old new (Err want) why is has = rw is has
 
-pub sound_again : (basin : Draft) (kept : StepRecord) (old new : State) (result : Result (Unit {0}) NoMemory) → HasReplayed basin kept old new result → IsSoundState old → IsSoundState new
+pub sound_again : (basin : Draft) (kept : StepRecord) (old new : State) (result : Result (Unit {0}) NoMemory) → HasReplayed basin kept old new result
+    → IsSoundState old → IsSoundState new
 sound_again basin kept old new result has sound = record {
   counts = ap length has.counts ∙ sound.counts ∙ sym (ap (λ (q : _). q.objects) has.queue);
   firings = ap length has.firings ∙ sound.firings ∙ sym (ap (λ (r : _). length r.agenda.rules) has.rules);
@@ -124,19 +134,26 @@ replays basin kept old new (Ok done) again step can has = record {
       let first = records.first in
       let events = records.events in
       let own : AreHeld (cells_of basin log) kept.looked = λ one near. sym (shows.cells one.cell) ∙ alike one near in
-      let timestep = again basin policy kept.step before.last records.old log first events kept.looked framed records.timestep records.these.looked own before.rest before.next_one in
+      let timestep =
+      again basin policy kept.step before.last records.old log first events kept.looked framed records.timestep records.these.looked own
+      before.rest before.next_one in
       let ends = closing kept.step first events (opened kept.step ∷ log) timestep.goes refl in
       let told_lines = records.these.lines_are in
       let whole : Log = log_after (first ∷ events) (opened kept.step ∷ log) in
       let shown : IfSome new.run.trace (λ told. told ≡ trace_of whole) =
       subst (λ told. IfSome new.run.trace (λ these. these ≡ told))
-      (ap (λ told. trace_of log ++ told) told_lines ∙ sym (trace_after (first ∷ events) (opened kept.step ∷ log) ∙ append_assoc (trace_of log) (lines (opened kept.step)) (flat_map lines (first ∷ events))))
+      (ap (λ told. trace_of log ++ told) told_lines
+      ∙ sym (trace_after (first ∷ events) (opened kept.step ∷ log)
+      ∙ append_assoc (trace_of log) (lines (opened kept.step)) (flat_map lines (first ∷ events))))
       (shown_more old.run.trace new.run.trace (trace_of log) kept.lines has.trace shows.trace) in
       record {
         events = opened kept.step ∷ first ∷ events;
         last = closed kept.step;
         before = ends.before;
-        leads = (begins_step basin policy (first_waiting basin log) log kept.step before, subst (Leads basin policy (opened kept.step ∷ log) (first ∷ events)) ends.is timestep.leads);
+        leads = (
+          begins_step basin policy (first_waiting basin log) log kept.step before,
+          subst (Leads basin policy (opened kept.step ∷ log) (first ∷ events)) ends.is timestep.leads,
+        );
         within = ends.within;
         ends = refl;
         shows = record {
@@ -156,9 +173,11 @@ replays basin kept old new (Ok done) again step can has = record {
           is = sym ends.is;
           noted = λ keeps. has_noted basin kept.step log (first ∷ events) (seen new) new.noted new.lines refl refl
               (has.keeps_lines ∙ can.notes.same ∙ sym has.notes)
-              (noted_again basin (cells_of basin log) (cells_of basin records.old) (held old.run.series) (first ∷ events) kept.looked old.noted new.noted has.noted
+              (noted_again basin (cells_of basin log) (cells_of basin records.old) (held old.run.series) (first ∷ events) kept.looked old.noted
+              new.noted has.noted
               records.these.looked shows.cells)
-              (subst (λ told. IfSome new.lines (λ these. these ≡ told)) told_lines has.lines_are) (subst (CanWriteLines basin) told_lines records.these.can) keeps;
+              (subst (λ told. IfSome new.lines (λ these. these ≡ told)) told_lines has.lines_are)
+              (subst (CanWriteLines basin) told_lines records.these.can) keeps;
         };
       };
   before = λ log shows. tt;

@@ -6,9 +6,11 @@ use Rattle.rw_run.specs.Choice.{CanBeChosen, MayFollow, MayLead}
 use Rattle.rw_run.specs.Runs.{Standing, follows_by, over, rests}
 use Rattle.rw_dispatch.specs.Pick.{Picking, picked_at}
 use Rattle.rw_engine.specs.Picked.{LeadsBy, PicksAt, turn_after}
-use Rattle.rw_engine.proofs.Common.{Draft, Event, List, Log, None, Option, Policy, Some, [], ap, arith, inside, length, none-some, refl, standing, sym, waiting, ℕ, ◌<◌, ◌∙◌, ◌∷◌, ◌≡◌, ◌≤◌}
+use Rattle.rw_engine.proofs.Common.{Draft, Event, List, Log, None, Option, Policy, Some, [], ap, arith, inside, length, none-some, refl, standing}
+use Rattle.rw_engine.proofs.Common.{sym, waiting, ℕ, ◌<◌, ◌∙◌, ◌∷◌, ◌≡◌, ◌≤◌}
 
-pub chosen_at : (waits : List ℕ) (place : ℕ) (found : Option ℕ) → slice_get waits place ≡ found → (1 ≤ length waits → place < length waits) → CanBeChosen waits found
+pub chosen_at : (waits : List ℕ) (place : ℕ) (found : Option ℕ) → slice_get waits place ≡ found → (1 ≤ length waits → place < length waits)
+    → CanBeChosen waits found
 chosen_at [] place None is one = refl
 chosen_at (first ∷ rest) place None is one =
     absurd (none-some _ (sym is ∙ slice_get-get_or (first ∷ rest) place first (one (omega arith))))
@@ -32,7 +34,8 @@ module _ (basin : Draft) (policy : Policy) (rule : Picking) where
   }
   may_follow turn log event over at follow picks = absurd (none-some _ follow)
 
-  pub may_lead : (turn : ℕ) (old : Log) (events : List Event) (new : Log) → LeadsBy basin policy rule turn old events new → MayLead basin policy old events new
+  pub may_lead : (turn : ℕ) (old : Log) (events : List Event) (new : Log) → LeadsBy basin policy rule turn old events new
+      → MayLead basin policy old events new
   may_lead turn old [] new leads = leads
   may_lead turn old (event ∷ events) new leads =
       (may_follow turn old event (standing old) refl leads.0 leads.1, may_lead (turn_after turn event) (event ∷ old) events new leads.2)

@@ -1,5 +1,9 @@
 -- A timestep taken back, and an input given.
-use Rattle.rw_engine.proofs.Common.{Bool, Cell, Cells, Draft, Engine, Event, HoldsAll, IsHeldIn, IsSeriesOf, Leads, List, Log, None, Option, Policy, Series, Settled, Sets, Some, State, [], ap, append_assoc, arith, cells_of, closed, false, fault, held, if◌then◌else◌, inside, input_content, length, lines, nat_le, nat_lt, next_of, none-some, opened, option_map, refl, rests, same_Some, seen, standing, subst, sym, take, trace_of, true, written_by, ℕ, ℤ, ◌++◌, ◌+◌, ◌-◌, ◌∙◌, ◌∷◌, ◌≡◌}
+use Rattle.rw_engine.proofs.Common.{Bool, Cell, Cells, Draft, Engine, Event, HoldsAll, IsHeldIn, IsSeriesOf, Leads, List, Log, None, Option, Policy}
+use Rattle.rw_engine.proofs.Common.{Series, Settled, Sets, Some, State, [], ap, append_assoc, arith, cells_of, closed, false, fault, held}
+use Rattle.rw_engine.proofs.Common.{if◌then◌else◌, inside, input_content, length, lines, nat_le, nat_lt, next_of, none-some, opened, option_map, refl}
+use Rattle.rw_engine.proofs.Common.{rests, same_Some, seen, standing, subst, sym, take, trace_of, true, written_by, ℕ, ℤ, ◌++◌, ◌+◌, ◌-◌, ◌∙◌, ◌∷◌}
+use Rattle.rw_engine.proofs.Common.{◌≡◌}
 use Rattle.std.specs.Prelude.{Contains, IfSome, IsTrue, is_some}
 use Rattle.std.specs.List.{flat_map}
 use Rattle.std.proofs.Math.ListN.{length-append}
@@ -69,7 +73,8 @@ next_asks basin policy cells log step None event is = due_asks basin policy cell
 next_asks basin policy cells log step (Some object) event is =
     let limit : Event = fault (ObjectLimit (record { 0 = object }) (record { 0 = step }) (dispatches log object)) in
     subst WritesAsked (same_Some _ _ is)
-    (either_asks (nat_le basin.control.object_limit (dispatches log object)) limit (dispatched basin cells object step) (none_written limit refl) (dispatch_asks basin cells object step))
+    (either_asks (nat_le basin.control.object_limit (dispatches log object)) limit (dispatched basin cells object step) (none_written limit refl)
+    (dispatch_asks basin cells object step))
 
 opens_asks : (test : Bool) (step : ℕ) (event : Event) → (if test then Some (opened step) else None) ≡ Some event → WritesAsked event
 opens_asks true step event is = subst WritesAsked (same_Some _ _ is) (none_written (opened step) refl)
@@ -84,7 +89,8 @@ follows_asks basin policy log chosen over event is = absurd (none-some _ is)
 -- ---- the cells before a timestep
 
 -- where all that events reach is noted, what they put can be taken back
-can_back : (basin : Draft) (policy : Policy) (before : Cells) (noted : List Held) (events : List Event) (log new : Log) → Leads basin policy log events new
+can_back : (basin : Draft) (policy : Policy) (before : Cells) (noted : List Held) (events : List Event) (log new : Log)
+    → Leads basin policy log events new
     → ((cell : Cell) → Contains (flat_map (reached_by basin) events) cell → IsTrue (is_noted noted cell))
     → CanTakeBack before (cells_of basin log) noted → CanTakeBack before (cells_of basin (log_after events log)) noted
 can_back basin policy before noted [] log new leads all can = can
@@ -92,17 +98,22 @@ can_back basin policy before noted (event ∷ events) log new leads all can =
     let rest : List Cell = flat_map (reached_by basin) events in
     let asks = follows_asks basin policy log (first_waiting basin log) (standing log) event leads.0 in
     let put = all_put basin before (cells_of basin log) noted (written_by event) can
-    (λ cell has. all cell (Contains-append_left (reached_by basin event) rest cell (written_reached basin event (reached_by basin event) (λ calm. refl) asks cell has))) in
-    can_back basin policy before noted events (event ∷ log) new leads.1 (λ cell has. all cell (Contains-append_right (reached_by basin event) rest cell has))
+    (λ cell has. all cell (Contains-append_left (reached_by basin event) rest cell
+    (written_reached basin event (reached_by basin event) (λ calm. refl) asks cell has))) in
+    can_back basin policy before noted events (event ∷ log) new leads.1
+    (λ cell has. all cell (Contains-append_right (reached_by basin event) rest cell has))
     (record { held = put.held; same = λ cell none. put.same cell none })
 
 -- so a record of a timestep tells what its cells held before it
-pub taken : (basin : Draft) (policy : Policy) (step : ℕ) (log : Log) (first : Event) (events : List Event) (looked : List Held) → IsTimestep basin policy step log first events
+pub taken : (basin : Draft) (policy : Policy) (step : ℕ) (log : Log) (first : Event) (events : List Event) (looked : List Held)
+    → IsTimestep basin policy step log first events
     → AreLooked basin (cells_of basin log) (first ∷ events) looked
     → CanTakeBack (cells_of basin log) (cells_of basin (log_after (first ∷ events) (opened step ∷ log))) looked
 taken basin policy step log first events looked timestep are =
-    can_back basin policy (cells_of basin log) looked (first ∷ events) (opened step ∷ log) (log_after (first ∷ events) (opened step ∷ log)) timestep.leads
-    (λ cell has. noted_of looked (record { cell = cell; content = cells_of basin log cell }) ((are (record { cell = cell; content = cells_of basin log cell })).1 (has, refl)))
+    can_back basin policy (cells_of basin log) looked (first ∷ events) (opened step ∷ log) (log_after (first ∷ events) (opened step ∷ log))
+    timestep.leads
+    (λ cell has. noted_of looked (record { cell = cell; content = cells_of basin log cell })
+    ((are (record { cell = cell; content = cells_of basin log cell })).1 (has, refl)))
     (record { held = λ one has. sym ((are one).0 has).1; same = λ cell none. refl })
 
 -- ---- the lines before it
@@ -171,7 +182,9 @@ module _ (basin : Draft) (kept : StepRecord) (old new : State) (can : CanReplay 
     closed_last = ap last_closed (closing kept.step first events (opened kept.step ∷ log) timestep.goes refl).is
 
     told_whole : trace_of whole ≡ trace_of log ++ lines_of_step kept.step (first ∷ events)
-    told_whole = trace_after (first ∷ events) (opened kept.step ∷ log) ∙ append_assoc (trace_of log) (lines (opened kept.step)) (flat_map lines (first ∷ events))
+    told_whole =
+        trace_after (first ∷ events) (opened kept.step ∷ log)
+        ∙ append_assoc (trace_of log) (lines (opened kept.step)) (flat_map lines (first ∷ events))
 
     trace_back : IfSome new.run.trace (λ told. told ≡ trace_of log)
     trace_back =
@@ -208,7 +221,8 @@ module _ (basin : Draft) (kept : StepRecord) (old new : State) (can : CanReplay 
   takes_back = record { back = comes_back; keeps = record { trace = same_trace; noted = has.notes } }
 
 -- a log can be shown again that an engine shows which is made for the basin
-pub can_show : (basin : Draft) (engine : Engine) (step : ℕ) (log : Log) → IsHeldIn basin engine.series → Shows basin engine log → step ≡ engine.closed + 1
+pub can_show : (basin : Draft) (engine : Engine) (step : ℕ) (log : Log) → IsHeldIn basin engine.series → Shows basin engine log
+    → step ≡ engine.closed + 1
     → CanShow basin step log
 can_show basin engine step log held_in shows next = record {
   cells = record {
@@ -233,9 +247,11 @@ bounded_by basin cell other (Some value) content was within before true shared i
     (subst (λ bounds. IsBetween bounds value) (bounds-shared basin cell other shared) within)
 bounded_by basin cell other value content was within before false apart is = before is
 
-pub gives : (basin : Draft) (cell : Cell) (value : Option ℤ) (old new : State) (series : Series) → new ≡ record old { run = record old.run { series = series } }
+pub gives : (basin : Draft) (cell : Cell) (value : Option ℤ) (old new : State) (series : Series)
+    → new ≡ record old { run = record old.run { series = series } }
     → IfSome value (λ value. IsBetween (bounds_in basin.objects basin.links basin.bounds cell.slot.0) value) → CanReplay basin (seen old)
-    → IsSeriesOf basin series → Sets basin cell (option_map input_content value) old.run.series series → GivesInput basin cell value (seen old) (seen new)
+    → IsSeriesOf basin series → Sets basin cell (option_map input_content value) old.run.series series
+    → GivesInput basin cell value (seen old) (seen new)
 gives basin cell value old new series is within can made sets = rw is (record {
   made = λ policy engine. record {
     valid = engine.valid;

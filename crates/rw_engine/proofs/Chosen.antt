@@ -6,7 +6,8 @@ use Rattle.rw_dispatch.specs.Pick.{Picking, picked_at}
 use Rattle.rw_dispatch.specs.Queue.{IsTaken, Queue}
 use Rattle.rpl_verify.specs.Verified.{Accepted}
 use Rattle.rw_engine.specs.State.{seen_end}
-use Rattle.rw_engine.proofs.Common.{All, All-cons, All-head, All-tail, DoesEvent, Draft, HoldsWithin, IsOnTheWay, List, Log, None, Option, Some, State, [], ap, arith, false, refl, subst, sym, true, ℕ, ◌++◌, ◌<◌, ◌∙◌, ◌∷◌, ◌≡◌}
+use Rattle.rw_engine.proofs.Common.{All, All-cons, All-head, All-tail, DoesEvent, Draft, HoldsWithin, IsOnTheWay, List, Log, None, Option, Some}
+use Rattle.rw_engine.proofs.Common.{State, [], ap, arith, false, refl, subst, sym, true, ℕ, ◌++◌, ◌<◌, ◌∙◌, ◌∷◌, ◌≡◌}
 
 -- ---- lists
 
@@ -18,7 +19,8 @@ module _ (P : ℕ → Type 0) where
   without : (before behind : List ℕ) (object : ℕ) → All P (before ++ object ∷ behind) → All P (before ++ behind)
   without [] behind object all = All-tail P object behind all
   without (first ∷ before) behind object all =
-      All-cons P first (before ++ behind) (All-head P first (before ++ object ∷ behind) all) (without before behind object (All-tail P first (before ++ object ∷ behind) all))
+      All-cons P first (before ++ behind) (All-head P first (before ++ object ∷ behind) all)
+      (without before behind object (All-tail P first (before ++ object ∷ behind) all))
 
   own : (before behind : List ℕ) (object : ℕ) → All P (before ++ object ∷ behind) → P object
   own [] behind object all = All-head P object behind all
@@ -33,9 +35,11 @@ module _ (P : ℕ → Type 0) where
   own_holds place object all rest is holds = own is.before is.behind object (subst (All P) is.old_is holds)
 
 -- who was taken out is the one that was picked
-pub picked_is : (rule : Picking) (turn object : ℕ) (waits rest : List ℕ) → IsTaken (rule turn waits) waits object rest → picked_at rule turn waits ≡ Some object
+pub picked_is : (rule : Picking) (turn object : ℕ) (waits rest : List ℕ) → IsTaken (rule turn waits) waits object rest
+    → picked_at rule turn waits ≡ Some object
 picked_is rule turn object waits rest is =
-    ap (λ place. slice_get waits place) (sym is.place_is) ∙ ap (λ all. slice_get all (length is.before)) is.old_is ∙ at_place is.before is.behind object
+    ap (λ place. slice_get waits place) (sym is.place_is) ∙ ap (λ all. slice_get all (length is.before)) is.old_is
+    ∙ at_place is.before is.behind object
 
 -- so one that waits is picked
 pub picks_one : (place object : ℕ) (waits rest : List ℕ) → IsTaken place waits object rest → place < length waits
@@ -75,7 +79,8 @@ module _ (basin : Draft) (policy : Accepted) (step : ℕ) (old new : State) (que
 
   -- what is done behind another queue is done behind this one, where this object is chosen
   pub does_on : (chosen one : Option ℕ) (waits others : List ℕ) (result : Result Bool NoMemory) → chosen ≡ one → waits ≡ others
-      → DoesEvent basin policy one step (record old { queue = queue }) new (HoldsWithin basin policy (record old { queue = queue }) step others) result
+      → DoesEvent basin policy one step (record old { queue = queue }) new
+      (HoldsWithin basin policy (record old { queue = queue }) step others) result
       → DoesEvent basin policy chosen step old new (HoldsWithin basin policy old step waits) result
   does_on chosen one waits others result is same does =
       subst (λ which. DoesEvent basin policy which step old new (HoldsWithin basin policy old step waits) result) (sym is) (record {

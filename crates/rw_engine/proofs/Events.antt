@@ -1,9 +1,15 @@
 -- One event of the engine, over the log that its state holds.
 use Rattle.std.specs.Prelude.{is_some}
-use Rattle.rw_engine.proofs.Common.{Bool, Cell, Cells, DispatchEnd, Draft, Engine, Event, Fault, GoesToState, HoldsWithin, HasCount, List, Log, Look, None, Option, Policy, Put, RunFault, Settled, Shows, Some, State, [], ap, arith, asked_for, cells_of, count_if, count_of_number, dispatched, dispatches, end_of, ended_by, ending, event_of, false, fault, fault_by, held, held_after, idles, if◌then◌else◌, inside, last_closed, last_put, lines, lines_by, nat_le, nat_tests, next_of, none-some, option_or, queued_after, raised, refl, same_Some, seen, slice_index_or, solves, standing, subst, sym, trace_of, true, waiting, written_by, ℕ, ◌++◌, ◌-◌, ◌<◌, ◌==◌, ◌∙◌, ◌∷◌, ◌≡◌}
+use Rattle.rw_engine.proofs.Common.{Bool, Cell, Cells, DispatchEnd, Draft, Engine, Event, Fault, GoesToState, HoldsWithin, HasCount, List, Log, Look}
+use Rattle.rw_engine.proofs.Common.{None, Option, Policy, Put, RunFault, Settled, Shows, Some, State, [], ap, arith, asked_for, cells_of, count_if}
+use Rattle.rw_engine.proofs.Common.{count_of_number, dispatched, dispatches, end_of, ended_by, ending, event_of, false, fault, fault_by, held}
+use Rattle.rw_engine.proofs.Common.{held_after, idles, if◌then◌else◌, inside, last_closed, last_put, lines, lines_by, nat_le, nat_tests, next_of}
+use Rattle.rw_engine.proofs.Common.{none-some, option_or, queued_after, raised, refl, same_Some, seen, slice_index_or, solves, standing, subst, sym}
+use Rattle.rw_engine.proofs.Common.{trace_of, true, waiting, written_by, ℕ, ◌++◌, ◌-◌, ◌<◌, ◌==◌, ◌∙◌, ◌∷◌, ◌≡◌}
 use Rattle.rw_run.specs.declared.fault.RunFault.TheVariants.{ObjectLimit}
 use Rattle.rw_dispatch.specs.Answer.{Ends, answer_of}
-use Rattle.rw_dispatch.specs.declared.dispatch_end.DispatchEnd.TheVariants.{Idle as IsIdle, Solved as IsSolved, Conflict as IsConflict, OutOfRange as IsOutOfRange}
+use Rattle.rw_dispatch.specs.declared.dispatch_end.DispatchEnd.TheVariants.{Idle as IsIdle, Solved as IsSolved, Conflict as IsConflict}
+use Rattle.rw_dispatch.specs.declared.dispatch_end.DispatchEnd.TheVariants.{OutOfRange as IsOutOfRange}
 use Rattle.rw_run.specs.Trace.{told as with_lines}
 use Rattle.rw_agenda.specs.Agenda.{Entry, unfired}
 use Rattle.rpl_verify.specs.Verified.{Accepted}
@@ -22,7 +28,8 @@ next_is basin policy cells step log object same below =
     ap Some (often (nat_le basin.control.object_limit (dispatches log object)) refl ∙ ap (λ z. dispatched basin z object step) (sym same))
   where
     often : (reached : Bool) → nat_le basin.control.object_limit (dispatches log object) ≡ reached
-        → (if reached then fault (ObjectLimit (record { 0 = object }) (record { 0 = step }) (dispatches log object)) else dispatched basin (cells_of basin log) object step)
+        → (if reached then fault (ObjectLimit (record { 0 = object }) (record { 0 = step }) (dispatches log object)) else dispatched basin
+        (cells_of basin log) object step)
         ≡ dispatched basin (cells_of basin log) object step
     often true is = absurd (grind (arith, nat_tests))
     often false is = refl
@@ -71,7 +78,13 @@ module _ (basin : Draft) (looked : List Look) (step object : ℕ) (before behind
     calm = λ none. (
       refl,
       refl,
-      λ waits. solves basin log (record { object = object; step = step; looked = looked; asked = asked_for basin object step asked; written = asked_for basin object step written }) before behind waits,
+      λ waits. solves basin log (record {
+        object = object;
+        step = step;
+        looked = looked;
+        asked = asked_for basin object step asked;
+        written = asked_for basin object step written;
+      }) before behind waits,
       λ other. refl,
     );
     faulted = λ why some. absurd (none-some _ some);
@@ -107,12 +120,14 @@ module _ (basin : Draft) (looked : List Look) (step object : ℕ) (before behind
       }
 
 -- the lines of a dispatch are those of its event
-pub dispatch_lines : (basin : Draft) (looked : List Look) (step object : ℕ) (event : Event) (ended : DispatchEnd) → Ends basin looked object step event ended
+pub dispatch_lines : (basin : Draft) (looked : List Look) (step object : ℕ) (event : Event) (ended : DispatchEnd)
+    → Ends basin looked object step event ended
     → lines_by object step ended (written_by event) ≡ lines event
 dispatch_lines basin looked step object event ended ends = (says basin looked step object [] [] [] event ended ends).lines_are
 
 -- what the state has after that
-pub record Went (basin : Draft) (old new : State) (looked : List Look) (step object : ℕ) (rest : List ℕ) (event : Event) (ended : DispatchEnd) : Type 0 where
+pub record Went (basin : Draft) (old new : State) (looked : List Look) (step object : ℕ) (rest : List ℕ) (event : Event)
+    (ended : DispatchEnd) : Type 0 where
   pub told : Told basin (seen old) (seen new) looked step object event ended
   pub counted : HasCount old.counts object
   pub counts : new.counts ≡ raised old.counts object
@@ -121,9 +136,12 @@ pub record Went (basin : Draft) (old new : State) (looked : List Look) (step obj
   pub firings : new.firings ≡ old.firings
 
 -- the timestep goes on, or the run ends by the fault
-pub goes_to : (basin : Draft) (policy : Accepted) (old new : State) (looked : List Look) (step object place : ℕ) (waits rest : List ℕ) (log : Log) (event : Event) (ended : DispatchEnd)
-    → IsTaken place waits object rest → HoldsWithin basin policy old step waits log → Went basin old new looked step object rest event ended → new.run.end ≡ old.run.end
-    → (why : Option RunFault) → fault_by object step ended ≡ why → GoesToState basin policy (ending (ended_by why new) (is_some why)) (ended_by why new) step log event
+pub goes_to : (basin : Draft) (policy : Accepted) (old new : State) (looked : List Look) (step object place : ℕ) (waits rest : List ℕ) (log : Log)
+    (event : Event) (ended : DispatchEnd)
+    → IsTaken place waits object rest → HoldsWithin basin policy old step waits log → Went basin old new looked step object rest event ended
+    → new.run.end ≡ old.run.end
+    → (why : Option RunFault) → fault_by object step ended ≡ why
+    → GoesToState basin policy (ending (ended_by why new) (is_some why)) (ended_by why new) step log event
 goes_to basin policy old new looked step object place waits rest log event ended taken holds went end None is =
     let tells = says basin looked step object taken.before taken.behind log event ended went.told.is in
     let calm = tells.calm is in record {
@@ -136,13 +154,15 @@ goes_to basin policy old new looked step object place waits rest log event ended
           ∙ raised_at old.counts object other went.counted known.first
           ∙ ap (count_if (object == other)) (holds.counts other known) ∙ sym (calm.3 other);
       looks = λ rule first last.
-          ap (λ (entries : List Entry). (slice_index_or entries (rule - 1) (unfired 0)).looked) went.rules ∙ holds.looks rule first last ∙ sym (tells.looks rule);
+          ap (λ (entries : List Entry). (slice_index_or entries (rule - 1) (unfired 0)).looked) went.rules ∙ holds.looks rule first last
+          ∙ sym (tells.looks rule);
       firings = λ rule first. ap (λ counts. count_of_number counts rule) went.firings ∙ holds.firings rule first ∙ sym (tells.fires rule);
     }
 goes_to basin policy old new looked step object place waits rest log event ended taken holds went end (Some why) is =
     let faulted = (says basin looked step object taken.before taken.behind log event ended went.told.is).faulted why is in (
       faulted,
-      shown basin looked step object taken.before taken.behind log (seen old) (seen (record new { run = record new.run { end = Fault why } })) event ended holds.shows
+      shown basin looked step object taken.before taken.behind log (seen old) (seen (record new { run = record new.run { end = Fault why } })) event
+          ended holds.shows
           (record { is = went.told.is; cells = went.told.cells; trace = went.told.trace; closed_steps = went.told.closed_steps })
           (ap (λ e. end_of (e ∷ log)) (sym faulted)),
     )

@@ -1,5 +1,7 @@
 -- Noting at what an event looks, and what is known of that.
-use Rattle.rw_engine.proofs.Common.{RunFault, State, ended_by, Asked, Bool, Cell, Cells, Draft, Event, IsSome, List, None, Option, Some, [], add-one, ap, arith, cell_at, false, if◌then◌else◌, length, filter_map, filter_map-append, held_after, option_map, range_with_len, refl, subst, suc, sym, true, written_by, zero, ℕ, ℤ, ◌++◌, ◌+◌, ◌∙◌, ◌∷◌, ◌≡◌}
+use Rattle.rw_engine.proofs.Common.{RunFault, State, ended_by, Asked, Bool, Cell, Cells, Draft, Event, IsSome, List, None, Option, Some, [], add-one}
+use Rattle.rw_engine.proofs.Common.{ap, arith, cell_at, false, if◌then◌else◌, length, filter_map, filter_map-append, held_after, option_map}
+use Rattle.rw_engine.proofs.Common.{range_with_len, refl, subst, suc, sym, true, written_by, zero, ℕ, ℤ, ◌++◌, ◌+◌, ◌∙◌, ◌∷◌, ◌≡◌}
 use Rattle.std.specs.Prelude.{Contains, Err, IfSome, IsErrAnd, Ok, Result, cond, is_some, ◌⊎◌}
 use Rattle.std.specs.List.{cons_option, filter}
 use Rattle.std.proofs.lemmas.List.Elements.{Contains-append_cases, Contains-append_right}
@@ -13,7 +15,8 @@ use Rattle.rw_series.specs.Fire.{Fire}
 use Rattle.rw_series.specs.declared.fire.FireEnd.{FireEnd}
 use Rattle.rw_series.specs.declared.fire.FireEnd.TheVariants.{Done, Unknown, ZeroDivisor as DividesByZero, OutOfRange as EndsOutside}
 use Rattle.rw_series.specs.declared.look.Look.{Look}
-use Rattle.rw_run.specs.Dispatch.{answered, asked_for, denied_by, dispatch_of, dispatched, end_in, if_cell, is_written, judged, looked_cells, looks_at, looks_of, or_fault, solved_by}
+use Rattle.rw_run.specs.Dispatch.{answered, asked_for, denied_by, dispatch_of, dispatched, end_in, if_cell, is_written, judged, looked_cells}
+use Rattle.rw_run.specs.Dispatch.{looks_at, looks_of, or_fault, solved_by}
 use Rattle.rw_run.specs.Next.{asked_of_rule, ended, is_put_again, last_ones}
 use Rattle.rw_run.specs.Frame.{IsFault, cells_looked}
 use Rattle.std.specs.Option.{option_or}
@@ -30,7 +33,8 @@ use Rattle.rw_engine.specs.State.{WritesAsked, cleared}
 
 -- ---- cells that are noted one after another
 
-pub with_more : (cells : Cells) (first next : List Cell) (old : Option (List Held)) → with_noted cells next (with_noted cells first old) ≡ with_noted cells (first ++ next) old
+pub with_more : (cells : Cells) (first next : List Cell) (old : Option (List Held))
+    → with_noted cells next (with_noted cells first old) ≡ with_noted cells (first ++ next) old
 with_more cells first next None = refl
 with_more cells first next (Some noted) = ap Some (joined cells noted first next)
 
@@ -45,12 +49,14 @@ kept_noted cells more (Some noted) = refl
 pub some_noted : (cells : Cells) (old new : Option (List Held)) → NotesSome cells old new → is_some new ≡ is_some old
 some_noted cells old new some = ap is_some some.1 ∙ kept_noted cells some.0 old
 
-pub adds_all : (cells : Cells) (all : List Cell) (old new : Option (List Held)) (result : Result (Unit {0}) NoMemory) → AddsNotes cells all old new result → NotesAll cells all old new result
+pub adds_all : (cells : Cells) (all : List Cell) (old new : Option (List Held)) (result : Result (Unit {0}) NoMemory)
+    → AddsNotes cells all old new result → NotesAll cells all old new result
 adds_all cells all old new (Ok done) adds = adds
 adds_all cells all old new (Err want) adds = (adds.0, (adds.1.first, adds.1.noted))
 
 -- of a call that comes behind what is noted already
-pub notes_on : (cells : Cells) (first next : List Cell) (old mid new : Option (List Held)) (result : Result (Unit {0}) NoMemory) → mid ≡ with_noted cells first old
+pub notes_on : (cells : Cells) (first next : List Cell) (old mid new : Option (List Held)) (result : Result (Unit {0}) NoMemory)
+    → mid ≡ with_noted cells first old
     → NotesAll cells next mid new result → NotesAll cells (first ++ next) old new result
 notes_on cells first next old mid new (Ok done) is all = all ∙ ap (with_noted cells next) is ∙ with_more cells first next old
 notes_on cells first next old mid new (Err want) is all = (
@@ -59,8 +65,10 @@ notes_on cells first next old mid new (Err want) is all = (
 )
 
 -- memory wants for some of them
-pub notes_stop : (cells : Cells) (first next all : List Cell) (old mid new : Option (List Held)) (want why : NoMemory) (result : Result (Unit {0}) NoMemory)
-    → IsErrAnd result (λ one. one ≡ why) → mid ≡ with_noted cells first old → NotesAll cells next mid new (Err want) → NotesAll cells all old new result
+pub notes_stop : (cells : Cells) (first next all : List Cell) (old mid new : Option (List Held)) (want why : NoMemory)
+    (result : Result (Unit {0}) NoMemory)
+    → IsErrAnd result (λ one. one ≡ why) → mid ≡ with_noted cells first old → NotesAll cells next mid new (Err want)
+    → NotesAll cells all old new result
 notes_stop cells first next all old mid new want why (Ok done) fails is wants = absurd fails
 notes_stop cells first next all old mid new want why (Err other) fails is wants = notes_on cells first next old mid new (Err want) is wants
 
@@ -70,7 +78,8 @@ none_kept cells all None none = refl
 none_kept cells all (Some noted) none = absurd (cc)
 
 -- cells that are the same where any are noted
-pub notes_same : (cells : Cells) (reached all : List Cell) (old new : Option (List Held)) → new ≡ with_noted cells reached old → (IsSome old → reached ≡ all) → new ≡ with_noted cells all old
+pub notes_same : (cells : Cells) (reached all : List Cell) (old new : Option (List Held)) → new ≡ with_noted cells reached old
+    → (IsSome old → reached ≡ all) → new ≡ with_noted cells all old
 notes_same cells reached all old new is same = is ∙ by old same
   where
     by : (noted : Option (List Held)) → (IsSome noted → reached ≡ all) → with_noted cells reached noted ≡ with_noted cells all noted
@@ -120,7 +129,8 @@ later_or : {A : Type 0} (y : A) (ys : List A) (x : A) → (y ≡ x) ⊎ Contains
 later_or y ys x (inl here) = subst (Contains (y ∷ ys)) here (first_of y ys)
 later_or y ys x (inr there) = Contains-append_right (y ∷ []) ys x there
 
-some_of : {A : Type 0} (y : A) (ys zs : List A) (x : A) (here : Bool) → (Contains zs x → Contains ys x) → Contains (cond here (y ∷ zs) zs) x → Contains (y ∷ ys) x
+some_of : {A : Type 0} (y : A) (ys zs : List A) (x : A) (here : Bool) → (Contains zs x → Contains ys x) → Contains (cond here (y ∷ zs) zs) x
+    → Contains (y ∷ ys) x
 some_of y ys zs x true rest has = by (first_or y zs x has)
   where
     by : (y ≡ x) ⊎ Contains zs x → Contains (y ∷ ys) x
@@ -132,7 +142,8 @@ pub filter_in : {A : Type 0} (test : A → Bool) (xs : List A) (x : A) → Conta
 filter_in test [] x has = has
 filter_in test (y ∷ ys) x has = some_of y ys (filter test ys) x (test y) (filter_in test ys x) has
 
-reached_within : (basin : Draft) (puts all : List Asked) → ((put : Asked) → Contains puts put → Contains all put) → (cell : Cell) → Contains (cells_reached basin puts) cell
+reached_within : (basin : Draft) (puts all : List Asked) → ((put : Asked) → Contains puts put → Contains all put) → (cell : Cell)
+    → Contains (cells_reached basin puts) cell
     → Contains (cells_reached basin all) cell
 reached_within basin [] all each cell has = absurd (omega (arith, has.1))
 reached_within basin (put ∷ puts) all each cell has =
@@ -145,7 +156,8 @@ reached_within basin (put ∷ puts) all each cell has =
     by others (inr there) = others there
 
 -- what an event writes is reached, whatever was noted of a fault
-pub written_reached : (basin : Draft) (event : Event) (reached : List Cell) → ((¬ IsFault event) → reached ≡ reached_by basin event) → WritesAsked event
+pub written_reached : (basin : Draft) (event : Event) (reached : List Cell) → ((¬ IsFault event) → reached ≡ reached_by basin event)
+    → WritesAsked event
     → (cell : Cell) → Contains (cells_reached basin (written_by event)) cell → Contains reached cell
 written_reached basin (fault why) reached is asks cell has = absurd (omega (arith, has.1))
 written_reached basin event reached is asks cell has =
@@ -155,7 +167,8 @@ written_reached basin event reached is asks cell has =
 
 -- ---- what can be taken back
 
-pub revocable_noted : (before now : Cells) (old new : Option (List Held)) → NotesSome now old new → IfSome old (CanTakeBack before now) → IfSome new (CanTakeBack before now)
+pub revocable_noted : (before now : Cells) (old new : Option (List Held)) → NotesSome now old new → IfSome old (CanTakeBack before now)
+    → IfSome new (CanTakeBack before now)
 revocable_noted before now old new some can = subst (λ noted. IfSome noted (CanTakeBack before now)) (sym some.1) (by old can)
   where
     by : (noted : Option (List Held)) → IfSome noted (CanTakeBack before now) → IfSome (with_noted now some.0 noted) (CanTakeBack before now)
@@ -163,11 +176,13 @@ revocable_noted before now old new some can = subst (λ noted. IfSome noted (Can
     by (Some noted) can = more_noted before now noted some.0 can
 
 -- puts are made all of whose cells are noted
-pub revocable_made : (basin : Draft) (before now after : Cells) (puts : List Asked) (reached : List Cell) (old new : Option (List Held)) → new ≡ with_noted now reached old
+pub revocable_made : (basin : Draft) (before now after : Cells) (puts : List Asked) (reached : List Cell) (old new : Option (List Held))
+    → new ≡ with_noted now reached old
     → (IsSome old → (cell : Cell) → Contains (cells_reached basin puts) cell → Contains reached cell)
     → ((cell : Cell) → after cell ≡ option_or (last_put basin puts cell) (now cell))
     → IfSome old (CanTakeBack before now) → IfSome new (CanTakeBack before after)
-revocable_made basin before now after puts reached old new is all made can = subst (λ noted. IfSome noted (CanTakeBack before after)) (sym is) (by old all can)
+revocable_made basin before now after puts reached old new is all made can =
+    subst (λ noted. IfSome noted (CanTakeBack before after)) (sym is) (by old all can)
   where
     by : (noted : Option (List Held)) → (IsSome noted → (cell : Cell) → Contains (cells_reached basin puts) cell → Contains reached cell)
         → IfSome noted (CanTakeBack before now) → IfSome (with_noted now reached noted) (CanTakeBack before after)
@@ -177,13 +192,15 @@ revocable_made basin before now after puts reached old new is all made can = sub
         (λ cell near. (among now noted reached cell).1 (inr (all refl cell near))) in
         record { held = put.held; same = λ cell none. made cell ∙ put.same cell none }
 
-pub revocable_first : (before now : Cells) (noted : Option (List Held)) → IfSome noted (λ none. none ≡ []) → ((cell : Cell) → now cell ≡ before cell) → IfSome noted (CanTakeBack before now)
+pub revocable_first : (before now : Cells) (noted : Option (List Held)) → IfSome noted (λ none. none ≡ []) → ((cell : Cell) → now cell ≡ before cell)
+    → IfSome noted (CanTakeBack before now)
 revocable_first before now None none same = tt
 revocable_first before now (Some noted) none same = rw none (record { held = (fresh before).held; same = λ cell other. same cell })
 
 -- ---- what is noted of a timestep
 
-pub notes_first : (basin : Draft) (before now : Cells) (noted : Option (List Held)) → IfSome noted (λ none. none ≡ []) → ((cell : Cell) → now cell ≡ before cell)
+pub notes_first : (basin : Draft) (before now : Cells) (noted : Option (List Held)) → IfSome noted (λ none. none ≡ [])
+    → ((cell : Cell) → now cell ≡ before cell)
     → IfSome noted (Notes basin before now [])
 notes_first basin before now None none same = tt
 notes_first basin before now (Some noted) none same =
@@ -231,17 +248,20 @@ or_asks : (values : Option (ℤ × ℤ)) (object : ℕ) (put : Asked) (rest : Ev
 or_asks None object put rest asks = asks
 or_asks (Some values) object put rest asks = none_written (or_fault (Some values) object put rest) refl
 
-pub judged_asks : (cells : Cells) (looked : List Look) (object step : ℕ) (all puts : List Asked) → WritesAsked (judged cells object puts (dispatch_of cells looked object step all))
+pub judged_asks : (cells : Cells) (looked : List Look) (object step : ℕ) (all puts : List Asked)
+    → WritesAsked (judged cells object puts (dispatch_of cells looked object step all))
 judged_asks cells looked object step all [] = λ put has. filter_in (λ (put : Asked). is_written (end_in cells put)) all put has
 judged_asks cells looked object step all (first ∷ puts) =
-    or_asks (denied_by (end_in cells first) first) object first (judged cells object puts (dispatch_of cells looked object step all)) (judged_asks cells looked object step all puts)
+    or_asks (denied_by (end_in cells first) first) object first (judged cells object puts (dispatch_of cells looked object step all))
+    (judged_asks cells looked object step all puts)
 
 pub dispatch_asks : (basin : Draft) (cells : Cells) (object step : ℕ) → WritesAsked (dispatched basin cells object step)
 dispatch_asks basin cells object step = by (solved_by basin cells object step)
   where
     by : (solved : Solved) → WritesAsked (answered basin cells (looks_of basin cells object step) object step solved)
     by Idle = none_written (idle object step (looks_of basin cells object step)) refl
-    by (Puts puts) = judged_asks cells (looks_of basin cells object step) object step (asked_for basin object step puts) (asked_for basin object step puts)
+    by (Puts puts) =
+        judged_asks cells (looks_of basin cells object step) object step (asked_for basin object step puts) (asked_for basin object step puts)
     by (Conflict place at solves) = none_written (answered basin cells (looks_of basin cells object step) object step (Conflict place at solves)) refl
     by (OutOfRange place value) = none_written (answered basin cells (looks_of basin cells object step) object step (OutOfRange place value)) refl
 
@@ -264,22 +284,26 @@ firing_asks basin cells rule step fire (EndsOutside value) = none_written (ended
 
 -- ---- what they reach
 
-pub dispatch_reached : (basin : Draft) (cells : Cells) (object step : ℕ) (asked : List Asked) → ((¬ IsFault (dispatched basin cells object step)) → asked ≡ asked_in (dispatched basin cells object step))
-    → (¬ IsFault (dispatched basin cells object step)) → looked_cells basin object step ++ cells_reached basin asked ≡ reached_by basin (dispatched basin cells object step)
+pub dispatch_reached : (basin : Draft) (cells : Cells) (object step : ℕ) (asked : List Asked)
+    → ((¬ IsFault (dispatched basin cells object step)) → asked ≡ asked_in (dispatched basin cells object step))
+    → (¬ IsFault (dispatched basin cells object step))
+    → looked_cells basin object step ++ cells_reached basin asked ≡ reached_by basin (dispatched basin cells object step)
 dispatch_reached basin cells object step asked is calm =
     ap (λ at. at ++ cells_reached basin asked)
     (sym (looked_at_cells cells (looked_cells basin object step))
     ∙ ap cells_looked (sym (looks_told basin cells (looks_of basin cells object step) object step (solved_by basin cells object step) calm)))
     ∙ ap (λ puts. cells_looked (looks_in (dispatched basin cells object step)) ++ cells_reached basin puts) (is calm)
 
-pub firing_reached : (basin : Draft) (cells : Cells) (rule step : ℕ) (fire : Fire) (end : FireEnd) (looked : List Look) (asked : List Asked) → looked ≡ looks_at cells fire.looked
+pub firing_reached : (basin : Draft) (cells : Cells) (rule step : ℕ) (fire : Fire) (end : FireEnd) (looked : List Look) (asked : List Asked)
+    → looked ≡ looks_at cells fire.looked
     → asked ≡ asked_in (ended basin cells rule step fire end) → (¬ IsFault (ended basin cells rule step fire end))
     → cells_looked looked ++ cells_reached basin asked ≡ reached_by basin (ended basin cells rule step fire end)
 firing_reached basin cells rule step fire end looked asked is asks calm =
     ap (λ looks. cells_looked looks ++ cells_reached basin asked) (is ∙ sym (by end calm))
     ∙ ap (λ puts. cells_looked (looks_in (ended basin cells rule step fire end)) ++ cells_reached basin puts) asks
   where
-    by : (so : FireEnd) → (¬ IsFault (ended basin cells rule step fire so)) → looks_in (ended basin cells rule step fire so) ≡ looks_at cells fire.looked
+    by : (so : FireEnd) → (¬ IsFault (ended basin cells rule step fire so))
+        → looks_in (ended basin cells rule step fire so) ≡ looks_at cells fire.looked
     by Done calm = refl
     by Unknown calm = refl
     by DividesByZero calm = absurd (calm tt)

@@ -12,7 +12,8 @@ use Rattle.rw_engine.specs.Passing.{EndsStep, RunsStep}
 use Rattle.rw_engine.specs.Picked.{EndsStepBy, ComesToPicked, LeadsBy, PassesBy, RunsStepBy, turn_after}
 use Rattle.rw_engine.specs.declared.step_end.StepEnd.{StepEnd}
 use Rattle.rw_engine.specs.declared.step_end.StepEnd.TheVariants.{Closed as IsClosed, Fault as IsFaulted}
-use Rattle.rw_engine.proofs.Common.{ComesTo, Draft, Engine, Event, Inputs, Leads, List, Log, Passes, Policy, [], ap, first_of, follows, opened, placed, refl, sym, waiting, ℕ, ℤ, ◌∙◌, ◌∷◌, ◌≡◌}
+use Rattle.rw_engine.proofs.Common.{ComesTo, Draft, Engine, Event, Inputs, Leads, List, Log, Passes, Policy, [], ap, first_of, follows, opened}
+use Rattle.rw_engine.proofs.Common.{placed, refl, sym, waiting, ℕ, ℤ, ◌∙◌, ◌∷◌, ◌≡◌}
 
 first_is : (waits : List ℕ) → first_of waits ≡ slice_get waits 0
 first_is [] = refl
@@ -22,9 +23,11 @@ module _ (basin : Draft) (policy : Policy) where
   follows_oldest : (log : Log) → follows basin policy log ≡ follows_by basin policy log (slice_get (waiting basin log) 0) (standing log)
   follows_oldest log = ap (λ object. follows_by basin policy log object (standing log)) (first_is (waiting basin log))
 
-  oldest_leads : (turn : ℕ) (old : Log) (events : List Event) (new : Log) → LeadsBy basin policy oldest turn old events new → Leads basin policy old events new
+  oldest_leads : (turn : ℕ) (old : Log) (events : List Event) (new : Log) → LeadsBy basin policy oldest turn old events new
+      → Leads basin policy old events new
   oldest_leads turn old [] new leads = leads
-  oldest_leads turn old (event ∷ events) new leads = (follows_oldest old ∙ leads.0, oldest_leads (turn_after turn event) (event ∷ old) events new leads.2)
+  oldest_leads turn old (event ∷ events) new leads =
+      (follows_oldest old ∙ leads.0, oldest_leads (turn_after turn event) (event ∷ old) events new leads.2)
 
   picked_leads : (old : Log) (events : List Event) (new : Log) → LeadsPicked basin policy oldest old events new → Leads basin policy old events new
   picked_leads old [] new leads = leads
@@ -44,11 +47,13 @@ module _ (basin : Draft) (policy : Policy) where
   pub comes_oldest : (inputs : Inputs) (run : Run) → ComesToPicked basin policy oldest inputs run → ComesTo basin policy inputs run
   comes_oldest inputs run comes = record { log = comes.log; whole = oldest_is_run _ comes.log comes.whole; is = comes.is }
 
-  pub comes_run : (inputs : Inputs) (result : Result Run NoMemory) → IfOk result (ComesToPicked basin policy oldest inputs) → IfOk result (ComesTo basin policy inputs)
+  pub comes_run : (inputs : Inputs) (result : Result Run NoMemory) → IfOk result (ComesToPicked basin policy oldest inputs)
+      → IfOk result (ComesTo basin policy inputs)
   comes_run inputs (Ok run) comes = comes_oldest inputs run comes
   comes_run inputs (Err want) comes = tt
 
-  closes : (turn step : ℕ) (end : StepEnd) (old new : Log) (engine : Engine) → EndsStepBy basin policy oldest turn end step old new engine → EndsStep basin policy end step old new engine
+  closes : (turn step : ℕ) (end : StepEnd) (old new : Log) (engine : Engine) → EndsStepBy basin policy oldest turn end step old new engine
+      → EndsStep basin policy end step old new engine
   closes turn step (IsFaulted why) old new engine closing = tt
   closes turn step IsClosed old new engine closing = record {
     first = closing.first;
@@ -58,14 +63,17 @@ module _ (basin : Draft) (policy : Policy) where
       rest = closing.rest;
       next_one = closing.next_one;
       goes = closing.goes;
-      leads = oldest_leads turn (opened step ∷ old) (closing.first ∷ closing.events) (log_after (closing.first ∷ closing.events) (opened step ∷ old)) closing.leads;
+      leads =
+          oldest_leads turn (opened step ∷ old) (closing.first ∷ closing.events) (log_after (closing.first ∷ closing.events) (opened step ∷ old))
+          closing.leads;
     };
     is = closing.is;
     noted = closing.noted;
   }
 
   -- and so with a timestep
-  passes : (turn step : ℕ) (end : StepEnd) (log : Log) (engine : Engine) → PassesBy basin policy oldest turn log end engine step → Passes basin policy log end engine step
+  passes : (turn step : ℕ) (end : StepEnd) (log : Log) (engine : Engine) → PassesBy basin policy oldest turn log end engine step
+      → Passes basin policy log end engine step
   passes turn step end log engine by = record {
     events = by.events;
     last = by.last;
@@ -77,7 +85,8 @@ module _ (basin : Draft) (policy : Policy) where
     closes = closes turn step end log (by.last ∷ by.before) engine by.closes;
   }
 
-pub runs_oldest : (basin : Draft) (policy : Accepted) (step : ℕ) (old new : Engine) (result : Result StepEnd NoMemory) → RunsStepBy basin policy oldest step old new result
+pub runs_oldest : (basin : Draft) (policy : Accepted) (step : ℕ) (old new : Engine) (result : Result StepEnd NoMemory)
+    → RunsStepBy basin policy oldest step old new result
     → RunsStep basin policy step old new result
 runs_oldest basin policy step old new (Ok end) runs = record {
   made = runs.made;

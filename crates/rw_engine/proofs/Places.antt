@@ -1,5 +1,7 @@
 -- Inputs are placed one after another.
-use Rattle.rw_engine.proofs.Common.{AreBounded, AreBounded-put, Cell, Draft, HoldsAll, Inputs, IsInputsOf, List, Log, Series, Sets, Some, [], add-one, ap, ap₂, givens_of, givens_to, held, if_given, input_content, placed, refl, subst, suc, sym, value_at, ℕ, ℤ, ◌++◌, ◌+◌, ◌∙◌, ◌∷◌, ◌≡◌}
+use Rattle.rw_engine.proofs.Common.{AreBounded, AreBounded-put, Cell, Draft, HoldsAll, Inputs, IsInputsOf, List, Log, Series, Sets, Some, [], add-one}
+use Rattle.rw_engine.proofs.Common.{ap, ap₂, givens_of, givens_to, held, if_given, input_content, placed, refl, subst, suc, sym, value_at, ℕ, ℤ, ◌++◌}
+use Rattle.rw_engine.proofs.Common.{◌+◌, ◌∙◌, ◌∷◌, ◌≡◌}
 use Rattle.rw_base.proofs.Common.{zero}
 use Rattle.rw_inputs.specs.Column.{Column, value_in_column}
 use Rattle.rw_inputs.specs.Inputs.{slot_column}
@@ -15,7 +17,8 @@ pub given-bounded : (basin : Draft) (inputs : Inputs) (cell : Cell) (value : ℤ
     → AreBounded basin (held new)
 given-bounded basin inputs cell value old new made is bounded sets =
     let within = (made.sound cell.slot.0 cell.step.0 value is).within in
-    AreBounded-put basin (record { cell = cell; content = input_content value }) old new (record { low = within.low; high = within.high }) bounded sets
+    AreBounded-put basin (record { cell = cell; content = input_content value }) old new (record { low = within.low; high = within.high })
+    bounded sets
 
 -- a slot without places for values is given nothing
 pub none-given : (inputs : Inputs) (slot steps : ℕ) → slot_column inputs.columns slot ≡ [] → givens_of inputs slot steps ≡ []
@@ -24,7 +27,8 @@ none-given inputs slot (suc step) empty =
     ap₂ (λ (xs ys : List (Cell × ℤ)). xs ++ ys) (none-given inputs slot step empty)
     (ap (λ (column : Column). if_given slot (suc step) (value_in_column column (suc step))) empty)
 
-of_more : (inputs : Inputs) (slot steps n : ℕ) → n ≡ suc steps → givens_of inputs slot n ≡ givens_of inputs slot steps ++ if_given slot n (value_at inputs slot n)
+of_more : (inputs : Inputs) (slot steps n : ℕ) → n ≡ suc steps
+    → givens_of inputs slot n ≡ givens_of inputs slot steps ++ if_given slot n (value_at inputs slot n)
 of_more inputs slot steps n is =
     subst (λ m. givens_of inputs slot m ≡ givens_of inputs slot steps ++ if_given slot m (value_at inputs slot m)) (sym is) refl
 

@@ -1,5 +1,6 @@
 -- Counts of numbered things.
-use Rattle.rw_engine.proofs.Common.{HasCount, List, [], arith, count_of_number, get_or, if◌then◌else◌, length, nat_tests, raised, refl, room, set, suc, zero, ℕ, ◌+◌, ◌-◌, ◌<◌, ◌==◌, ◌∷◌, ◌≡◌, ◌≤◌}
+use Rattle.rw_engine.proofs.Common.{HasCount, List, [], arith, count_of_number, get_or, if◌then◌else◌, length, nat_tests, raised, refl, room, set}
+use Rattle.rw_engine.proofs.Common.{suc, zero, ℕ, ◌+◌, ◌-◌, ◌<◌, ◌==◌, ◌∷◌, ◌≡◌, ◌≤◌}
 use Rattle.rw_run.specs.Next.{count_if}
 
 set_at : (xs : List ℕ) (k j v : ℕ) → k < length xs → get_or (set xs k v) j 0 ≡ (if k == j then v else get_or xs j 0)

@@ -1,5 +1,7 @@
 -- The lines of a timestep, what they say to be written, and its record.
-use Rattle.rw_engine.proofs.Common.{All, Asked, Cell, Cells, Draft, Engine, Event, List, Log, None, Option, Some, [], ap, append-nil, arith, cells_of, closed, fault, given, last_put, length, line_of, lines, map, opened, option_or, refl, subst, suc, sym, take, written_by, zero, ℕ, ◌++◌, ◌+◌, ◌∙◌, ◌∷◌, ◌≡◌}
+use Rattle.rw_engine.proofs.Common.{All, Asked, Cell, Cells, Draft, Engine, Event, List, Log, None, Option, Some, [], ap, append-nil, arith, cells_of}
+use Rattle.rw_engine.proofs.Common.{closed, fault, given, last_put, length, line_of, lines, map, opened, option_or, refl, subst, suc, sym, take}
+use Rattle.rw_engine.proofs.Common.{written_by, zero, ℕ, ◌++◌, ◌+◌, ◌∙◌, ◌∷◌, ◌≡◌}
 use Rattle.std.specs.Prelude.{Err, IfErr, IfOk, IfSome, MatchOption, Ok, Result, option_and_then, slice_get, ◌⊎◌, ◌<◌}
 use Rattle.std.specs.List.{cons_option, flat_map}
 use Rattle.std.proofs.lemmas.Grind.{flat_map-append}
@@ -16,7 +18,8 @@ use Rattle.rw_run.specs.declared.trace.TraceEvent.TheVariants.{Opened, Idle, Sol
 use Rattle.rw_record.specs.Noted.{noted_in}
 use Rattle.rw_record.specs.Record.{IsLarge, IsRecordOf, StepRecord}
 use Rattle.rw_record.proofs.Counting.{looked, recorded}
-use Rattle.rw_engine.specs.Records.{CanWriteAll, CanWriteLine, CanWriteLines, HasNoted, IsTooLarge, RecordsOrNot, lines_of_step, puts_in, puts_of_line}
+use Rattle.rw_engine.specs.Records.{CanWriteAll, CanWriteLine, CanWriteLines, HasNoted, IsTooLarge, RecordsOrNot, lines_of_step, puts_in}
+use Rattle.rw_engine.specs.Records.{puts_of_line}
 
 -- ---- lists, place by place
 
@@ -41,7 +44,8 @@ both : {A : Type 0} (x y z : Option A) → option_or (option_or x y) z ≡ optio
 both None y z = refl
 both (Some x) y z = refl
 
-pub put_after : (basin : Draft) (puts more : List Asked) (cell : Cell) → last_put basin (puts ++ more) cell ≡ option_or (last_put basin more cell) (last_put basin puts cell)
+pub put_after : (basin : Draft) (puts more : List Asked) (cell : Cell)
+    → last_put basin (puts ++ more) cell ≡ option_or (last_put basin more cell) (last_put basin puts cell)
 put_after basin [] more cell = nothing_else (last_put basin more cell)
 put_after basin (put ∷ puts) more cell =
     ap (λ z. option_or z (last_put basin (put ∷ []) cell)) (put_after basin puts more cell)
@@ -49,9 +53,11 @@ put_after basin (put ∷ puts) more cell =
 
 -- puts and then more, made one after the other
 pub puts_on : (basin : Draft) (puts more : List Asked) (cell : Cell) (before : Cells)
-    → option_or (last_put basin more cell) (option_or (last_put basin puts cell) (before cell)) ≡ option_or (last_put basin (puts ++ more) cell) (before cell)
+    → option_or (last_put basin more cell) (option_or (last_put basin puts cell) (before cell))
+    ≡ option_or (last_put basin (puts ++ more) cell) (before cell)
 puts_on basin puts more cell before =
-    sym (both (last_put basin more cell) (last_put basin puts cell) (before cell)) ∙ ap (λ z. option_or z (before cell)) (sym (put_after basin puts more cell))
+    sym (both (last_put basin more cell) (last_put basin puts cell) (before cell))
+    ∙ ap (λ z. option_or z (before cell)) (sym (put_after basin puts more cell))
 
 -- what a line says to be written, if there is one that does
 pub puts_of_write : (line : Option TraceEvent) → cons_option (option_and_then write_of line) [] ≡ puts_in (cons_option line [])
@@ -64,7 +70,8 @@ puts_of_lines [] = refl
 puts_of_lines (put ∷ puts) = ap (λ rest. put ∷ rest) (puts_of_lines puts)
 
 -- the lines of an event that is no input say what it writes
-puts_of_event : (event : Event) (step : ℕ) (log : Log) → (standing (event ∷ []) ≡ inside step) ⊎ (event ≡ closed step) → puts_in (lines event) ≡ written_by event
+puts_of_event : (event : Event) (step : ℕ) (log : Log) → (standing (event ∷ []) ≡ inside step) ⊎ (event ≡ closed step)
+    → puts_in (lines event) ≡ written_by event
 puts_of_event (given cell value) step log (inl is) = absurd (cc)
 puts_of_event (given cell value) step log (inr is) = absurd (cc)
 puts_of_event (opened other) step log is = refl
@@ -75,7 +82,8 @@ puts_of_event (fired firing) step log is = puts_of_lines firing.written
 puts_of_event (fault why) step log is = refl
 
 held_on : (basin : Draft) (event : Event) (rest : List TraceEvent) (log : Log) (cell : Cell) → puts_in (lines event) ≡ written_by event
-    → option_or (last_put basin (puts_in (lines event ++ rest)) cell) (cells_of basin log cell) ≡ option_or (last_put basin (puts_in rest) cell) (cells_of basin (event ∷ log) cell)
+    → option_or (last_put basin (puts_in (lines event ++ rest)) cell) (cells_of basin log cell)
+    ≡ option_or (last_put basin (puts_in rest) cell) (cells_of basin (event ∷ log) cell)
 held_on basin event rest log cell is =
     ap (λ puts. option_or (last_put basin puts cell) (cells_of basin log cell))
     (flat_map-append puts_of_line (lines event) rest ∙ ap (λ puts. puts ++ puts_in rest) is)
@@ -83,7 +91,8 @@ held_on basin event rest log cell is =
 
 -- what the lines of a timestep's events leave in the cells
 pub held_again : (basin : Draft) (step : ℕ) (first : Event) (events : List Event) (log : Log) (cell : Cell) → IsStepFrom step first events
-    → option_or (last_put basin (puts_in (flat_map lines (first ∷ events))) cell) (cells_of basin log cell) ≡ cells_of basin (log_after (first ∷ events) log) cell
+    → option_or (last_put basin (puts_in (flat_map lines (first ∷ events))) cell) (cells_of basin log cell)
+    ≡ cells_of basin (log_after (first ∷ events) log) cell
 held_again basin step first [] log cell goes = held_on basin first [] log cell (puts_of_event first step log (inr goes))
 held_again basin step first (next ∷ events) log cell goes =
     held_on basin first (flat_map lines (next ∷ events)) log cell (puts_of_event first step log (inl goes.0))
@@ -98,17 +107,20 @@ can_line basin (Some line) can = subst (AreWrites basin) (sym (append-nil (puts_
 can_lines : (basin : Draft) (puts : List Asked) → AreWrites basin puts → CanWriteLines basin (map line_of puts)
 can_lines basin [] all = All-nil (CanWriteLine basin)
 can_lines basin (put ∷ puts) all =
-    All-cons (CanWriteLine basin) (line_of put) (map line_of puts) (All-cons (CanWrite basin) put [] (All-head (CanWrite basin) put puts all) (All-nil (CanWrite basin)))
+    All-cons (CanWriteLine basin) (line_of put) (map line_of puts)
+    (All-cons (CanWrite basin) put [] (All-head (CanWrite basin) put puts all) (All-nil (CanWrite basin)))
     (can_lines basin puts (All-tail (CanWrite basin) put puts all))
 
 -- a line that says nothing to be written, and those of puts
-can_told : (basin : Draft) (line : TraceEvent) (puts : List Asked) → CanWriteLine basin line → AreWrites basin puts → CanWriteLines basin (line ∷ map line_of puts)
+can_told : (basin : Draft) (line : TraceEvent) (puts : List Asked) → CanWriteLine basin line → AreWrites basin puts
+    → CanWriteLines basin (line ∷ map line_of puts)
 can_told basin line puts can all = All-cons (CanWriteLine basin) line (map line_of puts) can (can_lines basin puts all)
 
 can_event : (basin : Draft) (event : Event) → AreWrites basin (written_by event) → CanWriteLines basin (lines event)
 can_event basin (given cell value) can = All-nil (CanWriteLine basin)
 can_event basin (solved dispatch) can = can_told basin (Solve (record { 0 = dispatch.object })) dispatch.written (All-nil (CanWrite basin)) can
-can_event basin (fired firing) can = can_told basin (Fire (record { 0 = firing.rule }) firing.is_done firing.count) firing.written (All-nil (CanWrite basin)) can
+can_event basin (fired firing) can =
+    can_told basin (Fire (record { 0 = firing.rule }) firing.is_done firing.count) firing.written (All-nil (CanWrite basin)) can
 can_event basin (opened step) can = can_told basin (Opened (record { 0 = step })) [] (All-nil (CanWrite basin)) can
 can_event basin (closed step) can = can_told basin (Closed (record { 0 = step })) [] (All-nil (CanWrite basin)) can
 can_event basin (idle object step looked) can = can_told basin (Idle (record { 0 = object })) [] (All-nil (CanWrite basin)) can
@@ -127,7 +139,8 @@ can_step basin step events all =
 
 -- ---- the record of what is noted
 
-pub record_or_not : (basin : Draft) (step : ℕ) (old : Log) (events : List Event) (engine : Engine) (kept : Option StepRecord) → HasNoted basin step old events engine → engine.closed ≡ step
+pub record_or_not : (basin : Draft) (step : ℕ) (old : Log) (events : List Event) (engine : Engine) (kept : Option StepRecord)
+    → HasNoted basin step old events engine → engine.closed ≡ step
     → MatchOption kept (IsLarge (noted_in engine.noted) (lines_in engine.lines))
     (IsRecordOf engine.closed (noted_in engine.noted) (lines_in engine.lines)) → RecordsOrNot basin step old events kept
 record_or_not basin step old events engine kept has is result = by kept result

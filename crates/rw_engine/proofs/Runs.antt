@@ -1,5 +1,6 @@
 -- A run, timestep by timestep.
-use Rattle.rw_engine.proofs.Common.{ComesTo, Draft, Engine, Event, Inputs, IsBefore, IsOver, IsRunOf, List, Log, RunFault, Shows, [], ap, arith, givens, Policy, placed, refl, rests, standing, subst, sym, ℕ, ◌++◌, ◌+◌, ◌<◌, ◌∙◌, ◌∷◌, ◌≡◌}
+use Rattle.rw_engine.proofs.Common.{ComesTo, Draft, Engine, Event, Inputs, IsBefore, IsOver, IsRunOf, List, Log, RunFault, Shows, [], ap, arith}
+use Rattle.rw_engine.proofs.Common.{givens, Policy, placed, refl, rests, standing, subst, sym, ℕ, ◌++◌, ◌+◌, ◌<◌, ◌∙◌, ◌∷◌, ◌≡◌}
 use Rattle.std.specs.Prelude.{Err, IsErrAnd, Ok, Result, ◌-◌, ◌^◌, ◌≤◌}
 use Rattle.rw_base.specs.declared.memory.NoMemory.{NoMemory}
 use Rattle.rpl_verify.specs.Verified.{Accepted}
@@ -18,11 +19,13 @@ use Rattle.rw_engine.proofs.Steps.{leads_on}
 use Rattle.rw_engine.proofs.Anyhow.{may_lead}
 use Rattle.rw_engine.proofs.Turns.{leads_picked, turns_more, turns_placed}
 
-pub before_step : (basin : Draft) (log : Log) (step : ℕ) → standing log ≡ rests step → step < basin.control.stamps.count → IsBefore basin (step + 1) log
+pub before_step : (basin : Draft) (log : Log) (step : ℕ) → standing log ≡ rests step → step < basin.control.stamps.count
+    → IsBefore basin (step + 1) log
 before_step basin log step rest near = record { last = step; rest = rest; next_one = refl; exists = omega arith }
 
 module _ (basin : Draft) (policy : Policy) (rule : Picking) (inputs : Inputs) where
-  pub stands_first : (engine : Engine) → Shows basin engine (placed [] (givens basin inputs)) → engine.turns ≡ 0 → StandsPicked basin policy rule inputs engine 0
+  pub stands_first : (engine : Engine) → Shows basin engine (placed [] (givens basin inputs)) → engine.turns ≡ 0
+      → StandsPicked basin policy rule inputs engine 0
   stands_first engine shows none = record {
     log = placed [] (givens basin inputs);
     events = [];
@@ -38,7 +41,9 @@ module _ (basin : Draft) (policy : Policy) (rule : Picking) (inputs : Inputs) wh
   stands_next old new step stands passes = record {
     log = passes.last ∷ passes.before;
     events = stands.events ++ passes.events;
-    leads = leads_on basin policy rule 0 (placed [] (givens basin inputs)) stands.events passes.events stands.log (passes.last ∷ passes.before) stands.leads
+    leads =
+        leads_on basin policy rule 0 (placed [] (givens basin inputs)) stands.events passes.events stands.log (passes.last ∷ passes.before)
+        stands.leads
         (subst (λ turn. LeadsBy basin policy rule turn stands.log passes.events (passes.last ∷ passes.before)) stands.turned passes.leads);
     shows = passes.shows;
     rest = ap (λ event. standing (event ∷ passes.before)) passes.ends;
@@ -46,11 +51,14 @@ module _ (basin : Draft) (policy : Policy) (rule : Picking) (inputs : Inputs) wh
   }
 
   -- events that the inputs led to are those of the picked run
-  abbrev whole : (events : List Event) (log : Log) → LeadsBy basin policy rule 0 (placed [] (givens basin inputs)) events log → turns_after 0 events < 2 ^ 64 - 1
+  abbrev whole : (events : List Event) (log : Log) → LeadsBy basin policy rule 0 (placed [] (givens basin inputs)) events log
+      → turns_after 0 events < 2 ^ 64 - 1
       → IsOver basin (standing log) → IsPickedRun basin policy rule (givens basin inputs) log
   whole events log leads few over = record {
     events = events;
-    leads = leads_picked basin policy rule 0 (placed [] (givens basin inputs)) events log (sym (turns_placed [] (givens basin inputs))) (omega arith) few leads;
+    leads =
+        leads_picked basin policy rule 0 (placed [] (givens basin inputs)) events log (sym (turns_placed [] (givens basin inputs)))
+        (omega arith) few leads;
     end = over;
   }
 
@@ -67,13 +75,16 @@ module _ (basin : Draft) (policy : Policy) (rule : Picking) (inputs : Inputs) wh
 
   -- and after a fault
   pub comes_faulted : (old new : Engine) (step at : ℕ) (why : RunFault) (run : Run) → (stands : StandsPicked basin policy rule inputs old step)
-      → (passes : PassesBy basin policy rule old.turns stands.log (IsFault why) new at) → new.turns < 2 ^ 64 - 1 → IsRunOf basin (passes.last ∷ passes.before) run
+      → (passes : PassesBy basin policy rule old.turns stands.log (IsFault why) new at) → new.turns < 2 ^ 64 - 1
+      → IsRunOf basin (passes.last ∷ passes.before) run
       → ComesToPicked basin policy rule inputs run
   comes_faulted old new step at why run stands passes few is =
       let least = passes.turned.least in
       let all : turns_after 0 (stands.events ++ passes.events) ≡ turns_after old.turns passes.events =
       turns_more 0 stands.events passes.events ∙ ap (λ turn. turns_after turn passes.events) (sym stands.turned) in
-      let leads = leads_on basin policy rule 0 (placed [] (givens basin inputs)) stands.events passes.events stands.log (passes.last ∷ passes.before) stands.leads
+      let leads =
+      leads_on basin policy rule 0 (placed [] (givens basin inputs)) stands.events passes.events stands.log (passes.last ∷ passes.before)
+      stands.leads
       (subst (λ turn. LeadsBy basin policy rule turn stands.log passes.events (passes.last ∷ passes.before)) stands.turned passes.leads) in record {
         log = passes.last ∷ passes.before;
         any = may_lead basin policy rule 0 (placed [] (givens basin inputs)) (stands.events ++ passes.events) (passes.last ∷ passes.before) leads;
@@ -90,7 +101,8 @@ pub counted_settled : (old new before : ℕ) (end : RunEnd) (closed : ℕ) (log 
 counted_settled old new before end closed log rest is last counted =
     counted ∙ ap (λ n. old + n) (sym (ap₂ opened_by (is ∙ settled_at_rest log before rest) last))
 
-pub counted_fault : (old new before : ℕ) (end : RunEnd) (closed : ℕ) (why : RunFault) {mid : ℕ} → end ≡ Fault why → closed ≡ before → mid ≡ old + before → new ≡ mid + 1
+pub counted_fault : (old new before : ℕ) (end : RunEnd) (closed : ℕ) (why : RunFault) {mid : ℕ} → end ≡ Fault why → closed ≡ before
+    → mid ≡ old + before → new ≡ mid + 1
     → new ≡ old + opened_by end closed
 counted_fault old new before end closed why is last were more =
     let all : new ≡ old + (before + 1) = omega (arith, were, more) in all ∙ ap (λ n. old + n) (sym (ap₂ opened_by is last))
@@ -98,7 +110,8 @@ counted_fault old new before end closed why is last were more =
 -- ---- without rules
 
 -- a run of code in which no rule is is a run of no rules
-pub without_rules : (basin : Draft) (inputs : Inputs) (run : Run) → ComesTo basin (policy_in basin (record { blocks = []; budgets = []; resolved = [] })) inputs run
+pub without_rules : (basin : Draft) (inputs : Inputs) (run : Run)
+    → ComesTo basin (policy_in basin (record { blocks = []; budgets = []; resolved = [] })) inputs run
     → ComesTo basin no_rules inputs run
 without_rules basin inputs run comes = record {
   log = comes.log;
@@ -109,7 +122,8 @@ without_rules basin inputs run comes = record {
 
 -- memory wants for the rest of a run
 pub unrun : (basin : Draft) (policy : Accepted) (rule : Picking) (engine : Engine) (before after : ℕ) (result : Result Run NoMemory) (why : NoMemory)
-    → IsErrAnd result (λ fault. fault ≡ why) → before ≤ after → after ≤ before + basin.control.stamps.count → RunsAllBy basin policy rule engine before after result
+    → IsErrAnd result (λ fault. fault ≡ why) → before ≤ after → after ≤ before + basin.control.stamps.count
+    → RunsAllBy basin policy rule engine before after result
 unrun basin policy rule engine before after (Ok run) why is rises few = absurd is
 unrun basin policy rule engine before after (Err fault) why is rises few = record {
   comes = λ inputs shows. tt;

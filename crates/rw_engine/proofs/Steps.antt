@@ -1,5 +1,9 @@
 -- A timestep of the engine, over the log that it shows.
-use Rattle.rw_engine.proofs.Common.{Bool, Cell, Cells, Draft, Engine, Event, GoesByEvent, TraceGrows, HoldsWithin, IsBefore, IsSome, IsStill, List, Log, None, Option, Policy, Reached, Series, Settled, Shows, Some, State, [], all_waiting, ap, append-nil, append_assoc, ap₂, arith, cells_of, closed, count_of_number, fault, false, given, held, held_after, if◌then◌else◌, inside, last_put, length, lines, nat_lt, nat_tests, opened, opens, option_or, refl, seen, standing, subst, sym, trace_of, true, written_by, ℕ, ◌++◌, ◌+◌, ◌∙◌, ◌∷◌, ◌≡◌, ◌≤◌}
+use Rattle.rw_engine.proofs.Common.{Bool, Cell, Cells, Draft, Engine, Event, GoesByEvent, TraceGrows, HoldsWithin, IsBefore, IsSome, IsStill, List}
+use Rattle.rw_engine.proofs.Common.{Log, None, Option, Policy, Reached, Series, Settled, Shows, Some, State, [], all_waiting, ap, append-nil}
+use Rattle.rw_engine.proofs.Common.{append_assoc, ap₂, arith, cells_of, closed, count_of_number, fault, false, given, held, held_after, if◌then◌else◌}
+use Rattle.rw_engine.proofs.Common.{inside, last_put, length, lines, nat_lt, nat_tests, opened, opens, option_or, refl, seen, standing, subst, sym}
+use Rattle.rw_engine.proofs.Common.{trace_of, true, written_by, ℕ, ◌++◌, ◌+◌, ◌∙◌, ◌∷◌, ◌≡◌, ◌≤◌}
 use Rattle.std.specs.Prelude.{Err, IfSome, IsErrAnd, Ok, Result, is_some}
 use Rattle.std.specs.List.{flat_map}
 use Rattle.rw_base.proofs.Common.{All-push}
@@ -33,7 +37,8 @@ use Rattle.rw_engine.proofs.Turns.{turns_more}
 
 module _ (basin : Draft) (policy : Policy) (rule : Picking) where
   pub leads_more : (turn : ℕ) (old : Log) (events : List Event) (event : Event) (new : Log) → LeadsBy basin policy rule turn old events new
-      → follows_at basin policy rule (turns_after turn events) new ≡ Some event → PicksAt rule (turns_after turn events) (waiting basin new) (standing new)
+      → follows_at basin policy rule (turns_after turn events) new ≡ Some event
+      → PicksAt rule (turns_after turn events) (waiting basin new) (standing new)
       → LeadsBy basin policy rule turn old (events ++ event ∷ []) (event ∷ new)
   leads_more turn old [] event new leads follow picks = (
     ap (follows_at basin policy rule turn) (sym leads) ∙ follow,
@@ -46,20 +51,24 @@ module _ (basin : Draft) (policy : Policy) (rule : Picking) where
   pub leads_on : (turn : ℕ) (old : Log) (first last : List Event) (mid new : Log) → LeadsBy basin policy rule turn old first mid
       → LeadsBy basin policy rule (turns_after turn first) mid last new → LeadsBy basin policy rule turn old (first ++ last) new
   leads_on turn old [] last mid new one other = subst (λ log. LeadsBy basin policy rule turn log last new) one other
-  leads_on turn old (event ∷ first) last mid new one other = (one.0, one.1, leads_on (turn_after turn event) (event ∷ old) first last mid new one.2 other)
+  leads_on turn old (event ∷ first) last mid new one other =
+      (one.0, one.1, leads_on (turn_after turn event) (event ∷ old) first last mid new one.2 other)
 
   leads_after : (turn : ℕ) (old : Log) (events : List Event) (new : Log) → LeadsBy basin policy rule turn old events new → new ≡ log_after events old
   leads_after turn old [] new leads = leads
   leads_after turn old (event ∷ events) new leads = leads_after (turn_after turn event) (event ∷ old) events new leads.2
 
 -- who is picked of those that wait in the state is picked in the log
-picks_inside : (basin : Draft) (policy : Accepted) (rule : Picking) (state : State) (step turn : ℕ) (log : Log) → HoldsWithin basin policy state step state.queue.waiting log
+picks_inside : (basin : Draft) (policy : Accepted) (rule : Picking) (state : State) (step turn : ℕ) (log : Log)
+    → HoldsWithin basin policy state step state.queue.waiting log
     → state.turns ≡ turn → PicksAt rule state.turns state.queue.waiting (inside step) → PicksAt rule turn (waiting basin log) (standing log)
 picks_inside basin policy rule state step turn log holds is picks =
     subst (λ stands. PicksAt rule turn (waiting basin log) stands) (sym holds.open_step)
-    (subst (λ t. PicksAt rule t (waiting basin log) (inside step)) is (subst (λ waits. PicksAt rule state.turns waits (inside step)) holds.queue picks))
+    (subst (λ t. PicksAt rule t (waiting basin log) (inside step)) is
+    (subst (λ waits. PicksAt rule state.turns waits (inside step)) holds.queue picks))
 
-follows_inside : (basin : Draft) (policy : Accepted) (rule : Picking) (state : State) (step turn : ℕ) (log : Log) → HoldsWithin basin policy state step state.queue.waiting log
+follows_inside : (basin : Draft) (policy : Accepted) (rule : Picking) (state : State) (step turn : ℕ) (log : Log)
+    → HoldsWithin basin policy state step state.queue.waiting log
     → state.turns ≡ turn
     → follows_at basin (policy_in basin policy) rule turn log
     ≡ next_of basin (policy_in basin policy) (cells_of basin log) log step (picked_at rule state.turns state.queue.waiting)
@@ -67,8 +76,10 @@ follows_inside basin policy rule state step turn log holds is =
     ap (follows_by basin (policy_in basin policy) log (picked_at rule turn (waiting basin log))) holds.open_step
     ∙ ap₂ (λ t waits. next_of basin (policy_in basin policy) (cells_of basin log) log step (picked_at rule t waits)) (sym is) (sym holds.queue)
 
-pub opens_step : (basin : Draft) (policy : Accepted) (old new : State) (step : ℕ) (log : Log) → Shows basin (seen old) log → new.run.series ≡ old.run.series
-    → new.queue.waiting ≡ all_waiting basin → ((object : ℕ) → count_of_number new.counts object ≡ 0) → ((rule : ℕ) → count_of_number new.firings rule ≡ 0)
+pub opens_step : (basin : Draft) (policy : Accepted) (old new : State) (step : ℕ) (log : Log) → Shows basin (seen old) log
+    → new.run.series ≡ old.run.series
+    → new.queue.waiting ≡ all_waiting basin → ((object : ℕ) → count_of_number new.counts object ≡ 0)
+    → ((rule : ℕ) → count_of_number new.firings rule ≡ 0)
     → ShowsLooks policy new.rules (opened step ∷ log) → new.run.trace ≡ told old.run.trace (lines (opened step))
     → new.run.closed ≡ old.run.closed → new.run.end ≡ Settled → HoldsWithin basin policy new step new.queue.waiting (opened step ∷ log)
 opens_step basin policy old new step log shows series queue counts firings looks trace last end = record {
@@ -101,17 +112,20 @@ alone (solved dispatch) log = refl
 alone (fired firing) log = refl
 alone (fault why) log = refl
 
-inside_more : (step : ℕ) (events : List Event) (event : Event) → AreWithinStep step events → standing (event ∷ []) ≡ inside step → AreWithinStep step (events ++ event ∷ [])
+inside_more : (step : ℕ) (events : List Event) (event : Event) → AreWithinStep step events → standing (event ∷ []) ≡ inside step
+    → AreWithinStep step (events ++ event ∷ [])
 inside_more step [] event within at = (at, tt)
 inside_more step (first ∷ events) event within at = (within.0, inside_more step events event within.1 at)
 
 -- what an event made of the cells, by what both states show
-made_by : (basin : Draft) (old new : State) (event : Event) (log : Log) → Shows basin (seen old) log → Shows basin (seen new) (event ∷ log) → (cell : Cell)
+made_by : (basin : Draft) (old new : State) (event : Event) (log : Log) → Shows basin (seen old) log → Shows basin (seen new) (event ∷ log)
+    → (cell : Cell)
     → held new.run.series cell ≡ held_after basin event (held old.run.series) cell
 made_by basin old new event log was is cell =
     is.cells cell ∙ ap (λ z. option_or (last_put basin (written_by event) cell) z) (sym (was.cells cell))
 
-pub reached_more : (basin : Draft) (policy : Accepted) (rule : Picking) (turn : ℕ) (start : Log) (old new : State) (step : ℕ) → Reached basin policy rule turn start old step
+pub reached_more : (basin : Draft) (policy : Accepted) (rule : Picking) (turn : ℕ) (start : Log) (old new : State) (step : ℕ)
+    → Reached basin policy rule turn start old step
     → ((log : Log) → HoldsWithin basin policy old step old.queue.waiting log
     → GoesByEvent basin policy (picked_at rule old.turns old.queue.waiting) None (held old.run.series) old.noted old.lines old.turns new step log)
     → PicksAt rule old.turns old.queue.waiting (inside step) → Reached basin policy rule turn start new step
@@ -132,7 +146,8 @@ reached_more basin policy rule turn start old new step reached goes picks =
       can = All-push (λ (event : Event). AreWrites basin (written_by event)) reached.events went.event reached.can went.can;
     }
 
-opened_next : (basin : Draft) (step last : ℕ) (test : Bool) → nat_lt last basin.control.stamps.count ≡ test → step ≡ last + 1 → step ≤ basin.control.stamps.count
+opened_next : (basin : Draft) (step last : ℕ) (test : Bool) → nat_lt last basin.control.stamps.count ≡ test → step ≡ last + 1
+    → step ≤ basin.control.stamps.count
     → (if test then Some (opened (last + 1)) else None) ≡ Some (opened step)
 opened_next basin step last true test is exists = ap (λ n. Some (opened n)) (sym is)
 opened_next basin step last false test is exists = absurd (grind (arith, nat_tests))
@@ -152,7 +167,8 @@ all_in : (events : List Event) (last : Event) → first_in events last ∷ behin
 all_in [] last = refl
 all_in (event ∷ events) last = refl
 
-step_from : (step : ℕ) (events : List Event) (last : Event) → AreWithinStep step events → last ≡ closed step → IsStepFrom step (first_in events last) (behind_in events last)
+step_from : (step : ℕ) (events : List Event) (last : Event) → AreWithinStep step events → last ≡ closed step
+    → IsStepFrom step (first_in events last) (behind_in events last)
 step_from step [] last within is = is
 step_from step (event ∷ []) last within is = (within.0, is)
 step_from step (event ∷ next ∷ events) last within is = (within.0, step_from step (next ∷ events) last within.1 is)
@@ -162,7 +178,8 @@ trace_after [] log = sym (append-nil (trace_of log))
 trace_after (event ∷ events) log = trace_after events (event ∷ log) ∙ append_assoc (trace_of log) (lines event) (flat_map lines events)
 
 -- what an engine that notes timesteps has noted of one
-pub has_noted : (basin : Draft) (step : ℕ) (old : Log) (events : List Event) (engine : Engine) (noted : Option (List Held)) (these : Option (List TraceEvent))
+pub has_noted : (basin : Draft) (step : ℕ) (old : Log) (events : List Event) (engine : Engine) (noted : Option (List Held))
+    (these : Option (List TraceEvent))
     → engine.noted ≡ noted → engine.lines ≡ these → is_some these ≡ is_some noted
     → IfSome noted (λ cells. AreLooked basin (cells_of basin old) events cells × AreOnce cells)
     → IfSome these (λ told. told ≡ lines_of_step step events)
@@ -191,9 +208,11 @@ calm_closed step event is = subst (λ (e : Event). ¬ IsFault e) (sym is) (λ fa
 pub begins_step : (basin : Draft) (policy : Policy) (chosen : Option ℕ) (log : Log) (step : ℕ) → IsBefore basin step log
     → follows_by basin policy log chosen (standing log) ≡ Some (opened step)
 begins_step basin policy chosen log step before =
-    ap (follows_by basin policy log chosen) before.rest ∙ opened_next basin step before.last (nat_lt before.last basin.control.stamps.count) refl before.next_one before.exists
+    ap (follows_by basin policy log chosen) before.rest
+    ∙ opened_next basin step before.last (nat_lt before.last basin.control.stamps.count) refl before.next_one before.exists
 
-pub ends_step : (basin : Draft) (policy : Accepted) (rule : Picking) (turn : ℕ) (log : Log) (first old new : State) (step : ℕ) (end : StepEnd) → Reached basin policy rule turn log old step
+pub ends_step : (basin : Draft) (policy : Accepted) (rule : Picking) (turn : ℕ) (log : Log) (first old new : State) (step : ℕ) (end : StepEnd)
+    → Reached basin policy rule turn log old step
     → ((l : Log) → HoldsWithin basin policy old step old.queue.waiting l
     → GoesByEvent basin policy (picked_at rule old.turns old.queue.waiting) (Some end) (held old.run.series) old.noted old.lines old.turns new step l)
     → PicksAt rule old.turns old.queue.waiting (inside step) → Shows basin (seen first) log → IsBefore basin step log
@@ -224,7 +243,8 @@ ends_step basin policy rule turn log first old new step end reached goes picks s
     last_turn : (event : Event) → turns_after turn (opened step ∷ (reached.events ++ event ∷ [])) ≡ turn_after old.turns event
     last_turn event = turns_more turn reached.events (event ∷ []) ∙ ap (λ t. turn_after t event) (sym reached.turned)
 
-    turned : (e : StepEnd) (went : GoesByEvent basin policy (picked_at rule old.turns old.queue.waiting) (Some e) (held old.run.series) old.noted old.lines old.turns new step reached.now)
+    turned : (e : StepEnd) (went : GoesByEvent basin policy (picked_at rule old.turns old.queue.waiting) (Some e) (held old.run.series) old.noted
+        old.lines old.turns new step reached.now)
         → CountsTurns e turn new.turns (opened step ∷ (reached.events ++ went.event ∷ []))
     turned e went = record {
       least = rw (last_turn went.event) went.turned.least;
@@ -233,7 +253,8 @@ ends_step basin policy rule turn log first old new step end reached goes picks s
           went.turned.same calm ∙ sym (last_turn went.event);
     }
 
-    closes : (e : StepEnd) (went : GoesByEvent basin policy (picked_at rule old.turns old.queue.waiting) (Some e) (held old.run.series) old.noted old.lines old.turns new step reached.now)
+    closes : (e : StepEnd) (went : GoesByEvent basin policy (picked_at rule old.turns old.queue.waiting) (Some e) (held old.run.series) old.noted
+        old.lines old.turns new step reached.now)
         → LeadsBy basin (policy_in basin policy) rule turn (opened step ∷ log) (reached.events ++ went.event ∷ []) (went.event ∷ reached.now)
         → EndsStepBy basin (policy_in basin policy) rule turn e step log (went.event ∷ reached.now) (seen new)
     closes (IsFaulted why) went leads = tt
@@ -241,7 +262,8 @@ ends_step basin policy rule turn log first old new step end reached goes picks s
         let is = went.goes.0 in
         let events = reached.events ++ went.event ∷ [] in
         let split = all_in reached.events went.event in
-        let whole : went.event ∷ reached.now ≡ log_after events (opened step ∷ log) = leads_after basin (policy_in basin policy) rule turn (opened step ∷ log) events (went.event ∷ reached.now) leads in
+        let whole : went.event ∷ reached.now ≡ log_after events (opened step ∷ log) =
+        leads_after basin (policy_in basin policy) rule turn (opened step ∷ log) events (went.event ∷ reached.now) leads in
         let calm = calm_closed step went.event is in
         let noted = notes_more basin (cells_of basin log) (held old.run.series) (held new.run.series) reached.events went.event old.noted new.noted
         (went.notes calm) went.asks (made_by basin old new went.event reached.now reached.holds.shows went.goes.1) reached.notes in
@@ -252,11 +274,14 @@ ends_step basin policy rule turn log first old new step end reached goes picks s
           rest = before.rest;
           next_one = before.next_one;
           goes = step_from step reached.events went.event reached.inside_step is;
-          leads = subst (λ these. LeadsBy basin (policy_in basin policy) rule turn (opened step ∷ log) these (log_after these (opened step ∷ log))) (sym split)
+          leads =
+              subst (λ these. LeadsBy basin (policy_in basin policy) rule turn (opened step ∷ log) these (log_after these (opened step ∷ log)))
+              (sym split)
               (subst (LeadsBy basin (policy_in basin policy) rule turn (opened step ∷ log) events) whole leads);
           is = whole ∙ ap (λ these. log_after these (opened step ∷ log)) (sym split);
           noted = λ kept. subst (λ these. HasNoted basin step log these (seen new)) (sym split)
-              (has_noted basin step log events (seen new) new.noted new.lines refl refl notes.same (looked_once basin (cells_of basin log) (held new.run.series) events new.noted noted)
+              (has_noted basin step log events (seen new) new.noted new.lines refl refl notes.same
+              (looked_once basin (cells_of basin log) (held new.run.series) events new.noted noted)
               (lines_more step reached.events went.event old.lines new.lines went.lines_are reached.lines_are) (can_step basin step events can) kept);
         }
 
@@ -268,7 +293,8 @@ still_more one other last before after =
     record { closed_steps = after.closed_steps ∙ before.closed_steps; end = after.end ∙ before.end }
 
 -- what was done can be taken back, and then what an event did
-pub goes_back_more : (basin : Draft) (policy : Accepted) (first old new : State) → CanGoBack first old → KeepsWithin basin policy old new → CanGoBack first new
+pub goes_back_more : (basin : Draft) (policy : Accepted) (first old new : State) → CanGoBack first old → KeepsWithin basin policy old new
+    → CanGoBack first new
 goes_back_more basin policy first old new before keeps = record {
   revocable = keeps.revocable (held first.run.series) before.revocable;
   notes = keeps.notes ∙ before.notes;

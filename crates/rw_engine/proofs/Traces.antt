@@ -1,5 +1,6 @@
 -- Traces that are kept or aren't, and the lines that are told to them.
-use Rattle.rw_engine.proofs.Common.{Bool, Event, TraceGrows, List, None, Option, Some, [], ap, append-nil, append_assoc, false, if◌then◌else◌, length, lines, none-some, refl, subst, sym, take, true, ℕ, ◌++◌, ◌∙◌, ◌∷◌, ◌≡◌}
+use Rattle.rw_engine.proofs.Common.{Bool, Event, TraceGrows, List, None, Option, Some, [], ap, append-nil, append_assoc, false, if◌then◌else◌, length}
+use Rattle.rw_engine.proofs.Common.{lines, none-some, refl, subst, sym, take, true, ℕ, ◌++◌, ◌∙◌, ◌∷◌, ◌≡◌}
 use Rattle.std.specs.Prelude.{Err, IfErr, IfOk, IfSome, IsErrAnd, IsSome, Ok, Result, is_some, option_map}
 use Rattle.std.proofs.lemmas.Grind.{flat_map-append}
 use Rattle.std.proofs.Math.Seq.{take-append_seam}
@@ -51,7 +52,8 @@ grows_some old new grows = ap is_some grows.1 ∙ by old
     by (Some lines) = refl
 
 -- a line more, or lines more
-pub told_on : (first old new : Option (List TraceEvent)) (one more all : List TraceEvent) → new ≡ told old more → old ≡ told first one → one ++ more ≡ all
+pub told_on : (first old new : Option (List TraceEvent)) (one more all : List TraceEvent) → new ≡ told old more → old ≡ told first one
+    → one ++ more ≡ all
     → new ≡ told first all
 told_on first old new one more all is was same = is ∙ ap (λ t. told t more) was ∙ told_more first one more ∙ ap (told first) same
 
@@ -77,12 +79,14 @@ fresh_where trace true is = rw is refl
 fresh_where trace false is = rw is tt
 
 -- of lines that were added, or weren't for want of memory
-pub kept_told : {A E : Type 0} (result : Result A E) (old new : Option (List TraceEvent)) (more : List TraceEvent) → IfOk result (λ done. new ≡ told old more)
+pub kept_told : {A E : Type 0} (result : Result A E) (old new : Option (List TraceEvent)) (more : List TraceEvent)
+    → IfOk result (λ done. new ≡ told old more)
     → IfErr result (λ want. new ≡ old) → is_some new ≡ is_some old
 kept_told (Ok done) old new more is same = grows_some old new (more, is)
 kept_told (Err want) old new more is same = ap is_some same
 
-pub grows_told : {A E : Type 0} (result : Result A E) (old new : Option (List TraceEvent)) (more : List TraceEvent) → IfOk result (λ done. new ≡ told old more)
+pub grows_told : {A E : Type 0} (result : Result A E) (old new : Option (List TraceEvent)) (more : List TraceEvent)
+    → IfOk result (λ done. new ≡ told old more)
     → IfErr result (λ want. new ≡ old) → TraceGrows old new
 grows_told (Ok done) old new more is same = (more, is)
 grows_told (Err want) old new more is same = ([], same ∙ sym (told_none old))
@@ -99,7 +103,8 @@ told_both more trace lines new_trace new_lines (Err want) is noted grows both wa
     record { said = tt; noted = tt; grows = grows; adds = (more, noted); wants = both wants }
 
 -- memory wants for it
-pub tells_wanted : (more : List TraceEvent) (trace lines new_trace new_lines : Option (List TraceEvent)) (result : Result (Unit {0}) NoMemory) (why : NoMemory)
+pub tells_wanted : (more : List TraceEvent) (trace lines new_trace new_lines : Option (List TraceEvent)) (result : Result (Unit {0}) NoMemory)
+    (why : NoMemory)
     → IsErrAnd result (λ fault. fault ≡ why) → TraceGrows trace new_trace → TraceGrows lines new_lines → IsSome lines
     → TellsBoth more trace lines new_trace new_lines result
 tells_wanted more trace lines new_trace new_lines (Ok done) why is grows adds kept = absurd is
@@ -117,16 +122,19 @@ emptied None = tt
 emptied (Some lines) = refl
 
 -- what is kept is kept still
-pub alike_on : (noted more : Option (List Held)) (old new trace next : Option (List TraceEvent)) → is_some more ≡ is_some noted → is_some new ≡ is_some old
+pub alike_on : (noted more : Option (List Held)) (old new trace next : Option (List TraceEvent)) → is_some more ≡ is_some noted
+    → is_some new ≡ is_some old
     → is_some next ≡ is_some trace → NotesAlike noted old trace → NotesAlike more new next
 alike_on noted more old new trace next notes adds tells alike = record {
   same = adds ∙ alike.same ∙ sym notes;
   traced = λ kept. notes ∙ alike.traced (sym tells ∙ kept);
 }
 
-pub alike_told : (noted : Option (List Held)) (old new trace next : Option (List TraceEvent)) → TraceGrows old new → TraceGrows trace next → NotesAlike noted old trace
+pub alike_told : (noted : Option (List Held)) (old new trace next : Option (List TraceEvent)) → TraceGrows old new → TraceGrows trace next
+    → NotesAlike noted old trace
     → NotesAlike noted new next
-alike_told noted old new trace next adds grows alike = alike_on noted noted old new trace next refl (grows_some old new adds) (grows_some trace next grows) alike
+alike_told noted old new trace next adds grows alike =
+    alike_on noted noted old new trace next refl (grows_some old new adds) (grows_some trace next grows) alike
 
 -- an event more
 pub lines_more : (step : ℕ) (events : List Event) (event : Event) (old new : Option (List TraceEvent)) → new ≡ told old (lines event)

@@ -4,10 +4,13 @@ use Rattle.std.proofs.Math.Nat.{suc-mul}
 use Rattle.std.proofs.lemmas.Nat.{mul-le}
 use Rattle.rw_base.specs.declared.number.Cell.{Cell}
 use Rattle.rw_model.specs.Basin.{IsBasin}
-use Rattle.rw_engine.proofs.Common.{add-one, Cells, DispatchEnd, Draft, Event, HasCount, List, Log, Look, None, Option, Policy, Put, RunFault, Some, State, [], ap, arith, count_of_number, ended_by, event_of, fault, given, length, placed, raised, refl, room, sym, ℕ, ℤ, ◌++◌, ◌+◌, ◌-◌, ◌<◌, ◌∙◌, ◌∷◌, ◌≡◌, ◌≤◌}
+use Rattle.rw_engine.proofs.Common.{add-one, Cells, DispatchEnd, Draft, Event, HasCount, List, Log, Look, None, Option, Policy, Put, RunFault, Some}
+use Rattle.rw_engine.proofs.Common.{State, [], ap, arith, count_of_number, ended_by, event_of, fault, given, length, placed, raised, refl, room, sym}
+use Rattle.rw_engine.proofs.Common.{ℕ, ℤ, ◌++◌, ◌+◌, ◌-◌, ◌<◌, ◌∙◌, ◌∷◌, ◌≡◌, ◌≤◌}
 use Rattle.rw_dispatch.specs.Answer.{Ends, answer_of}
 use Rattle.rw_dispatch.specs.Pick.{LeadsPicked, Picking, picked_at, turn_of, turn_count}
-use Rattle.rw_dispatch.specs.declared.dispatch_end.DispatchEnd.TheVariants.{Idle as IsIdle, Solved as IsSolved, Conflict as IsConflict, OutOfRange as IsOutOfRange}
+use Rattle.rw_dispatch.specs.declared.dispatch_end.DispatchEnd.TheVariants.{Idle as IsIdle, Solved as IsSolved, Conflict as IsConflict}
+use Rattle.rw_dispatch.specs.declared.dispatch_end.DispatchEnd.TheVariants.{OutOfRange as IsOutOfRange}
 use Rattle.rw_run.specs.Frame.{IsFault}
 use Rattle.rw_run.specs.Log.{dispatched_in}
 use Rattle.rw_run.specs.Next.{ended}
@@ -24,18 +27,21 @@ use Rattle.rw_engine.proofs.Raises.{room_falls}
 -- ---- an event
 
 -- of a dispatch that ended so, where the turn was raised before
-pub counts_dispatch : (basin : Draft) (looked : List Look) (object step before after : ℕ) (event : Event) (ended : DispatchEnd) → Ends basin looked object step event ended
+pub counts_dispatch : (basin : Draft) (looked : List Look) (object step before after : ℕ) (event : Event) (ended : DispatchEnd)
+    → Ends basin looked object step event ended
     → after ≡ next_turn_number before → before ≤ after → CountsTurn before after event
 counts_dispatch basin looked object step before after event ended ends is rises = rw (ends.is, is) (by ended (rw (← is) rises))
   where
-    by : (e : DispatchEnd) → before ≤ next_turn_number before → CountsTurn before (next_turn_number before) (event_of basin looked object step (answer_of e ends.asked ends.written))
+    by : (e : DispatchEnd) → before ≤ next_turn_number before
+        → CountsTurn before (next_turn_number before) (event_of basin looked object step (answer_of e ends.asked ends.written))
     by IsIdle rises = record { least = omega arith; same = λ calm. refl }
     by IsSolved rises = record { least = omega arith; same = λ calm. refl }
     by (IsConflict slot held solves) rises = record { least = rises; same = λ calm. absurd (calm tt) }
     by (IsOutOfRange slot value) rises = record { least = rises; same = λ calm. absurd (calm tt) }
 
 -- of a firing
-pub counts_firing : (basin : Draft) (cells : Cells) (rule step : ℕ) (fire : Fire) (turn : ℕ) (so : FireEnd) → CountsTurn turn turn (ended basin cells rule step fire so)
+pub counts_firing : (basin : Draft) (cells : Cells) (rule step : ℕ) (fire : Fire) (turn : ℕ) (so : FireEnd)
+    → CountsTurn turn turn (ended basin cells rule step fire so)
 counts_firing basin cells rule step fire turn Done = record { least = omega arith; same = λ calm. refl }
 counts_firing basin cells rule step fire turn Unknown = record { least = omega arith; same = λ calm. refl }
 counts_firing basin cells rule step fire turn DividesByZero = record { least = omega arith; same = λ calm. refl }
@@ -53,11 +59,13 @@ few_ended basin old new None few = few
 few_ended basin old new (Some why) few = few
 
 -- a turn more, of an object that may be dispatched as often less
-pub few_object : (basin : Draft) (old : State) (counts : List ℕ) (turn object : ℕ) → HasCount old.counts object → count_of_number old.counts object < basin.control.object_limit
+pub few_object : (basin : Draft) (old : State) (counts : List ℕ) (turn object : ℕ) → HasCount old.counts object
+    → count_of_number old.counts object < basin.control.object_limit
     → counts ≡ raised old.counts object → turn ≤ old.turns + 1 → turn + room basin.control.object_limit counts ≤ turns_at_most basin old
 few_object basin old counts turn object known below is few =
     let less = room_falls basin.control.object_limit old.counts object known below in
-    let own : room basin.control.object_limit counts ≡ room basin.control.object_limit (raised old.counts object) = ap (room basin.control.object_limit) is in
+    let own : room basin.control.object_limit counts ≡ room basin.control.object_limit (raised old.counts object) =
+    ap (room basin.control.object_limit) is in
     omega (arith, less, own, few)
 
 -- ---- events
@@ -85,19 +93,23 @@ pub few_more : (basin : Draft) (old new : State) (most : ℕ) → turns_at_most 
     → turns_at_most basin new ≤ most
 few_more basin old new most less few = omega (arith, less, few)
 
-pub few_last : (basin : Draft) (old new : State) (most : ℕ) → turns_at_most basin new ≤ turns_at_most basin old → turns_at_most basin old ≤ most → new.turns ≤ most
+pub few_last : (basin : Draft) (old new : State) (most : ℕ) → turns_at_most basin new ≤ turns_at_most basin old → turns_at_most basin old ≤ most
+    → new.turns ≤ most
 few_last basin old new most less few = omega (arith, less, few)
 
 -- ---- a run
 
 -- a timestep more
-pub more_turns : (basin : Draft) (before old new : ℕ) → new ≤ old + most_turns basin → old ≤ before * most_turns basin → new ≤ (before + 1) * most_turns basin
+pub more_turns : (basin : Draft) (before old new : ℕ) → new ≤ old + most_turns basin → old ≤ before * most_turns basin
+    → new ≤ (before + 1) * most_turns basin
 more_turns basin before old new more few =
-    let next : (before + 1) * most_turns basin ≡ before * most_turns basin + most_turns basin = ap (λ n. n * most_turns basin) (add-one before) ∙ suc-mul before (most_turns basin) in
+    let next : (before + 1) * most_turns basin ≡ before * most_turns basin + most_turns basin =
+    ap (λ n. n * most_turns basin) (add-one before) ∙ suc-mul before (most_turns basin) in
     omega (arith, more, few, next)
 
 -- no run comes to the greatest turn
-pub few_turns : (basin : Draft) (step turn : ℕ) → IsBasin basin → step ≤ basin.control.stamps.count → turn ≤ step * most_turns basin → turn < 2 ^ 64 - 1
+pub few_turns : (basin : Draft) (step turn : ℕ) → IsBasin basin → step ≤ basin.control.stamps.count → turn ≤ step * most_turns basin
+    → turn < 2 ^ 64 - 1
 few_turns basin step turn valid exists few =
     let steps = valid.whole.control.timesteps.few in
     let objects = valid.whole.few_objects in
@@ -117,12 +129,14 @@ rising turn (event ∷ events) most =
     let rest = rising (turn_after turn event) events one.1 in
     let first = one.0 in omega (arith, first, rest)
 
-one_more : (turn before : ℕ) (found : Option ℕ) → turn ≡ before → turn_behind turn found < 2 ^ 64 - 1 → turn_behind turn found ≡ turn_of found + before
+one_more : (turn before : ℕ) (found : Option ℕ) → turn ≡ before → turn_behind turn found < 2 ^ 64 - 1
+    → turn_behind turn found ≡ turn_of found + before
 one_more turn before None is below = omega (arith, is)
 one_more turn before (Some object) is below = omega (arith, is, below)
 
 -- so the turn that is counted is that of the log
-pub leads_picked : (basin : Draft) (policy : Policy) (rule : Picking) (turn : ℕ) (old : Log) (events : List Event) (new : Log) → turn ≡ turn_count old → turn ≤ 2 ^ 64 - 1
+pub leads_picked : (basin : Draft) (policy : Policy) (rule : Picking) (turn : ℕ) (old : Log) (events : List Event) (new : Log) → turn ≡ turn_count old
+    → turn ≤ 2 ^ 64 - 1
     → turns_after turn events < 2 ^ 64 - 1 → LeadsBy basin policy rule turn old events new → LeadsPicked basin policy rule old events new
 leads_picked basin policy rule turn old [] new is most below leads = leads
 leads_picked basin policy rule turn old (event ∷ events) new is most below leads =
@@ -130,7 +144,8 @@ leads_picked basin policy rule turn old (event ∷ events) new is most below lea
     let rest = rising (turn_after turn event) events one.1 in
     let near : turn_after turn event < 2 ^ 64 - 1 = omega (arith, rest, below) in (
       ap (λ t. follows_by basin policy old (picked_at rule t (waiting basin old)) (standing old)) (sym is) ∙ leads.0,
-      leads_picked basin policy rule (turn_after turn event) (event ∷ old) events new (one_more turn (turn_count old) (dispatched_in event) is near) one.1 below leads.2,
+      leads_picked basin policy rule (turn_after turn event) (event ∷ old) events new (one_more turn (turn_count old) (dispatched_in event) is near)
+          one.1 below leads.2,
     )
 
 -- no input is a dispatch

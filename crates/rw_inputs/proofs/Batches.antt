@@ -1,5 +1,6 @@
 -- Rows of edits that are read one after another.
-use Rattle.rw_base.proofs.Common.{◌≡◌, ℕ, ◌+◌, ◌-◌, nat_le, List, [], ◌∷◌, ◌++◌, length, Result, Ok, Err, sym, ap, subst, ◌∙◌, arith, All, All-get_or, All-nil, All-push, cond_both, dec_lt, get_or_past}
+use Rattle.rw_base.proofs.Common.{◌≡◌, ℕ, ◌+◌, ◌-◌, nat_le, List, [], ◌∷◌, ◌++◌, length, Result, Ok, Err, sym, ap, subst, ◌∙◌, arith, All, All-get_or}
+use Rattle.rw_base.proofs.Common.{All-nil, All-push, cond_both, dec_lt, get_or_past}
 use Rattle.std.proofs.lemmas.List.Elements.{All-set}
 use Rattle.rw_base.specs.Answers.{IsWhy}
 use Rattle.rw_model.specs.Draft.{Draft}
@@ -32,14 +33,16 @@ module _ (basin : Draft) (row : ℕ) (batches : List Batch) (old rows : List Fie
 
   pub row_read : (more : List Batch) → at_row row (batches_with basin row batches (four_fields fields)) Ok ≡ Ok more
       → more_batches basin (row + 1) more rows ≡ all
-  row_read more is = sym (at_row-read row (batches_with basin row batches (four_fields fields)) (λ more. more_batches basin (row + 1) more rows) more is) ∙ row_first
+  row_read more is =
+      sym (at_row-read row (batches_with basin row batches (four_fields fields)) (λ more. more_batches basin (row + 1) more rows) more is) ∙ row_first
 
   pub row_refused : (fault : InputFault) → IsWhy NoMemory refusal_of (at_row row (batches_with basin row batches (four_fields fields)) Ok) fault
       → IsWhy NoMemory refusal_of all fault
   row_refused fault why = (
     (λ refusal is.
         sym row_first
-        ∙ at_row-refused row (batches_with basin row batches (four_fields fields)) (λ more. more_batches basin (row + 1) more rows) refusal (why.0 refusal is)),
+        ∙ at_row-refused row (batches_with basin row batches (four_fields fields)) (λ more. more_batches basin (row + 1) more rows) refusal
+        (why.0 refusal is)),
     why.1,
   )
 

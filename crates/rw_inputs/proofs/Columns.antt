@@ -1,5 +1,6 @@
 -- Columns of values, one of which is set.
-use Rattle.rw_base.proofs.Common.{◌≡◌, ◌≢◌, ℕ, ◌<◌, ◌==◌, ◌&&◌, Bool, true, false, if◌then◌else◌, List, [], length, Option, refl, ap, subst, sym, ◌∙◌, arith, ℤ, nat_le, slice_set, nat_tests, get_or-set_same, get_or-set_other}
+use Rattle.rw_base.proofs.Common.{◌≡◌, ◌≢◌, ℕ, ◌<◌, ◌==◌, ◌&&◌, Bool, true, false, if◌then◌else◌, List, [], length, Option, refl, ap, subst, sym, ◌∙◌}
+use Rattle.rw_base.proofs.Common.{arith, ℤ, nat_le, slice_set, nat_tests, get_or-set_same, get_or-set_other}
 use Rattle.rw_inputs.specs.Inputs.{slot_column}
 use Rattle.rw_inputs.specs.Column.{Column, IsColumn, IsSet, value_in_column}
 

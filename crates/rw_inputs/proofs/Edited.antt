@@ -1,5 +1,6 @@
 -- Values after edits, and rows one after another.
-use Rattle.rw_base.proofs.Common.{◌≡◌, ℕ, ◌+◌, Bool, true, false, ◌||◌, List, [], ◌∷◌, ◌++◌, length, Result, Ok, Err, refl, ap, ap₂, ◌∙◌, arith, list_any}
+use Rattle.rw_base.proofs.Common.{◌≡◌, ℕ, ◌+◌, Bool, true, false, ◌||◌, List, [], ◌∷◌, ◌++◌, length, Result, Ok, Err, refl, ap, ap₂, ◌∙◌, arith}
+use Rattle.rw_base.proofs.Common.{list_any}
 use Rattle.rw_inputs.specs.declared.edit.Edit.{Edit}
 use Rattle.rw_model.specs.Draft.{Draft}
 use Rattle.rw_inputs.specs.declared.wrong.Wrong.{Wrong}

@@ -1,11 +1,14 @@
 -- The edits of all batches, where one is added.
-use Rattle.rw_base.proofs.Common.{◌≡◌, ◌≢◌, ℕ, ◌+◌, ◌-◌, ◌==◌, ◌≤◌, ◌||◌, nat_le, nat_tests, Bool, true, false, if◌then◌else◌, List, [], ◌∷◌, ◌++◌, length, Option, Some, None, Result, Ok, Err, refl, sym, ap, subst, ◌∙◌, inl, inr, ◌⊎◌, arith, append_assoc, append-nil, slice_index_or, slice_set, length_push}
+use Rattle.rw_base.proofs.Common.{◌≡◌, ◌≢◌, ℕ, ◌+◌, ◌-◌, ◌==◌, ◌≤◌, ◌||◌, nat_le, nat_tests, Bool, true, false, if◌then◌else◌, List, [], ◌∷◌, ◌++◌}
+use Rattle.rw_base.proofs.Common.{length, Option, Some, None, Result, Ok, Err, refl, sym, ap, subst, ◌∙◌, inl, inr, ◌⊎◌, arith, append_assoc}
+use Rattle.rw_base.proofs.Common.{append-nil, slice_index_or, slice_set, length_push}
 use Rattle.rw_base.specs.Answers.{unless_refused}
 use Rattle.rw_model.specs.Draft.{Draft}
 use Rattle.rw_inputs.specs.declared.edit.Edit.{Edit}
 use Rattle.rw_inputs.specs.declared.wrong.Wrong.{Wrong}
 use Rattle.rw_inputs.specs.Number.{read_number}
-use Rattle.rw_inputs.specs.EditRows.{admit, at_row, batch_behind, batches_with, edits_said, batch_follows, four_fields, more_batches, batches_opened, read_batch, read_edit, said, edit_said_by, with_edit, wrong_among}
+use Rattle.rw_inputs.specs.EditRows.{admit, at_row, batch_behind, batches_with, edits_said, batch_follows, four_fields, more_batches, batches_opened}
+use Rattle.rw_inputs.specs.EditRows.{read_batch, read_edit, said, edit_said_by, with_edit, wrong_among}
 use Rattle.rw_inputs.specs.Edits.{Batch, edits_in}
 use Rattle.rw_inputs.specs.Records.{Fields}
 use Rattle.rw_inputs.specs.Row.{wrong, ◌>>=◌}
@@ -26,7 +29,8 @@ flat_end : (batches : List Batch) (edit : Edit) (last : ℕ) → last + 1 ≡ le
 flat_end [] edit last is = absurd (omega (arith, is))
 flat_end (first ∷ batches) edit last is =
     let here : length batches ≡ last = omega (arith, is) in
-    subst (λ n. edits_in (slice_set (first ∷ batches) n (slice_index_or (first ∷ batches) n [] ++ edit ∷ [])) ≡ edits_in (first ∷ batches) ++ edit ∷ []) here
+    subst (λ n. edits_in (slice_set (first ∷ batches) n (slice_index_or (first ∷ batches) n [] ++ edit ∷ []))
+    ≡ edits_in (first ∷ batches) ++ edit ∷ []) here
     (flat_last first batches edit)
 
 flat_empty : (batches : List Batch) → edits_in (batches ++ [] ∷ []) ≡ edits_in batches

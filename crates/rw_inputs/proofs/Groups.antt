@@ -1,12 +1,14 @@
 -- Slots that carry one value are kept at one slot.
-use Rattle.rw_base.proofs.Common.{◌≡◌, ℕ, ◌==◌, ◌||◌, Bool, true, false, List, [], ◌∷◌, refl, sym, ap, ◌∙◌, slice_index_or, filter, nat_eq_equiv, filter_agree}
+use Rattle.rw_base.proofs.Common.{◌≡◌, ℕ, ◌==◌, ◌||◌, Bool, true, false, List, [], ◌∷◌, refl, sym, ap, ◌∙◌, slice_index_or, filter, nat_eq_equiv}
+use Rattle.rw_base.proofs.Common.{filter_agree}
 use Rattle.rw_model.proofs.Common.{Draft, link_of, is_same_link, is_together, slot_numbers, group_of}
 use Rattle.rw_series.proofs.Sharing.{together_alike, together_turned}
 use Rattle.rw_inputs.specs.Inputs.{kept_slot}
 
 -- ---- together, from either side
 
-together_first : (links : List (List ℕ)) (one other slot : ℕ) → is_together links one other ≡ true → is_together links one slot ≡ is_together links other slot
+together_first : (links : List (List ℕ)) (one other slot : ℕ) → is_together links one other ≡ true
+    → is_together links one slot ≡ is_together links other slot
 together_first links one other slot together =
     together_turned links one slot ∙ together_alike links slot one other (one == other) refl together ∙ together_turned links slot other
 
@@ -27,7 +29,8 @@ head_again (x ∷ xs) slot kept is = sym is
 
 pub kept_slot-together : (basin : Draft) (slot : ℕ) → is_together basin.links slot (kept_slot basin slot) ≡ true
 kept_slot-together basin slot =
-    head_passes (is_together basin.links slot) (slot_numbers basin.objects) slot (ap (λ same. same || is_same_link (link_of basin.links slot) (link_of basin.links slot)) (nat_eq_equiv.refl slot))
+    head_passes (is_together basin.links slot) (slot_numbers basin.objects) slot
+    (ap (λ same. same || is_same_link (link_of basin.links slot) (link_of basin.links slot)) (nat_eq_equiv.refl slot))
 
 pub kept_slot-again : (basin : Draft) (slot : ℕ) → kept_slot basin (kept_slot basin slot) ≡ kept_slot basin slot
 kept_slot-again basin slot =

@@ -1,5 +1,7 @@
 -- What is kept where a row gives values to cells that none has.
-use Rattle.rw_base.proofs.Common.{◌≡◌, ◌≢◌, ℕ, ◌≤◌, ◌<◌, Bool, true, false, if◌then◌else◌, List, [], ◌∷◌, ◌++◌, length, Option, Some, None, refl, sym, ap, subst, ◌∙◌, arith, ℤ, max, min, ◌||◌, slice_index_or, slice_set, list_any, nat_tests, get_or_default, set-get_or}
+use Rattle.rw_base.proofs.Common.{◌≡◌, ◌≢◌, ℕ, ◌≤◌, ◌<◌, Bool, true, false, if◌then◌else◌, List, [], ◌∷◌, ◌++◌, length, Option, Some, None, refl, sym}
+use Rattle.rw_base.proofs.Common.{ap, subst, ◌∙◌, arith, ℤ, max, min, ◌||◌, slice_index_or, slice_set, list_any, nat_tests, get_or_default}
+use Rattle.rw_base.proofs.Common.{set-get_or}
 use Rattle.std.proofs.lemmas.List.{length-set}
 use Rattle.rw_model.proofs.Common.{Draft, IsSlot, IsBetween}
 use Rattle.rw_series.proofs.Bounds.{bounds-alike}
@@ -50,7 +52,8 @@ module _ (basin : Draft) (given : Given) where
       → (slot ≡ kept_slot basin row.slot) × (row.first ≤ step) × (step ≤ row.last)
   gives-parts row slot step passes = (grind (arith, nat_tests), grind (arith, nat_tests), grind (arith, nat_tests))
 
-  gives-from : (row : Given) (slot step : ℕ) → slot ≡ kept_slot basin row.slot → row.first ≤ step → step ≤ row.last → row_gives basin row slot step ≡ true
+  gives-from : (row : Given) (slot step : ℕ) → slot ≡ kept_slot basin row.slot → row.first ≤ step → step ≤ row.last
+      → row_gives basin row slot step ≡ true
   gives-from row slot step at from to = grind (arith, nat_tests)
 
   shares-from : (row : Given) (step : ℕ) → row_gives basin row (kept_slot basin given.slot) step ≡ true → given.first ≤ step → step ≤ given.last
@@ -63,7 +66,8 @@ module _ (basin : Draft) (given : Given) where
       → (if here then Some row.value else given_at basin rows (kept_slot basin given.slot) step) ≢ None
       → list_any (shares_cell basin given) (row ∷ rows) ≡ true
   taken_at row rows step from to more true here taken = rw (shares-from row step here from to) refl
-  taken_at row rows step from to more false here taken = either_true (shares_cell basin given row) (list_any (shares_cell basin given) rows) (more taken)
+  taken_at row rows step from to more false here taken =
+      either_true (shares_cell basin given row) (list_any (shares_cell basin given) rows) (more taken)
 
   taken_shares : (rows : List Given) (step : ℕ) → given.first ≤ step → step ≤ given.last
       → given_at basin rows (kept_slot basin given.slot) step ≢ None → list_any (shares_cell basin given) rows ≡ true
@@ -76,8 +80,12 @@ module _ (basin : Draft) (given : Given) where
       → (step : ℕ) × (given.first ≤ step) × (step ≤ given.last) × (row_gives basin row (kept_slot basin given.slot) step ≡ true)
   shared_step row shares =
       let same : kept_slot basin given.slot ≡ kept_slot basin row.slot = grind (arith, nat_tests) in
-      let between : max given.first row.first ≤ min given.last row.last = grind (arith, nat_tests) in
-      (max given.first row.first, omega arith, omega arith, gives-from row (kept_slot basin given.slot) (max given.first row.first) same (omega arith) (omega arith))
+      let between : max given.first row.first ≤ min given.last row.last = grind (arith, nat_tests) in (
+        max given.first row.first,
+        omega arith,
+        omega arith,
+        gives-from row (kept_slot basin given.slot) (max given.first row.first) same (omega arith) (omega arith),
+      )
 
   free_at : (row : Given) (rows : List Given)
       → ((step : ℕ) → given.first ≤ step → step ≤ given.last → given_at basin (row ∷ rows) (kept_slot basin given.slot) step ≡ None)
@@ -88,7 +96,9 @@ module _ (basin : Draft) (given : Given) where
       let at = shared_step row shares in
       let none = rw at.3 at (free at.0 at.1 at.2) in
       absurd (cc)
-  free_at row rows free more false shares = rw shares (more (λ step from to. not_here (row_gives basin row (kept_slot basin given.slot) step) row.value (given_at basin rows (kept_slot basin given.slot) step) (free step from to)))
+  free_at row rows free more false shares =
+      rw shares (more (λ step from to. not_here (row_gives basin row (kept_slot basin given.slot) step) row.value
+      (given_at basin rows (kept_slot basin given.slot) step) (free step from to)))
 
   free_shares : (rows : List Given)
       → ((step : ℕ) → given.first ≤ step → step ≤ given.last → given_at basin rows (kept_slot basin given.slot) step ≡ None)
@@ -107,7 +117,9 @@ kept_at-sound basin given old slot step value made sound true here is =
     let same : given.value ≡ value = cc in
     let kept : IsKeptValue basin (kept_slot basin given.slot) given.value = record {
       least = kept_slot-again basin given.slot;
-      within = subst (λ bounds. IsBetween bounds given.value) (bounds-alike basin given.slot (kept_slot basin given.slot) (kept_slot-together basin given.slot)) sound.within;
+      within =
+          subst (λ bounds. IsBetween bounds given.value)
+          (bounds-alike basin given.slot (kept_slot basin given.slot) (kept_slot-together basin given.slot)) sound.within;
     } in
     subst (IsKeptValue basin slot) same (subst (λ s. IsKeptValue basin s given.value) (sym parts.0) kept)
 kept_at-sound basin given old slot step value made sound false here is = made.sound slot step value is
@@ -167,9 +179,11 @@ pub record Taking (basin : Draft) (given : Given) (old new : Inputs) (before aft
   pub takes : IsFree before given.first given.last → HasMore given.value given.first given.last before after → TakesGiven basin given old new
   pub twice : IsTakenWithin before given.first given.last → IsTwice basin given old
 
-module _ (basin : Draft) (given : Given) (old new : Inputs) (slot steps : ℕ) (before after : Column) (made : IsInputsOf basin old) (sound : IsGiven basin given)
+module _ (basin : Draft) (given : Given) (old new : Inputs) (slot steps : ℕ) (before after : Column) (made : IsInputsOf basin old)
+    (sound : IsGiven basin given)
     (at : slot ≡ kept_slot basin given.slot) (known : IsSlot basin.objects slot) (run : steps ≡ basin.control.stamps.count)
-    (was : before ≡ slice_index_or old.columns slot before) (set : new.columns ≡ slice_set old.columns slot after) (whole : IsColumn steps after) where
+    (was : before ≡ slice_index_or old.columns slot before) (set : new.columns ≡ slice_set old.columns slot after)
+    (whole : IsColumn steps after) where
   near : kept_slot basin given.slot < length old.columns
   near = omega (arith, at, known.last, made.slots)
 

@@ -1,7 +1,9 @@
 -- The records that are left of a text.
-use Rattle.rw_base.proofs.Common.{◌≡◌, ◌<◌, ◌≤◌, ℕ, zero, suc, Bool, true, false, if◌then◌else◌, List, [], ◌∷◌, ◌++◌, ◌==◌, ◌&&◌, not, length, take, drop, Option, Some, None, refl, sym, ap, subst, ◌∙◌, arith, Bor, false≢true, same_Some}
+use Rattle.rw_base.proofs.Common.{◌≡◌, ◌<◌, ◌≤◌, ℕ, zero, suc, Bool, true, false, if◌then◌else◌, List, [], ◌∷◌, ◌++◌, ◌==◌, ◌&&◌, not, length, take}
+use Rattle.rw_base.proofs.Common.{drop, Option, Some, None, refl, sym, ap, subst, ◌∙◌, arith, Bor, false≢true, same_Some}
 use Rattle.csv.specs.Machine.{Read, ends_at_end, field_after, fields_after, is_end, next_record, step}
-use Rattle.csv.specs.Reading.{AreRecords, Reached, ReadRecord, default_config, Ready, has_failed, reader_trim, records_from, records_next, source_of, strip_bom}
+use Rattle.csv.specs.Reading.{AreRecords, Reached, ReadRecord, default_config, Ready, has_failed, reader_trim, records_from, records_next, source_of}
+use Rattle.csv.specs.Reading.{strip_bom}
 use Rattle.csv.specs.declared.parser.Config.{Config}
 use Rattle.csv.specs.declared.parser.State.{State}
 use Rattle.csv.specs.declared.parser.State.TheVariants as st
@@ -123,10 +125,12 @@ known_by text held false = (held ++ text, refl)
 -- what a reader of a text has left is known, unless it has failed
 known : (reader : Reader (Bor (List ℕ))) → has_failed reader ≡ false → (rest : List ℕ) × (source_of rest_of reader ≡ Some rest)
 known reader works =
-    rw works (known_by reader.rdr.now (drop reader.at (take reader.filled reader.buffer)) (not reader.bom_checked && (reader.at == 0) && (reader.filled == 0)))
+    rw works (known_by reader.rdr.now (drop reader.at (take reader.filled reader.buffer))
+    (not reader.bom_checked && (reader.at == 0) && (reader.filled == 0)))
 
 taken_one : (old new : Reader (Bor (List ℕ))) (fields : Fields) (text rest : List ℕ) (row : Read) → source_of rest_of old ≡ Some text
-    → source_of rest_of new ≡ Some rest → next_record default_config old.state [] [] text ≡ Some row → fields ≡ row.0 → row.1 ≡ new.state → row.2 ≡ rest
+    → source_of rest_of new ≡ Some rest → next_record default_config old.state [] [] text ≡ Some row → fields ≡ row.0 → row.1 ≡ new.state
+    → row.2 ≡ rest
     → records_left old ≡ fields ∷ records_left new
 taken_one old new fields text rest row before after next is state left =
     ap (records_in old.state) before
@@ -146,7 +150,8 @@ read_next : (old new : Reader (Bor (List ℕ))) (fields : Fields) → TakesEach 
     → (rest : List ℕ) × (source_of rest_of old ≡ Some rest) → records_left old ≡ fields ∷ records_left new
 unfolding Reached
 read_next old new fields plain read (text, before) =
-    reached_one old new fields text before (rows-more rest_of old new fields default_config old.state text text [] plain.config before (refl, refl) read)
+    reached_one old new fields text before (rows-more rest_of old new fields default_config old.state text text [] plain.config before
+    (refl, refl) read)
 
 read_end : (old new : Reader (Bor (List ℕ))) (fields : Fields) → TakesEach old → ReadRecord rest_of old new false fields
     → (rest : List ℕ) × (source_of rest_of old ≡ Some rest) → records_left old ≡ []
@@ -158,7 +163,8 @@ none_left : (old : Reader (Bor (List ℕ))) → has_failed old ≡ true → reco
 none_left old failed = rw failed refl
 
 -- a read takes the first of the records that are left, or finds none
-module _ (old new : Reader (Bor (List ℕ))) (fields : Fields) (plain : IsPlainOrFailed old) (found : Bool) (stopped : has_failed old ≡ true → found ≡ false)
+module _ (old new : Reader (Bor (List ℕ))) (fields : Fields) (plain : IsPlainOrFailed old) (found : Bool)
+    (stopped : has_failed old ≡ true → found ≡ false)
     (reads : reader_trim old ≡ trim.None → Ready old → ReadRecord rest_of old new found fields) where
   next_of : (failed : Bool) → has_failed old ≡ failed → found ≡ true → records_left old ≡ fields ∷ records_left new
   next_of true failed more = absurd (false≢true (sym (stopped failed) ∙ more))

@@ -18,7 +18,8 @@ tells-fault (Ok x) fault due same tells = absurd same
 tells-fault (Err e) fault due same tells = subst (λ e. TellsInput e due) (sym same) tells
 
 -- the refusal of a row is that of all that are left
-pub row_refused : (basin : Draft) (number : ℕ) (before old rows : List Fields) (row : Fields) (inputs : Inputs) (fault : InputFault) (due : Option InputRefusal)
+pub row_refused : (basin : Draft) (number : ℕ) (before old rows : List Fields) (row : Fields) (inputs : Inputs) (fault : InputFault)
+    (due : Option InputRefusal)
     → old ≡ row ∷ rows → first_refusal basin number before old ≡ due → Keeps basin (givens basin before) inputs
     → RefusesRow basin number row inputs fault → TellsInput fault due
 row_refused basin number before old rows row inputs fault due next is kept refuses =

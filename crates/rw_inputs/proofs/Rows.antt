@@ -1,5 +1,6 @@
 -- Rows that are taken one after another.
-use Rattle.rw_base.proofs.Common.{◌≡◌, ℕ, false, List, [], ◌∷◌, ◌++◌, Option, Some, None, refl, sym, ap, subst, ◌∙◌, append_assoc, append-nil, Ok, list_any}
+use Rattle.rw_base.proofs.Common.{◌≡◌, ℕ, false, List, [], ◌∷◌, ◌++◌, Option, Some, None, refl, sym, ap, subst, ◌∙◌, append_assoc, append-nil, Ok}
+use Rattle.rw_base.proofs.Common.{list_any}
 use Rattle.csv.specs.Records.{field_at}
 use Rattle.rw_model.specs.Draft.{Draft}
 use Rattle.rw_inputs.specs.declared.given.Given.{Given}
@@ -19,7 +20,8 @@ three_from (Some a) (Some b) None d = None
 three_from (Some a) None c d = None
 three_from None b c d = None
 
-pub three-by_place : (fields : Fields) → three_fields fields ≡ three_from (field_at fields 0) (field_at fields 1) (field_at fields 2) (field_at fields 3)
+pub three-by_place : (fields : Fields) → three_fields fields
+    ≡ three_from (field_at fields 0) (field_at fields 1) (field_at fields 2) (field_at fields 3)
 unfolding field_at
 three-by_place [] = refl
 three-by_place (a ∷ []) = refl
@@ -30,7 +32,8 @@ three-by_place (a ∷ b ∷ c ∷ d ∷ fields) = refl
 -- ---- four fields
 
 -- the five fields that show whether there are four
-abbrev pub four_from : Option (List ℕ) → Option (List ℕ) → Option (List ℕ) → Option (List ℕ) → Option (List ℕ) → Option (List ℕ × List ℕ × List ℕ × List ℕ)
+abbrev pub four_from : Option (List ℕ) → Option (List ℕ) → Option (List ℕ) → Option (List ℕ) → Option (List ℕ)
+    → Option (List ℕ × List ℕ × List ℕ × List ℕ)
 four_from (Some a) (Some b) (Some c) (Some d) None = Some (a, b, c, d)
 four_from (Some a) (Some b) (Some c) (Some d) (Some e) = None
 four_from (Some a) (Some b) (Some c) None e = None
@@ -50,7 +53,8 @@ four-by_place (a ∷ b ∷ c ∷ d ∷ e ∷ fields) = refl
 
 -- ---- what rows give
 
-givens-append : (basin : Draft) (before : List Fields) (row : Fields) → givens basin (before ++ row ∷ []) ≡ givens basin before ++ good (read_row basin row)
+givens-append : (basin : Draft) (before : List Fields) (row : Fields)
+    → givens basin (before ++ row ∷ []) ≡ givens basin before ++ good (read_row basin row)
 givens-append basin [] row = append-nil (good (read_row basin row))
 givens-append basin (first ∷ before) row =
     ap (λ rows. good (read_row basin first) ++ rows) (givens-append basin before row)

@@ -1,5 +1,6 @@
 -- What inputs keep where an edit is set.
-use Rattle.rw_base.proofs.Common.{◌≡◌, ℕ, ◌<◌, Bool, true, false, if◌then◌else◌, [], length, Option, Some, None, Result, Ok, Err, IfSome, refl, sym, ap, subst, ◌∙◌, arith, ℤ, nat_tests, slice_index_or, slice_set, get_or_default, set-get_or}
+use Rattle.rw_base.proofs.Common.{◌≡◌, ℕ, ◌<◌, Bool, true, false, if◌then◌else◌, [], length, Option, Some, None, Result, Ok, Err, IfSome, refl, sym}
+use Rattle.rw_base.proofs.Common.{ap, subst, ◌∙◌, arith, ℤ, nat_tests, slice_index_or, slice_set, get_or_default, set-get_or}
 use Rattle.std.specs.Prelude.{OnErr, OnOk}
 use Rattle.std.proofs.lemmas.List.{length-set}
 use Rattle.rw_model.specs.Draft.{Draft}
@@ -27,7 +28,8 @@ kept_change basin slot (Some value) within = record {
 }
 
 -- a value that an edit says is one that the slot can have
-said : (basin : Draft) (slot : ℕ) (said : Option ℤ) (value : ℤ) → IfSome said (IsKeptValue basin slot) → said ≡ Some value → IsKeptValue basin slot value
+said : (basin : Draft) (slot : ℕ) (said : Option ℤ) (value : ℤ) → IfSome said (IsKeptValue basin slot) → said ≡ Some value
+    → IsKeptValue basin slot value
 said basin slot None value kept is = absurd (cc)
 said basin slot (Some other) value kept is = let same : other ≡ value = cc in subst (IsKeptValue basin slot) same kept
 
@@ -44,9 +46,11 @@ pub record Setting (basin : Draft) (edit : Edit) (old new : Inputs) (before afte
   pub made : IsSet edit.value edit.first edit.last before after → IsInputsOf basin new
   pub values : IsSet edit.value edit.first edit.last before after → value_at new ≡ after_edit edit (value_at old)
 
-module _ (basin : Draft) (edit : Edit) (old new : Inputs) (slot steps : ℕ) (before after : Column) (made : IsInputsOf basin old) (sound : IsEdit basin edit)
+module _ (basin : Draft) (edit : Edit) (old new : Inputs) (slot steps : ℕ) (before after : Column) (made : IsInputsOf basin old)
+    (sound : IsEdit basin edit)
     (at : slot ≡ edit.slot) (run : steps ≡ basin.control.stamps.count)
-    (was : before ≡ slice_index_or old.columns slot before) (set : new.columns ≡ slice_set old.columns slot after) (whole : IsColumn steps after) where
+    (was : before ≡ slice_index_or old.columns slot before) (set : new.columns ≡ slice_set old.columns slot after)
+    (whole : IsColumn steps after) where
   near : edit.slot < length old.columns
   near = omega (arith, sound.slot.last, made.slots)
 

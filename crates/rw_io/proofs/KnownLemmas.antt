@@ -1,5 +1,6 @@
 -- What a sink tells grows part by part.
-use Rattle.rw_base.proofs.Common.{◌≡◌, ℕ, ◌+◌, List, ◌++◌, length, take, drop, min, sym, ◌∙◌, subst, arith, append_assoc, None, Some, Option, take-append-le, take_min, take-add, take-append-add}
+use Rattle.rw_base.proofs.Common.{◌≡◌, ℕ, ◌+◌, List, ◌++◌, length, take, drop, min, sym, ◌∙◌, subst, arith, append_assoc, None, Some, Option}
+use Rattle.rw_base.proofs.Common.{take-append-le, take_min, take-add, take-append-add}
 use Rattle.rw_io.specs.Known.{GrowsBy, PrefixGrew}
 
 -- what has grown by one text and then by another has grown by both

@@ -1,5 +1,6 @@
 -- Parts of lists that are copied and appended.
-use Rattle.rw_base.proofs.Common.{◌≡◌, ℕ, ◌+◌, ◌-◌, ◌≤◌, List, ◌++◌, length, take, drop, sym, arith, take_all, drop-drop, take-append-drop, take-append_seam}
+use Rattle.rw_base.proofs.Common.{◌≡◌, ℕ, ◌+◌, ◌-◌, ◌≤◌, List, ◌++◌, length, take, drop, sym, arith, take_all, drop-drop, take-append-drop}
+use Rattle.rw_base.proofs.Common.{take-append_seam}
 use Rattle.std.proofs.lemmas.List.{length-drop}
 
 -- what was copied to the front, and what is left

@@ -1,5 +1,8 @@
 -- The slots of an object carry no value together.
-use Rattle.rw_laws.proofs.Common.{AllByRecursion, Bool, Draft, IsDistinct, IsDistinct-head, IsDistinct-tail, IsLink, List, Some, [], ap, arith, false, get_or_from_slice_get, if◌then◌else◌, inl, inr, is_among, is_same_link, is_together, link_from, link_of, linked_alike, map, nat_tests, owner_of, refl, slice_get, slice_get_within, subst, suc, sym, true, ℕ, ◌+◌, ◌-◌, ◌==◌, ◌||◌, ◌∙◌, ◌∷◌, ◌≡◌, ◌≤◌, ◌⊎◌}
+use Rattle.rw_laws.proofs.Common.{AllByRecursion, Bool, Draft, IsDistinct, IsDistinct-head, IsDistinct-tail, IsLink, List, Some, [], ap, arith, false}
+use Rattle.rw_laws.proofs.Common.{get_or_from_slice_get, if◌then◌else◌, inl, inr, is_among, is_same_link, is_together, link_from, link_of}
+use Rattle.rw_laws.proofs.Common.{linked_alike, map, nat_tests, owner_of, refl, slice_get, slice_get_within, subst, suc, sym, true, ℕ, ◌+◌, ◌-◌, ◌==◌}
+use Rattle.rw_laws.proofs.Common.{◌||◌, ◌∙◌, ◌∷◌, ◌≡◌, ◌≤◌, ◌⊎◌}
 use Rattle.rw_model.specs.Basin.{IsBasin}
 
 -- ---- the link in which a slot is found
@@ -30,7 +33,8 @@ either_true : (a b : Bool) → (a || b) ≡ true → (a ≡ true) ⊎ (b ≡ tru
 either_true true b e = inl refl
 either_true false b e = inr e
 
-no_same : (f : ℕ → ℕ) (x slot : ℕ) (xs : List ℕ) → AllByRecursion (λ owner. (f x == owner) ≡ false) (map f xs) → is_among slot xs ≡ true → f x ≡ f slot → ⊥
+no_same : (f : ℕ → ℕ) (x slot : ℕ) (xs : List ℕ) → AllByRecursion (λ owner. (f x == owner) ≡ false) (map f xs) → is_among slot xs ≡ true
+    → f x ≡ f slot → ⊥
 no_same f x slot [] apart has same = absurd (cc)
 no_same f x slot (y ∷ xs) apart has same = elim (either_true (slot == y) (is_among slot xs) has) [
   | inl here ↦
@@ -40,7 +44,8 @@ no_same f x slot (y ∷ xs) apart has same = elim (either_true (slot == y) (is_a
   | inr later ↦ no_same f x slot xs apart.1 later same
 ]
 
-one_of_link : (f : ℕ → ℕ) (a b : ℕ) (xs : List ℕ) → IsDistinct (λ (a : ℕ) b. a == b) (map f xs) → is_among a xs ≡ true → is_among b xs ≡ true → f a ≡ f b → a ≡ b
+one_of_link : (f : ℕ → ℕ) (a b : ℕ) (xs : List ℕ) → IsDistinct (λ (a : ℕ) b. a == b) (map f xs) → is_among a xs ≡ true → is_among b xs ≡ true
+    → f a ≡ f b → a ≡ b
 one_of_link f a b [] apart has_a has_b same = absurd (cc)
 one_of_link f a b (x ∷ xs) apart has_a has_b same =
     let head : AllByRecursion (λ owner. (f x == owner) ≡ false) (map f xs) = IsDistinct-head (λ (a : ℕ) b. a == b) (f x) (map f xs) apart in
@@ -59,7 +64,8 @@ one_of_link f a b (x ∷ xs) apart has_a has_b same =
       ]
     ]
 
-pub one_slot : (basin : Draft) (a b : ℕ) → IsBasin basin → is_together basin.links a b ≡ true → owner_of basin.objects a ≡ owner_of basin.objects b → a ≡ b
+pub one_slot : (basin : Draft) (a b : ℕ) → IsBasin basin → is_together basin.links a b ≡ true
+    → owner_of basin.objects a ≡ owner_of basin.objects b → a ≡ b
 one_slot basin a b valid together same = elim (either_true (a == b) (is_same_link (link_of basin.links a) (link_of basin.links b)) together) [
   | inl here ↦ grind (arith, nat_tests, here)
   | inr linked ↦
@@ -67,7 +73,8 @@ one_slot basin a b valid together same = elim (either_true (a == b) (is_same_lin
       let in_a = (found_in 0 place.0 basin.links a place.1.0).1 in
       let in_b = (found_in 0 place.0 basin.links b place.1.1).1 in
       let one_link : in_b.link ≡ in_a.link = let at_a = in_a.at in let at_b = in_b.at in cc in
-      let link : IsLink basin.objects in_a.link = subst (IsLink basin.objects) (get_or_from_slice_get basin.links (place.0 - 0) in_a.link in_a.link in_a.at)
+      let link : IsLink basin.objects in_a.link =
+      subst (IsLink basin.objects) (get_or_from_slice_get basin.links (place.0 - 0) in_a.link in_a.link in_a.at)
       (valid.whole.links (place.0 - 0) in_a.link (slice_get_within basin.links (place.0 - 0) in_a.link in_a.at)) in
       one_of_link (owner_of basin.objects) a b in_a.link link.apart in_a.has (ap (is_among b) (sym one_link) ∙ in_b.has) same
 ]

@@ -1,5 +1,8 @@
 -- How an event came to follow a log.
-use Rattle.rw_laws.proofs.Common.{Bool, Draft, Event, Fire, IsFault, Log, None, ObjectLimit, Option, Policy, RuleLimit, Some, Standing, after_objects, cells_of, closed, dispatched, dispatches, ended, false, fault, firing_of, firings, first_due, first_waiting, follows_in, if◌then◌else◌, inside, nat_le, nat_lt, next_of, none-some, opened, option_map, over, refl, rests, same_Some, standing, sym, true, value_in, ℕ, ◌+◌, ◌≡◌}
+use Rattle.rw_laws.proofs.Common.{Bool, Draft, Event, Fire, IsFault, Log, None, ObjectLimit, Option, Policy, RuleLimit, Some, Standing, after_objects}
+use Rattle.rw_laws.proofs.Common.{cells_of, closed, dispatched, dispatches, ended, false, fault, firing_of, firings, first_due, first_waiting}
+use Rattle.rw_laws.proofs.Common.{follows_in, if◌then◌else◌, inside, nat_le, nat_lt, next_of, none-some, opened, option_map, over, refl, rests}
+use Rattle.rw_laws.proofs.Common.{same_Some, standing, sym, true, value_in, ℕ, ◌+◌, ◌≡◌}
 
 pub record Opens (log : Log) (event : Event) : Type 0 where
   pub step : ℕ
@@ -40,7 +43,8 @@ faults : (event other : Event) → Some other ≡ Some event → IsFault other �
 faults event other is h = rw (← same_Some other event is) h
 
 module _ (basin : Draft) (policy : Policy) (log : Log) (event : Event) where
-  by_open : (step : ℕ) → standing log ≡ rests step → (more : Bool) → (if more then Some (opened (step + 1)) else None) ≡ Some event → Came basin policy log event
+  by_open : (step : ℕ) → standing log ≡ rests step → (more : Bool) → (if more then Some (opened (step + 1)) else None) ≡ Some event
+      → Came basin policy log event
   by_open step at true is = opens (record { step = step; stands = at; is = sym (same_Some _ event is) })
   by_open step at false is = absurd (none-some event is)
 
@@ -57,7 +61,8 @@ module _ (basin : Draft) (policy : Policy) (log : Log) (event : Event) where
   by_rule_limit step rule at due true is = ends (faults event _ is tt)
   by_rule_limit step rule at due false is = by_fire step rule at due (policy.fire rule step (value_in (cells_of basin log))) refl is
 
-  by_due : (step : ℕ) → standing log ≡ inside step → first_waiting basin log ≡ None → (due : Option ℕ) → first_due basin policy (cells_of basin log) log ≡ due
+  by_due : (step : ℕ) → standing log ≡ inside step → first_waiting basin log ≡ None → (due : Option ℕ)
+      → first_due basin policy (cells_of basin log) log ≡ due
       → after_objects basin policy (cells_of basin log) log step due ≡ Some event → Came basin policy log event
   by_due step at none None due is =
       closes (record { step = step; stands = at; none_waits = none; none_due = due; is = sym (same_Some _ event is) })

@@ -2,9 +2,14 @@
 pub use Rattle.std.proofs.lemmas.List.{get_or_past}
 pub use Rattle.std.proofs.lemmas.Map.Keys.{IsDistinct-head, IsDistinct-tail}
 pub use Rattle.std.specs.List.{IsDistinct}
-pub use Rattle.rw_base.proofs.Common.{All, All-cons, All-nil, AllByRecursion, Bool, Contains, Decides-int_eq, List, None, Option, Some, [], and_parts, ap, ap₂, arith, cond, false, filter, find, get_or_from_slice_get, if◌then◌else◌, inl, inr, is_some, length, length-map, length-range_with_len, list_any, map, nat_le, nat_lt, nat_tests, none-some, not, option_and_then, option_map, option_or, pos, recursion_from_All, refl, same_Some, slice_get, slice_get_within, subst, suc, sym, true, unwrap_or, ℕ, ℤ, ◌&&◌, ◌+◌, ◌-ℤ◌, ◌-◌, ◌<◌, ◌==◌, ◌||◌, ◌∙◌, ◌∷◌, ◌≡◌, ◌≢◌, ◌≤◌, ◌⊎◌}
+pub use Rattle.rw_base.proofs.Common.{All, All-cons, All-nil, AllByRecursion, Bool, Contains, Decides-int_eq, List, None, Option, Some, [], and_parts}
+pub use Rattle.rw_base.proofs.Common.{ap, ap₂, arith, cond, false, filter, find, get_or_from_slice_get, if◌then◌else◌, inl, inr, is_some, length}
+pub use Rattle.rw_base.proofs.Common.{length-map, length-range_with_len, list_any, map, nat_le, nat_lt, nat_tests, none-some, not, option_and_then}
+pub use Rattle.rw_base.proofs.Common.{option_map, option_or, pos, recursion_from_All, refl, same_Some, slice_get, slice_get_within, subst, suc, sym}
+pub use Rattle.rw_base.proofs.Common.{true, unwrap_or, ℕ, ℤ, ◌&&◌, ◌+◌, ◌-ℤ◌, ◌-◌, ◌<◌, ◌==◌, ◌||◌, ◌∙◌, ◌∷◌, ◌≡◌, ◌≢◌, ◌≤◌, ◌⊎◌}
 pub use Rattle.rw_base.specs.declared.number.Cell.{Cell}
-pub use Rattle.rw_model.proofs.Common.{IsBasin, IsKind, Object, Placed, all_slots, before_of, first_from, is_in_place, known_in_place, numbered-known, object_at, slot_at, slot_in, slot_in_place}
+pub use Rattle.rw_model.proofs.Common.{IsBasin, IsKind, Object, Placed, all_slots, before_of, first_from, is_in_place, known_in_place, numbered-known}
+pub use Rattle.rw_model.proofs.Common.{object_at, slot_at, slot_in, slot_in_place}
 pub use Rattle.rw_model.specs.Basin.{IsLink}
 pub use Rattle.rw_model.specs.Code.{code_of}
 pub use Rattle.rw_model.specs.Draft.{Draft, IsSlot, IsSound}
@@ -46,10 +51,14 @@ pub use Rattle.rw_run.proofs.SameRuns.{due_is_rule, on_agenda}
 pub use Rattle.rw_run.proofs.Sinces.{none_bits}
 pub use Rattle.rw_run.proofs.Placed.{closed-placed, standing-placed}
 pub use Rattle.rw_run.proofs.Waits.{times-waiting}
-pub use Rattle.rw_run.specs.Dispatch.{Past, answered, asked_by, asked_for, cell_at, content_in, denied_by, dispatch_of, dispatched, end_in, is_written, judged, looks_at, looks_of, or_fault, past_at, past_of, past_value, places, puts_written, solved_by, value_of_past, view_of}
+pub use Rattle.rw_run.specs.Dispatch.{Past, answered, asked_by, asked_for, cell_at, content_in, denied_by, dispatch_of, dispatched, end_in}
+pub use Rattle.rw_run.specs.Dispatch.{is_written, judged, looks_at, looks_of, or_fault, past_at, past_of, past_value, places, puts_written, solved_by}
+pub use Rattle.rw_run.specs.Dispatch.{value_of_past, view_of}
 pub use Rattle.rw_run.specs.Frame.{AreAlike, IsFault, cells_looked}
-pub use Rattle.rw_run.specs.Log.{Asked, Cells, Event, Firing, Log, cells_of, closed, fault, fired, idle, input_content, last_put, opened, value_in, written_by}
-pub use Rattle.rw_run.specs.Next.{Policy, after_objects, agenda_of, asked_by_rule, asked_of_rule, dispatches, ended, firing_of, firings, first_due, is_changed, is_due, is_put_again, last_firing, last_ones, next_of}
+pub use Rattle.rw_run.specs.Log.{Asked, Cells, Event, Firing, Log, cells_of, closed, fault, fired, idle, input_content, last_put, opened, value_in}
+pub use Rattle.rw_run.specs.Log.{written_by}
+pub use Rattle.rw_run.specs.Next.{Policy, after_objects, agenda_of, asked_by_rule, asked_of_rule, dispatches, ended, firing_of, firings, first_due}
+pub use Rattle.rw_run.specs.Next.{is_changed, is_due, is_put_again, last_firing, last_ones, next_of}
 pub use Rattle.rw_run.specs.Policy.{CanAsk, IsPolicyOf, IsRule}
 pub use Rattle.rw_run.specs.RunOf.{IsRunOf, last_closed}
 pub use Rattle.rw_run.specs.Runs.{IsRun, Leads, Standing, follows_in, inside, over, placed, rests, standing}

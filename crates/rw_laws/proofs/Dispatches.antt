@@ -1,5 +1,8 @@
 -- What a dispatch comes to: an object is idle, or it asks for puts of which none is denied, or the run ends by a fault.
-use Rattle.rw_laws.proofs.Common.{AllByRecursion, Asked, Bool, Cells, Denied, Draft, Event, IsFault, Kind, List, None, Object, Option, Put, PutEnd, Puts, Solved, Some, Written, [], answered, ap, asked_for, cond, denied_by, dispatch_of, dispatched, end_in, false, filter, idle, inl, inr, is_written, judged, looks_of, none-some, object_at, option_map, or_fault, puts_written, refl, solve_of, solved_by, subst, sym, true, unwrap_or, view_of, weaker_all, ℕ, ◌∙◌, ◌∷◌, ◌≡◌, ◌⊎◌}
+use Rattle.rw_laws.proofs.Common.{AllByRecursion, Asked, Bool, Cells, Denied, Draft, Event, IsFault, Kind, List, None, Object, Option, Put, PutEnd}
+use Rattle.rw_laws.proofs.Common.{Puts, Solved, Some, Written, [], answered, ap, asked_for, cond, denied_by, dispatch_of, dispatched, end_in, false}
+use Rattle.rw_laws.proofs.Common.{filter, idle, inl, inr, is_written, judged, looks_of, none-some, object_at, option_map, or_fault, puts_written}
+use Rattle.rw_laws.proofs.Common.{refl, solve_of, solved_by, subst, sym, true, unwrap_or, view_of, weaker_all, ℕ, ◌∙◌, ◌∷◌, ◌≡◌, ◌⊎◌}
 use Rattle.rw_method.specs.declared.solved.Solved.TheVariants.{Idle}
 use Rattle.rw_laws.proofs.PutRules.{is_written_fact}
 
@@ -13,7 +16,8 @@ AreFine cells asked = AllByRecursion (λ (put : Asked). IsFine (end_in cells put
 
 if_fine : (cells : Cells) (object : ℕ) (put : Asked) (puts : List Asked) (rest : Event) (end : PutEnd) → end_in cells put ≡ end
     → (judged cells object puts rest ≡ rest) × AreFine cells puts ⊎ IsFault (judged cells object puts rest)
-    → ((or_fault (denied_by end put) object put (judged cells object puts rest) ≡ rest) × (IsFine (end_in cells put) × AreFine cells puts)) ⊎ IsFault (or_fault (denied_by end put) object put (judged cells object puts rest))
+    → ((or_fault (denied_by end put) object put (judged cells object puts rest) ≡ rest) × (IsFine (end_in cells put) × AreFine cells puts))
+    ⊎ IsFault (or_fault (denied_by end put) object put (judged cells object puts rest))
 if_fine cells object put puts rest (Denied held) is later = inr tt
 if_fine cells object put puts rest end is (inl fine) = inl (fine.0, (subst IsFine (sym is) tt, fine.1))
 if_fine cells object put puts rest end is (inr why) = inr why
@@ -51,7 +55,8 @@ record HasKind (basin : Draft) (cells : Cells) (object step : ℕ) (puts : List 
   answers : solve_of kind (view_of basin cells object step) ≡ Puts puts
 
 has_kind : (basin : Draft) (cells : Cells) (object step : ℕ) (puts : List Put) (found : Option Object) → object_at basin.objects object ≡ found
-    → unwrap_or (option_map (λ (found : Object). solve_of found.kind (view_of basin cells object step)) found) Idle ≡ Puts puts → HasKind basin cells object step puts
+    → unwrap_or (option_map (λ (found : Object). solve_of found.kind (view_of basin cells object step)) found) Idle ≡ Puts puts
+    → HasKind basin cells object step puts
 has_kind basin cells object step puts None is answers = absurd (none-some puts (ap puts_in answers))
 has_kind basin cells object step puts (Some found) is answers =
     record { kind = found.kind; own = ap (option_map (λ (found : Object). found.kind)) is; answers = answers }
@@ -74,12 +79,14 @@ module _ (basin : Draft) (cells : Cells) (object step : ℕ) (event : Event) whe
 
 -- ---- lists of puts
 
-filtered : {A : Type 0} (P : A → Type 0) (p : A → Bool) (x : A) (xs : List A) (test : Bool) → p x ≡ test → P x → AllByRecursion (λ y. (p y ≡ true) × P y) (filter p xs)
+filtered : {A : Type 0} (P : A → Type 0) (p : A → Bool) (x : A) (xs : List A) (test : Bool) → p x ≡ test → P x
+    → AllByRecursion (λ y. (p y ≡ true) × P y) (filter p xs)
     → AllByRecursion (λ y. (p y ≡ true) × P y) (cond test (x ∷ filter p xs) (filter p xs))
 filtered P p x xs true is here rest = ((is, here), rest)
 filtered P p x xs false is here rest = rest
 
-pub filtered_all : {A : Type 0} (P : A → Type 0) (p : A → Bool) (xs : List A) → AllByRecursion P xs → AllByRecursion (λ y. (p y ≡ true) × P y) (filter p xs)
+pub filtered_all : {A : Type 0} (P : A → Type 0) (p : A → Bool) (xs : List A) → AllByRecursion P xs
+    → AllByRecursion (λ y. (p y ≡ true) × P y) (filter p xs)
 filtered_all P p [] all = tt
 filtered_all P p (x ∷ xs) all = filtered P p x xs (p x) refl all.0 (filtered_all P p xs all.1)
 
@@ -87,6 +94,7 @@ filtered_all P p (x ∷ xs) all = filtered P p x xs (p x) refl all.0 (filtered_a
 pub written_all : (P : Asked → Type 0) (cells : Cells) (asked : List Asked) → AllByRecursion P asked
     → AllByRecursion (λ put. (end_in cells put ≡ Written) × P put) (puts_written cells asked)
 written_all P cells asked all =
-    weaker_all (λ (put : Asked). (is_written (end_in cells put) ≡ true) × P put) (λ put. (end_in cells put ≡ Written) × P put) (puts_written cells asked)
+    weaker_all (λ (put : Asked). (is_written (end_in cells put) ≡ true) × P put) (λ put. (end_in cells put ≡ Written) × P put)
+    (puts_written cells asked)
     (λ put both. (is_written_fact (end_in cells put) both.0, both.1))
     (filtered_all P (λ (put : Asked). is_written (end_in cells put)) asked all)

@@ -1,5 +1,7 @@
 -- Cells that share their value hold alike after any log.
-use Rattle.rw_laws.proofs.Common.{AllByRecursion, Asked, Bool, Cell, Draft, IsSlot, List, Log, None, Shared-of, Some, [], among_group, ap, ap₂, arith, cells_of, false, if◌then◌else◌, inl, inr, is_shared, known_number, last_put, nat_tests, option_or, refl, sym, together_alike, true, written_by, ◌&&◌, ◌==◌, ◌∙◌, ◌∷◌, ◌≡◌, ◌⊎◌}
+use Rattle.rw_laws.proofs.Common.{AllByRecursion, Asked, Bool, Cell, Draft, IsSlot, List, Log, None, Shared-of, Some, [], among_group, ap, ap₂, arith}
+use Rattle.rw_laws.proofs.Common.{cells_of, false, if◌then◌else◌, inl, inr, is_shared, known_number, last_put, nat_tests, option_or, refl, sym}
+use Rattle.rw_laws.proofs.Common.{together_alike, true, written_by, ◌&&◌, ◌==◌, ◌∙◌, ◌∷◌, ◌≡◌, ◌⊎◌}
 use Rattle.rw_laws.specs.Links.{HoldAsLinked}
 
 -- one of the puts is what they leave in the cell
@@ -9,7 +11,8 @@ pub record Found (basin : Draft) (P : Asked → Type 0) (puts : List Asked) (cel
   pub shared : is_shared basin put.cell cell ≡ true
   pub is : last_put basin puts cell ≡ Some put.content
 
-pub shared_alike : (basin : Draft) (cell one other : Cell) → IsSlot basin.objects one.slot.0 → is_shared basin one other ≡ true → is_shared basin cell one ≡ is_shared basin cell other
+pub shared_alike : (basin : Draft) (cell one other : Cell) → IsSlot basin.objects one.slot.0 → is_shared basin one other ≡ true
+    → is_shared basin cell one ≡ is_shared basin cell other
 shared_alike basin cell one other known shared =
     let is = Shared-of basin one other shared in
     ap₂ (λ a b. a && b)
@@ -19,7 +22,8 @@ shared_alike basin cell one other known shared =
     ∙ sym (among_group basin.objects basin.links cell.slot.0 other.slot.0))
     (ap (λ step. step == cell.step.0) (sym is.step))
 
-last_alike : (basin : Draft) (puts : List Asked) (one other : Cell) → IsSlot basin.objects one.slot.0 → is_shared basin one other ≡ true → last_put basin puts one ≡ last_put basin puts other
+last_alike : (basin : Draft) (puts : List Asked) (one other : Cell) → IsSlot basin.objects one.slot.0 → is_shared basin one other ≡ true
+    → last_put basin puts one ≡ last_put basin puts other
 last_alike basin [] one other known shared = refl
 last_alike basin (put ∷ puts) one other known shared =
     ap₂ (λ rest test. option_or rest (if test then Some put.content else None)) (last_alike basin puts one other known shared)
@@ -32,7 +36,8 @@ self_shared basin cell known =
     let at : (cell.step.0 == cell.step.0) ≡ true = grind (arith, nat_tests) in
     rw (among_group basin.objects basin.links cell.slot.0 cell.slot.0, known_number basin.objects cell.slot.0 known, same, at) refl
 
-pub linked : (basin : Draft) (log : Log) (one other : Cell) → IsSlot basin.objects one.slot.0 → is_shared basin one other ≡ true → cells_of basin log one ≡ cells_of basin log other
+pub linked : (basin : Draft) (log : Log) (one other : Cell) → IsSlot basin.objects one.slot.0 → is_shared basin one other ≡ true
+    → cells_of basin log one ≡ cells_of basin log other
 linked basin [] one other known shared = refl
 linked basin (event ∷ log) one other known shared =
     ap₂ (λ now before. option_or now before) (last_alike basin (written_by event) one other known shared) (linked basin log one other known shared)

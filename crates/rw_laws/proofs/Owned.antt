@@ -1,5 +1,7 @@
 -- The slot that an object has in a place is the object's, and is in no other place.
-use Rattle.rw_laws.proofs.Common.{Bool, List, Object, Placed, Some, [], all_slots, ap, arith, false, first_from, if◌then◌else◌, is_in_place, nat_tests, numbered-known, option_map, owner_of, refl, slice_get, slot_at, slot_in_place, suc, sym, true, unwrap_or, ℕ, ◌&&◌, ◌+◌, ◌-◌, ◌==◌, ◌∙◌, ◌∷◌, ◌≡◌, ◌≤◌}
+use Rattle.rw_laws.proofs.Common.{Bool, List, Object, Placed, Some, [], all_slots, ap, arith, false, first_from, if◌then◌else◌, is_in_place}
+use Rattle.rw_laws.proofs.Common.{nat_tests, numbered-known, option_map, owner_of, refl, slice_get, slot_at, slot_in_place, suc, sym, true, unwrap_or}
+use Rattle.rw_laws.proofs.Common.{ℕ, ◌&&◌, ◌+◌, ◌-◌, ◌==◌, ◌∙◌, ◌∷◌, ◌≡◌, ◌≤◌}
 
 record IsFound (n k : ℕ) (test : Placed → Bool) (slots : List Placed) : Type 0 where
   placed : Placed
@@ -31,7 +33,8 @@ pub record IsPlaced (objects : List Object) (owner place number : ℕ) : Type 0 
   pub owns : placed.owner ≡ owner
   pub there : placed.place ≡ place
 
-pub placed_in : (objects : List Object) (owner place number : ℕ) → slot_in_place objects owner place ≡ Some number → IsPlaced objects owner place number
+pub placed_in : (objects : List Object) (owner place number : ℕ) → slot_in_place objects owner place ≡ Some number
+    → IsPlaced objects owner place number
 placed_in objects owner place number found =
     let is = found_at 1 number (is_in_place owner place) (all_slots objects) found in
     let same = both_same is.placed.owner owner is.placed.place place is.passes in
@@ -42,7 +45,8 @@ owner_in objects owner place number found =
     let is = placed_in objects owner place number found in
     ap (λ placed. unwrap_or (option_map (λ (p : Placed). p.owner) placed) 0) is.at ∙ is.owns
 
-pub same_place : (objects : List Object) (owner place other number : ℕ) → slot_in_place objects owner place ≡ Some number → slot_in_place objects owner other ≡ Some number → place ≡ other
+pub same_place : (objects : List Object) (owner place other number : ℕ) → slot_in_place objects owner place ≡ Some number
+    → slot_in_place objects owner other ≡ Some number → place ≡ other
 same_place objects owner place other number found there =
     let is = placed_in objects owner place number found in
     let also = placed_in objects owner other number there in

@@ -1,5 +1,7 @@
 -- What the put rules say of a put that is written, kept or denied.
-use Rattle.rw_laws.proofs.Common.{Bool, Content, Decides-int_eq, Denied, Kept, None, Option, PutEnd, Some, Written, and_parts, ap, arith, end_of_put, false, if◌then◌else◌, inl, inr, is_same_object, is_value_kept, is_written, nat_le, nat_tests, refl, subst, true, ℕ, ◌<◌, ◌==◌, ◌≡◌, ◌≤◌, ◌⊎◌}
+use Rattle.rw_laws.proofs.Common.{Bool, Content, Decides-int_eq, Denied, Kept, None, Option, PutEnd, Some, Written, and_parts, ap, arith, end_of_put}
+use Rattle.rw_laws.proofs.Common.{false, if◌then◌else◌, inl, inr, is_same_object, is_value_kept, is_written, nat_le, nat_tests, refl, subst, true, ℕ}
+use Rattle.rw_laws.proofs.Common.{◌<◌, ◌==◌, ◌≡◌, ◌≤◌, ◌⊎◌}
 use Rattle.rw_model.specs.Put.{gives_way}
 
 abbrev pub end_code : PutEnd → ℕ
@@ -23,7 +25,8 @@ IsEnd held new Written = WasWritten held new
 IsEnd held new Kept = WasKept held new
 IsEnd held new (Denied shown) = WasDenied held new
 
-way_is : (held new : Content) (none way : Bool) → (held.number == 0) ≡ none → (if none then is_same_object held.writer new.writer else nat_le new.number held.number) ≡ way
+way_is : (held new : Content) (none way : Bool) → (held.number == 0) ≡ none
+    → (if none then is_same_object held.writer new.writer else nat_le new.number held.number) ≡ way
     → IsEnd held new (if way then Written else Denied held)
 way_is held new true true none is = inr (grind (arith, nat_tests, none), is)
 way_is held new false true none is = inl (grind (arith, nat_tests, none), grind (arith, nat_tests, is))
@@ -40,11 +43,13 @@ end_is held new = by (is_value_kept held new) refl
 pub was_written : (held new : Content) → end_of_put (Some held) new ≡ Written → WasWritten held new
 was_written held new end = subst (IsEnd held new) end (end_is held new)
 
-pub kept_known : (held : Option Content) (new : Content) → end_of_put held new ≡ Kept → (content : Content) × ((held ≡ Some content) × WasKept content new)
+pub kept_known : (held : Option Content) (new : Content) → end_of_put held new ≡ Kept
+    → (content : Content) × ((held ≡ Some content) × WasKept content new)
 kept_known None new end = absurd (let no = ap end_code end in omega (arith, no))
 kept_known (Some content) new end = (content, (refl, subst (IsEnd content new) end (end_is content new)))
 
-pub denied_known : (held : Option Content) (new shown : Content) → end_of_put held new ≡ Denied shown → (content : Content) × ((held ≡ Some content) × WasDenied content new)
+pub denied_known : (held : Option Content) (new shown : Content) → end_of_put held new ≡ Denied shown
+    → (content : Content) × ((held ≡ Some content) × WasDenied content new)
 denied_known None new shown end = absurd (let no = ap end_code end in omega (arith, no))
 denied_known (Some content) new shown end = (content, (refl, subst (IsEnd content new) end (end_is content new)))
 

@@ -1,5 +1,12 @@
 -- What holds of every log of a run: priority is kept, and each object's slots are as dispatches leave them.
-use Rattle.rw_laws.proofs.Common.{All, All-nil, AllByRecursion, Bool, ByObject, CanAsk, Cell, Cells, Content, DividesByZero, Done, Draft, EndsOutside, Event, Fire, FireEnd, Firing, IsAfterOwn, IsBasin, IsFault, IsKind, IsPolicyOf, Kind, Left, List, Log, None, Object, Policy, Put, Rule, Some, Standing, Unknown, View, Writer, [], ap, arith, asked_for, cell_at, cells_of, closed, dispatch_of, due_is_rule, ended, false, fault, fired, idle, if◌then◌else◌, inl, input_content, inr, inside, is_same_object, is_shared, last_put, left_begins, left_by_others, left_by_own, looks_of, nat_tests, none-some, object_at, opened, option_map, option_or, over, own_puts_fall, placed, puts_are_apart, puts_written, refl, rests, same_Some, standing, subst, sym, true, value_in, view_of, weaker_all, written_by, ℕ, ℤ, ◌+◌, ◌<◌, ◌==◌, ◌∙◌, ◌∷◌, ◌≡◌, ◌≤◌}
+use Rattle.rw_laws.proofs.Common.{All, All-nil, AllByRecursion, Bool, ByObject, CanAsk, Cell, Cells, Content, DividesByZero, Done, Draft, EndsOutside}
+use Rattle.rw_laws.proofs.Common.{Event, Fire, FireEnd, Firing, IsAfterOwn, IsBasin, IsFault, IsKind, IsPolicyOf, Kind, Left, List, Log, None, Object}
+use Rattle.rw_laws.proofs.Common.{Policy, Put, Rule, Some, Standing, Unknown, View, Writer, [], ap, arith, asked_for, cell_at, cells_of, closed}
+use Rattle.rw_laws.proofs.Common.{dispatch_of, due_is_rule, ended, false, fault, fired, idle, if◌then◌else◌, inl, input_content, inr, inside}
+use Rattle.rw_laws.proofs.Common.{is_same_object, is_shared, last_put, left_begins, left_by_others, left_by_own, looks_of, nat_tests, none-some}
+use Rattle.rw_laws.proofs.Common.{object_at, opened, option_map, option_or, over, own_puts_fall, placed, puts_are_apart, puts_written, refl, rests}
+use Rattle.rw_laws.proofs.Common.{same_Some, standing, subst, sym, true, value_in, view_of, weaker_all, written_by, ℕ, ℤ, ◌+◌, ◌<◌, ◌==◌, ◌∙◌, ◌∷◌}
+use Rattle.rw_laws.proofs.Common.{◌≡◌, ◌≤◌}
 use Rattle.rw_run.specs.Log.{given}
 use Rattle.rw_laws.specs.Priority.{IsNoWeakerPut, KeepPriority, KeepsPriority}
 use Rattle.rw_laws.proofs.Came.{Came, Closes, Fires, Opens, asks, closes, ends, fires, opens}
@@ -33,13 +40,16 @@ pub record Holds (basin : Draft) (log : Log) : Type 0 where
 -- ---- a dispatch that puts
 
 abbrev pub solving : Draft → Log → ℕ → ℕ → List Put → Event
-solving basin log object step puts = dispatch_of (cells_of basin log) (looks_of basin (cells_of basin log) object step) object step (asked_for basin object step puts)
+solving basin log object step puts =
+    dispatch_of (cells_of basin log) (looks_of basin (cells_of basin log) object step) object step (asked_for basin object step puts)
 
 -- what it writes, and how it leaves its object's slots
 pub record IsDispatch (basin : Draft) (log : Log) (object step : ℕ) (kind : Kind) (puts : List Put) : Type 0 where
   pub sound : IsKind kind
-  pub writes : AllByRecursion (IsObjectWriting basin step (cells_of basin log) object) (puts_written (cells_of basin log) (asked_for basin object step puts))
-  pub leaves : IsAfterOwn (view_of basin (cells_of basin log) object step) (view_of basin (cells_of basin (solving basin log object step puts ∷ log)) object step) puts
+  pub writes : AllByRecursion (IsObjectWriting basin step (cells_of basin log) object)
+      (puts_written (cells_of basin log) (asked_for basin object step puts))
+  pub leaves : IsAfterOwn (view_of basin (cells_of basin log) object step)
+      (view_of basin (cells_of basin (solving basin log object step puts ∷ log)) object step) puts
 
 pub dispatch_does : (basin : Draft) → IsBasin basin → (log : Log) (object step : ℕ) (event : Event) → LeftIn basin (cells_of basin log) (inside step)
     → (at : Solves basin (cells_of basin log) object step event) → IsDispatch basin log object step at.kind at.puts
@@ -55,7 +65,8 @@ dispatch_does basin valid log object step event left at =
     }
 
 -- what is so of an object's slots, by the kind that it has
-pub of_same : (P : Kind → View → Type 0) (basin : Draft) (log : Log) (object other step : ℕ) (own kind : Kind) → (object == other) ≡ true → KindIs basin object own → KindIs basin other kind
+pub of_same : (P : Kind → View → Type 0) (basin : Draft) (log : Log) (object other step : ℕ) (own kind : Kind) → (object == other) ≡ true
+    → KindIs basin object own → KindIs basin other kind
     → P own (view_of basin (cells_of basin log) object step) → P kind (view_of basin (cells_of basin log) other step)
 of_same P basin log object other step own kind same has is here =
     let one : object ≡ other = grind (arith, nat_tests, same) in
@@ -64,10 +75,12 @@ of_same P basin log object other step own kind same has is here =
 
 -- ---- inputs
 
-told_given : (basin : Draft) (log : Log) (cell : Cell) (value : ℤ) → AreTold 0 (cells_of basin log) → AreTold 0 (cells_of basin (given cell value ∷ log))
+told_given : (basin : Draft) (log : Log) (cell : Cell) (value : ℤ) → AreTold 0 (cells_of basin log)
+    → AreTold 0 (cells_of basin (given cell value ∷ log))
 told_given basin log cell value told other content held = by (is_shared basin cell other) held
   where
-    by : (test : Bool) → option_or (if test then Some (input_content value) else None) (cells_of basin log other) ≡ Some content → IsTold 0 other.step.0 content.number content.writer
+    by : (test : Bool) → option_or (if test then Some (input_content value) else None) (cells_of basin log other) ≡ Some content
+        → IsTold 0 other.step.0 content.number content.writer
     by true held = subst (λ (c : Content). IsTold 0 other.step.0 c.number c.writer) (same_Some _ _ held) refl
     by false held = told other content held
 
@@ -80,7 +93,8 @@ told_later step later cells le told cell content held = by content.writer (told 
     by (ByObject object) is = omega (arith, is, le)
     by writer is = is
 
-not_yet : (step object at number : ℕ) (writer : Writer) → step < at → IsTold step at number writer → is_same_object writer (ByObject (record { 0 = object })) ≡ false
+not_yet : (step object at number : ℕ) (writer : Writer) → step < at → IsTold step at number writer
+    → is_same_object writer (ByObject (record { 0 = object })) ≡ false
 not_yet step object at number (ByObject other) later told = absurd (omega (arith, told, later))
 not_yet step object at number writer later told = refl
 
@@ -102,7 +116,8 @@ module _ (basin : Draft) (valid : IsBasin basin) (policy : Policy) (promise : Is
     inputs = λ cell content held writer. quiet log event none cell ∙ held;
   }
 
-  quiet_left : (log : Log) (event : Event) (step : ℕ) → written_by event ≡ [] → LeftIn basin (cells_of basin log) (inside step) → LeftIn basin (cells_of basin (event ∷ log)) (inside step)
+  quiet_left : (log : Log) (event : Event) (step : ℕ) → written_by event ≡ [] → LeftIn basin (cells_of basin log) (inside step)
+      → LeftIn basin (cells_of basin (event ∷ log)) (inside step)
   quiet_left log event step none left object kind is =
       left_by_others kind (view_of basin (cells_of basin log) object step) (view_of basin (cells_of basin (event ∷ log)) object step)
       (passes basin step log event object step (subst (AllByRecursion (IsOthers basin step (cells_of basin log) object)) (sym none) tt)
@@ -110,10 +125,12 @@ module _ (basin : Draft) (valid : IsBasin basin) (policy : Policy) (promise : Is
 
   -- a timestep begins
   begun : (log : Log) (step : ℕ) → AreTold step (cells_of basin log) → LeftIn basin (cells_of basin (opened (step + 1) ∷ log)) (inside (step + 1))
-  begun log step told object kind is = left_begins kind (view_of basin (cells_of basin (opened (step + 1) ∷ log)) object (step + 1)) (λ place content held.
+  begun log step told object kind is =
+      left_begins kind (view_of basin (cells_of basin (opened (step + 1) ∷ log)) object (step + 1)) (λ place content held.
       elim (has_or_bare basin object place) [
         | inl has ↦
-            let there : cells_of basin log (cell_at has.number (step + 1)) ≡ Some content = sym (sees_at basin (cells_of basin (opened (step + 1) ∷ log)) object (step + 1) place has.number has.few has.slot) ∙ held in
+            let there : cells_of basin log (cell_at has.number (step + 1)) ≡ Some content =
+            sym (sees_at basin (cells_of basin (opened (step + 1) ∷ log)) object (step + 1) place has.number has.few has.slot) ∙ held in
             not_yet step object (step + 1) content.number content.writer (omega arith) (told (cell_at has.number (step + 1)) content there)
         | inr bare ↦ absurd (none-some content (sym (bare (cells_of basin (opened (step + 1) ∷ log)) (step + 1)) ∙ held))
       ])
@@ -145,23 +162,28 @@ module _ (basin : Draft) (valid : IsBasin basin) (policy : Policy) (promise : Is
       let told : AreTold step (cells_of basin log) = subst (ToldIn (cells_of basin log)) stands holds.told in
       let left : LeftIn basin (cells_of basin log) (inside step) = subst (LeftIn basin (cells_of basin log)) stands holds.left in
       let writing : AllByRecursion (IsWriting basin step (cells_of basin log)) firing.written =
-      weaker_all (IsRuleWriting basin step (cells_of basin log) rule step) (IsWriting basin step (cells_of basin log)) firing.written (λ put both. both.0) all in
+      weaker_all (IsRuleWriting basin step (cells_of basin log) rule step) (IsWriting basin step (cells_of basin log)) firing.written
+      (λ put both. both.0) all in
       let new_told : AreTold step (cells_of basin (fired firing ∷ log)) = told_after basin step log (fired firing) told writing in
       let new_left : LeftIn basin (cells_of basin (fired firing ∷ log)) (inside step) = (λ object kind is.
       left_by_others kind (view_of basin (cells_of basin log) object step) (view_of basin (cells_of basin (fired firing ∷ log)) object step)
       (passes basin step log (fired firing) object step
       (weaker_all (IsRuleWriting basin step (cells_of basin log) rule step) (IsOthers basin step (cells_of basin log) object) firing.written
-      (λ put both. (both.0, by_rule object rule put.content.writer both.1.writer)) all) (rule_later basin (cells_of basin log) step rule step firing.written all)) (left object kind is)) in
+      (λ put both. (both.0, by_rule object rule put.content.writer both.1.writer)) all)
+      (rule_later basin (cells_of basin log) step rule step firing.written all)) (left object kind is)) in
       record {
         priority = (keeps_priority basin step log (fired firing) told writing, holds.priority);
         told = subst (λ s. AreTold s (cells_of basin (fired firing ∷ log))) (sym at) new_told;
         left = subst (λ s. LeftIn basin (cells_of basin (fired firing ∷ log)) (inside s)) (sym at) new_left;
       }
 
-  ended_holds : (log : Log) (step rule : ℕ) (fire : Fire) (end : FireEnd) → Holds basin log → standing log ≡ inside step → 1 ≤ rule → All (CanAsk basin) fire.puts
+  ended_holds : (log : Log) (step rule : ℕ) (fire : Fire) (end : FireEnd) → Holds basin log → standing log ≡ inside step → 1 ≤ rule
+      → All (CanAsk basin) fire.puts
       → Holds basin (ended basin (cells_of basin log) rule step fire end ∷ log)
-  ended_holds log step rule fire DividesByZero holds stands first asked = fault_holds log (ended basin (cells_of basin log) rule step fire DividesByZero) holds tt
-  ended_holds log step rule fire (EndsOutside value) holds stands first asked = fault_holds log (ended basin (cells_of basin log) rule step fire (EndsOutside value)) holds tt
+  ended_holds log step rule fire DividesByZero holds stands first asked =
+      fault_holds log (ended basin (cells_of basin log) rule step fire DividesByZero) holds tt
+  ended_holds log step rule fire (EndsOutside value) holds stands first asked =
+      fault_holds log (ended basin (cells_of basin log) rule step fire (EndsOutside value)) holds tt
   ended_holds log step rule fire Unknown holds stands first asked =
       fired_holds log step rule _ refl holds stands (fired_writings basin policy step rule step (cells_of basin log) fire Unknown first asked)
   ended_holds log step rule fire Done holds stands first asked =
@@ -171,10 +193,12 @@ module _ (basin : Draft) (valid : IsBasin basin) (policy : Policy) (promise : Is
   fires_holds log event holds at =
       let rule = due_is_rule basin policy (cells_of basin log) log at.rule at.due in
       subst (λ e. Holds basin (e ∷ log)) (sym at.is)
-      (ended_holds log at.step at.rule at.fire at.fire.end holds at.stands rule.first (promise.asks at.rule at.step (value_in (cells_of basin log)) at.fire at.does))
+      (ended_holds log at.step at.rule at.fire at.fire.end holds at.stands rule.first
+      (promise.asks at.rule at.step (value_in (cells_of basin log)) at.fire at.does))
 
   -- a dispatch leaves the slots of its own object as it may, and those of others as they may be
-  solved_left : (log : Log) (step object : ℕ) (event : Event) (at : Solves basin (cells_of basin log) object step event) → LeftIn basin (cells_of basin log) (inside step)
+  solved_left : (log : Log) (step object : ℕ) (event : Event) (at : Solves basin (cells_of basin log) object step event)
+      → LeftIn basin (cells_of basin log) (inside step)
       → (other : ℕ) (kind : Kind) → KindIs basin other kind → (test : Bool) → (object == other) ≡ test
       → Left kind (view_of basin (cells_of basin (solving basin log object step at.puts ∷ log)) other step)
   solved_left log step object event at left other kind is true same =
@@ -184,16 +208,20 @@ module _ (basin : Draft) (valid : IsBasin basin) (policy : Policy) (promise : Is
   solved_left log step object event at left other kind is false apart =
       left_by_others kind (view_of basin (cells_of basin log) other step) _
       (passes basin step log (solving basin log object step at.puts) other step
-      (weaker_all (IsObjectWriting basin step (cells_of basin log) object) (IsOthers basin step (cells_of basin log) other) (puts_written (cells_of basin log) (asked_for basin object step at.puts))
+      (weaker_all (IsObjectWriting basin step (cells_of basin log) object) (IsOthers basin step (cells_of basin log) other)
+      (puts_written (cells_of basin log) (asked_for basin object step at.puts))
       (λ put both. (both.0, by_other other object put.content.writer both.1 apart)) (dispatch_does basin valid log object step event left at).writes)
       (later_all basin (cells_of basin log) object step at.puts)) (left other kind is)
 
-  solved_holds : (log : Log) (step object : ℕ) (event : Event) → Holds basin log → standing log ≡ inside step → Solves basin (cells_of basin log) object step event → Holds basin (event ∷ log)
+  solved_holds : (log : Log) (step object : ℕ) (event : Event) → Holds basin log → standing log ≡ inside step
+      → Solves basin (cells_of basin log) object step event → Holds basin (event ∷ log)
   solved_holds log step object event holds stands at =
       let told : AreTold step (cells_of basin log) = subst (ToldIn (cells_of basin log)) stands holds.told in
       let left : LeftIn basin (cells_of basin log) (inside step) = subst (LeftIn basin (cells_of basin log)) stands holds.left in
-      let writing : AllByRecursion (IsWriting basin step (cells_of basin log)) (puts_written (cells_of basin log) (asked_for basin object step at.puts)) =
-      weaker_all (IsObjectWriting basin step (cells_of basin log) object) (IsWriting basin step (cells_of basin log)) (puts_written (cells_of basin log) (asked_for basin object step at.puts))
+      let writing : AllByRecursion (IsWriting basin step (cells_of basin log))
+      (puts_written (cells_of basin log) (asked_for basin object step at.puts)) =
+      weaker_all (IsObjectWriting basin step (cells_of basin log) object) (IsWriting basin step (cells_of basin log))
+      (puts_written (cells_of basin log) (asked_for basin object step at.puts))
       (λ put both. both.0) (dispatch_does basin valid log object step event left at).writes in
       subst (λ e. Holds basin (e ∷ log)) (sym at.is) (record {
         priority = (keeps_priority basin step log (solving basin log object step at.puts) told writing, holds.priority);
@@ -201,12 +229,15 @@ module _ (basin : Draft) (valid : IsBasin basin) (policy : Policy) (promise : Is
         left = λ other kind is. solved_left log step object event at left other kind is (object == other) refl;
       })
 
-  asks_holds : (log : Log) (event : Event) (step object : ℕ) → Holds basin log → standing log ≡ inside step → Asked_of basin (cells_of basin log) object step event → Holds basin (event ∷ log)
+  asks_holds : (log : Log) (event : Event) (step object : ℕ) → Holds basin log → standing log ≡ inside step
+      → Asked_of basin (cells_of basin log) object step event → Holds basin (event ∷ log)
   asks_holds log event step object holds stands (idles at) =
       subst (λ e. Holds basin (e ∷ log)) (sym at.is) (record {
         priority = (quiet_priority log (idle object step (looks_of basin (cells_of basin log) object step)) refl, holds.priority);
         told = subst (ToldIn (cells_of basin log)) stands holds.told;
-        left = quiet_left log (idle object step (looks_of basin (cells_of basin log) object step)) step refl (subst (LeftIn basin (cells_of basin log)) stands holds.left);
+        left =
+            quiet_left log (idle object step (looks_of basin (cells_of basin log) object step)) step refl
+            (subst (LeftIn basin (cells_of basin log)) stands holds.left);
       })
   asks_holds log event step object holds stands (solves at) = solved_holds log step object event holds stands at
   asks_holds log event step object holds stands (stops why) = fault_holds log event holds why
@@ -215,7 +246,8 @@ module _ (basin : Draft) (valid : IsBasin basin) (policy : Policy) (promise : Is
   next_holds log event holds (opens at) = opens_holds log event holds at
   next_holds log event holds (closes at) = closes_holds log event holds at
   next_holds log event holds (fires at) = fires_holds log event holds at
-  next_holds log event holds (asks at) = asks_holds log event at.step at.object holds at.stands (asked_of basin (cells_of basin log) at.object at.step event at.is)
+  next_holds log event holds (asks at) =
+      asks_holds log event at.step at.object holds at.stands (asked_of basin (cells_of basin log) at.object at.step event at.is)
   next_holds log event holds (ends why) = fault_holds log event holds why
 
   -- ---- logs
@@ -229,7 +261,8 @@ module _ (basin : Draft) (valid : IsBasin basin) (policy : Policy) (promise : Is
 
   placed_holds : (log : Log) (inputs : List (Cell × ℤ)) → Holds basin log → standing log ≡ rests 0 → Holds basin (placed log inputs)
   placed_holds log [] holds stands = holds
-  placed_holds log (input ∷ inputs) holds stands = placed_holds (given input.0 input.1 ∷ log) inputs (given_holds log input.0 input.1 holds stands) refl
+  placed_holds log (input ∷ inputs) holds stands =
+      placed_holds (given input.0 input.1 ∷ log) inputs (given_holds log input.0 input.1 holds stands) refl
 
   pub begin_holds : (inputs : List (Cell × ℤ)) → Holds basin (placed [] inputs)
   begin_holds inputs = placed_holds [] inputs (record { priority = tt; told = λ cell content held. absurd (none-some content held); left = tt }) refl

@@ -1,5 +1,8 @@
 -- How what an object sees goes on, by the puts that an event writes.
-use Rattle.rw_laws.proofs.Common.{AllByRecursion, Asked, Bool, ByObject, Cell, Cells, Draft, Event, IsAfterOthers, IsReplaced, Log, None, Option, Some, View, ap, arith, cell_at, cells_of, content_in, false, get_or_past, inl, inr, is_same_object, known, known-view, length, length-map, length-range_with_len, map, nat_lt, nat_tests, option_and_then, option_map, option_or, places, refl, slot_in_place, sym, true, view_of, written_by, ℕ, ◌<◌, ◌∙◌, ◌∷◌, ◌≡◌, ◌≤◌, ◌⊎◌}
+use Rattle.rw_laws.proofs.Common.{AllByRecursion, Asked, Bool, ByObject, Cell, Cells, Draft, Event, IsAfterOthers, IsReplaced, Log, None, Option}
+use Rattle.rw_laws.proofs.Common.{Some, View, ap, arith, cell_at, cells_of, content_in, false, get_or_past, inl, inr, is_same_object, known}
+use Rattle.rw_laws.proofs.Common.{known-view, length, length-map, length-range_with_len, map, nat_lt, nat_tests, option_and_then, option_map}
+use Rattle.rw_laws.proofs.Common.{option_or, places, refl, slot_in_place, sym, true, view_of, written_by, ℕ, ◌<◌, ◌∙◌, ◌∷◌, ◌≡◌, ◌≤◌, ◌⊎◌}
 use Rattle.rw_laws.proofs.Linked.{last_found, linked}
 use Rattle.rw_laws.proofs.Told.{IsWriting}
 use Rattle.rw_laws.proofs.Staying.{AreLater, past_stays}
@@ -9,7 +12,8 @@ use Rattle.rw_laws.proofs.Writings.{sees_at}
 
 no_place : (basin : Draft) (cells : Cells) (object step place : ℕ) → 12 ≤ place → known (view_of basin cells object step) place ≡ None
 no_place basin cells object step place far =
-    let few : length (map (content_in basin cells object step) places) ≡ 12 = length-map places (content_in basin cells object step) ∙ length-range_with_len 0 12 in
+    let few : length (map (content_in basin cells object step) places) ≡ 12 =
+    length-map places (content_in basin cells object step) ∙ length-range_with_len 0 12 in
     get_or_past (map (content_in basin cells object step) places) place None (omega (arith, few, far))
 
 -- a place has a slot of the object, or nothing stands in it
@@ -21,10 +25,12 @@ pub record HasSlot (basin : Draft) (object place : ℕ) : Type 0 where
 abbrev pub IsBare : Draft → ℕ → ℕ → Type 0
 IsBare basin object place = (cells : Cells) (step : ℕ) → known (view_of basin cells object step) place ≡ None
 
-slot_or_bare : (basin : Draft) (object place : ℕ) → place < 12 → (found : Option ℕ) → slot_in_place basin.objects object place ≡ found → HasSlot basin object place ⊎ IsBare basin object place
+slot_or_bare : (basin : Draft) (object place : ℕ) → place < 12 → (found : Option ℕ) → slot_in_place basin.objects object place ≡ found
+    → HasSlot basin object place ⊎ IsBare basin object place
 slot_or_bare basin object place few (Some number) slot = inl (record { number = number; few = few; slot = slot })
 slot_or_bare basin object place few None none =
-    inr (λ cells step. known-view basin cells object step place few ∙ ap (λ found. option_and_then cells (option_map (λ s. cell_at s step) found)) none)
+    inr (λ cells step. known-view basin cells object step place few
+    ∙ ap (λ found. option_and_then cells (option_map (λ s. cell_at s step) found)) none)
 
 pub has_or_bare : (basin : Draft) (object place : ℕ) → HasSlot basin object place ⊎ IsBare basin object place
 has_or_bare basin object place = by (nat_lt place 12) refl

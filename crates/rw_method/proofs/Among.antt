@@ -1,5 +1,6 @@
 -- One of a list, and what is so of each of a list, by recursion.
-use Rattle.rw_method.proofs.Common.{AllByRecursion, Contains, IsSome, List, None, Option, Some, [], arith, get_or, inl, inr, length, map, refl, subst, suc, zero, ℕ, ◌++◌, ◌<◌, ◌∷◌, ◌≡◌, ◌⊎◌}
+use Rattle.rw_method.proofs.Common.{AllByRecursion, Contains, IsSome, List, None, Option, Some, [], arith, get_or, inl, inr, length, map, refl, subst}
+use Rattle.rw_method.proofs.Common.{suc, zero, ℕ, ◌++◌, ◌<◌, ◌∷◌, ◌≡◌, ◌⊎◌}
 
 -- it is one of these
 abbrev pub Among : {A : Type 0} → List A → A → Type 0

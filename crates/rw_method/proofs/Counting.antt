@@ -1,5 +1,7 @@
 -- A request for energy that counts, and the outflow that it gives.
-use Rattle.rw_method.proofs.Common.{Bool, Content, Given, None, Option, Plant, Some, View, ap, arith, false, given, if◌then◌else◌, inl, inr, is_some, known, nat_tests, none-some, option_and_then, option_map, outflow_of, outflow_or, refl, request_beside, request_of, requested, same_Some, sym, true, ℕ, ℤ, ◌≡◌, ◌<◌, ◌⊎◌}
+use Rattle.rw_method.proofs.Common.{Bool, Content, Given, None, Option, Plant, Some, View, ap, arith, false, given, if◌then◌else◌, inl, inr, is_some}
+use Rattle.rw_method.proofs.Common.{known, nat_tests, none-some, option_and_then, option_map, outflow_of, outflow_or, refl, request_beside}
+use Rattle.rw_method.proofs.Common.{request_of, requested, same_Some, sym, true, ℕ, ℤ, ◌≡◌, ◌<◌, ◌⊎◌}
 use Rattle.std.specs.Prelude.{nat_lt}
 use Rattle.rw_method.specs.Left.{IsGivenUpTo, IsUpTo}
 
@@ -39,7 +41,8 @@ pub counts : (view : View) (asking : Content) → request_of view ≡ Some askin
 counts view asking is = counts_by view.past (given view 1) (known view 4) asking is
 
 -- beside an outflow that isn't given a request counts
-pub counts_alone : (view : View) (asking : Content) → is_some view.past ≡ true → given view 1 ≡ None → known view 4 ≡ Some asking → request_of view ≡ Some asking
+pub counts_alone : (view : View) (asking : Content) → is_some view.past ≡ true → given view 1 ≡ None → known view 4 ≡ Some asking
+    → request_of view ≡ Some asking
 counts_alone view asking past none there = rw past rw none rw there refl
 
 -- ---- up to which number the outflow is given
@@ -48,7 +51,8 @@ counts_alone view asking past none there = rw past rw none rw there refl
 abbrev pub AsksUpTo : ℕ → View → Type 0
 AsksUpTo number view = (is_some view.past ≡ true) × IsUpTo number (known view 4)
 
-from_by : (past : Option ℤ) (outflow : Option Given) (request asking : Option Content) (f : Content → Given) (number : ℕ) → ((c : Content) → (f c).number ≡ c.number)
+from_by : (past : Option ℤ) (outflow : Option Given) (request asking : Option Content) (f : Content → Given) (number : ℕ)
+    → ((c : Content) → (f c).number ≡ c.number)
     → counting past outflow request ≡ asking → IsGivenUpTo number (outflow_or (option_map f asking) outflow)
     → ((is_some past ≡ true) × IsUpTo number request) ⊎ IsGivenUpTo number outflow
 from_by past outflow request None f number same is up = inr up
@@ -58,10 +62,12 @@ from_by past outflow request (Some asking) f number same is up =
     let m = same asking in let most = up.most in
     inl (counting_one.past_is, record { content = asking; is = counting_one.is; most = omega (arith, n, m, most) })
 
-pub from_asked : (plant : Plant) (view : View) (number : ℕ) → IsGivenUpTo number (outflow_of plant view) → AsksUpTo number view ⊎ IsGivenUpTo number (given view 1)
+pub from_asked : (plant : Plant) (view : View) (number : ℕ) → IsGivenUpTo number (outflow_of plant view)
+    → AsksUpTo number view ⊎ IsGivenUpTo number (given view 1)
 from_asked plant view number up = from_by view.past (given view 1) (known view 4) (request_of view) (requested plant view) number (λ c. refl) refl up
 
-to_by : (past : Option ℤ) (outflow : Option Given) (request : Option Content) (f : Content → Given) (number : ℕ) → ((c : Content) → (f c).number ≡ c.number)
+to_by : (past : Option ℤ) (outflow : Option Given) (request : Option Content) (f : Content → Given) (number : ℕ)
+    → ((c : Content) → (f c).number ≡ c.number)
     → ((is_some past ≡ true) × IsUpTo number request) ⊎ IsGivenUpTo number outflow
     → IsGivenUpTo number (outflow_or (option_map f (counting past outflow request)) outflow)
 to_by None outflow request f number same (inl asks) = absurd (let no : false ≡ true = asks.0 in cc)
@@ -75,7 +81,8 @@ to_by (Some past) None (Some content) f number same (inl asks) =
 to_by (Some past) None (Some content) f number same (inr up) = absurd (none-some up.held up.is)
 to_by (Some past) (Some outflow) (Some content) f number same is = by (nat_lt content.number outflow.number) refl is
   where
-    by : (test : Bool) → nat_lt content.number outflow.number ≡ test → (((true ≡ true) × IsUpTo number (Some content)) ⊎ IsGivenUpTo number (Some outflow))
+    by : (test : Bool) → nat_lt content.number outflow.number ≡ test
+        → (((true ≡ true) × IsUpTo number (Some content)) ⊎ IsGivenUpTo number (Some outflow))
         → IsGivenUpTo number (outflow_or (option_map f (if test then Some content else None)) (Some outflow))
     by true less (inl asks) =
         let n : content.number ≡ asks.1.content.number = ap (λ (c : Content). c.number) (same_Some _ _ asks.1.is) in
@@ -91,5 +98,6 @@ to_by (Some past) (Some outflow) (Some content) f number same is = by (nat_lt co
         record { held = outflow; is = refl; most = grind (arith, nat_tests, more, n, most) }
     by false more (inr up) = up
 
-pub to_asked : (plant : Plant) (view : View) (number : ℕ) → AsksUpTo number view ⊎ IsGivenUpTo number (given view 1) → IsGivenUpTo number (outflow_of plant view)
+pub to_asked : (plant : Plant) (view : View) (number : ℕ) → AsksUpTo number view ⊎ IsGivenUpTo number (given view 1)
+    → IsGivenUpTo number (outflow_of plant view)
 to_asked plant view number is = to_by view.past (given view 1) (known view 4) (requested plant view) number (λ c. refl) is

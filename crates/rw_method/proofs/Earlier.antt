@@ -1,5 +1,6 @@
 -- An earlier value is of an earlier timestep.
-use Rattle.rw_method.proofs.Common.{Bool, Kind, None, Reach, Reservoir, RoutedReach, Some, ap, arith, false, if◌then◌else◌, nat_tests, none-some, past_in, refl, same_Some, true, ℕ, ◌==◌, ◌≡◌, ◌≤◌, PowerReservoir}
+use Rattle.rw_method.proofs.Common.{Bool, Kind, None, Reach, Reservoir, RoutedReach, Some, ap, arith, false, if◌then◌else◌, nat_tests, none-some}
+use Rattle.rw_method.proofs.Common.{past_in, refl, same_Some, true, ℕ, ◌==◌, ◌≡◌, ◌≤◌, PowerReservoir}
 
 pub some_ago : (kind : Kind) (past : ℕ × ℕ) → past_in kind ≡ Some past → 1 ≤ past.1
 some_ago (Reach lag history local_inflow diversion return_flow) past is = by (lag == 0) refl is

@@ -1,5 +1,7 @@
 -- Which term gives way.
-use Rattle.rw_method.proofs.Common.{All, All-append, All-push, Given, GivesWay, IsNoWeaker, IsStronger, List, None, Option, Some, Term, [], ap, append-nil, append_assoc, arith, both_ways, cases_Bool, false, gives_way_before, inl, inr, refl, true, weakest, ◌++◌, ◌∷◌, ◌≡◌}
+use Rattle.rw_method.proofs.Common.{All, All-append, All-push, Given, GivesWay, IsNoWeaker, IsStronger, List, None, Option, Some, Term, [], ap}
+use Rattle.rw_method.proofs.Common.{append-nil, append_assoc, arith, both_ways, cases_Bool, false, gives_way_before, inl, inr, refl, true, weakest}
+use Rattle.rw_method.proofs.Common.{◌++◌, ◌∷◌, ◌≡◌}
 
 -- ---- the order of terms
 

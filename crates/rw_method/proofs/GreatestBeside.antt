@@ -1,5 +1,7 @@
 -- The greatest number beside a term.
-use Rattle.rw_method.proofs.Common.{All, Bool, Contains, Decides-eqb, IsGreatestBeside, List, Term, [], arith, both_ways, cases_Bool, cases_lt, false, greatest_beside, if◌then◌else◌, inl, inr, max, priority_of, refl, suc, true, ℕ, ◌<◌, ◌==◌, ◌∙◌, ◌∷◌, ◌≡◌, ◌≢◌, ◌≤◌, ◌⊎◌}
+use Rattle.rw_method.proofs.Common.{All, Bool, Contains, Decides-eqb, IsGreatestBeside, List, Term, [], arith, both_ways, cases_Bool, cases_lt, false}
+use Rattle.rw_method.proofs.Common.{greatest_beside, if◌then◌else◌, inl, inr, max, priority_of, refl, suc, true, ℕ, ◌<◌, ◌==◌, ◌∙◌, ◌∷◌, ◌≡◌, ◌≢◌}
+use Rattle.rw_method.proofs.Common.{◌≤◌, ◌⊎◌}
 use Rattle.rw_method.proofs.GivingWay.{and_pass, none_pass}
 
 apart : (a b : ℕ) → (a == b) ≡ false → a ≢ b

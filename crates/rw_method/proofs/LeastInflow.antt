@@ -1,5 +1,7 @@
 -- The least inflow of a canal, and of a routed reach, that gives an outflow.
-use Rattle.rw_method.proofs.Common.{*ℤ-zero, *ℤ_comm, Conveys, Routes, ap, arith, brought, inl, inr, ints, least_inflow, least_routed, neg_ℤ, per_mille, pos, refl, suc, suc_ℤ-*ℤ, zero, ℕ, ℤ, ◌*ℤ◌, ◌*◌, ◌+ℤ◌, ◌+◌, ◌-ℤ◌, ◌-◌, ◌/◌, ◌<ℤ◌, ◌<◌, ◌∙◌, ◌≡◌, ◌≢◌, ◌≤ℤ◌, ◌≤◌}
+use Rattle.rw_method.proofs.Common.{*ℤ-zero, *ℤ_comm, Conveys, Routes, ap, arith, brought, inl, inr, ints, least_inflow, least_routed, neg_ℤ}
+use Rattle.rw_method.proofs.Common.{per_mille, pos, refl, suc, suc_ℤ-*ℤ, zero, ℕ, ℤ, ◌*ℤ◌, ◌*◌, ◌+ℤ◌, ◌+◌, ◌-ℤ◌, ◌-◌, ◌/◌, ◌<ℤ◌, ◌<◌, ◌∙◌, ◌≡◌, ◌≢◌}
+use Rattle.rw_method.proofs.Common.{◌≤ℤ◌, ◌≤◌}
 use Rattle.rw_base.specs.Quotient.{floor_div}
 use Rattle.rw_base.proofs.Quotients.{IsFloor-floor_div}
 use Rattle.rw_table.proofs.Comparison.{same_or_not, eq_fails}
@@ -30,7 +32,8 @@ times_rises y z (suc n) le = omega (arith, ints, le, times_rises y z n le, times
 -- ---- what is conveyed
 
 -- of what flows in, as much is conveyed as stays of it, rounded up: a thousand times that is less than a thousand above
-conveyed_bounds : (z : ℤ) (seepage stay : ℕ) → seepage + stay ≡ 1000 → ((z *ℤ pos stay) ≤ℤ (brought (Conveys seepage) z *ℤ pos 1000)) × ((brought (Conveys seepage) z *ℤ pos 1000) <ℤ (z *ℤ pos stay +ℤ pos 1000))
+conveyed_bounds : (z : ℤ) (seepage stay : ℕ) → seepage + stay ≡ 1000
+    → ((z *ℤ pos stay) ≤ℤ (brought (Conveys seepage) z *ℤ pos 1000)) × ((brought (Conveys seepage) z *ℤ pos 1000) <ℤ (z *ℤ pos stay +ℤ pos 1000))
 conveyed_bounds z seepage stay is =
     let seeping = (IsFloor-floor_div (z *ℤ pos seepage) (pos 1000)).over_positive (omega (arith, ints)) in
     let all = parts z seepage stay 1000 is in
@@ -98,7 +101,8 @@ least seepage outflow inflow few some less =
 -- ---- what is routed
 
 -- a thousand times what is let go is just below the parts of all that is held
-parts_let_go : (held : ℤ) (release : ℕ) → ((per_mille held release *ℤ pos 1000) ≤ℤ (held *ℤ pos release)) × ((held *ℤ pos release) <ℤ ((per_mille held release +ℤ pos 1) *ℤ pos 1000))
+parts_let_go : (held : ℤ) (release : ℕ) → ((per_mille held release *ℤ pos 1000) ≤ℤ (held *ℤ pos release))
+    × ((held *ℤ pos release) <ℤ ((per_mille held release +ℤ pos 1) *ℤ pos 1000))
 parts_let_go held release = (IsFloor-floor_div (held *ℤ pos release) (pos 1000)).over_positive (omega (arith, ints))
 
 -- the least content is just enough

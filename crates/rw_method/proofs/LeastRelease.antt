@@ -1,10 +1,13 @@
 -- The first whole number that is enough, and so the least release that gives an energy, which is a quotient.
-use Rattle.rw_base.proofs.Common.{*ℤ-zero, *ℤ_comm, Bool, MatchOption, None, Option, Some, ap, arith, by_lt_z, cases_eq, cases_lt, cond, false, inl, inr, ints, negsuc, option_map, pos, refl, subst, suc, sym, true, zero, ℕ, ℤ, ◌*ℤ◌, ◌*◌, ◌+ℤ◌, ◌+◌, ◌-ℤ◌, ◌<ℤ◌, ◌<◌, ◌∙◌, ◌≡◌, ◌≤ℤ◌, ◌≤◌}
+use Rattle.rw_base.proofs.Common.{*ℤ-zero, *ℤ_comm, Bool, MatchOption, None, Option, Some, ap, arith, by_lt_z, cases_eq, cases_lt, cond, false, inl}
+use Rattle.rw_base.proofs.Common.{inr, ints, negsuc, option_map, pos, refl, subst, suc, sym, true, zero, ℕ, ℤ, ◌*ℤ◌, ◌*◌, ◌+ℤ◌, ◌+◌, ◌-ℤ◌, ◌<ℤ◌, ◌<◌}
+use Rattle.rw_base.proofs.Common.{◌∙◌, ◌≡◌, ◌≤ℤ◌, ◌≤◌}
 use Rattle.rw_base.specs.Quotient.{floor_div}
 use Rattle.rw_base.proofs.Quotients.{IsFloor-floor_div}
 use Rattle.rw_table.proofs.Comparison.{below_or_not, same_or_not, le_passes, le_fails, eq_passes, eq_fails}
 use Rattle.rw_method.proofs.LeastInflow.{times_rises}
-use Rattle.rw_method.specs.Power.{HasNoRelease, IsLeastRelease, energy_of, first_enough, is_enough, least_release, quotient_release, release_quotient, up_to}
+use Rattle.rw_method.specs.Power.{HasNoRelease, IsLeastRelease, energy_of, first_enough, is_enough, least_release, quotient_release, release_quotient}
+use Rattle.rw_method.specs.Power.{up_to}
 
 -- it is among those that are counted, is enough, and none before it is
 record IsFirst (enough : ℕ → Bool) (from end first : ℕ) : Type 0 where
@@ -67,10 +70,12 @@ first_is enough more from first is = alone enough from (from + more) first _ is 
     ]
 
 -- where there is none
-none_is : (enough : ℕ → Bool) (more from : ℕ) → ((other : ℕ) → from ≤ other → other < from + more → enough other ≡ false) → first_enough enough more from ≡ None
+none_is : (enough : ℕ → Bool) (more from : ℕ) → ((other : ℕ) → from ≤ other → other < from + more → enough other ≡ false)
+    → first_enough enough more from ≡ None
 none_is enough zero from none = refl
 none_is enough (suc more) from none =
-    rw (none from (omega arith) (omega arith)) (none_is enough more (suc from) (λ other low high. none other (omega (arith, low)) (omega (arith, high))))
+    rw (none from (omega arith) (omega arith))
+    (none_is enough more (suc from) (λ other low high. none other (omega (arith, low)) (omega (arith, high))))
 
 -- ---- the count says what is the least
 
@@ -92,7 +97,8 @@ is_least power head most energy (Some release) is = record {
 
 -- the least release is the least, and there is none where no release gives the energy
 pub least_is : (power : ℕ) (head max_release energy : ℤ) → pos 0 ≤ℤ max_release
-    → MatchOption (least_release power head max_release energy) (HasNoRelease power head max_release energy) (IsLeastRelease power head max_release energy)
+    → MatchOption (least_release power head max_release energy) (HasNoRelease power head max_release energy)
+    (IsLeastRelease power head max_release energy)
 least_is power head (pos most) energy low = is_least power head most energy _ (rw all at (counted (is_enough power head energy) (suc most) 0))
   where
     all : 0 + suc most ≡ suc most
@@ -102,12 +108,14 @@ least_is power head (negsuc most) energy low = absurd (omega (arith, ints, low))
 -- ---- and the quotient is the least
 
 -- a product on the two sides of an energy
-enough_from : (m : ℕ) (energy release : ℤ) → (energy *ℤ pos 1000000000) ≤ℤ (release *ℤ pos m) → energy ≤ℤ floor_div (release *ℤ pos m) (pos 1000000000)
+enough_from : (m : ℕ) (energy release : ℤ) → (energy *ℤ pos 1000000000) ≤ℤ (release *ℤ pos m)
+    → energy ≤ℤ floor_div (release *ℤ pos m) (pos 1000000000)
 enough_from m energy release most =
     let floor = (IsFloor-floor_div (release *ℤ pos m) (pos 1000000000)).over_positive (omega (arith, ints)) in
     omega (arith, ints, most, floor.1)
 
-little_from : (m : ℕ) (energy release : ℤ) → (release *ℤ pos m) <ℤ (energy *ℤ pos 1000000000) → floor_div (release *ℤ pos m) (pos 1000000000) <ℤ energy
+little_from : (m : ℕ) (energy release : ℤ) → (release *ℤ pos m) <ℤ (energy *ℤ pos 1000000000)
+    → floor_div (release *ℤ pos m) (pos 1000000000) <ℤ energy
 little_from m energy release less =
     let floor = (IsFloor-floor_div (release *ℤ pos m) (pos 1000000000)).over_positive (omega (arith, ints)) in
     omega (arith, ints, less, floor.0)
@@ -131,7 +139,9 @@ just_enough m energy some much =
     let q = floor_div (energy *ℤ pos 1000000000 -ℤ pos 1) (pos m) in
     let floor = (IsFloor-floor_div (energy *ℤ pos 1000000000 -ℤ pos 1) (pos m)).over_positive (omega (arith, ints, some)) in
     record {
-      low = by_lt_z q (pos 0) (λ under. absurd (omega (arith, ints, floor.1, much, times_rises (q +ℤ pos 1) (pos 0) m (omega (arith, ints, under)), none m))) (λ le. le);
+      low =
+          by_lt_z q (pos 0) (λ under. absurd (omega
+          (arith, ints, floor.1, much, times_rises (q +ℤ pos 1) (pos 0) m (omega (arith, ints, under)), none m))) (λ le. le);
       below = omega (arith, ints, floor.0);
       enough = omega (arith, ints, floor.1);
     }
@@ -164,7 +174,8 @@ some_fall : (head power : ℕ) → 1 ≤ power → 0 < head → 0 < head * power
 some_fall head power high above = omega (arith, ints, high, above, times_rises (pos 1) (pos head) power (omega (arith, ints, above)))
 
 -- where it needs none, no release is the least
-by_none : (power : ℕ) (head : ℤ) (most : ℕ) (energy : ℤ) → energy ≤ℤ pos 0 → option_map pos (least_release power head (pos most) energy) ≡ Some (pos 0)
+by_none : (power : ℕ) (head : ℤ) (most : ℕ) (energy : ℤ) → energy ≤ℤ pos 0
+    → option_map pos (least_release power head (pos most) energy) ≡ Some (pos 0)
 by_none power head most energy none =
     let zero_product : pos 0 *ℤ (head *ℤ pos power) ≡ pos 0 = *ℤ_comm (pos 0) (head *ℤ pos power) ∙ *ℤ-zero (head *ℤ pos power) in
     let zero_energy : energy_of power head (pos 0) ≡ pos 0 = nothing (pos 0 *ℤ (head *ℤ pos power)) zero_product in

@@ -1,5 +1,6 @@
 -- The first misfit of puts that are asked for one after the other.
-use Rattle.rw_base.proofs.Common.{◌≡◌, refl, ap, ◌∙◌, Bool, true, false, List, [], ◌∷◌, ◌++◌, append_assoc, Option, Some, None, if◌then◌else◌, option_map, Result, Ok, Err}
+use Rattle.rw_base.proofs.Common.{◌≡◌, refl, ap, ◌∙◌, Bool, true, false, List, [], ◌∷◌, ◌++◌, append_assoc, Option, Some, None, if◌then◌else◌}
+use Rattle.rw_base.proofs.Common.{option_map, Result, Ok, Err}
 use Rattle.rw_method.specs.declared.put.Put.{Put}
 use Rattle.rw_method.specs.declared.solved.Solved.{Solved}
 use Rattle.rw_method.specs.declared.solved.Solved.TheVariants.{Puts, OutOfRange}
@@ -20,11 +21,14 @@ after_fits fit (put ∷ puts) more all =
 pub all_fit : (fit : Put → Bool) (puts more : List Put) → AllFit fit puts → AllFit fit more → AllFit fit (puts ++ more)
 all_fit fit puts more all others = after_fits fit puts more all ∙ others
 
-pub refused_later : (fit : Put → Bool) (puts more : List Put) (answer : Solved) → AllFit fit puts → IsRefused fit more answer → IsRefused fit (puts ++ more) answer
+pub refused_later : (fit : Put → Bool) (puts more : List Put) (answer : Solved) → AllFit fit puts → IsRefused fit more answer
+    → IsRefused fit (puts ++ more) answer
 refused_later fit puts more answer all refused =
     ap (option_map (λ (misfit : Put). OutOfRange misfit.place misfit.value)) (after_fits fit puts more all) ∙ refused
 
-kept : (end : Put → Solved) (b : Bool) (rest more : Option Put) (put : Put) (answer : Solved) → option_map end (if b then rest else Some put) ≡ Some answer → (option_map end rest ≡ Some answer → option_map end more ≡ Some answer) → option_map end (if b then more else Some put) ≡ Some answer
+kept : (end : Put → Solved) (b : Bool) (rest more : Option Put) (put : Put) (answer : Solved)
+    → option_map end (if b then rest else Some put) ≡ Some answer → (option_map end rest ≡ Some answer → option_map end more ≡ Some answer)
+    → option_map end (if b then more else Some put) ≡ Some answer
 kept end true rest more put answer is step = step is
 kept end false rest more put answer is step = is
 
@@ -32,7 +36,8 @@ kept end false rest more put answer is step = is
 pub refused_at_once : (fit : Put → Bool) (puts more : List Put) (answer : Solved) → IsRefused fit puts answer → IsRefused fit (puts ++ more) answer
 refused_at_once fit [] more answer refused = cc
 refused_at_once fit (put ∷ puts) more answer refused =
-    kept (λ (misfit : Put). OutOfRange misfit.place misfit.value) (fit put) (first_misfit fit puts) (first_misfit fit (puts ++ more)) put answer refused (refused_at_once fit puts more answer)
+    kept (λ (misfit : Put). OutOfRange misfit.place misfit.value) (fit put) (first_misfit fit puts) (first_misfit fit (puts ++ more)) put answer
+    refused (refused_at_once fit puts more answer)
 
 -- puts are asked for behind others that all fit
 pub asks_then : {X : Type 0} (fit : Put → Bool) (puts more old mid new : List Put) (result : Result X Solved) → mid ≡ old ++ puts → AllFit fit puts
@@ -58,7 +63,8 @@ asks_at_once fit puts more old new answer refused =
 pub judged_all : (fit : Put → Bool) (puts : List Put) → AllFit fit puts → answer_of_puts fit puts ≡ Puts puts
 judged_all fit puts all = ap (all_or_misfit puts) all
 
-refused_by : (puts : List Put) (found : Option Put) (answer : Solved) → option_map (λ (misfit : Put). OutOfRange misfit.place misfit.value) found ≡ Some answer → all_or_misfit puts found ≡ answer
+refused_by : (puts : List Put) (found : Option Put) (answer : Solved)
+    → option_map (λ (misfit : Put). OutOfRange misfit.place misfit.value) found ≡ Some answer → all_or_misfit puts found ≡ answer
 refused_by puts None answer refused = cc
 refused_by puts (Some misfit) answer refused = cc
 
@@ -66,14 +72,17 @@ pub judged_refused : (fit : Put → Bool) (puts : List Put) (answer : Solved) �
 judged_refused fit puts answer refused = refused_by puts (first_misfit fit puts) answer refused
 
 -- puts in four parts, of which the first two are asked for together, and then the last two
-pub refused_in_front : (fit : Put → Bool) (a b c d : List Put) (answer : Solved) → IsRefused fit (a ++ b) answer → answer_of_puts fit (a ++ b ++ c ++ d) ≡ answer
+pub refused_in_front : (fit : Put → Bool) (a b c d : List Put) (answer : Solved) → IsRefused fit (a ++ b) answer
+    → answer_of_puts fit (a ++ b ++ c ++ d) ≡ answer
 refused_in_front fit a b c d answer refused =
     rw append_assoc (judged_refused fit ((a ++ b) ++ (c ++ d)) answer (refused_at_once fit (a ++ b) (c ++ d) answer refused))
 
-pub refused_behind : (fit : Put → Bool) (a b c d : List Put) (answer : Solved) → AllFit fit (a ++ b) → IsRefused fit (c ++ d) answer → answer_of_puts fit (a ++ b ++ c ++ d) ≡ answer
+pub refused_behind : (fit : Put → Bool) (a b c d : List Put) (answer : Solved) → AllFit fit (a ++ b) → IsRefused fit (c ++ d) answer
+    → answer_of_puts fit (a ++ b ++ c ++ d) ≡ answer
 refused_behind fit a b c d answer all refused =
     rw append_assoc (judged_refused fit ((a ++ b) ++ (c ++ d)) answer (refused_later fit (a ++ b) (c ++ d) answer all refused))
 
-pub four_fit : (fit : Put → Bool) (a b c d puts : List Put) → AllFit fit (a ++ b) → AllFit fit (c ++ d) → puts ≡ (a ++ b) ++ (c ++ d) → answer_of_puts fit (a ++ b ++ c ++ d) ≡ Puts puts
+pub four_fit : (fit : Put → Bool) (a b c d puts : List Put) → AllFit fit (a ++ b) → AllFit fit (c ++ d) → puts ≡ (a ++ b) ++ (c ++ d)
+    → answer_of_puts fit (a ++ b ++ c ++ d) ≡ Puts puts
 four_fit fit a b c d puts all others is =
     rw (append_assoc, is) (judged_all fit ((a ++ b) ++ (c ++ d)) (all_fit fit (a ++ b) (c ++ d) all others))

@@ -1,6 +1,8 @@
 -- The power reservoir: where a dispatch answers puts, the balance of what is held then is true, storage and elevation go together, and
 -- energy, release and spill are what the outflow gives.
-use Rattle.rw_method.proofs.Common.{Brings, Kind, List, Plant, PowerReservoir, Put, Row, Some, View, [], ap, ap₂, arith, balanced_of, elev_of, energy_of, energy_puts, head_from, head_of, held_after_puts, inl, inr, int_min, ints, known_value, option_and_then, option_map, plant, pos, power_flows, refl, same_Some, sym, unwrap_or, ℕ, ℤ, ◌-ℤ◌, ◌∙◌, ◌∷◌, ◌≡◌}
+use Rattle.rw_method.proofs.Common.{Brings, Kind, List, Plant, PowerReservoir, Put, Row, Some, View, [], ap, ap₂, arith, balanced_of, elev_of}
+use Rattle.rw_method.proofs.Common.{energy_of, energy_puts, head_from, head_of, held_after_puts, inl, inr, int_min, ints, known_value}
+use Rattle.rw_method.proofs.Common.{option_and_then, option_map, plant, pos, power_flows, refl, same_Some, sym, unwrap_or, ℕ, ℤ, ◌-ℤ◌, ◌∙◌, ◌∷◌, ◌≡◌}
 use Rattle.rw_method.specs.Balanced.{IsBalanced}
 use Rattle.rw_method.specs.Passing.{IsAfterOwn}
 use Rattle.rw_method.proofs.Among.{Among, contains}
@@ -34,7 +36,9 @@ module _ (initial_storage : ℤ) (table : List Row) (max_release tailwater : ℤ
       same_Some _ _ (sym (outflow_value initial_storage table max_release tailwater power old puts is new after) ∙ held_out) in
       record {
         balance = omega (arith, ints, zero_sum, p);
-        level = level_held kind (Some table) old puts is (storing initial_storage table max_release tailwater power old puts is) new after table refl stores held_storage;
+        level =
+            level_held kind (Some table) old puts is (storing initial_storage table max_release tailwater power old puts is) new after table refl
+            stores held_storage;
         stood = stood.0;
         elevation = stood.1;
         energy = derived _ (inl refl) ∙ ap₂ (λ fall out. Some (energy_of power fall (int_min out max_release))) head value;
@@ -44,5 +48,7 @@ module _ (initial_storage : ℤ) (table : List Row) (max_release tailwater : ℤ
         );
       }
     where
-      derived : (put : Put) → Among (energy_puts of (head_of of old) (held_after_puts old (power_flows of old (balanced_of kind old)) 1)) put → known_value new put.place ≡ Some put.value
-      derived put has = put_value old new puts after put (contains puts put (energy_there initial_storage table max_release tailwater power old puts is put has))
+      derived : (put : Put) → Among (energy_puts of (head_of of old) (held_after_puts old (power_flows of old (balanced_of kind old)) 1)) put
+          → known_value new put.place ≡ Some put.value
+      derived put has =
+          put_value old new puts after put (contains puts put (energy_there initial_storage table max_release tailwater power old puts is put has))

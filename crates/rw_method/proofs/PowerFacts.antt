@@ -1,17 +1,26 @@
 -- The power reservoir, whose outflow a request may ask for.
-use Rattle.rw_method.proofs.Common.{All, All-contains, AllByRecursion, Balanced, Bool, Brings, Conflicts, Contains, Content, Given, Holds, Idle, IsShare, IsSome, Kind, List, None, Option, Plant, PowerReservoir, Put, Row, Solves, Some, Term, View, [], ap, arith, asked_number, asked_of, asked_put, balanced_of, cases_lt, energy_puts, false, fault_of_past, fault_of_request, flow_puts, given, greatest_beside, head_of, held_after_puts, held_by, if◌then◌else◌, inl, inr, is_some, known, known_value, level_puts, map, nat_tests, none-some, priority_of, option_map, outflow_of, outflow_or, plant, power_balance, power_flows, put, refl, request_of, requested, same_Some, solved_put, subst, sym, true, ℕ, ℤ, ◌++◌, ◌<◌, ◌==◌, ◌∙◌, ◌∷◌, ◌≡◌, ◌≢◌, ◌≤◌, ◌⊎◌}
+use Rattle.rw_method.proofs.Common.{All, All-contains, AllByRecursion, Balanced, Bool, Brings, Conflicts, Contains, Content, Given, Holds, Idle}
+use Rattle.rw_method.proofs.Common.{IsShare, IsSome, Kind, List, None, Option, Plant, PowerReservoir, Put, Row, Solves, Some, Term, View, [], ap}
+use Rattle.rw_method.proofs.Common.{arith, asked_number, asked_of, asked_put, balanced_of, cases_lt, energy_puts, false, fault_of_past}
+use Rattle.rw_method.proofs.Common.{fault_of_request, flow_puts, given, greatest_beside, head_of, held_after_puts, held_by, if◌then◌else◌, inl, inr}
+use Rattle.rw_method.proofs.Common.{is_some, known, known_value, level_puts, map, nat_tests, none-some, priority_of, option_map, outflow_of}
+use Rattle.rw_method.proofs.Common.{outflow_or, plant, power_balance, power_flows, put, refl, request_of, requested, same_Some, solved_put, subst}
+use Rattle.rw_method.proofs.Common.{sym, true, ℕ, ℤ, ◌++◌, ◌<◌, ◌==◌, ◌∙◌, ◌∷◌, ◌≡◌, ◌≢◌, ◌≤◌, ◌⊎◌}
 use Rattle.rw_method.specs.Left.{AreOthersUpTo, IsGivenUpTo, IsOutflowLeft, IsUpTo, Rest, is_own, rest, rests_of}
 use Rattle.rw_method.specs.Passing.{IsAfterOwn, put_content}
 use Rattle.rw_method.proofs.Answering.{Answered}
 use Rattle.rw_method.proofs.Counting.{AsksUpTo, counts, from_asked, to_asked}
-use Rattle.rw_method.proofs.Leaving.{DispatchFacts, IsFalling, LeftBy, PutIs, Solving, alone, beside, falls_from, holds_given, one_solving, others_pass, place_in, put_or_none, rests, same_own, solved, solving_is}
+use Rattle.rw_method.proofs.Leaving.{DispatchFacts, IsFalling, LeftBy, PutIs, Solving, alone, beside, falls_from, holds_given, one_solving}
+use Rattle.rw_method.proofs.Leaving.{others_pass, place_in, put_or_none, rests, same_own, solved, solving_is}
 use Rattle.rw_method.proofs.Among.{Among, all_among, all_append, all_at, among, among_left, among_right, contains, some_there, weaker_all}
 use Rattle.rw_method.proofs.GreatestBeside.{is_greatest_beside}
 use Rattle.rw_method.proofs.Netting.{put_value, rest_value}
 use Rattle.rw_method.proofs.PlainKinds.{of_solving, shares_three}
 use Rattle.rw_method.proofs.Settled.{balanced_code, given_up_to}
-use Rattle.rw_method.proofs.Storing.{IsLevelPut, IsStoring, contents_below, contents_held, contents_stay, given_held, level_good, low_place, none_first, not_solved, solved_level}
-use Rattle.rw_method.proofs.Terms.{Sort, Source, asked, contents, given_as, given_in, given_number, given_of, given_other, let_out, same_given, shape_of, slot, sort, stored, term_in, term_of}
+use Rattle.rw_method.proofs.Storing.{IsLevelPut, IsStoring, contents_below, contents_held, contents_stay, given_held, level_good, low_place}
+use Rattle.rw_method.proofs.Storing.{none_first, not_solved, solved_level}
+use Rattle.rw_method.proofs.Terms.{Sort, Source, asked, contents, given_as, given_in, given_number, given_of, given_other, let_out, same_given}
+use Rattle.rw_method.proofs.Terms.{shape_of, slot, sort, stored, term_in, term_of}
 
 -- ---- flows
 
@@ -42,10 +51,12 @@ solved_flow asking terms Holds = tt
 solved_flow asking terms (Solves place value number) = (inl refl, tt)
 solved_flow asking terms (Conflicts place held found) = tt
 
-asked_flow : (by : Given) (terms : List Term) (balanced : Balanced) → SolvesNot 1 balanced → IsFlow (Some by) terms balanced (asked_put terms balanced by)
+asked_flow : (by : Given) (terms : List Term) (balanced : Balanced) → SolvesNot 1 balanced
+    → IsFlow (Some by) terms balanced (asked_put terms balanced by)
 asked_flow by terms balanced apart = inr (record { by = by; is = refl; same = refl; apart = apart })
 
-pub flows_are : (asking : Option Given) (terms : List Term) (balanced : Balanced) → AllByRecursion (IsFlow asking terms balanced) (flow_puts asking terms balanced)
+pub flows_are : (asking : Option Given) (terms : List Term) (balanced : Balanced)
+    → AllByRecursion (IsFlow asking terms balanced) (flow_puts asking terms balanced)
 flows_are None terms balanced = solved_flow None terms balanced
 flows_are (Some by) terms Idle = (asked_flow by terms Idle (unsolved 1 Idle (λ code. omega (arith, code))), tt)
 flows_are (Some by) terms Holds = (asked_flow by terms Holds (unsolved 1 Holds (λ code. omega (arith, code))), tt)
@@ -57,12 +68,15 @@ flows_are (Some by) terms (Solves place value number) = by_place (place == 1) (p
     b = Solves place value number
 
     by_place : (out in_ : Bool) → (place == 1) ≡ out
-        → AllByRecursion (IsFlow (Some by) terms b) (if out then put place value number ∷ [] else (if in_ then put place value number ∷ asked_put terms b by ∷ [] else asked_put terms b by ∷ put place value number ∷ []))
+        → AllByRecursion (IsFlow (Some by) terms b)
+        (if out then put place value number ∷ [] else
+        (if in_ then put place value number ∷ asked_put terms b by ∷ [] else asked_put terms b by ∷ put place value number ∷ []))
     by_place true in_ here = (inl refl, tt)
     by_place false true apart = (inl refl, (asked_flow by terms b (solves_other 1 place number value apart), tt))
     by_place false false apart = (asked_flow by terms b (solves_other 1 place number value apart), (inl refl, tt))
 
-solved_there : (asking : Option Given) (terms : List Term) (place number : ℕ) (value : ℤ) → Among (flow_puts asking terms (Solves place value number)) (put place value number)
+solved_there : (asking : Option Given) (terms : List Term) (place number : ℕ) (value : ℤ)
+    → Among (flow_puts asking terms (Solves place value number)) (put place value number)
 solved_there None terms place number value = inl refl
 solved_there (Some by) terms place number value = by_place (place == 1) (place == 0)
   where
@@ -70,12 +84,15 @@ solved_there (Some by) terms place number value = by_place (place == 1) (place =
     b = Solves place value number
 
     by_place : (out in_ : Bool)
-        → Among (if out then put place value number ∷ [] else (if in_ then put place value number ∷ asked_put terms b by ∷ [] else asked_put terms b by ∷ put place value number ∷ [])) (put place value number)
+        → Among (if out then put place value number
+        ∷ [] else (if in_ then put place value number ∷ asked_put terms b by ∷ [] else asked_put terms b by ∷ put place value number ∷ []))
+        (put place value number)
     by_place true in_ = inl refl
     by_place false true = inl refl
     by_place false false = inr (inl refl)
 
-pub asked_there : (by : Given) (terms : List Term) (balanced : Balanced) → SolvesNot 1 balanced → Among (flow_puts (Some by) terms balanced) (asked_put terms balanced by)
+pub asked_there : (by : Given) (terms : List Term) (balanced : Balanced) → SolvesNot 1 balanced
+    → Among (flow_puts (Some by) terms balanced) (asked_put terms balanced by)
 asked_there by terms Idle apart = inl refl
 asked_there by terms Holds apart = inl refl
 asked_there by terms (Conflicts place held found) apart = inl refl
@@ -85,7 +102,9 @@ asked_there by terms (Solves place value number) apart = by_place (place == 1) (
     b = Solves place value number
 
     by_place : (out in_ : Bool) → (place == 1) ≡ out
-        → Among (if out then put place value number ∷ [] else (if in_ then put place value number ∷ asked_put terms b by ∷ [] else asked_put terms b by ∷ put place value number ∷ [])) (asked_put terms b by)
+        → Among (if out then put place value number
+        ∷ [] else (if in_ then put place value number ∷ asked_put terms b by ∷ [] else asked_put terms b by ∷ put place value number ∷ []))
+        (asked_put terms b by)
     by_place true in_ here = absurd (apart place number value refl (grind (arith, nat_tests, here)))
     by_place false true far = inr (inl refl)
     by_place false false far = inl refl
@@ -101,9 +120,29 @@ held_cases view [] place = inr (λ put has. absurd has, refl)
 held_cases view (first ∷ puts) place = by (first.place == place) refl (held_cases view puts place)
   where
     by : (test : Bool) → (first.place == place) ≡ test → HeldAfter view puts place → HeldAfter view (first ∷ puts) place
-    by true is later = inl (first, (inl refl, (grind (arith, nat_tests, is), ap (λ (here : Bool). if here then record { value = first.value; number = first.number } else held_after_puts view puts place) is)))
+    by true is later =
+        inl (
+          first,
+          (
+            inl refl,
+            (
+              grind (arith, nat_tests, is),
+              ap (λ (here : Bool). if here then record { value = first.value; number = first.number } else held_after_puts view puts place) is,
+            ),
+          ),
+        )
     by false is (inl found) =
-        inl (found.0, (inr found.1.0, (found.1.1.0, ap (λ (here : Bool). if here then record { value = first.value; number = first.number } else held_after_puts view puts place) is ∙ found.1.1.1)))
+        inl (
+          found.0,
+          (
+            inr found.1.0,
+            (
+              found.1.1.0,
+              ap (λ (here : Bool). if here then record { value = first.value; number = first.number } else held_after_puts view puts place) is
+                  ∙ found.1.1.1,
+            ),
+          ),
+        )
     by false is (inr none) = inr (
       (λ put has. elim has [
         | inl same ↦ λ at. let here : first.place ≡ place = ap (λ (p : Put). p.place) same ∙ at in absurd (grind (arith, nat_tests, is, here))
@@ -200,7 +239,8 @@ module _ (initial_storage : ℤ) (table : List Row) (max_release tailwater : ℤ
 
   solving_there : (solving : Solving kind view) → Among flows (of_solving kind view solving)
   solving_there solving =
-      subst (λ balanced. Among (flow_puts (asked_of of view) terms balanced) (of_solving kind view solving)) (sym solving.is) (solved_there (asked_of of view) terms solving.place solving.number solving.value)
+      subst (λ balanced. Among (flow_puts (asked_of of view) terms balanced) (of_solving kind view solving)) (sym solving.is)
+      (solved_there (asked_of of view) terms solving.place solving.number solving.value)
 
   -- nothing is wrong with the storage before, and with what is given
   pub clean : (fault_of_past true (Some table) view.past ≡ None) × (fault_of_request of view (request_of view) ≡ None)
@@ -237,7 +277,8 @@ module _ (initial_storage : ℤ) (table : List Row) (max_release tailwater : ℤ
   -- none in the place of the request
   no_request : (put : Put) → Contains puts put → put.place ≢ 4
   no_request put has same = elim (all_at IsFrom puts put all_from (among puts put has)).from [
-    | inl (inl solves) ↦ let few = few_solved (record { place = put.place; value = put.value; number = put.number; is = solves }) in omega (arith, few, same)
+    | inl (inl solves) ↦ let few =
+        few_solved (record { place = put.place; value = put.value; number = put.number; is = solves }) in omega (arith, few, same)
     | inl (inr asks) ↦ let at : put.place ≡ 1 = ap (λ (p : Put). p.place) asks.same in omega (arith, at, same)
     | inr (inl there) ↦ let few = (level_put put there).few in omega (arith, few, same)
     | inr (inr far) ↦ let high = far.0 in omega (arith, high, same)
@@ -286,22 +327,27 @@ module _ (initial_storage : ℤ) (table : List Row) (max_release tailwater : ℤ
 
   outflow_by : (asking : Option Given) → asked_of of view ≡ asking → NotSolved 1 → (held : Given) → outflow_of of view ≡ Some held → Outflow
   outflow_by (Some by) asks none held there = inr (inl (record { asking = by; asks = asks; none = none }))
-  outflow_by None asks none held there = inr (inr (record { held = held; asks = asks; there = ap (λ asking. outflow_or asking (given view 1)) (sym asks) ∙ there; none = none }))
+  outflow_by None asks none held there =
+      inr (inr (record { held = held; asks = asks; there = ap (λ asking. outflow_or asking (given view 1)) (sym asks) ∙ there; none = none }))
 
   outflow_case : Outflow
   outflow_case = elim is.ends [
     | inl holds ↦
         let held = some_there (outflow_of of view) (holds_given view (shape_of kind) is.steady (is.settles ∙ holds) (let_out of) (inr (inl refl))) in
-        outflow_by (asked_of of view) refl (λ solving same. let no : 1 ≡ 2 = ap balanced_code (sym holds ∙ solving.is) in omega (arith, no)) held.0 held.1
+        outflow_by (asked_of of view) refl (λ solving same. let no : 1 ≡ 2 = ap balanced_code (sym holds ∙ solving.is) in omega (arith, no))
+        held.0 held.1
     | inr solving ↦ by solving (solving.place == 1) refl
   ]
     where
       by : (solving : Solving kind view) (test : Bool) → (solving.place == 1) ≡ test → Outflow
       by solving true here = inl (record { solving = solving; here = grind (arith, nat_tests, here) })
       by solving false apart =
-          let up = (solving_is kind view is.steady is.settles shares solving).others (term_in view (let_out of)) (1, omega arith, refl) (λ same. absurd (grind (arith, nat_tests, apart, same))) in
+          let up =
+          (solving_is kind view is.steady is.settles shares solving).others (term_in view (let_out of)) (1, omega arith, refl)
+          (λ same. absurd (grind (arith, nat_tests, apart, same))) in
           outflow_by (asked_of of view) refl
-          (λ other same. let one : other.place ≡ solving.place = one_solving kind view other solving in absurd (grind (arith, nat_tests, apart, same, one))) up.held up.is
+          (λ other same. let one : other.place ≡ solving.place = one_solving kind view other solving in
+          absurd (grind (arith, nat_tests, apart, same, one))) up.held up.is
 
   past_known : is_some view.past ≡ true
   past_known = ap is_some is.is_steady
@@ -313,7 +359,8 @@ module _ (initial_storage : ℤ) (table : List Row) (max_release tailwater : ℤ
     where
       by : (test : Bool) → is_own view content ≡ test → IsGivenUpTo content.number (outflow_of of view) ⊎ AreOthersUpTo content.number 1 terms
       by false other =
-          inl (to_asked of view content.number (inr (record { held = given_of content; is = given_other view 1 content there other; most = omega arith })))
+          inl (to_asked of view content.number (inr
+          (record { held = given_of content; is = given_other view 1 content there other; most = omega arith })))
       by true own = elim (left.outflow content there own) [
         | inl asks ↦ inl (to_asked of view content.number (inl (past_known, asks)))
         | inr up ↦ inr up
@@ -344,7 +391,8 @@ module _ (initial_storage : ℤ) (table : List Row) (max_release tailwater : ℤ
           by (inr (inr (inr never))) = absurd never
 
   -- where another term is solved, and all others than the outflow are given, the request has no greater a number than these
-  request_least : (by : Given) → asked_of of view ≡ Some by → (solving : Solving kind view) → 1 ≢ solving.place → (number : ℕ) → AreOthersUpTo number 1 terms → by.number ≤ number
+  request_least : (by : Given) → asked_of of view ≡ Some by → (solving : Solving kind view) → 1 ≢ solving.place → (number : ℕ)
+      → AreOthersUpTo number 1 terms → by.number ≤ number
   request_least by asks solving apart number up =
       let s = solving_is kind view is.steady is.settles shares solving in
       let out = s.others (term_in view (let_out of)) (1, omega arith, refl) apart in
@@ -363,10 +411,12 @@ module _ (initial_storage : ℤ) (table : List Row) (max_release tailwater : ℤ
     | inr others ↦ elim is.ends [
       | inl holds ↦
           let g = greatest_up 1 content.number terms others in
-          let at : asked_number terms b by.number ≡ asked_number terms Holds by.number = ap (λ balanced. asked_number terms balanced by.number) holds in
+          let at : asked_number terms b by.number ≡ asked_number terms Holds by.number =
+          ap (λ balanced. asked_number terms balanced by.number) holds in
           omega (arith, g, at)
       | inr solving ↦
-          let least = asked_least terms b by.number in let most = request_least by asks solving (none solving) content.number others in omega (arith, least, most)
+          let least = asked_least terms b by.number in let most =
+          request_least by asks solving (none solving) content.number others in omega (arith, least, most)
     ]
   ]
 
@@ -375,7 +425,9 @@ module _ (initial_storage : ℤ) (table : List Row) (max_release tailwater : ℤ
       solved_falls (record { place = put.place; value = put.value; number = put.number; is = solves }) at left content there
   flow_falls put (inr asks) at left content there =
       let n : put.number ≡ asked_number terms b asks.by.number = ap (λ (p : Put). p.number) asks.same in
-      let falls = asked_falls asks.by asks.is (λ solving same. asks.apart solving.place solving.number solving.value solving.is (sym same)) left content there in
+      let falls =
+      asked_falls asks.by asks.is (λ solving same. asks.apart solving.place solving.number solving.value solving.is (sym same)) left
+      content there in
       omega (arith, n, falls)
 
   -- ---- what each put is
@@ -406,10 +458,12 @@ module _ (initial_storage : ℤ) (table : List Row) (max_release tailwater : ℤ
       by : Outflow → (held : Given) × ((given view 1 ≡ Some held) × NotSolved 1)
       by (inl out) = absurd (none (of_solving kind view out.solving) (solving_there out.solving) out.here)
       by (inr (inl out)) = absurd (none (asked_put terms b out.asking)
-          (subst (λ asking. Among (flow_puts asking terms b) (asked_put terms b out.asking)) (sym out.asks) (asked_there out.asking terms b (not_at out.none))) refl)
+          (subst (λ asking. Among (flow_puts asking terms b) (asked_put terms b out.asking)) (sym out.asks)
+          (asked_there out.asking terms b (not_at out.none))) refl)
       by (inr (inr out)) = (out.held, (out.there, out.none))
 
-  energy_is : (put : Put) → Contains (rests_of kind) (rest put.place 1) → put.number ≡ (held_after_puts view flows 1).number → PutIs kind view puts put
+  energy_is : (put : Put) → Contains (rests_of kind) (rest put.place 1) → put.number ≡ (held_after_puts view flows 1).number
+      → PutIs kind view puts put
   energy_is put has number = elim (held_cases view flows 1) [
     | inl (flow, (there, (at, same))) ↦
         beside (record {
@@ -426,7 +480,9 @@ module _ (initial_storage : ℤ) (table : List Row) (max_release tailwater : ℤ
         rests (record {
           on = 1;
           has = has;
-          number = number ∙ ap (λ (g : Given). g.number) (same ∙ sym (not_solved kind (Some table) view puts is storing b refl 1 (λ solving here. held.1.1 solving (sym here))));
+          number =
+              number ∙ ap (λ (g : Given). g.number) (same
+              ∙ sym (not_solved kind (Some table) view puts is storing b refl 1 (λ solving here. held.1.1 solving (sym here))));
           base = inl seen;
         })
   ]
@@ -435,7 +491,8 @@ module _ (initial_storage : ℤ) (table : List Row) (max_release tailwater : ℤ
       given_as_known held there = let seen = given_as view 1 held there in (seen.content, seen.there)
 
   all_are : AllByRecursion (PutIs kind view puts) puts
-  all_are = subst (AllByRecursion (PutIs kind view puts)) is.same (all_append (PutIs kind view puts) _ _ (all_append (PutIs kind view puts) flows level
+  all_are =
+      subst (AllByRecursion (PutIs kind view puts)) is.same (all_append (PutIs kind view puts) _ _ (all_append (PutIs kind view puts) flows level
       (weaker_all (IsFlow (asked_of of view) terms b) (PutIs kind view puts) flows flow_is (flows_are (asked_of of view) terms b))
       (all_among (PutIs kind view puts) level (λ put has. (level_put put has).is_put))) (
         energy_is _ (2, omega arith, refl) refl,
@@ -444,7 +501,8 @@ module _ (initial_storage : ℤ) (table : List Row) (max_release tailwater : ℤ
 
   -- ---- what isn't solved stays given
 
-  out_stays : NotSolved 1 → (new : View) → IsAfterOwn view new puts → (number : ℕ) → IsGivenUpTo number (outflow_of of view) → IsGivenUpTo number (outflow_of of new)
+  out_stays : NotSolved 1 → (new : View) → IsAfterOwn view new puts → (number : ℕ) → IsGivenUpTo number (outflow_of of view)
+      → IsGivenUpTo number (outflow_of of new)
   out_stays none new after number up = elim (from_asked of view number up) [
     | inl asks ↦ still asks
     | inr held ↦ by held (asked_of of view) refl
@@ -462,7 +520,11 @@ module _ (initial_storage : ℤ) (table : List Row) (max_release tailwater : ℤ
           let most = held.most in
           still (counting.past_is, record { content = from.request; is = counting.is; most = omega (arith, above, most) })
       by held None asks =
-          to_asked of new number (inr (record { held = held.held; is = same_given view new 1 after.own (after.rest 1 no_out) ∙ held.is; most = held.most }))
+          to_asked of new number (inr (record {
+            held = held.held;
+            is = same_given view new 1 after.own (after.rest 1 no_out) ∙ held.is;
+            most = held.most;
+          }))
         where
           no_out : (put : Put) → Contains puts put → put.place ≢ 1
           no_out put has at = elim (out_flow put (among puts put has) at) [
@@ -470,10 +532,14 @@ module _ (initial_storage : ℤ) (table : List Row) (max_release tailwater : ℤ
             | inr other ↦ none-some other.by (sym asks ∙ other.is)
           ]
 
-  given_stays : (new : View) → IsAfterOwn view new puts → (s : Sort) → Among (shape_of kind) s → ((solving : Solving kind view) → s.place ≢ solving.place)
+  given_stays : (new : View) → IsAfterOwn view new puts → (s : Sort) → Among (shape_of kind) s
+      → ((solving : Solving kind view) → s.place ≢ solving.place)
       → (number : ℕ) → IsGivenUpTo number (given_in view s) → IsGivenUpTo number (given_in new s)
-  given_stays new after s has apart number = by_sort (λ s. ((solving : Solving kind view) → s.place ≢ solving.place) → IsGivenUpTo number (given_in view s) → IsGivenUpTo number (given_in new s))
-      (λ apart. subst (IsGivenUpTo number) (sym (same_given view new 0 after.own (after.rest 0 (no_inflow apart))))) (λ apart. out_stays apart new after number)
+  given_stays new after s has apart number =
+      by_sort (λ s. ((solving : Solving kind view) → s.place ≢ solving.place) → IsGivenUpTo number (given_in view s)
+      → IsGivenUpTo number (given_in new s))
+      (λ apart. subst (IsGivenUpTo number) (sym (same_given view new 0 after.own (after.rest 0 (no_inflow apart)))))
+      (λ apart. out_stays apart new after number)
       (λ apart. contents_stay kind (Some table) view puts is storing apart new after number) s has apart
 
   falls : (solving : Solving kind view) → IsFalling kind view solving.place solving.number
@@ -511,16 +577,22 @@ module _ (initial_storage : ℤ) (table : List Row) (max_release tailwater : ℤ
         (_, (contains puts _ read.1.1, sym (pair.0 ∙ ap on_of two), refl));
     falls = falls;
     stays = given_stays;
-    untouched = λ s has. by_sort (λ s. s.source ≡ slot → ((solving : Solving kind view) → s.place ≢ solving.place) → (put : Put) → Contains puts put → put.place ≢ s.place)
-        (λ source. no_inflow) (λ source. absurd (let differ : false ≡ true = ap is_slot source in cc)) (λ source. absurd (let differ : false ≡ true = ap is_slot source in cc)) s has;
+    untouched =
+        λ s has. by_sort (λ s. s.source ≡ slot → ((solving : Solving kind view) → s.place ≢ solving.place) → (put : Put) → Contains puts put
+        → put.place ≢ s.place)
+        (λ source. no_inflow) (λ source. absurd (let differ : false ≡ true = ap is_slot source in cc))
+        (λ source. absurd (let differ : false ≡ true = ap is_slot source in cc)) s has;
     unique = λ pair other has there same. (one_at pair has).0 ∙ ap on_of same ∙ sym (one_at other there).0;
   }
 
   -- ---- what it holds then
 
   module _ (new : View) (after : IsAfterOwn view new puts) where
-    pub agreed : (s : Sort) → Among (shape_of kind) s → ((solving : Solving kind view) → s.place ≢ solving.place) → (g : Given) → given_in view s ≡ Some g → known_value new s.place ≡ Some g.value
-    agreed s has = by_sort (λ s. ((solving : Solving kind view) → s.place ≢ solving.place) → (g : Given) → given_in view s ≡ Some g → known_value new s.place ≡ Some g.value)
+    pub agreed : (s : Sort) → Among (shape_of kind) s → ((solving : Solving kind view) → s.place ≢ solving.place) → (g : Given)
+        → given_in view s ≡ Some g → known_value new s.place ≡ Some g.value
+    agreed s has =
+        by_sort (λ s. ((solving : Solving kind view) → s.place ≢ solving.place) → (g : Given) → given_in view s ≡ Some g
+        → known_value new s.place ≡ Some g.value)
         (λ apart g is_given. given_held kind (Some table) view puts is storing new after 0 g is_given (no_inflow apart))
         (λ apart g is_given. by outflow_case apart g is_given)
         (contents_held kind (Some table) view puts is storing new after) s has
@@ -529,8 +601,11 @@ module _ (initial_storage : ℤ) (table : List Row) (max_release tailwater : ℤ
         by (inl out) apart g is_given = absurd (apart out.solving (sym out.here))
         by (inr (inl out)) apart g is_given =
             let same : out.asking ≡ g = same_Some _ _ (ap (λ asking. outflow_or asking (given view 1)) (sym out.asks) ∙ is_given) in
-            let there = subst (λ asking. Among (flow_puts asking terms b) (asked_put terms b out.asking)) (sym out.asks) (asked_there out.asking terms b (not_at out.none)) in
-            put_value view new puts after (asked_put terms b out.asking) (contains puts (asked_put terms b out.asking) (flow_there (asked_put terms b out.asking) there))
+            let there =
+            subst (λ asking. Among (flow_puts asking terms b) (asked_put terms b out.asking)) (sym out.asks)
+            (asked_there out.asking terms b (not_at out.none)) in
+            put_value view new puts after (asked_put terms b out.asking)
+            (contains puts (asked_put terms b out.asking) (flow_there (asked_put terms b out.asking) there))
             ∙ ap (λ (h : Given). Some h.value) same
         by (inr (inr out)) apart g is_given =
             let same : out.held ≡ g = same_Some _ _ (sym out.there ∙ ap (λ asking. outflow_or asking (given view 1)) (sym out.asks) ∙ is_given) in
@@ -543,18 +618,21 @@ module _ (initial_storage : ℤ) (table : List Row) (max_release tailwater : ℤ
     pub outflow_value : known_value new 1 ≡ Some (held_after_puts view flows 1).value
     outflow_value = elim (held_cases view flows 1) [
       | inl (flow, (there, (at, same))) ↦
-          ap (known_value new) (sym at) ∙ put_value view new puts after flow (contains puts flow (flow_there flow there)) ∙ ap (λ (g : Given). Some g.value) (sym same)
+          ap (known_value new) (sym at) ∙ put_value view new puts after flow (contains puts flow (flow_there flow there))
+          ∙ ap (λ (g : Given). Some g.value) (sym same)
       | inr (none, same) ↦
           let held = none_flows none in
           let seen = given_as view 1 held.0 held.1.0 in
           rest_value view new puts after 1 (λ put has at. by put (out_flow put (among puts put has) at) at none held.1.1)
-          ∙ ap (option_map (λ (content : Content). content.value)) seen.there ∙ ap (λ found. Some (held_by found).value) (sym seen.there) ∙ ap (λ (g : Given). Some g.value) (sym same)
+          ∙ ap (option_map (λ (content : Content). content.value)) seen.there ∙ ap (λ found. Some (held_by found).value) (sym seen.there)
+          ∙ ap (λ (g : Given). Some g.value) (sym same)
     ]
       where
         by : (put : Put) → IsFlow (asked_of of view) terms b put → put.place ≡ 1 → ((put : Put) → Among flows put → put.place ≢ 1) → NotSolved 1 → ⊥
         by put (inl solves) at none apart = apart (record { place = put.place; value = put.value; number = put.number; is = solves }) (sym at)
         by put (inr asks) at none apart =
-            none (asked_put terms b asks.by) (subst (λ asking. Among (flow_puts asking terms b) (asked_put terms b asks.by)) (sym asks.is) (asked_there asks.by terms b asks.apart)) refl
+            none (asked_put terms b asks.by) (subst (λ asking. Among (flow_puts asking terms b) (asked_put terms b asks.by)) (sym asks.is)
+            (asked_there asks.by terms b asks.apart)) refl
 
     -- ---- what is left of an outflow that the object wrote
 
@@ -565,7 +643,8 @@ module _ (initial_storage : ℤ) (table : List Row) (max_release tailwater : ℤ
         let n = from.number in
         record { content = from.request; is = after.rest 4 no_request ∙ counting.is; most = omega (arith, n, most) }
 
-    others_up : (number : ℕ) → ((solving : Solving kind view) → solving.place ≡ 1) → AreOthersUpTo number 1 terms → AreOthersUpTo number 1 (power_balance of new).terms
+    others_up : (number : ℕ) → ((solving : Solving kind view) → solving.place ≡ 1) → AreOthersUpTo number 1 terms
+        → AreOthersUpTo number 1 (power_balance of new).terms
     others_up number only = others_pass kind view new 1 number
         (λ r has apart. given_stays new after r has (λ solving same. apart (same ∙ only solving)) number)
 
@@ -582,8 +661,10 @@ module _ (initial_storage : ℤ) (table : List Row) (max_release tailwater : ℤ
         by : AreOthersUpTo content.number 1 terms → Outflow → IsLeft content.number
         by up (inl out) = inr (others_up content.number (λ other. ap place_in (sym other.is ∙ out.solving.is) ∙ out.here) up)
         by up (inr (inl out)) = elim is.ends [
-          | inl holds ↦ inr (others_up content.number (λ solving. absurd (let no : 1 ≡ 2 = ap balanced_code (sym holds ∙ solving.is) in omega (arith, no))) up)
-          | inr solving ↦ inl (request_up out.asking out.asks content.number (request_least out.asking out.asks solving (out.none solving) content.number up))
+          | inl holds ↦ inr (others_up content.number
+              (λ solving. absurd (let no : 1 ≡ 2 = ap balanced_code (sym holds ∙ solving.is) in omega (arith, no))) up)
+          | inr solving ↦ inl (request_up out.asking out.asks content.number
+              (request_least out.asking out.asks solving (out.none solving) content.number up))
         ]
         by up (inr (inr out)) =
             let seen = given_as view 1 out.held out.there in
@@ -594,24 +675,30 @@ module _ (initial_storage : ℤ) (table : List Row) (max_release tailwater : ℤ
     put_left put (inl solves) at =
         let solving : Solving kind view = record { place = put.place; value = put.value; number = put.number; is = solves } in
         let s = solving_is kind view is.steady is.settles shares solving in
-        inr (others_up put.number (λ other. ap place_in (sym other.is ∙ solves) ∙ at) (λ other has apart. s.others other has (λ same. apart (same ∙ at))))
+        inr (others_up put.number (λ other. ap place_in (sym other.is ∙ solves) ∙ at)
+        (λ other has apart. s.others other has (λ same. apart (same ∙ at))))
     put_left put (inr asks) at = subst IsLeft (sym n) (elim is.ends [
-      | inl holds ↦ subst IsLeft (sym (ap (λ balanced. asked_number terms balanced asks.by.number) holds)) (in_balance holds (cases_lt (greatest_beside 1 terms) asks.by.number))
+      | inl holds ↦ subst IsLeft (sym (ap (λ balanced. asked_number terms balanced asks.by.number) holds))
+          (in_balance holds (cases_lt (greatest_beside 1 terms) asks.by.number))
       | inr solving ↦
-          inl (request_up asks.by asks.is (asked_number terms b asks.by.number) (subst (λ m. asks.by.number ≤ m) (sym (ap (λ balanced. asked_number terms balanced asks.by.number) solving.is)) (omega arith)))
+          inl (request_up asks.by asks.is (asked_number terms b asks.by.number)
+          (subst (λ m. asks.by.number ≤ m) (sym (ap (λ balanced. asked_number terms balanced asks.by.number) solving.is)) (omega arith)))
     ])
       where
         n : put.number ≡ asked_number terms b asks.by.number
         n = ap (λ (p : Put). p.number) asks.same
 
-        in_balance : b ≡ Holds → (greatest_beside 1 terms < asks.by.number) ⊎ (asks.by.number ≤ greatest_beside 1 terms) → IsLeft (asked_number terms Holds asks.by.number)
+        in_balance : b ≡ Holds → (greatest_beside 1 terms < asks.by.number) ⊎ (asks.by.number ≤ greatest_beside 1 terms)
+            → IsLeft (asked_number terms Holds asks.by.number)
         in_balance holds (inr less) = inl (request_up asks.by asks.is (asked_number terms Holds asks.by.number) (omega (arith, less)))
         in_balance holds (inl more) =
-            inr (others_up (asked_number terms Holds asks.by.number) (λ solving. absurd (let no : 1 ≡ 2 = ap balanced_code (sym holds ∙ solving.is) in omega (arith, no)))
+            inr (others_up (asked_number terms Holds asks.by.number)
+            (λ solving. absurd (let no : 1 ≡ 2 = ap balanced_code (sym holds ∙ solving.is) in omega (arith, no)))
             (λ other has apart.
             given_up_to other.given (asked_number terms Holds asks.by.number)
             (all_given holds other has)
-            (let most = All-contains (λ (o : Term). o.place ≢ 1 → priority_of o.given ≤ greatest_beside 1 terms) terms other (is_greatest_beside 1 terms).most has apart in omega (arith, most, more))))
+            (let most = All-contains (λ (o : Term). o.place ≢ 1 → priority_of o.given ≤ greatest_beside 1 terms) terms other
+            (is_greatest_beside 1 terms).most has apart in omega (arith, most, more))))
           where
             all_given : b ≡ Holds → (other : Term) → Contains terms other → IsSome other.given
             all_given holds other has =

@@ -1,5 +1,9 @@
 -- The reservoir, whose contents are given by its storage or by its elevation.
-use Rattle.rw_method.proofs.Common.{All, AllByRecursion, Balanced, Bool, Brings, Contains, Given, IsShare, IsStored, Kind, List, None, Option, Put, Reservoir, Row, Solves, Some, Takes, Term, View, [], ap, arith, balanced_of, elev_of, evaporation_of, evaporation_put, false, fault_of_level, fault_of_past, given, if◌then◌else◌, inl, inr, is_some, known_after, known_value, level_puts, map, nat_tests, refl, release_puts, solved_put, subst, suc, sym, true, zero, ℕ, ℤ, ◌++◌, ◌==◌, ◌∙◌, ◌∷◌, ◌≡◌, ◌≢◌, ◌≤◌, ◌⊎◌}
+use Rattle.rw_method.proofs.Common.{All, AllByRecursion, Balanced, Bool, Brings, Contains, Given, IsShare, IsStored, Kind, List, None, Option, Put}
+use Rattle.rw_method.proofs.Common.{Reservoir, Row, Solves, Some, Takes, Term, View, [], ap, arith, balanced_of, elev_of, evaporation_of}
+use Rattle.rw_method.proofs.Common.{evaporation_put, false, fault_of_level, fault_of_past, given, if◌then◌else◌, inl, inr, is_some, known_after}
+use Rattle.rw_method.proofs.Common.{known_value, level_puts, map, nat_tests, refl, release_puts, solved_put, subst, suc, sym, true, zero, ℕ, ℤ, ◌++◌}
+use Rattle.rw_method.proofs.Common.{◌==◌, ◌∙◌, ◌∷◌, ◌≡◌, ◌≢◌, ◌≤◌, ◌⊎◌}
 use Rattle.rw_method.specs.Left.{IsGivenUpTo, Rest, rest, rests_of}
 use Rattle.rw_method.specs.Passing.{IsAfterOwn}
 use Rattle.rw_method.proofs.Answering.{Answered}
@@ -7,7 +11,8 @@ use Rattle.rw_method.proofs.Leaving.{DispatchFacts, IsFalling, PutIs, Solving, a
 use Rattle.rw_method.proofs.Among.{Among, all_among, all_append, all_at, among, among_left, among_right, contains, weaker_all}
 use Rattle.rw_method.proofs.PlainKinds.{base_in, of_solving, shares_three}
 use Rattle.rw_method.proofs.Terms.{Sort, Source, asked, contents, given_in, given_number, same_given, shape_of, slot, sort, stored, term_in}
-use Rattle.rw_method.proofs.Storing.{IsLevelPut, IsStoring, contents_below, contents_held, contents_stay, given_held, level_good, low_place, none_first, past_held, solved_level}
+use Rattle.rw_method.proofs.Storing.{IsLevelPut, IsStoring, contents_below, contents_held, contents_stay, given_held, level_good, low_place}
+use Rattle.rw_method.proofs.Storing.{none_first, past_held, solved_level}
 
 module _ (initial_storage : ℤ) (table : Option (List Row)) (local_inflow diversion return_flow evaporation : Bool) (max_release : Option ℤ) where
   abbrev kind : Kind
@@ -34,8 +39,12 @@ module _ (initial_storage : ℤ) (table : Option (List Row)) (local_inflow diver
   released place at = by table refl
     where
       by : (found : Option (List Row)) → table ≡ found → Among (rests_of kind) (rest place 1)
-      by (Some rows) is = subst (λ ps. Among ps (rest place 1)) (sym (table_rests rows is)) (elim at [ inl e ↦ inr (inr (inl (ap (λ p. rest p 1) (sym e)))) | inr e ↦ inr (inr (inr (inl (ap (λ p. rest p 1) (sym e))))) ])
-      by None is = subst (λ ps. Among ps (rest place 1)) (sym (bare_rests is)) (elim at [ inl e ↦ inl (ap (λ p. rest p 1) (sym e)) | inr e ↦ inr (inl (ap (λ p. rest p 1) (sym e))) ])
+      by (Some rows) is =
+          subst (λ ps. Among ps (rest place 1)) (sym (table_rests rows is))
+          (elim at [ inl e ↦ inr (inr (inl (ap (λ p. rest p 1) (sym e)))) | inr e ↦ inr (inr (inr (inl (ap (λ p. rest p 1) (sym e))))) ])
+      by None is =
+          subst (λ ps. Among ps (rest place 1)) (sym (bare_rests is))
+          (elim at [ inl e ↦ inl (ap (λ p. rest p 1) (sym e)) | inr e ↦ inr (inl (ap (λ p. rest p 1) (sym e))) ])
 
   -- each place rests on this one
   abbrev on_of : ℕ → ℕ
@@ -51,13 +60,21 @@ module _ (initial_storage : ℤ) (table : Option (List Row)) (local_inflow diver
       far place other apart same = absurd (grind (arith, nat_tests, apart, same))
 
       by : (found : Option (List Row)) → table ≡ found → AllByRecursion IsOne (rests_of kind)
-      by (Some rows) is = subst (AllByRecursion IsOne) (sym (table_rests rows is))
-          ((refl, (far 2 8 refl, (far 2 0 refl, far 2 1 refl))), ((refl, (far 3 8 refl, (far 3 0 refl, far 3 1 refl))), ((refl, (far 9 8 refl, (far 9 0 refl, far 9 1 refl))), ((refl, (far 10 8 refl, (far 10 0 refl, far 10 1 refl))), tt))))
-      by None is = subst (AllByRecursion IsOne) (sym (bare_rests is)) ((refl, (far 9 8 refl, (far 9 0 refl, far 9 1 refl))), ((refl, (far 10 8 refl, (far 10 0 refl, far 10 1 refl))), tt))
+      by (Some rows) is = subst (AllByRecursion IsOne) (sym (table_rests rows is)) (
+        (refl, (far 2 8 refl, (far 2 0 refl, far 2 1 refl))),
+        (
+          (refl, (far 3 8 refl, (far 3 0 refl, far 3 1 refl))),
+          ((refl, (far 9 8 refl, (far 9 0 refl, far 9 1 refl))), ((refl, (far 10 8 refl, (far 10 0 refl, far 10 1 refl))), tt)),
+        ),
+      )
+      by None is =
+          subst (AllByRecursion IsOne) (sym (bare_rests is))
+          ((refl, (far 9 8 refl, (far 9 0 refl, far 9 1 refl))), ((refl, (far 10 8 refl, (far 10 0 refl, far 10 1 refl))), tt))
 
   unique : (pair other : Rest) → Contains (rests_of kind) pair → Contains (rests_of kind) other → pair.place ≡ other.place → pair.on ≡ other.on
   unique pair other has there same =
-      (all_at IsOne (rests_of kind) pair one_each (among (rests_of kind) pair has)).0 ∙ ap on_of same ∙ sym (all_at IsOne (rests_of kind) other one_each (among (rests_of kind) other there)).0
+      (all_at IsOne (rests_of kind) pair one_each (among (rests_of kind) pair has)).0 ∙ ap on_of same
+      ∙ sym (all_at IsOne (rests_of kind) other one_each (among (rests_of kind) other there)).0
 
   -- ---- one dispatch
 
@@ -93,7 +110,8 @@ module _ (initial_storage : ℤ) (table : Option (List Row)) (local_inflow diver
     solved_there solving = subst (λ ps. Among ps (of_solving kind view solving)) is.same
         (among_left _ (release_puts max_release (known_after view (balanced_of kind view) 1)) (of_solving kind view solving)
         (among_left _ (evaporation_put evaporation (evaporation_of evaporation table view)) (of_solving kind view solving)
-        (among_left (solved_put (balanced_of kind view)) (level_puts table (given view 2) (given view 3) (balanced_of kind view)) (of_solving kind view solving)
+        (among_left (solved_put (balanced_of kind view)) (level_puts table (given view 2) (given view 3) (balanced_of kind view))
+        (of_solving kind view solving)
         (subst (λ b. Among (solved_put b) (of_solving kind view solving)) (sym solving.is) (inl refl)))))
 
     level_there : (put : Put) → Among (level_puts table (given view 2) (given view 3) (balanced_of kind view)) put → Among puts put
@@ -107,7 +125,8 @@ module _ (initial_storage : ℤ) (table : Option (List Row)) (local_inflow diver
     faultless = none_first (fault_of_past evaporation table view.past) (fault_of_level table view) is.fine
 
     -- where evaporation is chosen, the storage before has an elevation
-    pub past_elevation : (rows : List Row) → table ≡ Some rows → evaporation ≡ true → (past : ℤ) → view.past ≡ Some past → (e : ℤ) × (elev_of rows past ≡ Some e)
+    pub past_elevation : (rows : List Row) → table ≡ Some rows → evaporation ≡ true → (past : ℤ) → view.past ≡ Some past
+        → (e : ℤ) × (elev_of rows past ≡ Some e)
     past_elevation rows at choice past past_is =
         past_held table rows view.past at (ap (λ chosen. fault_of_past chosen table view.past) (sym choice) ∙ faultless.0) past past_is
 
@@ -137,8 +156,12 @@ module _ (initial_storage : ℤ) (table : Option (List Row)) (local_inflow diver
     -- none in the places of the flows at the sides and of the rate
     pub no_middle : (place : ℕ) → 4 ≤ place → place ≤ 7 → (put : Put) → Contains puts put → put.place ≢ place
     no_middle place low high put has same = elim (all_at IsFrom puts put all_from (among puts put has)).from [
-      | inl solves ↦ let few = low_place kind table view puts is storing (record { place = put.place; value = put.value; number = put.number; is = solves }) in omega (arith, few, same, low)
-      | inr (inl there) ↦ let few = (all_at (IsLevelPut kind table view puts is storing) level put (level_good kind table view puts is storing) there).few in omega (arith, few, same, low)
+      | inl solves ↦ let few =
+          low_place kind table view puts is storing (record { place = put.place; value = put.value; number = put.number; is = solves }) in
+          omega (arith, few, same, low)
+      | inr (inl there) ↦ let few =
+          (all_at (IsLevelPut kind table view puts is storing) level put (level_good kind table view puts is storing) there).few in
+          omega (arith, few, same, low)
       | inr (inr far) ↦ omega (arith, far, same, high)
     ]
 
@@ -149,11 +172,15 @@ module _ (initial_storage : ℤ) (table : Option (List Row)) (local_inflow diver
     solved_is balanced e = tt
 
     evaporation_is : (chosen : Bool) (amount : Option ℤ) → AllByRecursion (PutIs kind view puts) (evaporation_put chosen amount)
-    evaporation_is true amount =
-        (alone (λ left content there own. omega arith) (λ pair has. (all_at IsOne (rests_of kind) pair one_each (among (rests_of kind) pair has)).1.0), tt)
+    evaporation_is true amount = (
+      alone (λ left content there own. omega arith)
+          (λ pair has. (all_at IsOne (rests_of kind) pair one_each (among (rests_of kind) pair has)).1.0),
+      tt,
+    )
     evaporation_is false amount = tt
 
-    release_is : (place : ℕ) (value : ℤ) → (place ≡ 9) ⊎ (place ≡ 10) → PutIs kind view puts (record { place = place; value = value; number = (known_after view (balanced_of kind view) 1).number })
+    release_is : (place : ℕ) (value : ℤ) → (place ≡ 9) ⊎ (place ≡ 10)
+        → PutIs kind view puts (record { place = place; value = value; number = (known_after view (balanced_of kind view) 1).number })
     release_is place value at = rests (record {
       on = 1;
       has = contains (rests_of kind) (rest place 1) (released place at);
@@ -167,11 +194,14 @@ module _ (initial_storage : ℤ) (table : Option (List Row)) (local_inflow diver
 
     all_are : AllByRecursion (PutIs kind view puts) puts
     all_are = subst (AllByRecursion (PutIs kind view puts)) is.same
-        (all_append (PutIs kind view puts) _ _ (all_append (PutIs kind view puts) _ _ (all_append (PutIs kind view puts) _ _ (solved_is (balanced_of kind view) refl)
-        (weaker_all (IsLevelPut kind table view puts is storing) (PutIs kind view puts) level (λ put good. good.is_put) (level_good kind table view puts is storing)))
+        (all_append (PutIs kind view puts) _ _ (all_append (PutIs kind view puts) _ _
+        (all_append (PutIs kind view puts) _ _ (solved_is (balanced_of kind view) refl)
+        (weaker_all (IsLevelPut kind table view puts is storing) (PutIs kind view puts) level (λ put good. good.is_put)
+        (level_good kind table view puts is storing)))
         (evaporation_is evaporation (evaporation_of evaporation table view))) (releases_are max_release))
 
-    stored_beside : (solving : Solving kind view) (on : ℕ) → Contains (rests_of kind) (rest solving.place on) → (put : Put) × (Contains puts put × (put.place ≡ on) × (put.number ≡ solving.number))
+    stored_beside : (solving : Solving kind view) (on : ℕ) → Contains (rests_of kind) (rest solving.place on)
+        → (put : Put) × (Contains puts put × (put.place ≡ on) × (put.number ≡ solving.number))
     stored_beside solving on has = by table refl
       where
         one : IsOne (rest solving.place on)
@@ -190,17 +220,20 @@ module _ (initial_storage : ℤ) (table : Option (List Row)) (local_inflow diver
         three = one.0 ∙ ap on_of two
 
         by : (found : Option (List Row)) → table ≡ found → (put : Put) × (Contains puts put × (put.place ≡ on) × (put.number ≡ solving.number))
-        by None at = absurd (none_bare (subst (λ ps. Among ps (rest solving.place on)) (bare_rests at) (among (rests_of kind) (rest solving.place on) has)))
+        by None at =
+            absurd (none_bare (subst (λ ps. Among ps (rest solving.place on)) (bare_rests at) (among (rests_of kind) (rest solving.place on) has)))
           where
             none_bare : Among (rest 9 1 ∷ rest 10 1 ∷ []) (rest solving.place on) → ⊥
             none_bare (inl same) = let differ : 9 ≡ 2 = ap (λ (p : Rest). p.place) same ∙ two in omega (arith, differ)
             none_bare (inr (inl same)) = let differ : 10 ≡ 2 = ap (λ (p : Rest). p.place) same ∙ two in omega (arith, differ)
             none_bare (inr (inr never)) = never
-        by (Some rows) at = let level = solved_level kind table view puts is storing solving two rows at in (_, (contains puts _ level.1.1, sym three, refl))
+        by (Some rows) at = let level =
+            solved_level kind table view puts is storing solving two rows at in (_, (contains puts _ level.1.1, sym three, refl))
 
     -- ---- what isn't solved stays given
 
-    untouched_at : (place : ℕ) → (place ≡ 0) ⊎ (place ≡ 1) → ((solving : Solving kind view) → place ≢ solving.place) → (put : Put) → Contains puts put → put.place ≢ place
+    untouched_at : (place : ℕ) → (place ≡ 0) ⊎ (place ≡ 1) → ((solving : Solving kind view) → place ≢ solving.place) → (put : Put) → Contains puts put
+        → put.place ≢ place
     untouched_at place low none put has same = elim (all_at IsFrom puts put all_from (among puts put has)).from [
       | inl solves ↦ none (record { place = put.place; value = put.value; number = put.number; is = solves }) (sym same)
       | inr (inl there) ↦
@@ -209,18 +242,24 @@ module _ (initial_storage : ℤ) (table : Option (List Row)) (local_inflow diver
       | inr (inr far) ↦ elim low [ inl e ↦ omega (arith, same, e, far) | inr e ↦ omega (arith, same, e, far) ]
     ]
 
-    slot_stays : (place : ℕ) → (place ≡ 0) ⊎ (place ≡ 1) → ((solving : Solving kind view) → place ≢ solving.place) → (new : View) → IsAfterOwn view new puts → given new place ≡ given view place
+    slot_stays : (place : ℕ) → (place ≡ 0) ⊎ (place ≡ 1) → ((solving : Solving kind view) → place ≢ solving.place) → (new : View)
+        → IsAfterOwn view new puts → given new place ≡ given view place
     slot_stays place low none new after = same_given view new place after.own (after.rest place (untouched_at place low none))
 
     below_at : (s : Sort) (held : Given) → Among (shape_of kind) s → given_in view s ≡ Some held → IsFalling kind view s.place held.number
     below_at s held has = by_sort (λ s. given_in view s ≡ Some held → IsFalling kind view s.place held.number)
-        (λ given_is left content there. given_number view 0 held content given_is there) (λ given_is left content there. given_number view 1 held content given_is there)
+        (λ given_is left content there. given_number view 0 held content given_is there)
+        (λ given_is left content there. given_number view 1 held content given_is there)
         (λ given_is left content there. contents_below kind table view puts is storing left held content given_is there) s has
 
-    given_stays : (new : View) → IsAfterOwn view new puts → (s : Sort) → Among (shape_of kind) s → ((solving : Solving kind view) → s.place ≢ solving.place)
+    given_stays : (new : View) → IsAfterOwn view new puts → (s : Sort) → Among (shape_of kind) s
+        → ((solving : Solving kind view) → s.place ≢ solving.place)
         → (number : ℕ) → IsGivenUpTo number (given_in view s) → IsGivenUpTo number (given_in new s)
-    given_stays new after s has apart number = by_sort (λ s. ((solving : Solving kind view) → s.place ≢ solving.place) → IsGivenUpTo number (given_in view s) → IsGivenUpTo number (given_in new s))
-        (λ apart. subst (IsGivenUpTo number) (sym (slot_stays 0 (inl refl) apart new after))) (λ apart. subst (IsGivenUpTo number) (sym (slot_stays 1 (inr refl) apart new after)))
+    given_stays new after s has apart number =
+        by_sort (λ s. ((solving : Solving kind view) → s.place ≢ solving.place) → IsGivenUpTo number (given_in view s)
+        → IsGivenUpTo number (given_in new s))
+        (λ apart. subst (IsGivenUpTo number) (sym (slot_stays 0 (inl refl) apart new after)))
+        (λ apart. subst (IsGivenUpTo number) (sym (slot_stays 1 (inr refl) apart new after)))
         (λ apart. contents_stay kind table view puts is storing apart new after number) s has apart
 
     abbrev is_slot : Source → Bool
@@ -228,9 +267,13 @@ module _ (initial_storage : ℤ) (table : Option (List Row)) (local_inflow diver
     is_slot (contents table) = false
     is_slot (asked plant) = false
 
-    low_untouched : (s : Sort) → Among (shape_of kind) s → s.source ≡ slot → ((solving : Solving kind view) → s.place ≢ solving.place) → (put : Put) → Contains puts put → put.place ≢ s.place
-    low_untouched s has = by_sort (λ s. s.source ≡ slot → ((solving : Solving kind view) → s.place ≢ solving.place) → (put : Put) → Contains puts put → put.place ≢ s.place)
-        (λ source. untouched_at 0 (inl refl)) (λ source. untouched_at 1 (inr refl)) (λ source. absurd (let differ : false ≡ true = ap is_slot source in cc)) s has
+    low_untouched : (s : Sort) → Among (shape_of kind) s → s.source ≡ slot → ((solving : Solving kind view) → s.place ≢ solving.place) → (put : Put)
+        → Contains puts put → put.place ≢ s.place
+    low_untouched s has =
+        by_sort (λ s. s.source ≡ slot → ((solving : Solving kind view) → s.place ≢ solving.place) → (put : Put) → Contains puts put
+        → put.place ≢ s.place)
+        (λ source. untouched_at 0 (inl refl)) (λ source. untouched_at 1 (inr refl))
+        (λ source. absurd (let differ : false ≡ true = ap is_slot source in cc)) s has
 
     pub reservoir_facts : DispatchFacts kind view puts
     reservoir_facts = record {
@@ -250,8 +293,11 @@ module _ (initial_storage : ℤ) (table : Option (List Row)) (local_inflow diver
     -- ---- what it holds then
 
     module _ (new : View) (after : IsAfterOwn view new puts) where
-      pub agreed : (s : Sort) → Among (shape_of kind) s → ((solving : Solving kind view) → s.place ≢ solving.place) → (g : Given) → given_in view s ≡ Some g → known_value new s.place ≡ Some g.value
-      agreed s has = by_sort (λ s. ((solving : Solving kind view) → s.place ≢ solving.place) → (g : Given) → given_in view s ≡ Some g → known_value new s.place ≡ Some g.value)
+      pub agreed : (s : Sort) → Among (shape_of kind) s → ((solving : Solving kind view) → s.place ≢ solving.place) → (g : Given)
+          → given_in view s ≡ Some g → known_value new s.place ≡ Some g.value
+      agreed s has =
+          by_sort (λ s. ((solving : Solving kind view) → s.place ≢ solving.place) → (g : Given) → given_in view s ≡ Some g
+          → known_value new s.place ≡ Some g.value)
           (λ apart g is_given. given_held kind table view puts is storing new after 0 g is_given (untouched_at 0 (inl refl) apart))
           (λ apart g is_given. given_held kind table view puts is storing new after 1 g is_given (untouched_at 1 (inr refl) apart))
           (contents_held kind table view puts is storing new after) s has

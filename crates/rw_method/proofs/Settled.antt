@@ -1,5 +1,9 @@
 -- What a settled balance tells of its terms.
-use Rattle.rw_method.proofs.Common.{All, All-contains, Balanced, Conflicts, Contains, Contains-append_cases, Contains-append_left, Contains-append_right, Decides-int_eq, Given, Holds, Idle, IsNoWeaker, IsShare, IsSome, IsStronger, List, None, Option, Solves, Some, Term, ap, arith, cases_Bool, inl, inr, int_eq, missing, nat_le, net_of, priority_of, pos, refl, rules, settled, settled_at, solves, subst, sym, value_from_others, weakest, ℕ, ℤ, ◌++◌, ◌+ℤ◌, ◌==◌, ◌∙◌, ◌∷◌, ◌≡◌, ◌≢◌, ◌≤◌, ◌⊎◌}
+use Rattle.rw_method.proofs.Common.{All, All-contains, Balanced, Conflicts, Contains, Contains-append_cases, Contains-append_left}
+use Rattle.rw_method.proofs.Common.{Contains-append_right, Decides-int_eq, Given, Holds, Idle, IsNoWeaker, IsShare, IsSome, IsStronger, List, None}
+use Rattle.rw_method.proofs.Common.{Option, Solves, Some, Term, ap, arith, cases_Bool, inl, inr, int_eq, missing, nat_le, net_of, priority_of, pos}
+use Rattle.rw_method.proofs.Common.{refl, rules, settled, settled_at, solves, subst, sym, value_from_others, weakest, ℕ, ℤ, ◌++◌, ◌+ℤ◌, ◌==◌, ◌∙◌}
+use Rattle.rw_method.proofs.Common.{◌∷◌, ◌≡◌, ◌≢◌, ◌≤◌, ◌⊎◌}
 use Rattle.rw_method.proofs.GivingWay.{gives_way}
 use Rattle.rw_method.proofs.SolvedTerm.{number_of_solved, solved_term}
 use Rattle.rw_method.specs.Left.{IsGivenUpTo}
@@ -50,20 +54,29 @@ solved_facts steady terms place number value shares is =
     let solved = solved_term steady terms place number value shares is in
     let greatest = number_of_solved steady terms place number value is in
     let way = solved.way in
-    let self : ((held : Given) → solved.term.given ≡ Some held → (other : Term) → Contains terms other → other.place ≢ place → priority_of other.given ≤ held.number) =
+    let self : ((held : Given) → solved.term.given ≡ Some held → (other : Term) → Contains terms other → other.place ≢ place
+    → priority_of other.given ≤ held.number) =
     (λ held given other has apart.
-    beside (λ (o : Term). priority_of o.given ≤ held.number) way.before way.after solved.term other (subst (λ ts. Contains ts other) way.among has) (λ same. apart (sym same ∙ solved.there))
-    (λ earlier. no_weaker other.given held (subst (λ g. IsNoWeaker other.given g) given (All-contains (λ (o : Term). IsNoWeaker o.given solved.term.given) way.before other way.earlier earlier)))
-    (λ later. stronger other.given held (subst (λ g. IsStronger other.given g) given (All-contains (λ (o : Term). IsStronger o.given solved.term.given) way.after other way.later later)))) in
+    beside (λ (o : Term). priority_of o.given ≤ held.number) way.before way.after solved.term other (subst (λ ts. Contains ts other) way.among has)
+    (λ same. apart (sym same ∙ solved.there))
+    (λ earlier. no_weaker other.given held (subst (λ g. IsNoWeaker other.given g) given
+    (All-contains (λ (o : Term). IsNoWeaker o.given solved.term.given) way.before other way.earlier earlier)))
+    (λ later. stronger other.given held (subst (λ g. IsStronger other.given g) given
+    (All-contains (λ (o : Term). IsStronger o.given solved.term.given) way.after other way.later later)))) in
     record {
       term = solved.term;
-      has = subst (λ ts. Contains ts solved.term) (sym way.among) (Contains-append_right way.before (solved.term ∷ way.after) solved.term (0, omega arith, refl));
+      has =
+          subst (λ ts. Contains ts solved.term) (sym way.among)
+          (Contains-append_right way.before (solved.term ∷ way.after) solved.term (0, omega arith, refl));
       there = solved.there;
       others = λ other has apart.
           given_up_to other.given number
-          (beside (λ (o : Term). IsSome o.given) way.before way.after solved.term other (subst (λ ts. Contains ts other) way.among has) (λ same. apart (sym same ∙ solved.there))
-          (λ earlier. All-contains (λ (o : Term). IsSome o.given) (way.before ++ way.after) other solved.given (Contains-append_left way.before way.after other earlier))
-          (λ later. All-contains (λ (o : Term). IsSome o.given) (way.before ++ way.after) other solved.given (Contains-append_right way.before way.after other later)))
+          (beside (λ (o : Term). IsSome o.given) way.before way.after solved.term other (subst (λ ts. Contains ts other) way.among has)
+          (λ same. apart (sym same ∙ solved.there))
+          (λ earlier. All-contains (λ (o : Term). IsSome o.given) (way.before ++ way.after) other solved.given
+          (Contains-append_left way.before way.after other earlier))
+          (λ later. All-contains (λ (o : Term). IsSome o.given) (way.before ++ way.after) other solved.given
+          (Contains-append_right way.before way.after other later)))
           (All-contains (λ (o : Term). o.place ≢ place → priority_of o.given ≤ number) terms other greatest.most has apart);
       self = λ held given. elim greatest.one [
         | inl none ↦ omega (arith, none)
@@ -116,12 +129,19 @@ holds_facts steady first rest is =
     let holds = holds_of steady first rest is in
     let way = gives_way first rest in
     record {
-      given = λ other has. elim (Contains-append_cases way.before (weakest first rest ∷ way.after) other (subst (λ ts. Contains ts other) way.among has)) [
-        | inl earlier ↦ some_given other.given holds.0 (subst (λ g. IsNoWeaker other.given g) holds.1.0 (All-contains (λ (o : Term). IsNoWeaker o.given (weakest first rest).given) way.before other way.earlier earlier))
-        | inr later ↦ elim (among (weakest first rest ∷ way.after) other later) [
-          | inl same ↦ rw (← ap (λ (t : Term). t.given) same, holds.1.0) search rules
-          | inr behind ↦ some_stronger other.given holds.0 (subst (λ g. IsStronger other.given g) holds.1.0 (All-contains (λ (o : Term). IsStronger o.given (weakest first rest).given) way.after other way.later (contains way.after other behind)))
-        ]
-      ];
+      given =
+          λ other has. elim (Contains-append_cases way.before (weakest first rest ∷ way.after) other
+          (subst (λ ts. Contains ts other) way.among has)) [
+            | inl earlier ↦ some_given other.given holds.0
+                (subst (λ g. IsNoWeaker other.given g) holds.1.0
+                (All-contains (λ (o : Term). IsNoWeaker o.given (weakest first rest).given) way.before other way.earlier earlier))
+            | inr later ↦ elim (among (weakest first rest ∷ way.after) other later) [
+              | inl same ↦ rw (← ap (λ (t : Term). t.given) same, holds.1.0) search rules
+              | inr behind ↦ some_stronger other.given holds.0
+                  (subst (λ g. IsStronger other.given g) holds.1.0
+                  (All-contains (λ (o : Term). IsStronger o.given (weakest first rest).given) way.after other way.later
+                  (contains way.after other behind)))
+            ]
+          ];
       balances = holds.1.1;
     }

@@ -1,8 +1,17 @@
 -- What a method puts stands in slots of its kind.
-use Rattle.rw_method.proofs.Common.{All, All-append, All-push, AllFit, Balanced, Bool, Conflicts, Given, Holds, Idle, IsSome, List, None, Option, Put, Solves, Some, Term, View, [], all_or_misfit, answer, ap, ap₂, arith, balanced_of, beside_basis, beside_given, content_before, content_put, evaporation_put, false, fault_of_contents, fault_of_past, first_misfit, fits, gives_way_before, if◌then◌else◌, inl, inr, int_eq, is_bounded, is_some, known_after, length, length-append, level_puts, missing, nat_le, net_of, none-some, not, or_else, pos, put_found, puts_of, refl, release_puts, same_Some, seepage_put, settled, settled_at, solve_of, solved_put, solves, subst, suc, true, user_puts, value_from_others, weakest, zero, ℕ, ℤ, ◌&&◌, ◌++◌, ◌+ℤ◌, ◌+◌, ◌<◌, ◌==◌, ◌∙◌, ◌∷◌, ◌≡◌, ◌≤◌, ◌⊎◌, asked_of, asked_put, energy_puts, fault_of_level, fault_of_request, first_fault, flow_puts, head_of, held_after_puts, plant, Plant, power_balance, power_flows, release_for, request_of, unless_faulty, Content, put}
+use Rattle.rw_method.proofs.Common.{All, All-append, All-push, AllFit, Balanced, Bool, Conflicts, Given, Holds, Idle, IsSome, List, None, Option, Put}
+use Rattle.rw_method.proofs.Common.{Solves, Some, Term, View, [], all_or_misfit, answer, ap, ap₂, arith, balanced_of, beside_basis, beside_given}
+use Rattle.rw_method.proofs.Common.{content_before, content_put, evaporation_put, false, fault_of_contents, fault_of_past, first_misfit, fits}
+use Rattle.rw_method.proofs.Common.{gives_way_before, if◌then◌else◌, inl, inr, int_eq, is_bounded, is_some, known_after, length, length-append}
+use Rattle.rw_method.proofs.Common.{level_puts, missing, nat_le, net_of, none-some, not, or_else, pos, put_found, puts_of, refl, release_puts}
+use Rattle.rw_method.proofs.Common.{same_Some, seepage_put, settled, settled_at, solve_of, solved_put, solves, subst, suc, true, user_puts}
+use Rattle.rw_method.proofs.Common.{value_from_others, weakest, zero, ℕ, ℤ, ◌&&◌, ◌++◌, ◌+ℤ◌, ◌+◌, ◌<◌, ◌==◌, ◌∙◌, ◌∷◌, ◌≡◌, ◌≤◌, ◌⊎◌, asked_of}
+use Rattle.rw_method.proofs.Common.{asked_put, energy_puts, fault_of_level, fault_of_request, first_fault, flow_puts, head_of, held_after_puts, plant}
+use Rattle.rw_method.proofs.Common.{Plant, power_balance, power_flows, release_for, request_of, unless_faulty, Content, put}
 use Rattle.rw_table.specs.Table.{Row}
 use Rattle.rw_model.specs.declared.kind.Kind.{Kind}
-use Rattle.rw_model.specs.declared.kind.Kind.TheVariants.{DataObject, Gage, Confluence, Bifurcation, Reach, Reservoir, WaterUser, Canal, RoutedReach, PowerReservoir}
+use Rattle.rw_model.specs.declared.kind.Kind.TheVariants.{DataObject, Gage, Confluence, Bifurcation, Reach, Reservoir, WaterUser, Canal, RoutedReach}
+use Rattle.rw_model.specs.declared.kind.Kind.TheVariants.{PowerReservoir}
 use Rattle.rw_model.specs.declared.kind.Supply.TheVariants.{Request, Rule}
 use Rattle.rw_model.proofs.Common.{IsKind, IsStored, Slot, where_chosen, slot_in}
 use Rattle.rw_method.specs.declared.basis.Basis.{Basis}
@@ -135,7 +144,8 @@ level_own kind table storage elevation (Solves place value number) two three =
     (beside_given_own kind table storage elevation two three)
 
 -- of flows beside which one is asked for
-flows_own : (kind : Kind) (asking : Option Given) (terms : List Term) (balanced : Balanced) → SolvesOwn kind balanced → IsOwn kind 1 → AreOwn kind 2 (flow_puts asking terms balanced)
+flows_own : (kind : Kind) (asking : Option Given) (terms : List Term) (balanced : Balanced) → SolvesOwn kind balanced → IsOwn kind 1
+    → AreOwn kind 2 (flow_puts asking terms balanced)
 flows_own kind None terms balanced own one = more_room kind 1 2 _ (omega arith) (solved_put_own kind balanced own)
 flows_own kind (Some asking) terms Idle own one = more_room kind 1 2 _ (omega arith) (one_own kind _ one)
 flows_own kind (Some asking) terms Holds own one = more_room kind 1 2 _ (omega arith) (one_own kind _ one)
@@ -178,7 +188,8 @@ chosen_at : (kind : Kind) (place : ℕ) (test : Bool) (slot : Slot) → place < 
     → IsOwn kind place
 chosen_at kind place test slot few there chosen = own_at kind place slot few (there ∙ ap (λ t. where_chosen t slot) chosen)
 
-reservoir_own : (initial_storage : ℤ) (table : Option (List Row)) (local_inflow diversion return_flow evaporation : Bool) (max_release : Option ℤ) (view : View)
+reservoir_own : (initial_storage : ℤ) (table : Option (List Row)) (local_inflow diversion return_flow evaporation : Bool) (max_release : Option ℤ)
+    (view : View)
     → IsStored initial_storage table evaporation max_release
     → PutsOwn (Reservoir initial_storage table local_inflow diversion return_flow evaporation max_release) view
 reservoir_own initial_storage table local_inflow diversion return_flow evaporation max_release view is =
@@ -188,7 +199,8 @@ reservoir_own initial_storage table local_inflow diversion return_flow evaporati
     level_own kind table (given view 2) (given view 3) (balanced_of kind view) two (λ e. chosen_at kind 3 (is_some table) _ (omega arith) refl e) in
     let lost : AreOwn kind 1 (evaporation_put evaporation (evaporation_of evaporation table view)) =
     if_own kind 1 evaporation (_ ∷ []) []
-    (λ e. one_own kind _ (chosen_at kind 8 (evaporation && is_some table) _ (omega arith) refl (ap₂ (λ a b. a && b) e (is.evaporates e)))) (none_own kind 1) in
+    (λ e. one_own kind _ (chosen_at kind 8 (evaporation && is_some table) _ (omega arith) refl (ap₂ (λ a b. a && b) e (is.evaporates e))))
+    (none_own kind 1) in
     let released : AreOwn kind 2 (release_puts max_release (known_after view (balanced_of kind view) 1)) =
     release_own kind max_release (known_after view (balanced_of kind view) 1)
     (λ e. (chosen_at kind 9 (is_some max_release) _ (omega arith) refl e, chosen_at kind 10 (is_some max_release) _ (omega arith) refl e)) in
@@ -205,7 +217,8 @@ puts_own Confluence view is =
 puts_own Bifurcation view is =
     nothing_beside Bifurcation view (own_at _ 0 _ (omega arith) refl, (own_at _ 1 _ (omega arith) refl, (own_at _ 2 _ (omega arith) refl, tt)))
 puts_own (Reach zero history local_inflow diversion return_flow) view is =
-    nothing_beside (Reach zero history local_inflow diversion return_flow) view (own_at _ 0 _ (omega arith) refl, (own_at _ 1 _ (omega arith) refl, tt))
+    nothing_beside (Reach zero history local_inflow diversion return_flow) view
+    (own_at _ 0 _ (omega arith) refl, (own_at _ 1 _ (omega arith) refl, tt))
 puts_own (Reach (suc lag) history local_inflow diversion return_flow) view is =
     nothing_beside (Reach (suc lag) history local_inflow diversion return_flow) view (own_at _ 1 _ (omega arith) refl, tt)
 puts_own (Reservoir initial_storage table local_inflow diversion return_flow evaporation max_release) view is =
@@ -228,12 +241,14 @@ puts_own (PowerReservoir initial_storage table max_release tailwater power) view
     let one : IsOwn kind 1 = own_at kind 1 _ (omega arith) refl in
     let two : IsOwn kind 2 = own_at kind 2 _ (omega arith) refl in
     let flows : AreOwn kind 2 (power_flows of view b) =
-    flows_own kind (asked_of of view) (power_balance of view).terms b (settled_own kind view.past (power_balance of view).terms (zero_own, (one, (two, tt)))) one in
+    flows_own kind (asked_of of view) (power_balance of view).terms b
+    (settled_own kind view.past (power_balance of view).terms (zero_own, (one, (two, tt)))) one in
     let level : AreOwn kind 1 (level_puts (Some table) (given view 2) (given view 3) b) =
     level_own kind (Some table) (given view 2) (given view 3) b two (λ e. own_at kind 3 _ (omega arith) refl) in
     let energy : AreOwn kind 3 (energy_puts of (head_of of view) (held_after_puts view (power_flows of view b) 1)) =
     both_own kind 1 2 (_ ∷ []) (_ ∷ _ ∷ []) (one_own kind _ (own_at kind 5 _ (omega arith) refl))
-    (both_own kind 1 1 (_ ∷ []) (_ ∷ []) (one_own kind _ (own_at kind 6 _ (omega arith) refl)) (one_own kind _ (own_at kind 7 _ (omega arith) refl))) in
+    (both_own kind 1 1 (_ ∷ []) (_ ∷ []) (one_own kind _ (own_at kind 6 _ (omega arith) refl))
+    (one_own kind _ (own_at kind 7 _ (omega arith) refl))) in
     more_room kind 6 8 _ (omega arith) (both_own kind 3 3 _ _ (both_own kind 2 1 _ _ flows level) energy)
 puts_own (Canal seepage) view is =
     let kind : Kind = Canal seepage in
@@ -242,7 +257,8 @@ puts_own (Canal seepage) view is =
     solved_beside kind view _ (own_at _ 0 _ (omega arith) refl, (own_at _ 1 _ (omega arith) refl, tt)) (more_room kind 1 7 _ (omega arith) seeps)
 puts_own (RoutedReach initial_content release) view is =
     let kind : Kind = RoutedReach initial_content release in
-    let left : AreOwn kind 1 (content_put (content_before view) (known_after view (balanced_of kind view) 0) (known_after view (balanced_of kind view) 1)) =
+    let left : AreOwn kind 1 (content_put (content_before view) (known_after view (balanced_of kind view) 0)
+    (known_after view (balanced_of kind view) 1)) =
     one_own kind _ (own_at _ 2 _ (omega arith) refl) in
     solved_beside kind view _ (own_at _ 0 _ (omega arith) refl, (own_at _ 1 _ (omega arith) refl, tt)) (more_room kind 1 7 _ (omega arith) left)
 
@@ -273,7 +289,8 @@ or_faulty (Some answer) b x y = x
 
 past_faulty : (evaporation : Bool) (table : Option (List Row)) (past : Option ℤ) → IsFaulty (fault_of_past evaporation table past)
 past_faulty evaporation table None = tt
-past_faulty evaporation table (Some storage) = if_faulty (evaporation && not (can_hold table storage)) (Some (OutOfRange 2 storage)) None (omega arith) tt
+past_faulty evaporation table (Some storage) =
+    if_faulty (evaporation && not (can_hold table storage)) (Some (OutOfRange 2 storage)) None (omega arith) tt
 
 basis_faulty : (table : Option (List Row)) (basis : Basis) → IsFaulty (fault_of_basis table basis)
 basis_faulty table Nothing = tt
@@ -285,7 +302,8 @@ disagreement_faulty : (table : Option (List Row)) (storage elevation : Option Gi
 disagreement_faulty table None elevation = tt
 disagreement_faulty table (Some storage) None = tt
 disagreement_faulty table (Some storage) (Some elevation) =
-    if_faulty (storage.number == 0 && elevation.number == 0 && not (agree table storage.value elevation.value)) (Some (Conflict 3 elevation.value _)) None (omega arith) tt
+    if_faulty (storage.number == 0 && elevation.number == 0 && not (agree table storage.value elevation.value)) (Some (Conflict 3 elevation.value _))
+    None (omega arith) tt
 
 level_faulty : (table : Option (List Row)) (view : View) → IsFaulty (fault_of_level table view)
 level_faulty table view =
@@ -315,7 +333,8 @@ pub faultless : (first : Option Solved) (solved : Solved) (puts : List Put) → 
 faultless None solved puts fine e = (refl, e)
 faultless (Some fault) solved puts fine e = absurd (let code = ap answer_code e in omega (arith, fine, code))
 
-by_misfit : (fit : Put → Bool) (judging puts : List Put) (misfit : Option Put) → first_misfit fit judging ≡ misfit → all_or_misfit judging misfit ≡ Puts puts
+by_misfit : (fit : Put → Bool) (judging puts : List Put) (misfit : Option Put) → first_misfit fit judging ≡ misfit
+    → all_or_misfit judging misfit ≡ Puts puts
     → (judging ≡ puts) × AllFit fit puts
 by_misfit fit judging puts None is e =
     let same : judging ≡ puts = same_Some _ _ (ap puts_in e) in (same, subst (AllFit fit) same is)
@@ -329,7 +348,8 @@ pub record Judged (fit : Put → Bool) (judging puts : List Put) (balanced : Bal
   pub fine : fault ≡ None
   pub code : (balanced_code balanced ≡ 1) ⊎ (balanced_code balanced ≡ 2)
 
-pub judged : (fit : Put → Bool) (judging puts : List Put) (balanced : Balanced) (fault : Option Solved) → IsFaulty fault → answer fit judging balanced fault ≡ Puts puts
+pub judged : (fit : Put → Bool) (judging puts : List Put) (balanced : Balanced) (fault : Option Solved) → IsFaulty fault
+    → answer fit judging balanced fault ≡ Puts puts
     → Judged fit judging puts balanced fault
 judged fit judging puts Idle fault fine e = absurd (none-some _ (ap puts_in e))
 judged fit judging puts (Conflicts place held found_value) None fine e = absurd (none-some _ (ap puts_in e))
@@ -361,7 +381,9 @@ pub solve-puts : (kind : Kind) (view : View) (puts : List Put) → IsKind kind �
     → All (IsPutOf kind view) puts × (length puts ≤ 8)
 solve-puts kind view puts is e =
     let clean = faultless (first_fault kind view) _ puts (first_faulty kind view) e in
-    let judging = judged (fits kind view) (puts_of kind view (balanced_of kind view)) puts (balanced_of kind view) (fault_of_contents kind view) (contents_faulty kind view) clean.1 in
+    let judging =
+    judged (fits kind view) (puts_of kind view (balanced_of kind view)) puts (balanced_of kind view) (fault_of_contents kind view)
+    (contents_faulty kind view) clean.1 in
     let own : AreOwn kind 8 puts = subst (AreOwn kind 8) judging.same (puts_own kind view is) in
     let fit : All (λ (put : Put). fits kind view put ≡ true) puts = all_fit (fits kind view) puts judging.fit_all in
     (λ k d lt. record { own = own.own k d lt; bounded = and_second _ _ (fit k d lt) }, own.few)

@@ -1,5 +1,9 @@
 -- A solved term makes the balance true.
-use Rattle.rw_method.proofs.Common.{All, All-append, Balanced, Bool, Brings, Conflicts, Conveys, Given, GivesWay, Holds, Idle, IsGreatestBeside, IsNoWeaker, IsShare, IsSolved, IsSome, IsStronger, List, None, Option, Routes, Solves, Some, Takes, Term, [], ap, arith, both_ways, bringing, brought, brought_by, cases_Bool, false, if◌then◌else◌, inl, inr, int_eq, ints, is_some, missing, nat_le, neg_ℤ, net_of, pos, refl, rules, settled, settled_at, solves, suc, true, value_from_others, weakest, ℕ, ℤ, ◌++◌, ◌+ℤ◌, ◌+◌, ◌-ℤ◌, ◌==◌, ◌∷◌, ◌≡◌, ◌≤◌}
+use Rattle.rw_method.proofs.Common.{All, All-append, Balanced, Bool, Brings, Conflicts, Conveys, Given, GivesWay, Holds, Idle, IsGreatestBeside}
+use Rattle.rw_method.proofs.Common.{IsNoWeaker, IsShare, IsSolved, IsSome, IsStronger, List, None, Option, Routes, Solves, Some, Takes, Term, [], ap}
+use Rattle.rw_method.proofs.Common.{arith, both_ways, bringing, brought, brought_by, cases_Bool, false, if◌then◌else◌, inl, inr, int_eq, ints}
+use Rattle.rw_method.proofs.Common.{is_some, missing, nat_le, neg_ℤ, net_of, pos, refl, rules, settled, settled_at, solves, suc, true}
+use Rattle.rw_method.proofs.Common.{value_from_others, weakest, ℕ, ℤ, ◌++◌, ◌+ℤ◌, ◌+◌, ◌-ℤ◌, ◌==◌, ◌∷◌, ◌≡◌, ◌≤◌}
 use Rattle.rw_method.specs.declared.share.Share.{Share}
 use Rattle.rw_method.proofs.LeastInflow.{conveyed, routed}
 use Rattle.rw_method.proofs.GreatestBeside.{is_greatest_beside}

@@ -1,5 +1,10 @@
 -- The terms of a balance, and by what each is given.
-use Rattle.rw_method.proofs.Common.{AllByRecursion, Bifurcation, Bool, Brings, ByObject, ByRule, Canal, Confluence, Content, Conveys, DataObject, Elevation, Gage, Given, Kind, List, None, ObjectNo, Option, Plant, PowerReservoir, Reach, Request, Reservoir, RoutedReach, Routes, Row, Share, Some, Storage, Takes, Term, View, WaterUser, [], ap, arith, balance_of, basis_of, contents_by, false, given, given_by, if◌then◌else◌, inl, inr, is_same_object, is_some, known, map, nat_le, nat_tests, none-some, option_map, asked_of, outflow_of, plant, pos, refl, same_Some, subst, suc, sym, true, unwrap_or, volume_of, zero, ℕ, ℤ, ◌∙◌, ◌∷◌, ◌≡◌, ◌≤◌, ◌⊎◌}
+use Rattle.rw_method.proofs.Common.{AllByRecursion, Bifurcation, Bool, Brings, ByObject, ByRule, Canal, Confluence, Content, Conveys, DataObject}
+use Rattle.rw_method.proofs.Common.{Elevation, Gage, Given, Kind, List, None, ObjectNo, Option, Plant, PowerReservoir, Reach, Request, Reservoir}
+use Rattle.rw_method.proofs.Common.{RoutedReach, Routes, Row, Share, Some, Storage, Takes, Term, View, WaterUser, [], ap, arith, balance_of, basis_of}
+use Rattle.rw_method.proofs.Common.{contents_by, false, given, given_by, if◌then◌else◌, inl, inr, is_same_object, is_some, known, map, nat_le}
+use Rattle.rw_method.proofs.Common.{nat_tests, none-some, option_map, asked_of, outflow_of, plant, pos, refl, same_Some, subst, suc, sym, true}
+use Rattle.rw_method.proofs.Common.{unwrap_or, volume_of, zero, ℕ, ℤ, ◌∙◌, ◌∷◌, ◌≡◌, ◌≤◌, ◌⊎◌}
 use Rattle.rw_method.specs.Left.{IsGivenUpTo, IsUpTo, is_own}
 use Rattle.rw_method.specs.Passing.{IsAfterOthers}
 use Rattle.rw_method.proofs.Among.{Among}
@@ -115,7 +120,8 @@ among_terms view (first ∷ shape) s (inr later) = inr (among_terms view shape s
 -- ---- what is given
 
 -- what has a value is known
-pub some_value : (held : Option Content) (value : ℤ) → option_map (λ (content : Content). content.value) held ≡ Some value → (content : Content) × (held ≡ Some content)
+pub some_value : (held : Option Content) (value : ℤ) → option_map (λ (content : Content). content.value) held ≡ Some value
+    → (content : Content) × (held ≡ Some content)
 some_value None value is = absurd (none-some value is)
 some_value (Some content) value is = (content, refl)
 
@@ -145,14 +151,16 @@ pub record IsGivenAs (view : View) (place : ℕ) (held : Given) : Type 0 where
   pub value : content.value ≡ held.value
   pub number : content.number ≡ held.number
 
-given_as_when : (view : View) (place : ℕ) (held : Given) (content : Content) → known view place ≡ Some content → (test : Bool) → is_own view content ≡ test
+given_as_when : (view : View) (place : ℕ) (held : Given) (content : Content) → known view place ≡ Some content → (test : Bool)
+    → is_own view content ≡ test
     → (if test then None else Some (given_of content)) ≡ Some held → IsGivenAs view place held
 given_as_when view place held content there true is found = absurd (none-some held found)
 given_as_when view place held content there false is found =
     let same : record { value = content.value; number = content.number } ≡ held = same_Some _ _ found in
     record { content = content; there = there; other = is; value = ap (λ (g : Given). g.value) same; number = ap (λ (g : Given). g.number) same }
 
-given_as_by : (view : View) (place : ℕ) (held : Given) (found : Option Content) → known view place ≡ found → given_by view.own found ≡ Some held → IsGivenAs view place held
+given_as_by : (view : View) (place : ℕ) (held : Given) (found : Option Content) → known view place ≡ found → given_by view.own found ≡ Some held
+    → IsGivenAs view place held
 given_as_by view place held None there is = absurd (none-some held is)
 given_as_by view place held (Some content) there is = given_as_when view place held content there (is_own view content) refl is
 
@@ -160,7 +168,8 @@ pub given_as : (view : View) (place : ℕ) (held : Given) → given view place �
 given_as view place held is = given_as_by view place held (known view place) refl is
 
 -- what is given in a slot has the number of what the slot holds
-pub given_number : (view : View) (place : ℕ) (held : Given) (content : Content) → given view place ≡ Some held → known view place ≡ Some content → held.number ≤ content.number
+pub given_number : (view : View) (place : ℕ) (held : Given) (content : Content) → given view place ≡ Some held → known view place ≡ Some content
+    → held.number ≤ content.number
 given_number view place held content given_is there =
     let seen = given_as view place held given_is in
     let same : seen.content ≡ content = same_Some _ _ (sym seen.there ∙ there) in
@@ -170,26 +179,32 @@ given_number view place held content given_is there =
 -- ---- contents
 
 -- so many of storage and elevation have a number up to this
-pub from_contents : (table : Option (List Row)) (storage elevation : Option Given) (number : ℕ) → IsGivenUpTo number (contents_by table (basis_of storage elevation))
+pub from_contents : (table : Option (List Row)) (storage elevation : Option Given) (number : ℕ)
+    → IsGivenUpTo number (contents_by table (basis_of storage elevation))
     → IsGivenUpTo number storage ⊎ IsGivenUpTo number elevation
 from_contents table None None number is = absurd (none-some is.held is.is)
 from_contents table (Some s) None number is = inl (record { held = is.held; is = is.is; most = is.most })
 from_contents table None (Some e) number is =
-    let same = same_Some _ _ is.is in let most = is.most in inr (record { held = e; is = refl; most = subst (λ n. n ≤ number) (sym (ap (λ (g : Given). g.number) same)) most })
+    let same = same_Some _ _ is.is in let most =
+    is.most in inr (record { held = e; is = refl; most = subst (λ n. n ≤ number) (sym (ap (λ (g : Given). g.number) same)) most })
 from_contents table (Some s) (Some e) number is = by (nat_le s.number e.number) is.is
   where
-    by : (test : Bool) → contents_by table (if test then Storage s else Elevation e) ≡ Some is.held → IsGivenUpTo number (Some s) ⊎ IsGivenUpTo number (Some e)
+    by : (test : Bool) → contents_by table (if test then Storage s else Elevation e) ≡ Some is.held
+        → IsGivenUpTo number (Some s) ⊎ IsGivenUpTo number (Some e)
     by true found = inl (record { held = is.held; is = found; most = is.most })
     by false found =
-        let same = same_Some _ _ found in let most = is.most in inr (record { held = e; is = refl; most = subst (λ n. n ≤ number) (sym (ap (λ (g : Given). g.number) same)) most })
+        let same = same_Some _ _ found in let most =
+        is.most in inr (record { held = e; is = refl; most = subst (λ n. n ≤ number) (sym (ap (λ (g : Given). g.number) same)) most })
 
 by_elevation : (table : Option (List Row)) (e : Given) (number : ℕ) → e.number ≤ number → IsGivenUpTo number (contents_by table (Elevation e))
-by_elevation table e number most = record { held = record { value = unwrap_or (volume_of table e.value) (pos 0); number = e.number }; is = refl; most = most }
+by_elevation table e number most =
+    record { held = record { value = unwrap_or (volume_of table e.value) (pos 0); number = e.number }; is = refl; most = most }
 
 by_storage : (table : Option (List Row)) (s : Given) (number : ℕ) → s.number ≤ number → IsGivenUpTo number (contents_by table (Storage s))
 by_storage table s number most = record { held = s; is = refl; most = most }
 
-least_of : (table : Option (List Row)) (s e : Given) (number : ℕ) → (s.number ≤ number) ⊎ (e.number ≤ number) → (test : Bool) → nat_le s.number e.number ≡ test
+least_of : (table : Option (List Row)) (s e : Given) (number : ℕ) → (s.number ≤ number) ⊎ (e.number ≤ number) → (test : Bool)
+    → nat_le s.number e.number ≡ test
     → IsGivenUpTo number (contents_by table (if test then Storage s else Elevation e))
 least_of table s e number (inl most) true less = by_storage table s number most
 least_of table s e number (inr most) true less = by_storage table s number (grind (arith, nat_tests, most, less))
@@ -199,7 +214,8 @@ least_of table s e number (inr most) false less = by_elevation table e number mo
 held_up_to : (held : Given) (number : ℕ) → IsGivenUpTo number (Some held) → held.number ≤ number
 held_up_to held number is = let most = is.most in subst (λ (g : Given). g.number ≤ number) (sym (same_Some _ _ is.is)) most
 
-pub to_contents : (table : Option (List Row)) (storage elevation : Option Given) (number : ℕ) → IsGivenUpTo number storage ⊎ IsGivenUpTo number elevation
+pub to_contents : (table : Option (List Row)) (storage elevation : Option Given) (number : ℕ)
+    → IsGivenUpTo number storage ⊎ IsGivenUpTo number elevation
     → IsGivenUpTo number (contents_by table (basis_of storage elevation))
 to_contents table None None number (inl is) = absurd (none-some is.held is.is)
 to_contents table None None number (inr is) = absurd (none-some is.held is.is)
@@ -214,10 +230,13 @@ to_contents table (Some s) (Some e) number (inr is) = least_of table s e number 
 pub none_of : (table : Option (List Row)) (storage elevation : Option Given) → contents_by table (basis_of storage elevation) ≡ None → storage ≡ None
 none_of table None elevation none = refl
 none_of table (Some s) elevation none =
-    let given_there = to_contents table (Some s) elevation s.number (inl (record { held = s; is = refl; most = omega arith })) in absurd (none-some given_there.held (sym none ∙ given_there.is))
+    let given_there =
+    to_contents table (Some s) elevation s.number (inl (record { held = s; is = refl; most = omega arith })) in
+    absurd (none-some given_there.held (sym none ∙ given_there.is))
 
 -- a term that isn't given, in a slot that is known, the object wrote itself
-own_from : (view : View) (place : ℕ) (source : Source) (content : Content) → IsPlacedBy place source → given_from view place source ≡ None → known view place ≡ Some content
+own_from : (view : View) (place : ℕ) (source : Source) (content : Content) → IsPlacedBy place source → given_from view place source ≡ None
+    → known view place ≡ Some content
     → is_own view content ≡ true
 own_from view place slot content at none there = own_of view place content none there
 own_from view place (contents table) content at none there =
@@ -225,7 +244,8 @@ own_from view place (contents table) content at none there =
 own_from view place (asked plant) content at none there =
     own_of view 1 content (none_asked (asked_of plant view) (given view 1) none) (ap (known view) (sym at) ∙ there)
 
-pub own_in : (view : View) (s : Sort) (content : Content) → IsSorted s → given_in view s ≡ None → known view s.place ≡ Some content → is_own view content ≡ true
+pub own_in : (view : View) (s : Sort) (content : Content) → IsSorted s → given_in view s ≡ None → known view s.place ≡ Some content
+    → is_own view content ≡ true
 own_in view s content sorted none there = own_from view s.place s.source content sorted none there
 
 -- ---- what others write leaves given what was, with no greater number
@@ -233,12 +253,14 @@ own_in view s content sorted none there = own_from view s.place s.source content
 pub same_given : (old new : View) (place : ℕ) → new.own ≡ old.own → known new place ≡ known old place → given new place ≡ given old place
 same_given old new place own same = ap (λ o. given_by o (known new place)) own ∙ ap (given_by old.own) same
 
-pub other_given : (old new : View) → IsAfterOthers old new → (place number : ℕ) → IsGivenUpTo number (given old place) → IsGivenUpTo number (given new place)
+pub other_given : (old new : View) → IsAfterOthers old new → (place number : ℕ) → IsGivenUpTo number (given old place)
+    → IsGivenUpTo number (given new place)
 other_given old new passes place number is = elim (passes.slots place) [
   | inl same ↦ record { held = is.held; is = same_given old new place passes.own same ∙ is.is; most = is.most }
   | inr replaced ↦
       let was = given_as old place is.held is.is in
-      let other : is_own new replaced.content ≡ false = ap (λ own. is_same_object replaced.content.writer (ByObject own)) passes.own ∙ replaced.other in
+      let other : is_own new replaced.content ≡ false =
+      ap (λ own. is_same_object replaced.content.writer (ByObject own)) passes.own ∙ replaced.other in
       let falls : replaced.content.number ≤ was.content.number = replaced.falls was.content was.there in
       let number_is = was.number in let most = is.most in
       record {
@@ -252,10 +274,12 @@ other_given old new passes place number is = elim (passes.slots place) [
 pub up_to_passes : (old new : View) → IsAfterOthers old new → (place number : ℕ) → IsUpTo number (known old place) → IsUpTo number (known new place)
 up_to_passes old new passes place number is = elim (passes.slots place) [
   | inl same ↦ record { content = is.content; is = same ∙ is.is; most = is.most }
-  | inr replaced ↦ let falls = replaced.falls is.content is.is in let most = is.most in record { content = replaced.content; is = replaced.is; most = omega (arith, falls, most) }
+  | inr replaced ↦ let falls = replaced.falls is.content is.is in let most =
+      is.most in record { content = replaced.content; is = replaced.is; most = omega (arith, falls, most) }
 ]
 
-other_from : (old new : View) → IsAfterOthers old new → (place : ℕ) (source : Source) (number : ℕ) → IsGivenUpTo number (given_from old place source) → IsGivenUpTo number (given_from new place source)
+other_from : (old new : View) → IsAfterOthers old new → (place : ℕ) (source : Source) (number : ℕ) → IsGivenUpTo number (given_from old place source)
+    → IsGivenUpTo number (given_from new place source)
 other_from old new passes place slot number is = other_given old new passes place number is
 other_from old new passes place (asked plant) number is =
     to_asked plant new number (elim (from_asked plant old number is) [
@@ -268,5 +292,6 @@ other_from old new passes place (contents table) number is =
       | inr elevation ↦ inr (other_given old new passes 3 number elevation)
     ])
 
-pub other_in : (old new : View) → IsAfterOthers old new → (s : Sort) (number : ℕ) → IsGivenUpTo number (given_in old s) → IsGivenUpTo number (given_in new s)
+pub other_in : (old new : View) → IsAfterOthers old new → (s : Sort) (number : ℕ) → IsGivenUpTo number (given_in old s)
+    → IsGivenUpTo number (given_in new s)
 other_in old new passes s number is = other_from old new passes s.place s.source number is

@@ -1,16 +1,23 @@
 -- What bounds leave each slot, and that what the readers answer is in range.
-use Rattle.rw_base.proofs.Common.{◌≡◌, ℕ, zero, suc, ◌+◌, ◌*◌, ◌-◌, ◌<◌, ◌≤◌, ◌==◌, List, [], ◌∷◌, length, Bool, true, false, Option, Some, None, refl, sym, ap, subst, ◌∙◌, arith, is_some, ◌&&◌, option_and_then, slice_index_or, All, ℤ, ◌≤ℤ◌, slice_get, option_map, unwrap_or, codes, if◌then◌else◌, list_any, range_with_len, ForSome, int_max, int_min, ints, by_lt_z, fold-int_max_bounds, fold-int_min_bounds, get_or-map-range_with_len, length-map-range_with_len, get_or-range_with_len, length-range_with_len, list_any_at, list_any-append, All-nil, All-cons, All-head, All-tail, All-append, slice_get_within, get_or_from_slice_get}
+use Rattle.rw_base.proofs.Common.{◌≡◌, ℕ, zero, suc, ◌+◌, ◌*◌, ◌-◌, ◌<◌, ◌≤◌, ◌==◌, List, [], ◌∷◌, length, Bool, true, false, Option, Some, None}
+use Rattle.rw_base.proofs.Common.{refl, sym, ap, subst, ◌∙◌, arith, is_some, ◌&&◌, option_and_then, slice_index_or, All, ℤ, ◌≤ℤ◌, slice_get}
+use Rattle.rw_base.proofs.Common.{option_map, unwrap_or, codes, if◌then◌else◌, list_any, range_with_len, ForSome, int_max, int_min, ints, by_lt_z}
+use Rattle.rw_base.proofs.Common.{fold-int_max_bounds, fold-int_min_bounds, get_or-map-range_with_len, length-map-range_with_len}
+use Rattle.rw_base.proofs.Common.{get_or-range_with_len, length-range_with_len, list_any_at, list_any-append, All-nil, All-cons, All-head, All-tail}
+use Rattle.rw_base.proofs.Common.{All-append, slice_get_within, get_or_from_slice_get}
 use Rattle.rw_base.specs.Dimension.{Dimension}
 use Rattle.rw_base.specs.Unit.{volume, length as length-unit, energy}
 use Rattle.rw_model.specs.declared.data_slots.DataSlot.{DataSlot}
 use Rattle.rw_model.specs.declared.kind.Kind.{Kind}
-use Rattle.rw_model.specs.declared.kind.Kind.TheVariants.{DataObject, Gage, Confluence, Bifurcation, Reach, Reservoir, WaterUser, Canal, PowerReservoir, RoutedReach}
+use Rattle.rw_model.specs.declared.kind.Kind.TheVariants.{DataObject, Gage, Confluence, Bifurcation, Reach, Reservoir, WaterUser, Canal}
+use Rattle.rw_model.specs.declared.kind.Kind.TheVariants.{PowerReservoir, RoutedReach}
 use Rattle.rw_model.specs.declared.kind.Supply.TheVariants.{Request, Rule}
 use Rattle.rw_model.specs.declared.role.Role.{Role}
 use Rattle.rw_model.specs.declared.role.Role.TheVariants.{Fixed, Derived, Neither}
 use Rattle.rw_model.specs.Slot.{Slot, Bounds, IsInside, flow, of_range, all_quantities, from_zero, lengths, rate_unit}
 use Rattle.rw_model.specs.Slots.{where_chosen, slots_of}
-use Rattle.rw_model.specs.Objects.{Object, Placed, placed_from, slots_from, all_slots, slot_at, first_from, object_named, slot_named, slot_in_place, is_in_place, is_named}
+use Rattle.rw_model.specs.Objects.{Object, Placed, placed_from, slots_from, all_slots, slot_at, first_from, object_named, slot_named, slot_in_place}
+use Rattle.rw_model.specs.Objects.{is_in_place, is_named}
 use Rattle.rw_model.specs.Draft.{Draft, Bound, IsObject, IsSlot, IsWithinWidest, bound_of}
 use Rattle.rw_model.specs.Links.{link_of, own_bounds, meet, meet_all, linked_with, bounds_in}
 use Rattle.rw_model.specs.Basin.{IsLink, IsBound, IsBasin, is_crossed}
@@ -48,7 +55,8 @@ known_by_name objects object name k found = named_known objects name (object_nam
 
 -- ---- the slots of a link are known
 
-at_place : (objects : List Object) (links : List (List ℕ)) (found : Option (List ℕ)) (place : ℕ) → slice_get links place ≡ found → All (IsLink objects) links
+at_place : (objects : List Object) (links : List (List ℕ)) (found : Option (List ℕ)) (place : ℕ) → slice_get links place ≡ found
+    → All (IsLink objects) links
     → All (IsSlot objects) (unwrap_or found [])
 at_place objects links None place found all = All-nil (IsSlot objects)
 at_place objects links (Some link) place found all =
@@ -59,7 +67,8 @@ with_place : (objects : List Object) (links : List (List ℕ)) (place : Option �
 with_place objects links None all = All-nil (IsSlot objects)
 with_place objects links (Some place) all = at_place objects links (slice_get links place) place refl all
 
-pub linked_with-known : (objects : List Object) (links : List (List ℕ)) (slot : ℕ) → All (IsLink objects) links → All (IsSlot objects) (linked_with links slot)
+pub linked_with-known : (objects : List Object) (links : List (List ℕ)) (slot : ℕ) → All (IsLink objects) links
+    → All (IsSlot objects) (linked_with links slot)
 linked_with-known objects links slot all = with_place objects links (link_of links slot) all
 
 -- ---- whether there is a slot with no value
@@ -93,7 +102,8 @@ bounded_flow name role = record {
   widest = record { order = omega (arith, ints); low = omega (arith, ints); high = omega (arith, ints) };
 }
 
-bounded_range : (name : List ℕ) (dim : Dimension) (role : Role) (bounds : Bounds) → IsInside bounds all_quantities → IsBounded (of_range name dim role bounds)
+bounded_range : (name : List ℕ) (dim : Dimension) (role : Role) (bounds : Bounds) → IsInside bounds all_quantities
+    → IsBounded (of_range name dim role bounds)
 bounded_range name dim role bounds inside = record {
   usual = record { order = inside.order; low = omega (arith, ints); high = omega (arith, ints) };
   widest = inside;
@@ -108,7 +118,8 @@ zero_inside = record { order = omega (arith, ints); low = omega (arith, ints); h
 lengths_inside : IsInside lengths all_quantities
 lengths_inside = record { order = omega (arith, ints); low = omega (arith, ints); high = omega (arith, ints) }
 
-chosen_too : (chosen : Bool) (slot : Slot) (slots : List (Option Slot)) → IsBounded slot → AreBounded slots → AreBounded (where_chosen chosen slot ∷ slots)
+chosen_too : (chosen : Bool) (slot : Slot) (slots : List (Option Slot)) → IsBounded slot → AreBounded slots
+    → AreBounded (where_chosen chosen slot ∷ slots)
 chosen_too true slot slots here there = (here, there)
 chosen_too false slot slots here there = there
 
@@ -124,7 +135,8 @@ chosen_flows a b c x y z p q r slots there =
     (chosen_too b (flow y q) (where_chosen c (flow z r) ∷ slots) (bounded_flow y q) (chosen_too c (flow z r) slots (bounded_flow z r) there))
 
 bounded_sides : (local_inflow diversion return_flow : Bool) (slots : List (Option Slot)) → AreBounded slots
-    → AreBounded (where_chosen local_inflow (flow (codes "LocalInflow") Fixed) ∷ where_chosen diversion (flow (codes "Diversion") Fixed) ∷ where_chosen return_flow (flow (codes "ReturnFlow") Fixed) ∷ slots)
+    → AreBounded (where_chosen local_inflow (flow (codes "LocalInflow") Fixed) ∷ where_chosen diversion (flow (codes "Diversion") Fixed)
+    ∷ where_chosen return_flow (flow (codes "ReturnFlow") Fixed) ∷ slots)
 bounded_sides l d r slots there = chosen_flows l d r (codes "LocalInflow") (codes "Diversion") (codes "ReturnFlow") Fixed Fixed Fixed slots there
 
 abbrev derived_slots : Bool → Bool → Bool → List (Option Slot)
@@ -138,7 +150,8 @@ derived_slots evaporation evaporates spills =
 bounded_derived : (evaporation evaporates spills : Bool) → AreBounded (derived_slots evaporation evaporates spills)
 bounded_derived evaporation evaporates spills =
     chosen_too evaporation (of_range (codes "EvaporationRate") rate_unit Fixed lengths)
-    (where_chosen evaporates (flow (codes "Evaporation") Derived) ∷ where_chosen spills (flow (codes "Release") Derived) ∷ where_chosen spills (flow (codes "Spill") Derived) ∷ [])
+    (where_chosen evaporates (flow (codes "Evaporation") Derived) ∷ where_chosen spills (flow (codes "Release") Derived)
+    ∷ where_chosen spills (flow (codes "Spill") Derived) ∷ [])
     (bounded_range (codes "EvaporationRate") rate_unit Fixed lengths lengths_inside)
     (chosen_flows evaporates spills spills (codes "Evaporation") (codes "Release") (codes "Spill") Derived Derived Derived [] tt)
 
@@ -156,7 +169,8 @@ bounded_slots (Reservoir initial_storage table local_inflow diversion return_flo
     (
       bounded_range (codes "Storage") volume Neither from_zero zero_inside,
       chosen_too (is_some table) (of_range (codes "PoolElevation") length-unit Neither lengths)
-          (where_chosen local_inflow (flow (codes "LocalInflow") Fixed) ∷ where_chosen diversion (flow (codes "Diversion") Fixed) ∷ where_chosen return_flow (flow (codes "ReturnFlow") Fixed) ∷
+          (where_chosen local_inflow (flow (codes "LocalInflow") Fixed) ∷ where_chosen diversion (flow (codes "Diversion") Fixed)
+          ∷ where_chosen return_flow (flow (codes "ReturnFlow") Fixed) ∷
           derived_slots evaporation (evaporation && is_some table) (is_some max_release))
           (bounded_range (codes "PoolElevation") length-unit Neither lengths lengths_inside)
           (bounded_sides local_inflow diversion return_flow (derived_slots evaporation (evaporation && is_some table) (is_some max_release))
@@ -208,7 +222,8 @@ slot_at-bounded objects slot placed found =
 
 -- ---- what bounds leave is within them
 
-IsInside-within : (bounds inner outer : Bounds) → bounds.0 ≤ℤ bounds.1 → inner.0 ≤ℤ bounds.0 → bounds.1 ≤ℤ inner.1 → IsInside inner outer → IsInside bounds outer
+IsInside-within : (bounds inner outer : Bounds) → bounds.0 ≤ℤ bounds.1 → inner.0 ≤ℤ bounds.0 → bounds.1 ≤ℤ inner.1 → IsInside inner outer
+    → IsInside bounds outer
 IsInside-within bounds inner outer order low high inside =
     record { order = order; low = omega (arith, ints, low, inside.low); high = omega (arith, ints, high, inside.high) }
 
@@ -228,14 +243,16 @@ meet_all-within objects given bounds (slot ∷ slots) =
 
 found_here : (objects : List Object) (bound : Bound) (given : List Bound) (slot : ℕ) (bounds : Bounds) → IsBound objects bound
     → (bound_of given slot ≡ Some bounds → IsWithinWidest objects slot bounds)
-    → (test : Bool) → (slot == bound.slot) ≡ test → (if test then Some bound.bounds else bound_of given slot) ≡ Some bounds → IsWithinWidest objects slot bounds
+    → (test : Bool) → (slot == bound.slot) ≡ test → (if test then Some bound.bounds else bound_of given slot) ≡ Some bounds
+    → IsWithinWidest objects slot bounds
 found_here objects bound given slot bounds here there true same found =
     let at : bound.slot ≡ slot = grind arith in
     let are : bound.bounds ≡ bounds = cc in
     subst (λ s. IsWithinWidest objects s bounds) at (subst (λ b. IsWithinWidest objects bound.slot b) are here.within)
 found_here objects bound given slot bounds here there false other found = there found
 
-found_within : (objects : List Object) (given : List Bound) (slot : ℕ) (bounds : Bounds) → All (IsBound objects) given → bound_of given slot ≡ Some bounds
+found_within : (objects : List Object) (given : List Bound) (slot : ℕ) (bounds : Bounds) → All (IsBound objects) given
+    → bound_of given slot ≡ Some bounds
     → IsWithinWidest objects slot bounds
 found_within objects [] slot bounds all found = absurd (cc)
 found_within objects (bound ∷ given) slot bounds all found =
@@ -248,12 +265,14 @@ own_of : (objects : List Object) (given : List Bound) (slot : ℕ) (placed : Pla
 own_of objects given slot placed (Some bounds) inside found = inside bounds refl
 own_of objects given slot placed None inside found = rw found (slot_at-bounded objects slot placed found).usual
 
-own_bounds-within : (objects : List Object) (given : List Bound) (slot : ℕ) (placed : Placed) → All (IsBound objects) given → slot_at objects slot ≡ Some placed
+own_bounds-within : (objects : List Object) (given : List Bound) (slot : ℕ) (placed : Placed) → All (IsBound objects) given
+    → slot_at objects slot ≡ Some placed
     → IsInside (own_bounds objects given slot) placed.slot.widest
 own_bounds-within objects given slot placed all found =
     own_of objects given slot placed (bound_of given slot) (λ bounds own. found_within objects given slot bounds all own placed found) found
 
-not_true : (p : ℕ → Bool) (n slot : ℕ) → 1 ≤ slot → slot ≤ n → list_any p (range_with_len 1 n) ≡ false → (test : Bool) → p slot ≡ test → p slot ≡ false
+not_true : (p : ℕ → Bool) (n slot : ℕ) → 1 ≤ slot → slot ≤ n → list_any p (range_with_len 1 n) ≡ false → (test : Bool) → p slot ≡ test
+    → p slot ≡ false
 not_true p n slot first last none false fails = fails
 not_true p n slot first last none true passes =
     let near : slot - 1 < n = omega (arith, first, last) in
@@ -262,7 +281,8 @@ not_true p n slot first last none true passes =
     absurd (cc)
 
 uncrossed : (bounds : Bounds) → is_crossed bounds ≡ false → bounds.0 ≤ℤ bounds.1
-uncrossed bounds open' = by_lt_z bounds.1 bounds.0 (λ below. let crossed : is_crossed bounds ≡ true = sym (omega (arith, ints)) in absurd (cc)) (λ above. above)
+uncrossed bounds open' =
+    by_lt_z bounds.1 bounds.0 (λ below. let crossed : is_crossed bounds ≡ true = sym (omega (arith, ints)) in absurd (cc)) (λ above. above)
 
 pub bounds_in-within : (draft : Draft) (slot : ℕ) → IsBasin draft → IsSlot draft.objects slot
     → IsWithinWidest draft.objects slot (bounds_in draft.objects draft.links draft.bounds slot)
@@ -271,7 +291,8 @@ bounds_in-within draft slot basin known placed found =
     let open' = not_true p (length (all_slots draft.objects)) slot known.first known.last basin.meets (p slot) refl in
     let within = meet_all-within draft.objects draft.bounds (own_bounds draft.objects draft.bounds slot) (linked_with draft.links slot) in
     IsInside-within (bounds_in draft.objects draft.links draft.bounds slot) (own_bounds draft.objects draft.bounds slot) placed.slot.widest
-    (uncrossed (bounds_in draft.objects draft.links draft.bounds slot) open') within.0 within.1 (own_bounds-within draft.objects draft.bounds slot placed basin.whole.bounds found)
+    (uncrossed (bounds_in draft.objects draft.links draft.bounds slot) open') within.0 within.1
+    (own_bounds-within draft.objects draft.bounds slot placed basin.whole.bounds found)
 
 there_is : {X : Type 0} (xs : List X) (k : ℕ) → k < length xs → (x : X) × (slice_get xs k ≡ Some x)
 there_is [] k within = absurd (omega (arith, within))
@@ -306,7 +327,8 @@ kept_bounds draft slots groups bounds numbers slot d kept known =
       ap (λ bs. slice_index_or bs (slot - 1) d) kept.bounds_are ∙ get_or-map-range_with_len f 1 n (slot - 1) slot d near at,
     )
 
-pub kept_number : (draft : Draft) (slots : List ℕ) (groups : List (List ℕ)) (bounds : List Bounds) (numbers : List (Option ℕ)) (object place : ℕ) (d : Option ℕ)
+pub kept_number : (draft : Draft) (slots : List ℕ) (groups : List (List ℕ)) (bounds : List Bounds) (numbers : List (Option ℕ)) (object place : ℕ)
+    (d : Option ℕ)
     → KeepsBasin draft slots groups bounds numbers → IsObject draft.objects object → place < 12
     → ((object - 1) * 12 + place < length numbers) × (slice_index_or numbers ((object - 1) * 12 + place) d ≡ slot_in_place draft.objects object place)
 kept_number draft slots groups bounds numbers object place d kept known inside =

@@ -1,5 +1,7 @@
 -- The tests of kinds, objects and bounds decide what their words say, and nothing is refused exactly where they can be built.
-use Rattle.rw_base.proofs.Common.{◌≡◌, ◌↔◌, ◌∙◌, ◌≤◌, ℕ, nat_lt, ℤ, pos, ◌-ℤ◌, Bool, true, false, ◌||◌, not, if◌then◌else◌, IsTrue, List, [], ◌∷◌, ◌++◌, length, Option, None, Some, refl, subst, arith, is_some, IsSome, Decides, list_all, ForSome, both_ways, nat_tests, Decides-and, Decides-eqb, Decides-like, Decides-by_and}
+use Rattle.rw_base.proofs.Common.{◌≡◌, ◌↔◌, ◌∙◌, ◌≤◌, ℕ, nat_lt, ℤ, pos, ◌-ℤ◌, Bool, true, false, ◌||◌, not, if◌then◌else◌, IsTrue, List, [], ◌∷◌}
+use Rattle.rw_base.proofs.Common.{◌++◌, length, Option, None, Some, refl, subst, arith, is_some, IsSome, Decides, list_all, ForSome, both_ways}
+use Rattle.rw_base.proofs.Common.{nat_tests, Decides-and, Decides-eqb, Decides-like, Decides-by_and}
 use Rattle.rw_base.specs.Quantity.{quantity_max, IsQuantity}
 use Rattle.rw_base.specs.Range.{is_from_to}
 use Rattle.rw_base.proofs.Tests.{Decides-le, Decides-int_le, Decides-from_to, passed, spared, unless, where-true}
@@ -7,9 +9,11 @@ use Rattle.rw_table.specs.Table.{Row}
 use Rattle.rw_table.specs.Curve.{first_row, last_row, IsVolumeInside}
 use Rattle.rw_model.specs.declared.data_slots.DataSlot.{DataSlot}
 use Rattle.rw_model.specs.declared.kind.Kind.{Kind}
-use Rattle.rw_model.specs.declared.kind.Kind.TheVariants.{DataObject, Gage, Confluence, Bifurcation, Reach, Reservoir, WaterUser, Canal, PowerReservoir, RoutedReach}
+use Rattle.rw_model.specs.declared.kind.Kind.TheVariants.{DataObject, Gage, Confluence, Bifurcation, Reach, Reservoir, WaterUser, Canal}
+use Rattle.rw_model.specs.declared.kind.Kind.TheVariants.{PowerReservoir, RoutedReach}
 use Rattle.rw_model.specs.Name.{IsName, is_name}
-use Rattle.rw_model.specs.Kind.{IsAmount, IsDataSlots, IsLagged, IsStored, IsPlant, IsPowered, IsRouted, IsKind, is_data_slots, is_lagged, is_inside, is_release, is_stored, is_plant, is_powered, is_routed, is_kind}
+use Rattle.rw_model.specs.Kind.{IsAmount, IsDataSlots, IsLagged, IsStored, IsPlant, IsPowered, IsRouted, IsKind, is_data_slots, is_lagged, is_inside}
+use Rattle.rw_model.specs.Kind.{is_release, is_stored, is_plant, is_powered, is_routed, is_kind}
 use Rattle.rw_model.specs.Slot.{Bounds, IsInside}
 use Rattle.rw_model.specs.Objects.{Object, Placed, object_named, all_slots, slot_at}
 use Rattle.rw_model.specs.Draft.{Bound, IsSound, IsFresh, CanAdd, bound_of, IsSlot, CanBound}
@@ -33,7 +37,8 @@ Decides-data : (slots : List DataSlot) → Decides (is_data_slots slots) (IsData
 Decides-data slots = Decides-like (is_data_slots slots)
     (λ p. record { some = p.0; few = p.1.0; named = p.1.1 }) (λ p. (p.some, (p.few, p.named)))
     (Decides-and _ _ (Decides-le 1 (length slots)) (Decides-and _ _ (Decides-le (length slots) 8)
-    (Decides-by_and (λ (slot : DataSlot). is_name slot.name) (λ (slot : DataSlot). IsName slot.name) (list_all (λ (slot : DataSlot). is_name slot.name))
+    (Decides-by_and (λ (slot : DataSlot). is_name slot.name) (λ (slot : DataSlot). IsName slot.name)
+    (list_all (λ (slot : DataSlot). is_name slot.name))
     (λ slot. Decides-name slot.name) refl (λ _ _. refl) slots)))
 
 Decides-lagged : (lag : ℕ) (history : List ℤ) → Decides (is_lagged lag history) (IsLagged lag history)
@@ -122,7 +127,8 @@ Decides-slot objects slot = Decides-like (is_slot objects slot)
     (λ p. record { first = p.0; last = p.1 }) (λ p. (p.first, p.last))
     (Decides-and _ _ (Decides-le 1 slot) (Decides-le slot (length (all_slots objects))))
 
-pub Decides-allowed : (placed : Option Placed) (bounds : Bounds) → Decides (is_allowed placed bounds) (ForSome placed (λ p. IsInside bounds p.slot.widest))
+pub Decides-allowed : (placed : Option Placed) (bounds : Bounds)
+    → Decides (is_allowed placed bounds) (ForSome placed (λ p. IsInside bounds p.slot.widest))
 Decides-allowed None bounds = (λ _. λ p is. cc, λ _. refl)
 Decides-allowed (Some placed) bounds = Decides-like (is_allowed (Some placed) bounds)
     (λ p. λ other is. subst (λ o. IsInside bounds o.slot.widest) (some_same is) (record { order = p.0; low = p.1.0; high = p.1.1 }))

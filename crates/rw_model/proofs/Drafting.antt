@@ -1,5 +1,9 @@
 -- What a builder was told stays in order with each thing more that it takes.
-use Rattle.rw_base.proofs.Common.{◌≡◌, ℕ, zero, suc, ◌+◌, ◌-◌, ◌<◌, ◌≤◌, nat_le, ◌==◌, List, [], ◌∷◌, ◌++◌, length, Bool, true, false, ◌&&◌, ◌||◌, Option, Some, None, refl, sym, ap, subst, ◌∙◌, append-nil, append_assoc, arith, map, All, Contains, slice_get, bytes_eq, pos, IsTrue, Result, Ok, Err, OnOk, OnErr, cond, option_map, unwrap_or, if◌then◌else◌, list_any, filter, option_or, ForSome, int_eq, Decides-int_eq, nat_eq_equiv, nat_list_eq_equiv, map-append, All-nil, All-cons, All-head, All-tail, All-push, All-weaker, All-contains, filter-append, IsDistinct-push}
+use Rattle.rw_base.proofs.Common.{◌≡◌, ℕ, zero, suc, ◌+◌, ◌-◌, ◌<◌, ◌≤◌, nat_le, ◌==◌, List, [], ◌∷◌, ◌++◌, length, Bool, true, false, ◌&&◌, ◌||◌}
+use Rattle.rw_base.proofs.Common.{Option, Some, None, refl, sym, ap, subst, ◌∙◌, append-nil, append_assoc, arith, map, All, Contains, slice_get}
+use Rattle.rw_base.proofs.Common.{bytes_eq, pos, IsTrue, Result, Ok, Err, OnOk, OnErr, cond, option_map, unwrap_or, if◌then◌else◌, list_any, filter}
+use Rattle.rw_base.proofs.Common.{option_or, ForSome, int_eq, Decides-int_eq, nat_eq_equiv, nat_list_eq_equiv, map-append, All-nil, All-cons}
+use Rattle.rw_base.proofs.Common.{All-head, All-tail, All-push, All-weaker, All-contains, filter-append, IsDistinct-push}
 use Rattle.std.specs.List.{IsDistinct}
 use Rattle.std.proofs.lemmas.List.{length-append}
 use Rattle.rw_base.specs.Dimension.{Dimension, dimension}
@@ -22,7 +26,8 @@ slice_get_front [] ys k within = absurd (omega (arith, within))
 slice_get_front (x ∷ xs) ys zero within = refl
 slice_get_front (x ∷ xs) ys (suc k) within = let near : k < length xs = omega (arith, within) in slice_get_front xs ys k near
 
-slot_at-more : (objects : List Object) (object : Object) (slot : ℕ) → IsSlot objects slot → slot_at (objects ++ object ∷ []) slot ≡ slot_at objects slot
+slot_at-more : (objects : List Object) (object : Object) (slot : ℕ) → IsSlot objects slot
+    → slot_at (objects ++ object ∷ []) slot ≡ slot_at objects slot
 slot_at-more objects object slot known =
     let near : slot - 1 < length (all_slots objects) = omega (arith, known.first, known.last) in
     numbered-known (all_slots (objects ++ object ∷ [])) slot known.first
@@ -38,11 +43,15 @@ IsSlot-more objects object slot known =
       last = omega (arith, known.last, more, length-append (all_slots objects) (placed_from (1 + length objects) 0 (slots_of object.kind)));
     }
 
-owner_of-more : (objects : List Object) (object : Object) (slot : ℕ) → IsSlot objects slot → owner_of (objects ++ object ∷ []) slot ≡ owner_of objects slot
-owner_of-more objects object slot known = ap (λ placed. unwrap_or (option_map (λ (p : Placed). p.owner) placed) 0) (slot_at-more objects object slot known)
+owner_of-more : (objects : List Object) (object : Object) (slot : ℕ) → IsSlot objects slot
+    → owner_of (objects ++ object ∷ []) slot ≡ owner_of objects slot
+owner_of-more objects object slot known =
+    ap (λ placed. unwrap_or (option_map (λ (p : Placed). p.owner) placed) 0) (slot_at-more objects object slot known)
 
 dim_of-more : (objects : List Object) (object : Object) (slot : ℕ) → IsSlot objects slot → dim_of (objects ++ object ∷ []) slot ≡ dim_of objects slot
-dim_of-more objects object slot known = ap (λ placed. unwrap_or (option_map (λ (p : Placed). p.slot.dim) placed) (dimension (pos 0) (pos 0) (pos 0) (pos 0))) (slot_at-more objects object slot known)
+dim_of-more objects object slot known =
+    ap (λ placed. unwrap_or (option_map (λ (p : Placed). p.slot.dim) placed) (dimension (pos 0) (pos 0) (pos 0) (pos 0)))
+    (slot_at-more objects object slot known)
 
 map_alike : {X Y : Type 0} (f g : X → Y) (xs : List X) → All (λ x. f x ≡ g x) xs → map f xs ≡ map g xs
 map_alike f g [] same = refl
@@ -71,7 +80,9 @@ IsBound-more : (objects : List Object) (object : Object) (bound : Bound) → IsB
 IsBound-more objects object bound whole =
     record {
       known = IsSlot-more objects object bound.slot whole.known;
-      within = subst (λ placed. ForSome placed (λ (p : Placed). IsInside bound.bounds p.slot.widest)) (sym (slot_at-more objects object bound.slot whole.known)) whole.within;
+      within =
+          subst (λ placed. ForSome placed (λ (p : Placed). IsInside bound.bounds p.slot.widest))
+          (sym (slot_at-more objects object bound.slot whole.known)) whole.within;
     }
 
 -- ---- an object more
@@ -95,13 +106,15 @@ IsDraft-object draft object whole added =
       control = whole.control;
       sound = All-push IsSound draft.objects object whole.sound added.sound;
       names = subst (λ names. IsDistinct bytes_eq names) (sym (map-append named draft.objects (object ∷ [])))
-          (IsDistinct-push nat_list_eq_equiv (map named draft.objects) object.name whole.names (no_name 1 draft.objects object.name added.fresh.name));
+          (IsDistinct-push nat_list_eq_equiv (map named draft.objects) object.name whole.names
+          (no_name 1 draft.objects object.name added.fresh.name));
       slots = All-push (λ (o : Object). IsTrue (has_distinct_slots o.kind)) draft.objects object whole.slots added.fresh.slots;
       few_objects = added.few_objects;
       few_slots = added.few_slots;
       links = All-weaker (IsLink draft.objects) (IsLink (draft.objects ++ object ∷ [])) (IsLink-more draft.objects object) draft.links whole.links;
       once = whole.once;
-      bounds = All-weaker (IsBound draft.objects) (IsBound (draft.objects ++ object ∷ [])) (IsBound-more draft.objects object) draft.bounds whole.bounds;
+      bounds =
+          All-weaker (IsBound draft.objects) (IsBound (draft.objects ++ object ∷ [])) (IsBound-more draft.objects object) draft.bounds whole.bounds;
       bound_once = whole.bound_once;
     }
 
@@ -111,7 +124,8 @@ unbound : (test : Bool) (bounds : Bounds) (rest : Option Bounds) → (if test th
 unbound true bounds rest none = absurd (cc)
 unbound false bounds rest none = (refl, none)
 
-no_bound : (given : List Bound) (slot : ℕ) → bound_of given slot ≡ None → list_any (λ other. slot == other) (map (λ (bound : Bound). bound.slot) given) ≡ false
+no_bound : (given : List Bound) (slot : ℕ) → bound_of given slot ≡ None
+    → list_any (λ other. slot == other) (map (λ (bound : Bound). bound.slot) given) ≡ false
 no_bound [] slot none = refl
 no_bound (bound ∷ given) slot none =
     let facts = unbound (slot == bound.slot) bound.bounds (bound_of given slot) none in
@@ -158,9 +172,13 @@ list_any-map p f (x ∷ xs) = ap (λ rest. p (f x) || rest) (list_any-map p f xs
 -- the slots that a link names after others are known, in no link, and of objects that differ
 joins : (objects : List Object) (links : List (List ℕ)) (before slots : List ℕ) → joins_refusal objects links before slots ≡ None
     → IsDistinct (λ (a : ℕ) b. a == b) (map (owner_of objects) before)
-    → All (IsSlot objects) slots × All (λ slot. link_of links slot ≡ None) slots × IsDistinct (λ (a : ℕ) b. a == b) (map (owner_of objects) (before ++ slots))
-joins objects links before [] none distinct =
-    (All-nil (IsSlot objects), All-nil (λ slot. link_of links slot ≡ None), subst (λ slots. IsDistinct (λ (a : ℕ) b. a == b) (map (owner_of objects) slots)) (sym (append-nil before)) distinct)
+    → All (IsSlot objects) slots × All (λ slot. link_of links slot ≡ None) slots
+    × IsDistinct (λ (a : ℕ) b. a == b) (map (owner_of objects) (before ++ slots))
+joins objects links before [] none distinct = (
+  All-nil (IsSlot objects),
+  All-nil (λ slot. link_of links slot ≡ None),
+  subst (λ slots. IsDistinct (λ (a : ℕ) b. a == b) (map (owner_of objects) slots)) (sym (append-nil before)) distinct,
+)
 joins objects links before (slot ∷ slots) none distinct =
     let facts = both_none (join_refusal objects links before slot) (joins_refusal objects links (before ++ slot ∷ []) slots) none in
     let join = joined objects links before slot facts.0 in
@@ -190,7 +208,8 @@ same_dim a b same =
     ∙ ap (λ e. dimension b.volume b.length b.step e) ((Decides-int_eq a.energy b.energy).0 three.1)
 
 -- and measure what the first one measures
-alikes : (objects : List Object) (links : List (List ℕ)) (first : ℕ) (before slots : List ℕ) → joins_refusal objects links (first ∷ before) slots ≡ None
+alikes : (objects : List Object) (links : List (List ℕ)) (first : ℕ) (before slots : List ℕ)
+    → joins_refusal objects links (first ∷ before) slots ≡ None
     → All (λ slot. dim_of objects first ≡ dim_of objects slot) slots
 alikes objects links first before [] none = All-nil (λ slot. dim_of objects first ≡ dim_of objects slot)
 alikes objects links first before (slot ∷ slots) none =
@@ -231,7 +250,8 @@ IsLink-judged objects links slots none =
       each.1,
     )
 
-one_more : (test : Bool) (link : List ℕ) (before : List (List ℕ)) → (test ≡ true → length before ≡ 0) → length before ≤ 1 → length (before ++ cond test (link ∷ []) []) ≤ 1
+one_more : (test : Bool) (link : List ℕ) (before : List (List ℕ)) → (test ≡ true → length before ≡ 0) → length before ≤ 1
+    → length (before ++ cond test (link ∷ []) []) ≤ 1
 one_more true link before none few = let free = none refl in omega (arith, free, length-append before (link ∷ []))
 one_more false link before none few = omega (arith, few, length-append before [])
 
@@ -271,19 +291,24 @@ IsDraft-begin control within = record {
   bound_once = tt;
 }
 
-pub either_objects : {A E : Type 0} (result : Result A E) (draft : Draft) (object : Object) (new : List Object) → IsDraft draft → CanAdd draft.objects object
+pub either_objects : {A E : Type 0} (result : Result A E) (draft : Draft) (object : Object) (new : List Object) → IsDraft draft
+    → CanAdd draft.objects object
     → OnOk result (new ≡ draft.objects ++ object ∷ []) → OnErr result (new ≡ draft.objects) → IsDraft (record draft { objects = new })
-either_objects (Ok x) draft object new whole added ok err = subst (λ os. IsDraft (record draft { objects = os })) (sym ok) (IsDraft-object draft object whole added)
+either_objects (Ok x) draft object new whole added ok err =
+    subst (λ os. IsDraft (record draft { objects = os })) (sym ok) (IsDraft-object draft object whole added)
 either_objects (Err e) draft object new whole added ok err = subst (λ os. IsDraft (record draft { objects = os })) (sym err) whole
 
 pub either_links : {A E : Type 0} (result : Result A E) (draft : Draft) (slots : List ℕ) (new : List (List ℕ)) → IsDraft draft
     → link_refusal draft.objects draft.links slots ≡ None
     → OnOk result (new ≡ draft.links ++ slots ∷ []) → OnErr result (new ≡ draft.links) → IsDraft (record draft { links = new })
-either_links (Ok x) draft slots new whole none ok err = subst (λ ls. IsDraft (record draft { links = ls })) (sym ok) (IsDraft-link draft slots whole none)
+either_links (Ok x) draft slots new whole none ok err =
+    subst (λ ls. IsDraft (record draft { links = ls })) (sym ok) (IsDraft-link draft slots whole none)
 either_links (Err e) draft slots new whole none ok err = subst (λ ls. IsDraft (record draft { links = ls })) (sym err) whole
 
 pub either_bounds : {A E : Type 0} (result : Result A E) (draft : Draft) (slot : ℕ) (bounds : Bounds) (new : List Bound) → IsDraft draft
     → CanBound draft.objects draft.bounds slot bounds
-    → OnOk result (new ≡ draft.bounds ++ record { slot = slot; bounds = bounds } ∷ []) → OnErr result (new ≡ draft.bounds) → IsDraft (record draft { bounds = new })
-either_bounds (Ok x) draft slot bounds new whole given ok err = subst (λ bs. IsDraft (record draft { bounds = bs })) (sym ok) (IsDraft-bound draft slot bounds whole given)
+    → OnOk result (new ≡ draft.bounds ++ record { slot = slot; bounds = bounds } ∷ []) → OnErr result (new ≡ draft.bounds)
+    → IsDraft (record draft { bounds = new })
+either_bounds (Ok x) draft slot bounds new whole given ok err =
+    subst (λ bs. IsDraft (record draft { bounds = bs })) (sym ok) (IsDraft-bound draft slot bounds whole given)
 either_bounds (Err e) draft slot bounds new whole given ok err = subst (λ bs. IsDraft (record draft { bounds = bs })) (sym err) whole

@@ -1,5 +1,7 @@
 -- The objects of a map's entries.
-use Rattle.rw_base.proofs.Common.{nat_eq, ◌≡◌, ℕ, ◌+◌, List, [], ◌∷◌, ◌++◌, Bool, true, false, Option, Some, None, cond, refl, ap, ◌∙◌, String, string_bytes, bytes_eq, option_map, if◌then◌else◌, position, position_from, position_from-zero, keys_of, lookup, map-append}
+use Rattle.rw_base.proofs.Common.{nat_eq, ◌≡◌, ℕ, ◌+◌, List, [], ◌∷◌, ◌++◌, Bool, true, false, Option, Some, None, cond, refl, ap, ◌∙◌, String}
+use Rattle.rw_base.proofs.Common.{string_bytes, bytes_eq, option_map, if◌then◌else◌, position, position_from, position_from-zero, keys_of, lookup}
+use Rattle.rw_base.proofs.Common.{map-append}
 use Rattle.indexmap.specs.IndexMap.{insert_entry}
 use Rattle.rw_model.specs.declared.kind.Kind.{Kind}
 use Rattle.rw_model.specs.Objects.{Object, object_from, object_named}
@@ -14,7 +16,8 @@ either_way false i place number rest = rest
 
 -- an object's number is one more than the place of its name
 object_from-entries : {A : Type 0} (i : ℕ) (name : List ℕ) (entries : List (String A × Kind))
-    → option_map (λ n. n + 1) (position_from (λ k. bytes_eq name (string_bytes k)) i (keys_of entries)) ≡ object_from (i + 1) (objects_kept entries) name
+    → option_map (λ n. n + 1) (position_from (λ k. bytes_eq name (string_bytes k)) i (keys_of entries))
+    ≡ object_from (i + 1) (objects_kept entries) name
 object_from-entries i name [] = refl
 object_from-entries i name (e ∷ entries) = either_way (bytes_eq name (string_bytes e.0)) i _ _ (object_from-entries (i + 1) name entries)
 
@@ -34,7 +37,9 @@ pub insert_entry-fresh : {A : Type 0} (number : ℕ) (key : String A) (kind : Ki
     → insert_entry (λ j k. bytes_eq (string_bytes j) (string_bytes k)) entries key kind ≡ entries ++ (key, kind) ∷ []
 insert_entry-fresh number key kind [] fresh = refl
 insert_entry-fresh {A} number key kind (e ∷ entries) fresh =
-    let none = passed_over (bytes_eq (string_bytes key) (string_bytes e.0)) number (object_from (number + 1) (objects_kept entries) (string_bytes key)) fresh in
+    let none =
+    passed_over (bytes_eq (string_bytes key) (string_bytes e.0)) number
+    (object_from (number + 1) (objects_kept entries) (string_bytes key)) fresh in
     rw none.0 (ap (λ rest. e ∷ rest) (insert_entry-fresh (number + 1) key kind entries none.1))
 
 -- so the objects are those that there were, and then the new one

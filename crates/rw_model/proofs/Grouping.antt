@@ -1,5 +1,8 @@
 -- The groups that links make.
-use Rattle.rw_base.proofs.Common.{◌≡◌, ◌≢◌, ℕ, zero, suc, ◌+◌, ◌<◌, ◌≤◌, ◌==◌, List, [], ◌∷◌, ◌++◌, length, Bool, true, false, ◌||◌, Some, None, cond, refl, sym, ap, subst, ◌∙◌, append-nil, arith, slice_index_or, map, All, slice_set, Result, Ok, Err, OnOk, filter, range_with_len, nat_eq_equiv, get_or-set_same, get_or-set_other, map-range_with_len_more, All-nil, All-cons, All-head, All-tail, filter-append, filter_agree, All-filter}
+use Rattle.rw_base.proofs.Common.{◌≡◌, ◌≢◌, ℕ, zero, suc, ◌+◌, ◌<◌, ◌≤◌, ◌==◌, List, [], ◌∷◌, ◌++◌, length, Bool, true, false, ◌||◌, Some, None, cond}
+use Rattle.rw_base.proofs.Common.{refl, sym, ap, subst, ◌∙◌, append-nil, arith, slice_index_or, map, All, slice_set, Result, Ok, Err, OnOk, filter}
+use Rattle.rw_base.proofs.Common.{range_with_len, nat_eq_equiv, get_or-set_same, get_or-set_other, map-range_with_len_more, All-nil, All-cons}
+use Rattle.rw_base.proofs.Common.{All-head, All-tail, filter-append, filter_agree, All-filter}
 use Rattle.std.proofs.lemmas.List.{length-set}
 use Rattle.rw_base.specs.declared.number.SlotNo.{SlotNo}
 use Rattle.rw_model.specs.Objects.{Object, all_slots}
@@ -19,7 +22,8 @@ range_more n =
     ∙ map-range_with_len_more (λ (x : ℕ). x) 1 n (n + 1) next
     ∙ ap (λ xs. xs ++ (n + 1) ∷ []) (map_same (range_with_len 1 n))
 
-pub filter_range_more : (p : ℕ → Bool) (n : ℕ) → filter p (range_with_len 1 (n + 1)) ≡ filter p (range_with_len 1 n) ++ cond (p (n + 1)) ((n + 1) ∷ []) []
+pub filter_range_more : (p : ℕ → Bool) (n : ℕ)
+    → filter p (range_with_len 1 (n + 1)) ≡ filter p (range_with_len 1 n) ++ cond (p (n + 1)) ((n + 1) ∷ []) []
 filter_range_more p n = ap (filter p) (range_more n) ∙ filter-append p (range_with_len 1 n) ((n + 1) ∷ [])
 
 pub on_ok : {A E : Type 0} {P Q : Type 0} → (P → Q) → (result : Result A E) → OnOk result P → OnOk result Q
@@ -33,7 +37,8 @@ on_ok f (Err e) p = tt
 unlinked : (links : List (List ℕ)) (slot : ℕ) → link_of links slot ≡ None → (place : ℕ) → is_in_link links place slot ≡ false
 unlinked links slot none place = ap (is_same_link (Some place)) none
 
-pub KeepsGroups-unlinked : (links groups : List (List ℕ)) (n : ℕ) → KeepsGroups links n groups → link_of links (n + 1) ≡ None → KeepsGroups links (n + 1) groups
+pub KeepsGroups-unlinked : (links groups : List (List ℕ)) (n : ℕ) → KeepsGroups links n groups → link_of links (n + 1) ≡ None
+    → KeepsGroups links (n + 1) groups
 KeepsGroups-unlinked links groups n kept none = record {
   every = kept.every;
   each = λ place.
@@ -63,7 +68,8 @@ linked_here links groups n place k kept linked within false other =
     ∙ sym (append-nil (filter (is_in_link links k) (range_with_len 1 n)))
     ∙ ap (λ t. filter (is_in_link links k) (range_with_len 1 n) ++ cond t ((n + 1) ∷ []) []) (sym test)
 
-pub KeepsGroups-linked : (links groups new : List (List ℕ)) (n place : ℕ) → KeepsGroups links n groups → link_of links (n + 1) ≡ Some place → place < length groups
+pub KeepsGroups-linked : (links groups new : List (List ℕ)) (n place : ℕ) → KeepsGroups links n groups → link_of links (n + 1) ≡ Some place
+    → place < length groups
     → new ≡ slice_set groups place (slice_index_or groups place [] ++ (n + 1) ∷ []) → KeepsGroups links (n + 1) new
 KeepsGroups-linked links groups new n place kept linked within joined = record {
   every = ap length joined ∙ length-set groups place (slice_index_or groups place [] ++ (n + 1) ∷ []) ∙ kept.every;
@@ -85,7 +91,8 @@ together_in_link links slot place linked other false apart = rw (apart, linked) 
 pub group_of-linked : (objects : List Object) (links : List (List ℕ)) (slot place : ℕ) → link_of links slot ≡ Some place
     → group_of objects links slot ≡ filter (is_in_link links place) (slot_numbers objects)
 group_of-linked objects links slot place linked =
-    filter_agree (is_together links slot) (is_in_link links place) (λ other. together_in_link links slot place linked other (slot == other) refl) (slot_numbers objects)
+    filter_agree (is_together links slot) (is_in_link links place) (λ other. together_in_link links slot place linked other (slot == other) refl)
+    (slot_numbers objects)
 
 none_before : (slot first n : ℕ) → slot < first → filter (λ other. slot == other) (range_with_len first n) ≡ []
 none_before slot first zero below = refl
@@ -94,12 +101,15 @@ none_before slot first (suc n) below =
     let next : slot < first + 1 = omega (arith, below) in
     rw other (none_before slot (first + 1) n next)
 
-alone_at : (slot first n : ℕ) → (first + 1 ≤ slot → slot < (first + 1) + n → filter (λ other. slot == other) (range_with_len (first + 1) n) ≡ slot ∷ []) → first ≤ slot → slot < first + suc n → (test : Bool) → (slot == first) ≡ test
+alone_at : (slot first n : ℕ) → (first + 1 ≤ slot → slot < (first + 1) + n
+    → filter (λ other. slot == other) (range_with_len (first + 1) n) ≡ slot ∷ []) → first ≤ slot → slot < first + suc n → (test : Bool)
+    → (slot == first) ≡ test
     → filter (λ other. slot == other) (range_with_len first (suc n)) ≡ slot ∷ []
 alone_at slot first n later from below true same =
     let here : slot ≡ first = grind arith in
     let next : slot < first + 1 = omega (arith, here) in
-    rw same (ap (λ x. x ∷ filter (λ other. slot == other) (range_with_len (first + 1) n)) (sym here) ∙ ap (λ xs. slot ∷ xs) (none_before slot (first + 1) n next))
+    rw same (ap (λ x. x ∷ filter (λ other. slot == other) (range_with_len (first + 1) n)) (sym here)
+    ∙ ap (λ xs. slot ∷ xs) (none_before slot (first + 1) n next))
 alone_at slot first n later from below false other =
     let apart : slot ≢ first = grind arith in
     let near : first + 1 ≤ slot = omega (arith, from, apart) in
@@ -118,7 +128,8 @@ alone_only : (links : List (List ℕ)) (slot : ℕ) → link_of links slot ≡ N
 alone_only links slot none other = rw none (or_false (slot == other))
 
 -- and that of any other slot is the slot alone
-pub group_of-alone : (objects : List Object) (links : List (List ℕ)) (slot : ℕ) → IsSlot objects slot → link_of links slot ≡ None → group_of objects links slot ≡ slot ∷ []
+pub group_of-alone : (objects : List Object) (links : List (List ℕ)) (slot : ℕ) → IsSlot objects slot → link_of links slot ≡ None
+    → group_of objects links slot ≡ slot ∷ []
 group_of-alone objects links slot known none =
     filter_agree (is_together links slot) (λ other. slot == other) (alone_only links slot none) (slot_numbers objects)
     ∙ alone_from slot 1 (length (all_slots objects)) known.first (omega (arith, known.last))
@@ -145,4 +156,5 @@ group_known objects links slot = All-filter (is_together links slot) (IsSlot obj
 pub all_numbered : (P : ℕ → Type 0) (slots : List SlotNo) → All P (numbers_of slots) → All (λ (slot : SlotNo). P slot.0) slots
 all_numbered P [] all = All-nil (λ (slot : SlotNo). P slot.0)
 all_numbered P (slot ∷ slots) all =
-    All-cons (λ (s : SlotNo). P s.0) slot slots (All-head P slot.0 (numbers_of slots) all) (all_numbered P slots (All-tail P slot.0 (numbers_of slots) all))
+    All-cons (λ (s : SlotNo). P s.0) slot slots (All-head P slot.0 (numbers_of slots) all)
+    (all_numbered P slots (All-tail P slot.0 (numbers_of slots) all))

@@ -1,11 +1,16 @@
 -- What the definitions of links, groups and bounds come to.
-use Rattle.rw_base.proofs.Common.{◌≡◌, ◌↔◌, ℕ, zero, suc, ◌+◌, ◌-◌, ◌<◌, ◌≤◌, ◌==◌, nat_le, List, [], ◌∷◌, length, Bool, true, false, ◌||◌, Option, Some, None, cond, refl, sym, ap, ◌∙◌, arith, ℤ, ◌≤ℤ◌, All, Contains, if◌then◌else◌, slice_get, filter, int_max, int_min, int_lt, cond_both, nat_eq_equiv, list_any-from_Contains, Contains-from_any, ints, fold-int_max_bounds, fold-int_min_bounds, All-nil, All-cons, All-head, All-tail, All-contains, filter_passes, length-range_with_len, get_or-range_with_len, slice_get-get_or, nat_tests}
+use Rattle.rw_base.proofs.Common.{◌≡◌, ◌↔◌, ℕ, zero, suc, ◌+◌, ◌-◌, ◌<◌, ◌≤◌, ◌==◌, nat_le, List, [], ◌∷◌, length, Bool, true, false, ◌||◌, Option}
+use Rattle.rw_base.proofs.Common.{Some, None, cond, refl, sym, ap, ◌∙◌, arith, ℤ, ◌≤ℤ◌, All, Contains, if◌then◌else◌, slice_get, filter, int_max}
+use Rattle.rw_base.proofs.Common.{int_min, int_lt, cond_both, nat_eq_equiv, list_any-from_Contains, Contains-from_any, ints, fold-int_max_bounds}
+use Rattle.rw_base.proofs.Common.{fold-int_min_bounds, All-nil, All-cons, All-head, All-tail, All-contains, filter_passes, length-range_with_len}
+use Rattle.rw_base.proofs.Common.{get_or-range_with_len, slice_get-get_or, nat_tests}
 use Rattle.rw_base.proofs.Tests.{passed, spared, unless, where-true}
 use Rattle.rw_model.specs.Refusal.{link_bounds}
 use Rattle.rw_model.specs.Slot.{Bounds}
 use Rattle.rw_model.specs.Objects.{Object, all_slots}
 use Rattle.rw_model.specs.Draft.{Draft, Bound, IsSlot}
-use Rattle.rw_model.specs.Links.{is_among, link_from, link_of, is_same_link, is_together, slot_numbers, group_of, IsBetween, own_bounds, meet, meet_all}
+use Rattle.rw_model.specs.Links.{is_among, link_from, link_of, is_same_link, is_together, slot_numbers, group_of, IsBetween, own_bounds, meet}
+use Rattle.rw_model.specs.Links.{meet_all}
 use Rattle.rw_model.specs.Basin.{IsLink, IsDraft, link_count, IsBasin, finish_refusal, basin_cell_count, has_crossed_bounds}
 
 pub basin_iff : (draft : Draft) → IsDraft draft → (finish_refusal draft ≡ None) ↔ IsBasin draft
@@ -51,8 +56,10 @@ meet-both a b value = (
 )
 
 pub meet_all-each : (objects : List Object) (given : List Bound) (bounds : Bounds) (slots : List ℕ) (value : ℤ)
-    → IsBetween (meet_all objects given bounds slots) value ↔ (IsBetween bounds value × All (λ other. IsBetween (own_bounds objects given other) value) slots)
-meet_all-each objects given bounds [] value = (λ between. (between, All-nil (λ other. IsBetween (own_bounds objects given other) value)), λ each. each.0)
+    → IsBetween (meet_all objects given bounds slots) value
+    ↔ (IsBetween bounds value × All (λ other. IsBetween (own_bounds objects given other) value) slots)
+meet_all-each objects given bounds [] value =
+    (λ between. (between, All-nil (λ other. IsBetween (own_bounds objects given other) value)), λ each. each.0)
 meet_all-each objects given bounds (slot ∷ slots) value =
     let own = own_bounds objects given slot in
     let P : (ℕ → Type 0) = λ other. IsBetween (own_bounds objects given other) value in
@@ -87,7 +94,8 @@ counted [] link slot i found has = absurd (cc)
 counted (l ∷ links) link slot zero found has =
     let same : l ≡ link = cc in
     counted_here (is_among slot l) l (filter (is_among slot) links) (ap (is_among slot) same ∙ has)
-counted (l ∷ links) link slot (suc i) found has = counted_there (is_among slot l) l (filter (is_among slot) links) (counted links link slot i found has)
+counted (l ∷ links) link slot (suc i) found has =
+    counted_there (is_among slot l) l (filter (is_among slot) links) (counted links link slot i found has)
 
 fewer : (test : Bool) (l : List ℕ) (rest : List (List ℕ)) → length (cond test (l ∷ rest) rest) ≤ 1 → length rest ≤ 1
 fewer true l rest few = omega (arith, few)
@@ -97,13 +105,15 @@ at_first : (test : Bool) (place : ℕ) (rest : Option ℕ) → test ≡ true →
 at_first true place rest has = let same : place ≡ place + 0 = omega arith in ap Some same
 at_first false place rest has = absurd (cc)
 
-at_later : (test : Bool) (l : List ℕ) (more : List (List ℕ)) (place i : ℕ) (rest : Option ℕ) → length (cond test (l ∷ more) more) ≤ 1 → 1 ≤ length more
+at_later : (test : Bool) (l : List ℕ) (more : List (List ℕ)) (place i : ℕ) (rest : Option ℕ) → length (cond test (l ∷ more) more) ≤ 1
+    → 1 ≤ length more
     → rest ≡ Some ((place + 1) + i) → (if test then Some place else rest) ≡ Some (place + suc i)
 at_later true l more place i rest few some found = absurd (omega (arith, few, some))
 at_later false l more place i rest few some found = let same : (place + 1) + i ≡ place + suc i = omega arith in found ∙ ap Some same
 
 -- where a slot has one link at most, that is the one in whose place a link with the slot stands
-placed_at : (place : ℕ) (links : List (List ℕ)) (link : List ℕ) (slot i : ℕ) → link_count links slot ≤ 1 → slice_get links i ≡ Some link → is_among slot link ≡ true
+placed_at : (place : ℕ) (links : List (List ℕ)) (link : List ℕ) (slot i : ℕ) → link_count links slot ≤ 1 → slice_get links i ≡ Some link
+    → is_among slot link ≡ true
     → link_from place links slot ≡ Some (place + i)
 placed_at place [] link slot i few found has = absurd (cc)
 placed_at place (l ∷ links) link slot zero few found has =
@@ -113,7 +123,8 @@ placed_at place (l ∷ links) link slot (suc i) few found has =
     at_later (is_among slot l) l (filter (is_among slot) links) place i (link_from (place + 1) links slot) few (counted links link slot i found has)
     (placed_at (place + 1) links link slot i (fewer (is_among slot l) l (filter (is_among slot) links) few) found has)
 
-hit : (test : Bool) (place : ℕ) (rest : Option ℕ) → (rest ≡ Some (place + 0) → ⊥) → (if test then Some place else rest) ≡ Some (place + 0) → test ≡ true
+hit : (test : Bool) (place : ℕ) (rest : Option ℕ) → (rest ≡ Some (place + 0) → ⊥) → (if test then Some place else rest) ≡ Some (place + 0)
+    → test ≡ true
 hit true place rest never found = refl
 hit false place rest never found = absurd (never found)
 
@@ -127,10 +138,12 @@ after false place k rest later found = let behind = later found in omega (arith,
 
 link_from-after : (place k : ℕ) (links : List (List ℕ)) (slot : ℕ) → link_from place links slot ≡ Some k → place ≤ k
 link_from-after place k [] slot found = absurd (cc)
-link_from-after place k (link ∷ links) slot found = after (is_among slot link) place k (link_from (place + 1) links slot) (link_from-after (place + 1) k links slot) found
+link_from-after place k (link ∷ links) slot found =
+    after (is_among slot link) place k (link_from (place + 1) links slot) (link_from-after (place + 1) k links slot) found
 
 -- the link in a slot's place has the slot
-has_slot : (place : ℕ) (links : List (List ℕ)) (link : List ℕ) (slot i : ℕ) → link_from place links slot ≡ Some (place + i) → slice_get links i ≡ Some link → is_among slot link ≡ true
+has_slot : (place : ℕ) (links : List (List ℕ)) (link : List ℕ) (slot i : ℕ) → link_from place links slot ≡ Some (place + i)
+    → slice_get links i ≡ Some link → is_among slot link ≡ true
 has_slot place [] link slot i at found = absurd (cc)
 has_slot place (l ∷ links) link slot zero at found =
     let same : l ≡ link = cc in
@@ -156,7 +169,8 @@ kept : (p : ℕ → Bool) (q : ℕ) (xs : List ℕ) → p q ≡ true → is_amon
 kept p q [] passes found = found
 kept p q (x ∷ xs) passes found =
     cond_any (p x) q x (filter p xs)
-    ∙ kept_step (p x) (q == x) (is_among q (filter p xs)) (is_among q xs) (λ same. ap p (sym (same_number q x same)) ∙ passes) (kept p q xs passes) found
+    ∙ kept_step (p x) (q == x) (is_among q (filter p xs)) (is_among q xs) (λ same. ap p (sym (same_number q x same)) ∙ passes)
+    (kept p q xs passes) found
 
 numbered : (objects : List Object) (slot : ℕ) → IsSlot objects slot → is_among slot (slot_numbers objects) ≡ true
 numbered objects slot known =
@@ -182,11 +196,13 @@ same_link i (Some j) (Some k) at linked =
     let there : j ≡ k = same_number j k linked in
     ap Some (sym there ∙ here)
 
-in_link : (objects : List Object) (links : List (List ℕ)) (link : List ℕ) (slot other i : ℕ) → slice_get links i ≡ Some link → link_of links slot ≡ Some i
+in_link : (objects : List Object) (links : List (List ℕ)) (link : List ℕ) (slot other i : ℕ) → slice_get links i ≡ Some link
+    → link_of links slot ≡ Some i
     → is_among slot link ≡ true → (test : Bool) → (slot == other) ≡ test → is_together links slot other ≡ true → is_among other link ≡ true
 in_link objects links link slot other i found at has true same together = ap (λ s. is_among s link) (sym (same_number slot other same)) ∙ has
 in_link objects links link slot other i found at has false apart together =
-    let linked : is_same_link (link_of links slot) (link_of links other) ≡ true = or_of (slot == other) (is_same_link (link_of links slot) (link_of links other)) apart together in
+    let linked : is_same_link (link_of links slot) (link_of links other) ≡ true =
+    or_of (slot == other) (is_same_link (link_of links slot) (link_of links other)) apart together in
     let begins : i ≡ 0 + i = omega arith in
     has_slot 0 links link other i (same_link i (link_of links slot) (link_of links other) at linked ∙ ap Some begins) found
 
@@ -209,6 +225,7 @@ group-is-link draft link slot other whole in_links in_link' =
           let known = All-contains (IsSlot draft.objects) link other link'.known linked in
           let same : is_same_link (link_of draft.links slot) (link_of draft.links other) ≡ true = rw (at, at_other) (nat_eq_equiv.refl i) in
           has_among other (group_of draft.objects draft.links slot)
-          (kept (is_together draft.links slot) other (slot_numbers draft.objects) (or_right (slot == other) (is_same_link (link_of draft.links slot) (link_of draft.links other)) same)
+          (kept (is_together draft.links slot) other (slot_numbers draft.objects)
+          (or_right (slot == other) (is_same_link (link_of draft.links slot) (link_of draft.links other)) same)
           (numbered draft.objects other known)),
     )

@@ -1,10 +1,14 @@
 -- The test of a name decides what a name is.
-use Rattle.rw_base.proofs.Common.{◌≡◌, ◌⊎◌, ◌<◌, ℕ, zero, suc, List, [], ◌∷◌, length, slice_index, slice_index_or, Bool, true, false, ◌||◌, refl, sym, arith, inl, inr, Contains, bytes_eq, Decides, list_all, cases_Bool, false≢true, Decides-and, Decides-or, Decides-not, Decides-eqb, Decides-like, Decides-by_and, bytes_eq-Decides}
+use Rattle.rw_base.proofs.Common.{◌≡◌, ◌⊎◌, ◌<◌, ℕ, zero, suc, List, [], ◌∷◌, length, slice_index, slice_index_or, Bool, true, false, ◌||◌, refl, sym}
+use Rattle.rw_base.proofs.Common.{arith, inl, inr, Contains, bytes_eq, Decides, list_all, cases_Bool, false≢true, Decides-and, Decides-or}
+use Rattle.rw_base.proofs.Common.{Decides-not, Decides-eqb, Decides-like, Decides-by_and, bytes_eq-Decides}
 use Rattle.rw_base.proofs.Tests.{Decides-le}
 use Rattle.rw_model.specs.Name.{IsLetter, IsDigit, IsName, reserved_words, is_letter, is_digit, is_word, is_name}
 
 Decides-letter : (b : ℕ) → Decides (is_letter b) (IsLetter b)
-Decides-letter b = Decides-or _ _ (Decides-and _ _ (Decides-le 97 b) (Decides-le b 122)) (Decides-or _ _ (Decides-and _ _ (Decides-le 65 b) (Decides-le b 90)) (Decides-eqb b 95))
+Decides-letter b =
+    Decides-or _ _ (Decides-and _ _ (Decides-le 97 b) (Decides-le b 122))
+    (Decides-or _ _ (Decides-and _ _ (Decides-le 65 b) (Decides-le b 90)) (Decides-eqb b 95))
 
 Decides-digit : (b : ℕ) → Decides (is_digit b) (IsDigit b)
 Decides-digit b = Decides-and _ _ (Decides-le 48 b) (Decides-le b 57)
@@ -43,5 +47,6 @@ Decides-name text = Decides-like (is_name text)
     (λ name. (name.some, (name.short, (name.starts, (name.goes_on, name.free)))))
     (Decides-and _ _ (Decides-le 1 (length text)) (Decides-and _ _ (Decides-le (length text) 32)
     (Decides-and _ _ (Decides-letter (slice_index text 0)) (Decides-and _ _
-    (Decides-by_and (λ b. is_letter b || is_digit b) (λ b. IsLetter b ⊎ IsDigit b) (list_all (λ b. is_letter b || is_digit b)) (λ b. Decides-or _ _ (Decides-letter b) (Decides-digit b)) refl (λ _ _. refl) text)
+    (Decides-by_and (λ b. is_letter b || is_digit b) (λ b. IsLetter b ⊎ IsDigit b) (list_all (λ b. is_letter b || is_digit b))
+    (λ b. Decides-or _ _ (Decides-letter b) (Decides-digit b)) refl (λ _ _. refl) text)
     (Decides-not _ (Decides-word reserved_words text))))))

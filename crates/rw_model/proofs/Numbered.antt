@@ -1,5 +1,6 @@
 -- What stands at a number, by its place in the list.
-use Rattle.rw_base.proofs.Common.{◌≡◌, ◌≤◌, ◌-◌, ℕ, Bool, true, false, List, Option, Some, None, nat_le, ap, arith, if◌then◌else◌, slice_get, nat_tests, none-some}
+use Rattle.rw_base.proofs.Common.{◌≡◌, ◌≤◌, ◌-◌, ℕ, Bool, true, false, List, Option, Some, None, nat_le, ap, arith, if◌then◌else◌, slice_get}
+use Rattle.rw_base.proofs.Common.{nat_tests, none-some}
 use Rattle.rw_model.specs.Objects.{numbered}
 
 pub numbered-known : {A : Type 0} (things : List A) (number : ℕ) → 1 ≤ number → numbered things number ≡ slice_get things (number - 1)

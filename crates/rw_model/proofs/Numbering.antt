@@ -1,5 +1,7 @@
 -- Which number an object's slots have, and what stands under a number.
-use Rattle.rw_base.proofs.Common.{◌≡◌, ◌≢◌, ℕ, zero, suc, ◌+◌, ◌-◌, ◌<◌, ◌≤◌, List, [], ◌∷◌, ◌++◌, length, Bool, false, Option, Some, None, refl, sym, ap, subst, ◌∙◌, arith, slice_index_or, ◌⊎◌, All, take, slice_get, if◌then◌else◌, option_map, option_and_then, slice_get_within, get_or_from_slice_get, inl, inr, ⊎_elim}
+use Rattle.rw_base.proofs.Common.{◌≡◌, ◌≢◌, ℕ, zero, suc, ◌+◌, ◌-◌, ◌<◌, ◌≤◌, List, [], ◌∷◌, ◌++◌, length, Bool, false, Option, Some, None, refl, sym}
+use Rattle.rw_base.proofs.Common.{ap, subst, ◌∙◌, arith, slice_index_or, ◌⊎◌, All, take, slice_get, if◌then◌else◌, option_map, option_and_then}
+use Rattle.rw_base.proofs.Common.{slice_get_within, get_or_from_slice_get, inl, inr, ⊎_elim}
 use Rattle.std.proofs.lemmas.List.{length-append}
 use Rattle.rw_model.specs.declared.kind.Kind.{Kind}
 use Rattle.rw_model.specs.Slot.{Slot}
@@ -31,7 +33,12 @@ some_slots number [] (suc k) = omega arith
 some_slots number (o ∷ objects) zero = omega arith
 some_slots number (o ∷ objects) (suc k) =
     let own = placed_from number 0 (slots_of o.kind) in
-    omega (arith, some_slots (number + 1) objects k, length-append own (slots_from (number + 1) (take k objects)), length-append own (slots_from (number + 1) objects))
+    omega (
+      arith,
+      some_slots (number + 1) objects k,
+      length-append own (slots_from (number + 1) (take k objects)),
+      length-append own (slots_from (number + 1) objects),
+    )
 
 -- ---- a slot of one object is found among that object's own slots
 
@@ -70,7 +77,8 @@ first_from-before : (n : ℕ) (test : Placed → Bool) (xs ys : List Placed) →
 first_from-before n test [] ys p = first_from-passed n test ys p
 first_from-before n test (x ∷ xs) ys p = ap (λ rest. if test x then Some n else rest) (first_from-before (n + 1) test xs ys p)
 
-first_from-behind : (n : ℕ) (test : Placed → Bool) (xs ys : List Placed) → IsPassed test xs → first_from n test (xs ++ ys) ≡ first_from (n + length xs) test ys
+first_from-behind : (n : ℕ) (test : Placed → Bool) (xs ys : List Placed) → IsPassed test xs
+    → first_from n test (xs ++ ys) ≡ first_from (n + length xs) test ys
 first_from-behind n test [] ys p =
     let same : n ≡ n + 0 = omega arith in ap (λ m. first_from m test ys) same
 first_from-behind n test (x ∷ xs) ys p =
@@ -79,14 +87,16 @@ first_from-behind n test (x ∷ xs) ys p =
 
 pub first_from-own : (n : ℕ) (test : Placed → Bool) (owner number : ℕ) (objects : List Object) (k : ℕ) (object : Object)
     → IsOfOwner owner test → owner ≡ number + k → slice_get objects k ≡ Some object
-    → first_from n test (slots_from number objects) ≡ first_from (n + length (slots_from number (take k objects))) test (placed_from owner 0 (slots_of object.kind))
+    → first_from n test (slots_from number objects)
+    ≡ first_from (n + length (slots_from number (take k objects))) test (placed_from owner 0 (slots_of object.kind))
 first_from-own n test owner number [] k object of at found = absurd (cc)
 first_from-own n test owner number (o ∷ objects) zero object of at found =
     let same : o ≡ object = cc in
     let own : number ≡ owner = omega (arith, at) in
     let behind : owner < number + 1 = omega (arith, at) in
     let start : n ≡ n + 0 = omega arith in
-    first_from-before n test (placed_from number 0 (slots_of o.kind)) (slots_from (number + 1) objects) (passed-slots test owner (number + 1) objects of behind)
+    first_from-before n test (placed_from number 0 (slots_of o.kind)) (slots_from (number + 1) objects)
+    (passed-slots test owner (number + 1) objects of behind)
     ∙ ap (λ m. first_from n test (placed_from m 0 (slots_of o.kind))) own
     ∙ ap (λ (x : Object). first_from n test (placed_from owner 0 (slots_of x.kind))) same
     ∙ ap (λ m. first_from m test (placed_from owner 0 (slots_of object.kind))) start
@@ -115,7 +125,8 @@ placed-stands owner place (Some slot ∷ slots) zero p found =
 placed-stands owner place (Some slot ∷ slots) (suc k) p found =
     let rest = placed-stands owner (place + 1) slots k p found in (suc rest.0, rest.1, omega (arith, rest.2), rest.3)
 
-either_part : (xs ys : List Placed) (k : ℕ) (p : Placed) → slice_get (xs ++ ys) k ≡ Some p → (slice_get xs k ≡ Some p) ⊎ ((j : ℕ) × (slice_get ys j ≡ Some p))
+either_part : (xs ys : List Placed) (k : ℕ) (p : Placed) → slice_get (xs ++ ys) k ≡ Some p
+    → (slice_get xs k ≡ Some p) ⊎ ((j : ℕ) × (slice_get ys j ≡ Some p))
 either_part [] ys k p found = inr (k, found)
 either_part (x ∷ xs) ys zero p found = inl found
 either_part (x ∷ xs) ys (suc k) p found = either_part xs ys k p found
@@ -161,7 +172,8 @@ stands_at objects k place (Some p) found stored =
           ∙ ap (option_map (λ (placed : Placed). placed.slot)) (sym found);
     }
 
-pub StandsAt-stored : (objects : List Object) (k : ℕ) (place : Place) → option_map place_of (slice_get (all_slots objects) k) ≡ Some place → StandsAt objects k place
+pub StandsAt-stored : (objects : List Object) (k : ℕ) (place : Place) → option_map place_of (slice_get (all_slots objects) k) ≡ Some place
+    → StandsAt objects k place
 StandsAt-stored objects k place stored = stands_at objects k place (slice_get (all_slots objects) k) refl stored
 
 few_at : (objects : List Object) (k : ℕ) (kind : Kind) (found : Option Object) → slice_get objects k ≡ found
@@ -170,7 +182,9 @@ few_at : (objects : List Object) (k : ℕ) (kind : Kind) (found : Option Object)
 few_at objects k kind None found all seen = absurd (cc)
 few_at objects k kind (Some object) found all seen =
     let same : object.kind ≡ kind = cc in
-    let here = subst (λ (x : Object). length (slots_of x.kind) ≤ 11) (get_or_from_slice_get objects k object object found) (all k object (slice_get_within objects k object found)) in
+    let here =
+    subst (λ (x : Object). length (slots_of x.kind) ≤ 11) (get_or_from_slice_get objects k object object found)
+    (all k object (slice_get_within objects k object found)) in
     subst (λ x. length (slots_of x) ≤ 11) same here
 
 -- each object's kind has few places where all have

@@ -1,5 +1,6 @@
 -- How the slots of a basin follow from its objects.
-use Rattle.rw_base.proofs.Common.{◌≡◌, ℕ, ◌+◌, ◌<◌, ◌≤◌, List, [], ◌∷◌, ◌++◌, length, sym, ap, ◌∙◌, arith, append_assoc, append-nil, map, map-append, All-push}
+use Rattle.rw_base.proofs.Common.{◌≡◌, ℕ, ◌+◌, ◌<◌, ◌≤◌, List, [], ◌∷◌, ◌++◌, length, sym, ap, ◌∙◌, arith, append_assoc, append-nil, map, map-append}
+use Rattle.rw_base.proofs.Common.{All-push}
 use Rattle.std.proofs.lemmas.List.{length-append}
 use Rattle.rw_model.specs.Slots.{slots_of}
 use Rattle.rw_model.specs.Objects.{Object, placed_from, slots_from, all_slots}
@@ -34,7 +35,8 @@ firsts_from-push number before (o ∷ objects) object =
 
 -- what is kept stays in step with the objects
 pub KeepsSlots-push : (objects : List Object) (object : Object) (places more_places : List Place) (firsts more_firsts : List ℕ)
-    → KeepsSlots objects places firsts → length objects < 500 → length (slots_of object.kind) ≤ 11 → length (all_slots (objects ++ object ∷ [])) ≤ 4000
+    → KeepsSlots objects places firsts → length objects < 500 → length (slots_of object.kind) ≤ 11
+    → length (all_slots (objects ++ object ∷ [])) ≤ 4000
     → more_places ≡ places ++ map place_of (placed_from (length objects + 1) 0 (slots_of object.kind))
     → more_firsts ≡ firsts ++ length (all_slots objects) ∷ []
     → KeepsSlots (objects ++ object ∷ []) more_places more_firsts

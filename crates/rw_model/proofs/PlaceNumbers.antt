@@ -1,12 +1,14 @@
 -- The numbers of slots by object and place.
-use Rattle.rw_base.proofs.Common.{◌≡◌, ℕ, zero, suc, ◌+◌, ◌-◌, ◌*◌, ◌<◌, ◌≤◌, ◌++◌, ◌∷◌, [], List, Option, ap, ap₂, refl, sym, ◌∙◌, arith, length, map, take, range_with_len, div-mul-add, mod-mul-add, map-range_with_len_more}
+use Rattle.rw_base.proofs.Common.{◌≡◌, ℕ, zero, suc, ◌+◌, ◌-◌, ◌*◌, ◌<◌, ◌≤◌, ◌++◌, ◌∷◌, [], List, Option, ap, ap₂, refl, sym, ◌∙◌, arith, length}
+use Rattle.rw_base.proofs.Common.{map, take, range_with_len, div-mul-add, mod-mul-add, map-range_with_len_more}
 use Rattle.std.specs.Prelude.{drop}
 use Rattle.std.proofs.lemmas.List.FromFn.{length-map-range_with_len, take-map-range_with_len}
 use Rattle.rw_model.specs.Draft.{IsObject}
 use Rattle.rw_model.specs.Objects.{Object, slot_in_place}
 use Rattle.rw_model.specs.Kept.{number_at, numbers_up_to}
 
-pub number_at-place : (objects : List Object) (before place : ℕ) → place < 12 → number_at objects (before * 12 + place) ≡ slot_in_place objects (before + 1) place
+pub number_at-place : (objects : List Object) (before place : ℕ) → place < 12
+    → number_at objects (before * 12 + place) ≡ slot_in_place objects (before + 1) place
 number_at-place objects before place inside =
     ap₂ (λ o p. slot_in_place objects (o + 1) p) (div-mul-add before 12 place inside) (mod-mul-add before 12 place inside)
 

@@ -1,5 +1,8 @@
 -- What else is brought: the same wherever it is known, and known where more is.
-use Rattle.rw_order.proofs.Common.{Bool, ByRule, IsSome, Kind, List, None, Option, PowerReservoir, Reach, Request, Reservoir, RoutedReach, Row, Some, View, WaterUser, agree, ap, ap₂, balance_of, both_ways, value_if_chosen, difference, evaporation_from, evaporation_of, false, known_value, pos, refl, same_Some, side_flows, subst, suc, known_sum, sym, true, zero, ℕ, ℤ, ◌+◌, ◌∙◌, ◌≡◌}
+use Rattle.rw_order.proofs.Common.{Bool, ByRule, IsSome, Kind, List, None, Option, PowerReservoir, Reach, Request, Reservoir, RoutedReach, Row, Some}
+use Rattle.rw_order.proofs.Common.{View, WaterUser, agree, ap, ap₂, balance_of, both_ways, value_if_chosen, difference, evaporation_from}
+use Rattle.rw_order.proofs.Common.{evaporation_of, false, known_value, pos, refl, same_Some, side_flows, subst, suc, known_sum, sym, true, zero, ℕ, ℤ}
+use Rattle.rw_order.proofs.Common.{◌+◌, ◌∙◌, ◌≡◌}
 use Rattle.rw_order.specs.Free.{is_free}
 use Rattle.rw_order.proofs.Held.{IsSeenOf, IsWhole, Values, known_stands}
 
@@ -44,14 +47,16 @@ module _ (R : Option ℤ → Option ℤ → Type 0) (same : (a : Option ℤ) →
       both difference strict_difference _ _ _ _
       (both known_sum strict_sum _ _ _ _ (of_chosen local_inflow place) (of_chosen return_flow (place + 2))) (of_chosen diversion (place + 1))
 
-  of_evaporation : (evaporation : Bool) (table : Option (List Row)) → R (evaporation_of evaporation table one) (evaporation_of evaporation table other)
+  of_evaporation : (evaporation : Bool) (table : Option (List Row))
+      → R (evaporation_of evaporation table one) (evaporation_of evaporation table other)
   of_evaporation evaporation None = same (Some (pos 0))
   of_evaporation true (Some rows) = both (evaporation_from rows) (strict_lost rows) _ _ _ _ past (knows 7)
   of_evaporation false (Some rows) = same (Some (pos 0))
 
   of_steady : (kind : Kind) → is_free kind ≡ true → R (balance_of kind one).steady (balance_of kind other).steady
   of_steady (Reach zero history local_inflow diversion return_flow) free = of_sides 2 local_inflow diversion return_flow
-  of_steady (Reach (suc lag) history local_inflow diversion return_flow) free = both known_sum strict_sum _ _ _ _ past (of_sides 2 local_inflow diversion return_flow)
+  of_steady (Reach (suc lag) history local_inflow diversion return_flow) free =
+      both known_sum strict_sum _ _ _ _ past (of_sides 2 local_inflow diversion return_flow)
   of_steady (Reservoir initial_storage table local_inflow diversion return_flow evaporation max_release) free =
       both difference strict_difference _ _ _ _
       (both known_sum strict_sum _ _ _ _ past (of_sides 4 local_inflow diversion return_flow)) (of_evaporation evaporation table)
@@ -80,11 +85,13 @@ agree_both : (op : Option ℤ → Option ℤ → Option ℤ) → IsStrict op →
 agree_both op strict None b c d x y = subst (λ e. Agree e (op b d)) (sym (strict.first c)) tt
 agree_both op strict (Some a) None c d x y = subst (Agree (op (Some a) c)) (sym (strict.first d)) (agree_none (op (Some a) c))
 agree_both op strict (Some a) (Some b) None d x y = subst (λ e. Agree e (op (Some b) d)) (sym (strict.second (Some a))) tt
-agree_both op strict (Some a) (Some b) (Some c) None x y = subst (Agree (op (Some a) (Some c))) (sym (strict.second (Some b))) (agree_none (op (Some a) (Some c)))
+agree_both op strict (Some a) (Some b) (Some c) None x y =
+    subst (Agree (op (Some a) (Some c))) (sym (strict.second (Some b))) (agree_none (op (Some a) (Some c)))
 agree_both op strict (Some a) (Some b) (Some c) (Some d) x y =
     subst (Agree (op (Some a) (Some c))) (ap₂ (λ u v. op (Some u) (Some v)) x y) (agree_same (op (Some a) (Some c)))
 
-agree_found : (one other found : Option ℤ) → ((value : ℤ) → one ≡ Some value → found ≡ Some value) → ((value : ℤ) → other ≡ Some value → found ≡ Some value)
+agree_found : (one other found : Option ℤ) → ((value : ℤ) → one ≡ Some value → found ≡ Some value)
+    → ((value : ℤ) → other ≡ Some value → found ≡ Some value)
     → Agree one other
 agree_found None other found f g = tt
 agree_found (Some a) None found f g = tt
@@ -104,7 +111,8 @@ module _ (values : Values) (past : Option ℤ) (one other : View) (seen_one : Is
   pub agree_past : Agree one.past other.past
   agree_past = agree_found one.past other.past past seen_one.before seen_other.before
 
-  pub agree_evaporation : (evaporation : Bool) (table : Option (List Row)) → Agree (evaporation_of evaporation table one) (evaporation_of evaporation table other)
+  pub agree_evaporation : (evaporation : Bool) (table : Option (List Row))
+      → Agree (evaporation_of evaporation table one) (evaporation_of evaporation table other)
   agree_evaporation = of_evaporation Agree agree_same agree_both one other agree_known agree_past
 
   pub agree_steady : (kind : Kind) → is_free kind ≡ true → Agree (balance_of kind one).steady (balance_of kind other).steady
@@ -130,7 +138,8 @@ carry_found None b f = tt
 carry_found (Some a) b f = f a refl
 
 -- to the view that knows all that another one does
-pub carry_steady : (values : Values) (past : Option ℤ) (one other : View) → IsWhole values past one → IsSeenOf values past other → (kind : Kind) → is_free kind ≡ true
+pub carry_steady : (values : Values) (past : Option ℤ) (one other : View) → IsWhole values past one → IsSeenOf values past other → (kind : Kind)
+    → is_free kind ≡ true
     → Carries (balance_of kind other).steady (balance_of kind one).steady
 carry_steady values past one other whole seen =
     of_steady Carries carry_same carry_both other one

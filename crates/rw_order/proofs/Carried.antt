@@ -1,5 +1,10 @@
 -- What is known of one object carries over a dispatch of another, and over other timesteps.
-use Rattle.rw_order.proofs.Common.{Asked, Bool, ByObject, Cell, Cells, Content, Draft, Event, IdleAnswer, Kind, List, None, Option, Past, Some, View, [], ap, ap₂, arith, before_of, both_ways, bounds_in_place, cell_at, content_in, false, held_after, if◌then◌else◌, inl, inr, is_at, is_put_at, is_same_object, is_shared, last_put, map, nat_lt, nat_tests, none-some, option_and_then, option_map, option_or, past_of, past_value, places, pos, put, refl, slot_in_place, solve_of, subst, sym, true, value_in, value_of_past, view_of, written_by, ℕ, ℤ, ◌&&◌, ◌-ℤ◌, ◌-◌, ◌<◌, ◌==◌, ◌||◌, ◌∙◌, ◌∷◌, ◌≡◌, ◌≢◌, ◌≤◌, ◌⊎◌}
+use Rattle.rw_order.proofs.Common.{Asked, Bool, ByObject, Cell, Cells, Content, Draft, Event, IdleAnswer, Kind, List, None, Option, Past, Some, View}
+use Rattle.rw_order.proofs.Common.{[], ap, ap₂, arith, before_of, both_ways, bounds_in_place, cell_at, content_in, false, held_after, if◌then◌else◌}
+use Rattle.rw_order.proofs.Common.{inl, inr, is_at, is_put_at, is_same_object, is_shared, last_put, map, nat_lt, nat_tests, none-some}
+use Rattle.rw_order.proofs.Common.{option_and_then, option_map, option_or, past_of, past_value, places, pos, put, refl, slot_in_place, solve_of}
+use Rattle.rw_order.proofs.Common.{subst, sym, true, value_in, value_of_past, view_of, written_by, ℕ, ℤ, ◌&&◌, ◌-ℤ◌, ◌-◌, ◌<◌, ◌==◌, ◌||◌, ◌∙◌, ◌∷◌}
+use Rattle.rw_order.proofs.Common.{◌≡◌, ◌≢◌, ◌≤◌, ◌⊎◌}
 use Rattle.rw_order.proofs.Held.{IsWhole}
 use Rattle.rw_order.proofs.AllKinds.{AreLevelledOf}
 use Rattle.rw_order.proofs.Places.{content_at}
@@ -27,7 +32,8 @@ SilentBy basin start object step kind contents past =
 -- where it sees the same, it is still silent
 silent_same : (basin : Draft) (start old new : Cells) (object step : ℕ) (kind : Kind)
     → ((place : ℕ) → content_in basin old object step place ≡ content_in basin new object step place)
-    → past_value basin old object step ≡ past_value basin new object step → IsSilent basin start old object step kind → IsSilent basin start new object step kind
+    → past_value basin old object step ≡ past_value basin new object step → IsSilent basin start old object step kind
+    → IsSilent basin start new object step kind
 silent_same basin start old new object step kind same past silent =
     let contents : content_in basin old object step ≡ content_in basin new object step = λ i place. same place i in
     let facts : SilentBy basin start object step kind (content_in basin new object step) (past_value basin new object step) =
@@ -61,7 +67,8 @@ module _ (basin : Draft) (start : Cells) (step object : ℕ) (kind : Kind) (laid
     where
       by : (test : Bool) → nat_lt past.ago at ≡ test
           → (if test then value_in old (cell_at past.slot (at - past.ago)) else before_of basin.objects past.slot (pos at -ℤ pos past.ago))
-          ≡ (if test then value_in (held_after basin event old) (cell_at past.slot (at - past.ago)) else before_of basin.objects past.slot (pos at -ℤ pos past.ago))
+          ≡ (if test then value_in (held_after basin event old) (cell_at past.slot (at - past.ago)) else before_of basin.objects past.slot
+          (pos at -ℤ pos past.ago))
       by false later = refl
       by true before =
           let earlier : past.ago < at = grind (arith, nat_tests, before) in
@@ -70,26 +77,32 @@ module _ (basin : Draft) (start : Cells) (step object : ℕ) (kind : Kind) (laid
           ap (option_map (λ (c : Content). c.value)) (same_elsewhere (cell_at past.slot (at - past.ago)) elsewhere)
 
   -- an object at rest whose slots hold the same still is
-  rest_same : (other at : ℕ) (of : Kind) → at ≤ step → ((place slot : ℕ) → slot_in_place basin.objects other place ≡ Some slot → old (cell_at slot at) ≡ held_after basin event old (cell_at slot at))
+  rest_same : (other at : ℕ) (of : Kind) → at ≤ step
+      → ((place slot : ℕ) → slot_in_place basin.objects other place ≡ Some slot
+      → old (cell_at slot at) ≡ held_after basin event old (cell_at slot at))
       → IsAtRest basin start old other at of → IsAtRest basin start (held_after basin event old) other at of
   rest_same other at of le same (inl spoken) = inl (spoken_grows basin start old new other at leaves.grows of spoken)
   rest_same other at of le same (inr silent) =
-      inr (silent_same basin start old new other at of (λ place. by place (slot_in_place basin.objects other place) refl) (past_same other at (past_of basin other) refl le) silent)
+      inr (silent_same basin start old new other at of (λ place. by place (slot_in_place basin.objects other place) refl)
+      (past_same other at (past_of basin other) refl le) silent)
     where
       by : (place : ℕ) (slot : Option ℕ) → slot_in_place basin.objects other place ≡ slot
           → content_in basin old other at place ≡ content_in basin (held_after basin event old) other at place
       by place None is = content_at basin old other at place None is ∙ sym (content_at basin (held_after basin event old) other at place None is)
       by place (Some slot) is =
-          content_at basin old other at place (Some slot) is ∙ same place slot is ∙ sym (content_at basin (held_after basin event old) other at place (Some slot) is)
+          content_at basin old other at place (Some slot) is ∙ same place slot is
+          ∙ sym (content_at basin (held_after basin event old) other at place (Some slot) is)
 
   -- so is one at an earlier timestep
-  pub rest_earlier : (other at : ℕ) (of : Kind) → at < step → IsAtRest basin start old other at of → IsAtRest basin start (held_after basin event old) other at of
+  pub rest_earlier : (other at : ℕ) (of : Kind) → at < step → IsAtRest basin start old other at of
+      → IsAtRest basin start (held_after basin event old) other at of
   rest_earlier other at of before rest =
       let apart : at ≢ step = λ same. absurd (omega (arith, before, same)) in
       rest_same other at of (omega (arith, before)) (λ place slot is. same_elsewhere (cell_at slot at) apart) rest
 
   -- puts that reach none of an object's slots
-  unreached : (other place slot : ℕ) (written : List Asked) → slot_in_place basin.objects other place ≡ Some slot → is_put_at basin other step written ≡ false
+  unreached : (other place slot : ℕ) (written : List Asked) → slot_in_place basin.objects other place ≡ Some slot
+      → is_put_at basin other step written ≡ false
       → last_put basin written (cell_at slot step) ≡ None
   unreached other place slot [] at none = refl
   unreached other place slot (put ∷ written) at none =
@@ -100,13 +113,15 @@ module _ (basin : Draft) (start : Cells) (step object : ℕ) (kind : Kind) (laid
       or_false true b e = absurd (both_ways true e refl)
       or_false false b e = (refl, e)
 
-      by : (test : Bool) → is_shared basin put.cell (cell_at slot step) ≡ test → (put.cell.step.0 == step && is_at basin other put.cell.slot.0) ≡ false
+      by : (test : Bool) → is_shared basin put.cell (cell_at slot step) ≡ test
+          → (put.cell.step.0 == step && is_at basin other put.cell.slot.0) ≡ false
           → (if test then Some put.content else None) ≡ None
       by false is apart = refl
       by true is apart =
           let here : step ≡ put.cell.step.0 = laid.same_step put.cell (cell_at slot step) is in
           let test : (put.cell.step.0 == step) ≡ true = grind (arith, nat_tests, here) in
-          let both : (put.cell.step.0 == step && is_at basin other put.cell.slot.0) ≡ true = ap₂ (λ a b. a && b) test (laid.reached other place slot step put.cell at is) in
+          let both : (put.cell.step.0 == step && is_at basin other put.cell.slot.0) ≡ true =
+          ap₂ (λ a b. a && b) test (laid.reached other place slot step put.cell at is) in
           absurd (both_ways (put.cell.step.0 == step && is_at basin other put.cell.slot.0) apart both)
 
   -- and one at the same timestep whose slots no put reaches
@@ -118,7 +133,8 @@ module _ (basin : Draft) (start : Cells) (step object : ℕ) (kind : Kind) (laid
 
   -- ---- what another object said
 
-  nothing_carries : (other at place : ℕ) (content : Content) (slot : Option ℕ) → (at ≢ step) ⊎ (other ≢ object) → slot_in_place basin.objects other place ≡ slot
+  nothing_carries : (other at place : ℕ) (content : Content) (slot : Option ℕ) → (at ≢ step) ⊎ (other ≢ object)
+      → slot_in_place basin.objects other place ≡ slot
       → WroteNothing basin old other at → content_in basin (held_after basin event old) other at place ≡ Some content
       → is_same_object content.writer (ByObject (record { 0 = other })) ≡ false
   nothing_carries other at place content None apart is nothing there =

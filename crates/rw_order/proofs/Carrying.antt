@@ -1,5 +1,8 @@
 -- An object that has nothing to put, where all that stands in its places is given to it, has nothing to put where less is known.
-use Rattle.rw_order.proofs.Common.{Bool, Given, Holds, Idle, IdleAnswer, IsSome, Kind, None, Option, Reservoir, Some, View, [], answer, ap, ap₂, arith, balance_of, balanced_of, basis_of, both_ways, contents_by, false, fault_of_contents, fits, given, if◌then◌else◌, is_some, missing, nat_le, nat_tests, puts_of, refl, settled, settled_at, solve_of, subst, sym, true, weakest, ℕ, ℤ, ◌+◌, ◌==◌, ◌∙◌, ◌∷◌, ◌≡◌, ◌≤◌}
+use Rattle.rw_order.proofs.Common.{Bool, Given, Holds, Idle, IdleAnswer, IsSome, Kind, None, Option, Reservoir, Some, View, [], answer, ap, ap₂}
+use Rattle.rw_order.proofs.Common.{arith, balance_of, balanced_of, basis_of, both_ways, contents_by, false, fault_of_contents, fits, given}
+use Rattle.rw_order.proofs.Common.{if◌then◌else◌, is_some, missing, nat_le, nat_tests, puts_of, refl, settled, settled_at, solve_of, subst, sym, true}
+use Rattle.rw_order.proofs.Common.{weakest, ℕ, ℤ, ◌+◌, ◌==◌, ◌∙◌, ◌∷◌, ◌≡◌, ◌≤◌}
 use Rattle.rw_order.specs.Free.{is_free}
 use Rattle.rw_order.proofs.Held.{IsSeenOf, IsWhole, Sight, Values, given_stands}
 use Rattle.rw_order.proofs.Terms.{Comes, Parts, balanced_is, comes, parts_of, sight_of, term_in, terms_of}
@@ -24,7 +27,8 @@ fewer one other (part ∷ parts) more =
     fewer_first (one part.1) (other part.1) (missing (terms_of one parts)) (missing (terms_of other parts)) (more part.1) (fewer one other parts more)
 
 stays_idle : (steady_one steady_other : Option ℤ) (one other : Sight) (parts : Parts) → Carries steady_other steady_one
-    → ((place : ℕ) → IsSome (other place) → IsSome (one place)) → settled steady_one (terms_of one parts) ≡ Idle → settled steady_other (terms_of other parts) ≡ Idle
+    → ((place : ℕ) → IsSome (other place) → IsSome (one place)) → settled steady_one (terms_of one parts) ≡ Idle
+    → settled steady_other (terms_of other parts) ≡ Idle
 stays_idle steady_one None one other parts carries more idle = refl
 stays_idle steady_one (Some steady) one other [] carries more idle =
     absurd (both_ways (is_idle Holds) refl (ap is_idle (ap (λ s. settled s []) (sym carries) ∙ idle)))
@@ -34,7 +38,8 @@ stays_idle steady_one (Some steady) one other (part ∷ parts) carries more idle
     subst (Comes steady (terms_of one (part ∷ parts))) here (comes steady (term_in one part) (terms_of one parts)) in
     let le = fewer one other (part ∷ parts) more in
     let still : nat_le 2 (missing (terms_of other (part ∷ parts))) ≡ true = grind (arith, nat_tests, many, le) in
-    ap (λ test. if test then Idle else settled_at steady (terms_of other (part ∷ parts)) (weakest (term_in other part) (terms_of other parts)) (weakest (term_in other part) (terms_of other parts)).given)
+    ap (λ test. if test then Idle else settled_at steady (terms_of other (part ∷ parts)) (weakest (term_in other part) (terms_of other parts))
+    (weakest (term_in other part) (terms_of other parts)).given)
     still
 
 -- ---- whatever the kind
@@ -57,10 +62,12 @@ module _ (values : Values) (past : Option ℤ) (one other : View) (whole : IsWho
   more_in kind levelled place some = more_given place some
 
   -- where all that stands in the places is given to one view and it has nothing to put, no other view of these values has
-  pub answers_idle : (kind : Kind) → is_free kind ≡ true → AreLevelledOf kind one other → solve_of kind one ≡ IdleAnswer → solve_of kind other ≡ IdleAnswer
+  pub answers_idle : (kind : Kind) → is_free kind ≡ true → AreLevelledOf kind one other → solve_of kind one ≡ IdleAnswer
+      → solve_of kind other ≡ IdleAnswer
   answers_idle kind free levelled e =
       let idle : balanced_of kind other ≡ Idle =
       balanced_is kind other free
       ∙ stays_idle (balance_of kind one).steady (balance_of kind other).steady (sight_of kind one) (sight_of kind other) (parts_of kind)
       (carry_steady values past one other whole seen kind free) (more_in kind levelled) (sym (balanced_is kind one free) ∙ idle_by kind one free e) in
-      plain_solve kind other free ∙ ap (λ balanced. answer (fits kind other) (puts_of kind other balanced) balanced (fault_of_contents kind other)) idle
+      plain_solve kind other free ∙ ap (λ balanced.
+      answer (fits kind other) (puts_of kind other balanced) balanced (fault_of_contents kind other)) idle

@@ -1,5 +1,8 @@
 -- How many of an object's places are known, which bounds how often it is dispatched.
-use Rattle.rw_order.proofs.Common.{Asked, Bool, Cell, Cells, Content, Draft, IsSome, List, None, Option, Some, [], ap, arith, both_ways, cell_at, cell_in, content_in, false, if◌then◌else◌, inl, inr, is_at, is_put_at, is_shared, is_some, last_put, length, length-range_with_len, nat_tests, none-some, option_and_then, option_or, places, put, range_with_len, refl, slot_in_place, subst, suc, sym, true, zero, ℕ, ◌&&◌, ◌+◌, ◌<◌, ◌==◌, ◌||◌, ◌∙◌, ◌∷◌, ◌≡◌, ◌≤◌, ◌⊎◌}
+use Rattle.rw_order.proofs.Common.{Asked, Bool, Cell, Cells, Content, Draft, IsSome, List, None, Option, Some, [], ap, arith, both_ways, cell_at}
+use Rattle.rw_order.proofs.Common.{cell_in, content_in, false, if◌then◌else◌, inl, inr, is_at, is_put_at, is_shared, is_some, last_put, length}
+use Rattle.rw_order.proofs.Common.{length-range_with_len, nat_tests, none-some, option_and_then, option_or, places, put, range_with_len, refl}
+use Rattle.rw_order.proofs.Common.{slot_in_place, subst, suc, sym, true, zero, ℕ, ◌&&◌, ◌+◌, ◌<◌, ◌==◌, ◌||◌, ◌∙◌, ◌∷◌, ◌≡◌, ◌≤◌, ◌⊎◌}
 use Rattle.rw_order.proofs.Writing.{AllNew, AreShared, Grow}
 use Rattle.rw_order.proofs.Places.{content_at}
 use Rattle.rw_order.proofs.Sounds.{IsLaidOut}
@@ -36,7 +39,8 @@ one_more (Some a) (Some b) more = omega arith
 one_more (Some a) None more = absurd (both_ways false refl (more refl))
 one_more None new more = omega arith
 
-known_more : (old new : ℕ → Option Content) (rest : List ℕ) → ((place : ℕ) → IsSome (old place) → IsSome (new place)) → known_in old rest ≤ known_in new rest
+known_more : (old new : ℕ → Option Content) (rest : List ℕ) → ((place : ℕ) → IsSome (old place) → IsSome (new place))
+    → known_in old rest ≤ known_in new rest
 known_more old new [] more = omega arith
 known_more old new (place ∷ rest) more =
     let first = one_more (old place) (new place) (more place) in let later = known_more old new rest more in omega (arith, first, later)
@@ -50,7 +54,8 @@ one_rises old None none some = absurd (both_ways false refl some)
 one_rises (Some a) (Some b) none some = absurd (none-some _ (sym none))
 one_rises None (Some b) none some = omega arith
 
-known_grows : (old new : ℕ → Option Content) (rest : List ℕ) (place : ℕ) → ((p : ℕ) → IsSome (old p) → IsSome (new p)) → IsIn place rest → old place ≡ None
+known_grows : (old new : ℕ → Option Content) (rest : List ℕ) (place : ℕ) → ((p : ℕ) → IsSome (old p) → IsSome (new p)) → IsIn place rest
+    → old place ≡ None
     → IsSome (new place) → suc (known_in old rest) ≤ known_in new rest
 known_grows old new [] place more is none some = absurd is
 known_grows old new (first ∷ rest) place more (inl here) none some =
@@ -64,13 +69,15 @@ is_in_range : (start count place : ℕ) → start ≤ place → place < start + 
 is_in_range start zero place low high = absurd (omega (arith, low, high))
 is_in_range start (suc count) place low high = by (start == place) refl (λ next. is_in_range (start + 1) count place next (omega (arith, high)))
   where
-    by : (test : Bool) → (start == place) ≡ test → (start + 1 ≤ place → IsIn place (range_with_len (start + 1) count)) → IsIn place (range_with_len start (suc count))
+    by : (test : Bool) → (start == place) ≡ test → (start + 1 ≤ place → IsIn place (range_with_len (start + 1) count))
+        → IsIn place (range_with_len start (suc count))
     by true same later = inl (grind (arith, nat_tests, same))
     by false other later = inr (later (grind (arith, nat_tests, other, low)))
 
 -- ---- cells that hold more
 
-content_grows : (old new : Cells) (cell : Option Cell) (held : Option Content) → Grow old new → option_and_then old cell ≡ held → IsSome held → IsSome (option_and_then new cell)
+content_grows : (old new : Cells) (cell : Option Cell) (held : Option Content) → Grow old new → option_and_then old cell ≡ held → IsSome held
+    → IsSome (option_and_then new cell)
 content_grows old new cell None grow is some = absurd (both_ways false refl some)
 content_grows old new None (Some content) grow is some = absurd (none-some _ is)
 content_grows old new (Some cell) (Some content) grow is some = ap is_some (grow cell content is)
@@ -82,10 +89,12 @@ module _ (basin : Draft) (old new : Cells) (object step : ℕ) (grow : Grow old 
   pub count_grows : known_count basin old object step ≤ known_count basin new object step
   count_grows = known_more (content_in basin old object step) (content_in basin new object step) places more_known
 
-  pub count_rises : (place slot : ℕ) → place < 12 → slot_in_place basin.objects object place ≡ Some slot → old (cell_at slot step) ≡ None → IsSome (new (cell_at slot step))
+  pub count_rises : (place slot : ℕ) → place < 12 → slot_in_place basin.objects object place ≡ Some slot → old (cell_at slot step) ≡ None
+      → IsSome (new (cell_at slot step))
       → suc (known_count basin old object step) ≤ known_count basin new object step
   count_rises place slot near at none some =
-      known_grows (content_in basin old object step) (content_in basin new object step) places place more_known (is_in_range 0 12 place (omega arith) (omega (arith, near)))
+      known_grows (content_in basin old object step) (content_in basin new object step) places place more_known
+      (is_in_range 0 12 place (omega arith) (omega (arith, near)))
       (content_at basin old object step place (Some slot) at ∙ none) (subst IsSome (sym (content_at basin new object step place (Some slot) at)) some)
 
 -- ---- a put that reaches one of the object's slots
@@ -105,11 +114,13 @@ or_some : {X : Type 0} (a b : Option X) → IsSome b → IsSome (option_or a b)
 or_some None b some = some
 or_some (Some x) b some = refl
 
-pub reached_by : (basin : Draft) (cells : Cells) (object step : ℕ) (written : List Asked) → IsLaidOut basin → AreShared basin cells → AllNew cells written
+pub reached_by : (basin : Draft) (cells : Cells) (object step : ℕ) (written : List Asked) → IsLaidOut basin → AreShared basin cells
+    → AllNew cells written
     → is_put_at basin object step written ≡ true → IsReached basin cells object step written
 reached_by basin cells object step [] laid shared new is = absurd (both_ways false refl is)
 reached_by basin cells object step (put ∷ written) laid shared new is =
-    by (put.cell.step.0 == step) refl (is_at basin object put.cell.slot.0) refl is (λ later. reached_by basin cells object step written laid shared new.1 later)
+    by (put.cell.step.0 == step) refl (is_at basin object put.cell.slot.0) refl is
+    (λ later. reached_by basin cells object step written laid shared new.1 later)
   where
     later_reached : IsReached basin cells object step written → IsReached basin cells object step (put ∷ written)
     later_reached later = record {
@@ -120,12 +131,14 @@ reached_by basin cells object step (put ∷ written) laid shared new is =
       some = some_or (last_put basin written (cell_at later.slot step)) _ later.some;
     }
 
-    by : (here : Bool) → (put.cell.step.0 == step) ≡ here → (own : Bool) → is_at basin object put.cell.slot.0 ≡ own → (here && own || is_put_at basin object step written) ≡ true
+    by : (here : Bool) → (put.cell.step.0 == step) ≡ here → (own : Bool) → is_at basin object put.cell.slot.0 ≡ own
+        → (here && own || is_put_at basin object step written) ≡ true
         → (is_put_at basin object step written ≡ true → IsReached basin cells object step written) → IsReached basin cells object step (put ∷ written)
     by true here true own e rest =
         let hit = laid.hits object put.cell own in
         let at_step : put.cell.step.0 ≡ step = grind (arith, nat_tests, here) in
-        let shares : is_shared basin put.cell (cell_at hit.1 step) ≡ true = subst (λ t. is_shared basin put.cell (cell_at hit.1 t) ≡ true) at_step hit.3 in
+        let shares : is_shared basin put.cell (cell_at hit.1 step) ≡ true =
+        subst (λ t. is_shared basin put.cell (cell_at hit.1 t) ≡ true) at_step hit.3 in
         record {
           place = hit.0;
           slot = hit.1;

@@ -1,5 +1,7 @@
 -- Values that stand in places, and what of them a view knows.
-use Rattle.rw_order.proofs.Common.{AllByRecursion, Bool, ByObject, Conflict, Content, Given, IdleAnswer, IsSome, List, None, ObjectNo, Option, OutOfRange, Put, Puts, Solved, Some, View, ap, false, given, given_by, if◌then◌else◌, is_same_object, known, known_value, none-some, option_map, put, refl, same_Some, sym, true, ℕ, ℤ, ◌∙◌, ◌≡◌}
+use Rattle.rw_order.proofs.Common.{AllByRecursion, Bool, ByObject, Conflict, Content, Given, IdleAnswer, IsSome, List, None, ObjectNo, Option}
+use Rattle.rw_order.proofs.Common.{OutOfRange, Put, Puts, Solved, Some, View, ap, false, given, given_by, if◌then◌else◌, is_same_object, known}
+use Rattle.rw_order.proofs.Common.{known_value, none-some, option_map, put, refl, same_Some, sym, true, ℕ, ℤ, ◌∙◌, ◌≡◌}
 
 -- a value for each place, where there is one
 abbrev pub Values : Type 0
@@ -30,11 +32,13 @@ AnswersWithin values (OutOfRange place value) = ⊥
 abbrev pub FitsThere : Values → (Put → Bool) → Type 0
 FitsThere values fit = (place : ℕ) (value : ℤ) (number : ℕ) → values place ≡ Some value → fit (put place value number) ≡ true
 
-pub known_stands : (values : Values) (past : Option ℤ) (view : View) (place : ℕ) (value : ℤ) → IsSeenOf values past view → known_value view place ≡ Some value
+pub known_stands : (values : Values) (past : Option ℤ) (view : View) (place : ℕ) (value : ℤ) → IsSeenOf values past view
+    → known_value view place ≡ Some value
     → values place ≡ Some value
 known_stands values past view place value seen is = by (known view place) refl is
   where
-    by : (content : Option Content) → known view place ≡ content → option_map (λ (c : Content). c.value) content ≡ Some value → values place ≡ Some value
+    by : (content : Option Content) → known view place ≡ content → option_map (λ (c : Content). c.value) content ≡ Some value
+        → values place ≡ Some value
     by None there e = absurd (none-some _ e)
     by (Some content) there e = seen.now place content there ∙ e
 

@@ -1,5 +1,8 @@
 -- Those that wait stand in the order of the events since which they wait, and of one event in order of number.
-use Rattle.rw_order.proofs.Common.{All-contains, All-from_recursion, AllByRecursion, Bool, Contains, Draft, List, Log, None, Option, Some, [], ap, append-nil, arith, both_ways, false, filter, filter-append, get_or_from_slice_get, if◌then◌else◌, inl, inr, is_number, is_since, length, nat_tests, none-some, numbers, refl, same_Some, since, slice_get, slice_get_within, subst, suc, sym, true, waiting, waiting_below, zero, ℕ, ◌++◌, ◌-◌, ◌<◌, ◌∙◌, ◌∷◌, ◌≡◌, ◌≤◌, ◌⊎◌}
+use Rattle.rw_order.proofs.Common.{All-contains, All-from_recursion, AllByRecursion, Bool, Contains, Draft, List, Log, None, Option, Some, [], ap}
+use Rattle.rw_order.proofs.Common.{append-nil, arith, both_ways, false, filter, filter-append, get_or_from_slice_get, if◌then◌else◌, inl, inr}
+use Rattle.rw_order.proofs.Common.{is_number, is_since, length, nat_tests, none-some, numbers, refl, same_Some, since, slice_get, slice_get_within}
+use Rattle.rw_order.proofs.Common.{subst, suc, sym, true, waiting, waiting_below, zero, ℕ, ◌++◌, ◌-◌, ◌<◌, ◌∙◌, ◌∷◌, ◌≡◌, ◌≤◌, ◌⊎◌}
 use Rattle.rw_dispatch.specs.Pick.{newest, picked}
 use Rattle.rw_order.specs.AnyRun.{WaitsBefore}
 use Rattle.rw_order.proofs.Lists.{all_joined, all_weaker}
@@ -28,15 +31,26 @@ module _ (basin : Draft) (log : Log) where
       → AllByRecursion (λ x. AllByRecursion (WaitsBefore basin log x) (object ∷ [])) xs
   later_all place object most xs own less of =
       all_weaker (IsOf place most) (λ x. AllByRecursion (WaitsBefore basin log x) (object ∷ [])) xs
-      (λ x is. let near = is.1 in (record { first = place; second = place; since_one = is.0; since_other = own; earlier = inr (refl, omega (arith, near, less)) }, tt)) of
+      (λ x is. let near = is.1 in (
+        record {
+          first = place;
+          second = place;
+          since_one = is.0;
+          since_other = own;
+          earlier = inr (refl, omega (arith, near, less));
+        },
+        tt,
+      )) of
 
-  of_event : (place count : ℕ) → Rises (filter (is_since basin log place) (numbers count)) × AllByRecursion (IsOf place count) (filter (is_since basin log place) (numbers count))
+  of_event : (place count : ℕ) → Rises (filter (is_since basin log place) (numbers count))
+      × AllByRecursion (IsOf place count) (filter (is_since basin log place) (numbers count))
   of_event place zero = (tt, tt)
   of_event place (suc count) =
       let before = of_event place count in
       subst (λ xs. Rises xs × AllByRecursion (IsOf place (suc count)) xs)
       (sym (filter-append (is_since basin log place) (numbers count) (suc count ∷ [])))
-      (by (is_since basin log place (suc count)) refl before.0 (all_weaker (IsOf place count) (IsOf place (suc count)) (filter (is_since basin log place) (numbers count))
+      (by (is_since basin log place (suc count)) refl before.0
+      (all_weaker (IsOf place count) (IsOf place (suc count)) (filter (is_since basin log place) (numbers count))
       (λ x is. let near = is.1 in (is.0, omega (arith, near))) before.1) before.1)
     where
       by : (test : Bool) → is_since basin log place (suc count) ≡ test → Rises (filter (is_since basin log place) (numbers count))
@@ -45,7 +59,8 @@ module _ (basin : Draft) (log : Log) where
           → Rises (filter (is_since basin log place) (numbers count) ++ (if test then suc count ∷ [] else []))
           × AllByRecursion (IsOf place (suc count)) (filter (is_since basin log place) (numbers count) ++ (if test then suc count ∷ [] else []))
       by false is rises of few =
-          subst (λ xs. Rises xs × AllByRecursion (IsOf place (suc count)) xs) (sym (append-nil (filter (is_since basin log place) (numbers count)))) (rises, of)
+          subst (λ xs. Rises xs × AllByRecursion (IsOf place (suc count)) xs) (sym (append-nil (filter (is_since basin log place) (numbers count))))
+          (rises, of)
       by true is rises of few =
           let own = since_is place (since basin log (suc count)) is in (
             rises_joined (filter (is_since basin log place) (numbers count)) (suc count ∷ []) rises (tt, tt)
@@ -74,7 +89,8 @@ module _ (basin : Draft) (log : Log) where
         all_joined (IsBelow (suc place)) (waiting_below basin log place) now
             (all_weaker (IsBelow place) (IsBelow (suc place)) (waiting_below basin log place)
             (λ x is. let less = is.less in record { at = is.at; is = is.is; less = omega (arith, less) }) older.1)
-            (all_weaker (IsOf place (length basin.objects)) (IsBelow (suc place)) now (λ x is. record { at = place; is = is.0; less = omega arith }) these.1),
+            (all_weaker (IsOf place (length basin.objects)) (IsBelow (suc place)) now
+            (λ x is. record { at = place; is = is.0; less = omega arith }) these.1),
       )
 
   -- ---- the last of them
@@ -96,4 +112,5 @@ module _ (basin : Draft) (log : Log) where
       → (other ≡ object) ⊎ WaitsBefore basin log other object
   newest_waits_least object other is waits =
       All-contains (λ o. (o ≡ object) ⊎ WaitsBefore basin log o object) (waiting basin log) other
-      (All-from_recursion (λ o. (o ≡ object) ⊎ WaitsBefore basin log o object) (waiting basin log) (last_of_all (waiting basin log) object (below (length log)).0 is)) waits
+      (All-from_recursion (λ o. (o ≡ object) ⊎ WaitsBefore basin log o object) (waiting basin log)
+      (last_of_all (waiting basin log) object (below (length log)).0 is)) waits

@@ -1,10 +1,16 @@
 -- A dispatch in a log in any order leaves it sound, and its object at rest.
-use Rattle.rw_order.proofs.Common.{AllByRecursion, Asked, ByObject, Cell, Cells, Content, Draft, Event, IdleAnswer, IsFault, IsSome, Kind, List, Look, None, Object, Option, Put, Puts, Solved, Some, View, [], answer, answered, ap, ap₂, arith, asked_for, cell_at, content_in, denied_by, dispatch_of, dispatched, end_in, false, given, given_by, held_after, idle, if◌then◌else◌, inl, inr, is_bounded, is_data, is_same_object, is_shared, is_some, is_written, known_value, last_put, looks_of, none-some, numbers, object_at, option_map, option_or, put, puts_written, refl, slot_in_place, solve_of, solved, subst, sym, true, unwrap_or, view_of, written_by, ℕ, ℤ, ◌∙◌, ◌∷◌, ◌≡◌, ◌⊎◌}
+use Rattle.rw_order.proofs.Common.{AllByRecursion, Asked, ByObject, Cell, Cells, Content, Draft, Event, IdleAnswer, IsFault, IsSome, Kind, List, Look}
+use Rattle.rw_order.proofs.Common.{None, Object, Option, Put, Puts, Solved, Some, View, [], answer, answered, ap, ap₂, arith, asked_for, cell_at}
+use Rattle.rw_order.proofs.Common.{content_in, denied_by, dispatch_of, dispatched, end_in, false, given, given_by, held_after, idle, if◌then◌else◌}
+use Rattle.rw_order.proofs.Common.{inl, inr, is_bounded, is_data, is_same_object, is_shared, is_some, is_written, known_value, last_put, looks_of}
+use Rattle.rw_order.proofs.Common.{none-some, numbers, object_at, option_map, option_or, put, puts_written, refl, slot_in_place, solve_of, solved}
+use Rattle.rw_order.proofs.Common.{subst, sym, true, unwrap_or, view_of, written_by, ℕ, ℤ, ◌∙◌, ◌∷◌, ◌≡◌, ◌⊎◌}
 use Rattle.rw_order.proofs.Lists.{all_both, all_kept, all_weaker}
 use Rattle.rw_order.proofs.Held.{AnswersWithin, AreHeld}
 use Rattle.rw_order.proofs.AllKinds.{AreLevelledOf}
 use Rattle.rw_order.proofs.Numbers.{AllZero, answers_plain, given_zero}
-use Rattle.rw_order.proofs.Writing.{AllFind, AllNew, Finds, Grow, IsLast, after_puts, all_find_held, all_new, all_pass, all_pass_rest, all_stand, either_by, find_pass, grow_below, known_stays, last_of}
+use Rattle.rw_order.proofs.Writing.{AllFind, AllNew, Finds, Grow, IsLast, after_puts, all_find_held, all_new, all_pass, all_pass_rest, all_stand}
+use Rattle.rw_order.proofs.Writing.{either_by, find_pass, grow_below, known_stays, last_of}
 use Rattle.rw_order.proofs.Places.{HaveSlots, are_clear, asked_held, content_at, known_at, puts_stand, values_at}
 use Rattle.rw_order.proofs.Resting.{HasSpoken, IsAtRest, IsSilent, known_zero, rest_within, seen_below}
 use Rattle.rw_order.proofs.Sounds.{IsLaidOut, IsMade, IsSound, can_stand, in_bounds, level_kept}
@@ -48,7 +54,8 @@ pub record Leaves (basin : Draft) (start : Cells) (step object : ℕ) (kind : Ki
       → (cells cell ≡ Some content) ⊎ ((cells cell ≡ None) × (content.writer ≡ ByObject (record { 0 = object })) × (cell.step.0 ≡ step))
 
 module _ (basin : Draft) (start : Cells) (step object : ℕ) (found : Object) (laid : IsLaidOut basin)
-    (is_object : object_at basin.objects object ≡ Some found) (ready : is_data basin object ≡ false) (cells : Cells) (sound : IsSound basin start step cells) where
+    (is_object : object_at basin.objects object ≡ Some found) (ready : is_data basin object ≡ false) (cells : Cells)
+    (sound : IsSound basin start step cells) where
   abbrev view : View
   view = view_of basin cells object step
 
@@ -80,7 +87,8 @@ module _ (basin : Draft) (start : Cells) (step object : ℕ) (found : Object) (l
   last_same : (written : List Asked) (one other : Cell) → is_shared basin one other ≡ true → last_put basin written one ≡ last_put basin written other
   last_same [] one other shares = refl
   last_same (put ∷ written) one other shares =
-      ap₂ option_or (last_same written one other shares) (ap (λ test. if test then Some put.content else None) (laid.same_group put.cell one other shares))
+      ap₂ option_or (last_same written one other shares)
+      (ap (λ test. if test then Some put.content else None) (laid.same_group put.cell one other shares))
 
   module _ (written : List Asked) (new : AllNew cells written) (of : AllByRecursion (IsAskedOf basin object step) written) where
     -- what stands in a cell afterwards stood there, or is of one of the puts
@@ -90,15 +98,19 @@ module _ (basin : Draft) (start : Cells) (step object : ℕ) (found : Object) (l
         last_of basin (λ p. (cells p.cell ≡ None) × IsAskedOf basin object step p) written cell content
         (all_both (λ p. cells p.cell ≡ None) (IsAskedOf basin object step) written new of) put
 
-    at_step : (cell : Cell) (content : Content) → IsLast basin (λ put. (cells put.cell ≡ None) × IsAskedOf basin object step put) cell content → cell.step.0 ≡ step
+    at_step : (cell : Cell) (content : Content) → IsLast basin (λ put. (cells put.cell ≡ None) × IsAskedOf basin object step put) cell content
+        → cell.step.0 ≡ step
     at_step cell content last = laid.same_step last.put.cell cell last.shares ∙ ap (λ (c : Cell). c.step.0) last.is.1.cell
 
-    made_of : (cell : Cell) (content : Content) → IsLast basin (λ put. (cells put.cell ≡ None) × IsAskedOf basin object step put) cell content → IsMade basin step cell content
+    made_of : (cell : Cell) (content : Content) → IsLast basin (λ put. (cells put.cell ≡ None) × IsAskedOf basin object step put) cell content
+        → IsMade basin step cell content
     made_of cell content last = record {
       object = object;
       writer = ap (λ (c : Content). c.writer) (sym last.same) ∙ last.is.1.writer;
       ready = ready;
-      owns = laid.owner object last.is.1.place last.is.1.slot step cell last.is.1.at (subst (λ c. is_shared basin c cell ≡ true) last.is.1.cell last.shares);
+      owns =
+          laid.owner object last.is.1.place last.is.1.slot step cell last.is.1.at
+          (subst (λ c. is_shared basin c cell ≡ true) last.is.1.cell last.shares);
       step = let here = at_step cell content last in omega (arith, here);
     }
 
@@ -128,7 +140,11 @@ module _ (basin : Draft) (start : Cells) (step object : ℕ) (found : Object) (l
     fresh_after cell content e = either_by (last_put basin written cell) (cells cell) content e
         (λ put.
         let last = last_new cell content put in
-        inr (sym (sound.shared last.put.cell cell last.shares) ∙ last.is.0, ap (λ (c : Content). c.writer) (sym last.same) ∙ last.is.1.writer, at_step cell content last))
+        inr (
+          sym (sound.shared last.put.cell cell last.shares) ∙ last.is.0,
+          ap (λ (c : Content). c.writer) (sym last.same) ∙ last.is.1.writer,
+          at_step cell content last,
+        ))
         (λ none stood. inl stood)
 
   -- ---- it is at rest
@@ -161,13 +177,16 @@ module _ (basin : Draft) (start : Cells) (step object : ℕ) (found : Object) (l
       → answered basin cells looked object step (Puts puts) ≡ event → ¬ IsFault event → HasSaid basin start cells object step found.kind
       → AllByRecursion (IsAskedOf basin object step) (asked_for basin object step puts) → AllFind cells (asked_for basin object step puts)
   find_all looked puts event answer e fine (inl spoken) of =
-      let within = rest_within basin start cells cells object step found.kind (laid.keeps object found is_object) (inl spoken) (grow_below cells cells (λ cell content is. is)) sound.zeros
+      let within =
+      rest_within basin start cells cells object step found.kind (laid.keeps object found is_object) (inl spoken)
+      (grow_below cells cells (λ cell content is. is)) sound.zeros
       levelled (can_stand basin start step laid cells cells object step found is_object sound) in
       let held : AreHeld (values_at basin cells object step) puts = subst (AnswersWithin (values_at basin cells object step)) answer within in
       all_find_held cells (asked_for basin object step puts) (asked_held basin cells object step puts held)
   find_all looked puts event answer e fine (inr nothing) of =
       let asked = asked_for basin object step puts in
-      all_weaker (λ (put : Asked). IsAskedOf basin object step put × (denied_by (end_in cells put) put ≡ None)) (λ (put : Asked). Finds (cells put.cell) put.content.value) asked
+      all_weaker (λ (put : Asked). IsAskedOf basin object step put × (denied_by (end_in cells put) put ≡ None))
+      (λ (put : Asked). Finds (cells put.cell) put.content.value) asked
       (λ put both. find_pass object put (cells put.cell) both.0.writer
       (λ held is. (
         sound.zeros put.cell held is,
@@ -177,7 +196,8 @@ module _ (basin : Draft) (start : Cells) (step object : ℕ) (found : Object) (l
       (all_both (IsAskedOf basin object step) (λ (put : Asked). denied_by (end_in cells put) put ≡ None) asked of
       (all_pass cells object asked (dispatch_of cells looked object step asked) event e fine))
 
-  leaves_by : (looked : List Look) (answer : Solved) (event : Event) → solve_of found.kind view ≡ answer → answered basin cells looked object step answer ≡ event
+  leaves_by : (looked : List Look) (answer : Solved) (event : Event) → solve_of found.kind view ≡ answer
+      → answered basin cells looked object step answer ≡ event
       → ¬ IsFault event → HasSaid basin start cells object step found.kind → LeavesBy event
   leaves_by looked IdleAnswer event answer e fine said =
       let rest : IsAtRest basin start cells object step found.kind = elim said [
@@ -185,7 +205,15 @@ module _ (basin : Draft) (start : Cells) (step object : ℕ) (found : Object) (l
         | inr nothing ↦ inr (silent_of nothing answer)
       ] in
       let here : LeavesBy (idle object step looked) =
-      record { asked = (refl, refl); new = tt; grows = λ cell content is. is; sound = sound; said = said; rest = rest; fresh = λ cell content is. inl is } in
+      record {
+        asked = (refl, refl);
+        new = tt;
+        grows = λ cell content is. is;
+        sound = sound;
+        said = said;
+        rest = rest;
+        fresh = λ cell content is. inl is;
+      } in
       subst LeavesBy e here
   leaves_by looked (Puts puts) event answer e fine said =
       let asked = asked_for basin object step puts in
@@ -222,9 +250,11 @@ module _ (basin : Draft) (start : Cells) (step object : ℕ) (found : Object) (l
   leaves_by looked answer event is e fine said = absurd (fine (subst IsFault e tt))
 
   -- a dispatch that is no fault
-  pub leaves : (event : Event) → dispatched basin cells object step ≡ event → ¬ IsFault event → HasSaid basin start cells object step found.kind → LeavesBy event
+  pub leaves : (event : Event) → dispatched basin cells object step ≡ event → ¬ IsFault event → HasSaid basin start cells object step found.kind
+      → LeavesBy event
   leaves event e fine said =
       leaves_by (looks_of basin cells object step) (solve_of found.kind view) event refl
-      (sym (ap (λ (o : Option Object). answered basin cells (looks_of basin cells object step) object step (unwrap_or (option_map (λ (f : Object). solve_of f.kind view) o) IdleAnswer)) is_object)
+      (sym (ap (λ (o : Option Object). answered basin cells (looks_of basin cells object step) object step
+      (unwrap_or (option_map (λ (f : Object). solve_of f.kind view) o) IdleAnswer)) is_object)
       ∙ e)
       fine said

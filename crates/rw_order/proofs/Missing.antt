@@ -1,5 +1,8 @@
 -- The solved term is the one that isn't given, where all numbers are 0; so each other term is.
-use Rattle.rw_order.proofs.Common.{Balanced, Bool, Conflicts, Given, Holds, Idle, IsSome, List, None, Option, Solves, Some, Term, View, [], ap, arith, both_ways, false, given, gives_way_before, held_by, if◌then◌else◌, inl, inr, int_eq, known, known_after, missing, nat_le, nat_tests, net_of, none-some, pos, recursion_from_All, refl, same_Some, settled, settled_at, solved_term, solves, subst, sym, true, value_from_others, weakest, ℕ, ℤ, ◌++◌, ◌+ℤ◌, ◌==◌, ◌∙◌, ◌∷◌, ◌≡◌, ◌⊎◌}
+use Rattle.rw_order.proofs.Common.{Balanced, Bool, Conflicts, Given, Holds, Idle, IsSome, List, None, Option, Solves, Some, Term, View, [], ap, arith}
+use Rattle.rw_order.proofs.Common.{both_ways, false, given, gives_way_before, held_by, if◌then◌else◌, inl, inr, int_eq, known, known_after, missing}
+use Rattle.rw_order.proofs.Common.{nat_le, nat_tests, net_of, none-some, pos, recursion_from_All, refl, same_Some, settled, settled_at, solved_term}
+use Rattle.rw_order.proofs.Common.{solves, subst, sym, true, value_from_others, weakest, ℕ, ℤ, ◌++◌, ◌+ℤ◌, ◌==◌, ◌∙◌, ◌∷◌, ◌≡◌, ◌⊎◌}
 use Rattle.rw_order.proofs.Lists.{all_left, all_right}
 use Rattle.rw_order.proofs.Held.{AreZero, IsSeenOf, Sight, Values, given_known}
 use Rattle.rw_order.proofs.Terms.{AreGiven, Comes, Parts, comes, term_in, terms_of}
@@ -25,7 +28,8 @@ missing_at steady terms term None place is zero_number e = record { there = same
 missing_at steady terms term (Some held) place is zero_number e =
     let inner = if_place (int_eq (steady +ℤ net_of terms) (pos 0)) Holds _ place refl e in
     let here : (held.number == 0) ≡ true = grind (arith, nat_tests, zero_number held refl) in
-    absurd (none-some _ (sym (ap (λ test. place_in (if test then Conflicts term.place held.value (value_from_others steady terms term) else solves steady terms term)) here) ∙ inner))
+    absurd (none-some _ (sym (ap (λ test. place_in
+    (if test then Conflicts term.place held.value (value_from_others steady terms term) else solves steady terms term)) here) ∙ inner))
 
 -- the term that gives way is given as its place is
 abbrev IsOf : Sight → Term → Type 0
@@ -50,7 +54,8 @@ solves_missing sight (part ∷ parts) (Some steady) place number value zeros is 
     let rest = terms_of sight parts in
     let of : IsOf sight (weakest first rest) = weakest_of sight first parts refl in
     let at : IsMissing (weakest first rest) place =
-    missing_at steady (first ∷ rest) (weakest first rest) (weakest first rest).given place refl (λ held e. zeros (weakest first rest).place held (sym of ∙ e))
+    missing_at steady (first ∷ rest) (weakest first rest) (weakest first rest).given place refl
+    (λ held e. zeros (weakest first rest).place held (sym of ∙ e))
     (if_place (nat_le 2 (missing (first ∷ rest))) Idle _ place refl (ap place_in is)) in
     ap sight (sym at.there) ∙ sym of ∙ at.none
 
@@ -65,7 +70,8 @@ part_given sight [] place all is = absurd is
 part_given sight (part ∷ parts) place all (inl here) = subst (λ p. IsSome (sight p)) here all.0
 part_given sight (part ∷ parts) place all (inr later) = part_given sight parts place all.1 later
 
-given_or_solved : (sight : Sight) (parts : Parts) (before : List Term) (term : Term) (after : List Term) (place : ℕ) → terms_of sight parts ≡ before ++ term ∷ after
+given_or_solved : (sight : Sight) (parts : Parts) (before : List Term) (term : Term) (after : List Term) (place : ℕ)
+    → terms_of sight parts ≡ before ++ term ∷ after
     → AreGiven before → AreGiven after → IsPart place parts → IsSome (sight place) ⊎ (term.place ≡ place)
 given_or_solved sight [] before term after place among given_before given_after is = absurd is
 given_or_solved sight (part ∷ parts) [] term after place among given_before given_after (inl here) =
@@ -98,7 +104,8 @@ is_idle Idle = true
 is_idle balanced = false
 
 -- where it holds each term is given
-pub holds_given : (sight : Sight) (parts : Parts) (steady : Option ℤ) (place : ℕ) → IsPart place parts → settled steady (terms_of sight parts) ≡ Holds → IsSome (sight place)
+pub holds_given : (sight : Sight) (parts : Parts) (steady : Option ℤ) (place : ℕ) → IsPart place parts → settled steady (terms_of sight parts) ≡ Holds
+    → IsSome (sight place)
 holds_given sight [] steady place part is = absurd part
 holds_given sight (first ∷ rest) None place part is = absurd (both_ways true (ap is_idle is) refl)
 holds_given sight (first ∷ rest) (Some steady) place part is =
@@ -108,7 +115,8 @@ holds_given sight (first ∷ rest) (Some steady) place part is =
 
 -- ---- what stands in a place of a term once the balance is settled
 
-given_after : (values : Values) (past : Option ℤ) (view : View) (place : ℕ) (found : Option Given) → IsSeenOf values past view → given view place ≡ found
+given_after : (values : Values) (past : Option ℤ) (view : View) (place : ℕ) (found : Option Given) → IsSeenOf values past view
+    → given view place ≡ found
     → IsSome found → values place ≡ Some (held_by (known view place)).value
 given_after values past view place None seen is some = absurd (both_ways false refl some)
 given_after values past view place (Some held) seen is some =

@@ -1,5 +1,12 @@
 -- The numbers and the places of what is put, where all numbers are 0.
-use Rattle.rw_order.proofs.Common.{AllByRecursion, Balanced, Bifurcation, Bool, ByRule, Canal, Conflicts, Confluence, Content, DataObject, Gage, Given, Holds, Idle, Kind, List, None, Option, PowerReservoir, Put, Puts, Reach, Request, Reservoir, RoutedReach, Row, Share, Solves, Some, Term, View, WaterUser, [], ap₂, are_both_zero, arith, balance_of, balanced_of, basis_of, beside_basis, beside_given, both_ways, elevation_of, evaporation_of, evaporation_put, false, given, gives_way_before, greatest_beside, held_by, if◌then◌else◌, int_eq, known, known_after, level_puts, max, missing, nat_le, nat_tests, net_of, priority_of, pos, put, put_found, puts_of, refl, release_puts, seepage_put, settled, settled_at, solve_of, solved_put, solves, subst, suc, sym, true, unwrap_or, user_puts, value_from_others, volume_of, weakest, zero, ℕ, ℤ, ◌++◌, ◌+ℤ◌, ◌<◌, ◌==◌, ◌∙◌, ◌∷◌, ◌≡◌, ◌≤◌}
+use Rattle.rw_order.proofs.Common.{AllByRecursion, Balanced, Bifurcation, Bool, ByRule, Canal, Conflicts, Confluence, Content, DataObject, Gage}
+use Rattle.rw_order.proofs.Common.{Given, Holds, Idle, Kind, List, None, Option, PowerReservoir, Put, Puts, Reach, Request, Reservoir, RoutedReach}
+use Rattle.rw_order.proofs.Common.{Row, Share, Solves, Some, Term, View, WaterUser, [], ap₂, are_both_zero, arith, balance_of, balanced_of, basis_of}
+use Rattle.rw_order.proofs.Common.{beside_basis, beside_given, both_ways, elevation_of, evaporation_of, evaporation_put, false, given}
+use Rattle.rw_order.proofs.Common.{gives_way_before, greatest_beside, held_by, if◌then◌else◌, int_eq, known, known_after, level_puts, max, missing}
+use Rattle.rw_order.proofs.Common.{nat_le, nat_tests, net_of, priority_of, pos, put, put_found, puts_of, refl, release_puts, seepage_put, settled}
+use Rattle.rw_order.proofs.Common.{settled_at, solve_of, solved_put, solves, subst, suc, sym, true, unwrap_or, user_puts, value_from_others}
+use Rattle.rw_order.proofs.Common.{volume_of, weakest, zero, ℕ, ℤ, ◌++◌, ◌+ℤ◌, ◌<◌, ◌==◌, ◌∙◌, ◌∷◌, ◌≡◌, ◌≤◌}
 use Rattle.rw_order.specs.Free.{is_free}
 use Rattle.rw_order.proofs.Lists.{all_joined}
 use Rattle.rw_order.proofs.Held.{AreZero, Sight, given_known}
@@ -30,7 +37,8 @@ either_below : (most : ℕ) (test : Bool) (a b : Term) → a.place < most → b.
 either_below most true a b x y = x
 either_below most false a b x y = y
 
-weakest_below : (most : ℕ) (sight : Sight) (term : Term) (parts : Parts) → term.place < most → PartsBelow most parts → (weakest term (terms_of sight parts)).place < most
+weakest_below : (most : ℕ) (sight : Sight) (term : Term) (parts : Parts) → term.place < most → PartsBelow most parts
+    → (weakest term (terms_of sight parts)).place < most
 weakest_below most sight term [] is rest = is
 weakest_below most sight term (part ∷ parts) is rest =
     weakest_below most sight (if gives_way_before term.given (sight part.1) then term else term_in sight part) parts
@@ -56,16 +64,20 @@ number_zero (Some held) is = is
 greatest_zero : (place : ℕ) (sight : Sight) (parts : Parts) → AreZero sight → greatest_beside place (terms_of sight parts) ≡ 0
 greatest_zero place sight [] zeros = refl
 greatest_zero place sight (part ∷ parts) zeros =
-    ap₂ max (if_zero (part.1 == place) (priority_of (sight part.1)) (number_zero (sight part.1) (zero_at sight part.1 zeros))) (greatest_zero place sight parts zeros)
+    ap₂ max (if_zero (part.1 == place) (priority_of (sight part.1)) (number_zero (sight part.1) (zero_at sight part.1 zeros)))
+    (greatest_zero place sight parts zeros)
 
-solved_below : (most : ℕ) (steady : ℤ) (terms : List Term) (term : Term) (found : Option Given) → term.place < most → greatest_beside term.place terms ≡ 0
+solved_below : (most : ℕ) (steady : ℤ) (terms : List Term) (term : Term) (found : Option Given) → term.place < most
+    → greatest_beside term.place terms ≡ 0
     → SolvesBelow most (settled_at steady terms term found)
 solved_below most steady terms term None near zero_number = (near, zero_number)
 solved_below most steady terms term (Some held) near zero_number =
     solves_if most (int_eq (steady +ℤ net_of terms) (pos 0)) Holds _ tt
-    (solves_if most (held.number == 0) (Conflicts term.place held.value (value_from_others steady terms term)) (solves steady terms term) tt (near, zero_number))
+    (solves_if most (held.number == 0) (Conflicts term.place held.value (value_from_others steady terms term)) (solves steady terms term) tt
+    (near, zero_number))
 
-settled_below : (most : ℕ) (steady : Option ℤ) (sight : Sight) (parts : Parts) → AreZero sight → PartsBelow most parts → SolvesBelow most (settled steady (terms_of sight parts))
+settled_below : (most : ℕ) (steady : Option ℤ) (sight : Sight) (parts : Parts) → AreZero sight → PartsBelow most parts
+    → SolvesBelow most (settled steady (terms_of sight parts))
 settled_below most None sight parts zeros below = tt
 settled_below most (Some steady) sight [] zeros below = tt
 settled_below most (Some steady) sight (part ∷ parts) zeros below =
@@ -101,7 +113,8 @@ solved_plain most high balanced le is = (tt, omega arith)
 
 -- ---- beside the solved term
 
-beside_plain : (table : Option (List Row)) (storage elevation : Option Given) → Zero storage → Zero elevation → ArePlain 2 (beside_given table storage elevation) 4
+beside_plain : (table : Option (List Row)) (storage elevation : Option Given) → Zero storage → Zero elevation
+    → ArePlain 2 (beside_given table storage elevation) 4
 beside_plain table storage elevation s e =
     plain_if 2 4 (are_both_zero storage elevation) [] (beside_basis table (basis_of storage elevation)) (tt, omega arith) (by storage elevation s e)
   where
@@ -113,12 +126,14 @@ beside_plain table storage elevation s e =
         subst (λ basis. ArePlain 2 (beside_basis table basis) 4) (sym (basis_both storage elevation s))
         (plain_found 2 3 (elevation_of table storage.value) storage.number 4 s (omega arith) (omega arith))
 
-level_plain : (table : Option (List Row)) (storage elevation : Option Given) (balanced : Balanced) → Zero storage → Zero elevation → SolvesBelow 3 balanced
+level_plain : (table : Option (List Row)) (storage elevation : Option Given) (balanced : Balanced) → Zero storage → Zero elevation
+    → SolvesBelow 3 balanced
     → ArePlain 0 (solved_put balanced ++ level_puts table storage elevation balanced) 4
 level_plain table storage elevation (Solves place value number) s e is =
     let rest = by (place == 2) refl in ((is.1, rest.0), (omega arith, rest.1))
   where
-    by : (test : Bool) → (place == 2) ≡ test → ArePlain (suc place) (if test then put_found 3 (elevation_of table value) number else beside_given table storage elevation) 4
+    by : (test : Bool) → (place == 2) ≡ test
+        → ArePlain (suc place) (if test then put_found 3 (elevation_of table value) number else beside_given table storage elevation) 4
     by true same =
         let at : place ≡ 2 = grind (arith, nat_tests, same) in
         plain_found (suc place) 3 (elevation_of table value) number 4 is.1 (omega (arith, at)) (omega arith)
@@ -128,7 +143,8 @@ level_plain table storage elevation (Solves place value number) s e is =
         let beside_it = beside_plain table storage elevation s e in
         (beside_it.0, rise_from (suc place) 2 (beside_given table storage elevation) 4 near beside_it.1)
 level_plain table storage elevation balanced s e is =
-    let beside_it = beside_plain table storage elevation s e in (beside_it.0, rise_from 0 2 (beside_given table storage elevation) 4 (omega arith) beside_it.1)
+    let beside_it =
+    beside_plain table storage elevation s e in (beside_it.0, rise_from 0 2 (beside_given table storage elevation) 4 (omega arith) beside_it.1)
 
 release_plain : (most : Option ℤ) (outflow : Given) → outflow.number ≡ 0 → ArePlain 9 (release_puts most outflow) 12
 release_plain None outflow is = (tt, omega arith)
@@ -144,14 +160,16 @@ given_zero view zeros place held is =
     let there = given_known view.own (known view place) held is in there.number ∙ zeros place there.is there.known_one
 
 sight_zero : (kind : Kind) (view : View) → KnownZero view → AreZero (sight_of kind view)
-sight_zero (Reservoir initial_storage table local_inflow diversion return_flow evaporation max_release) view zeros = store_zero table view (given_zero view zeros)
+sight_zero (Reservoir initial_storage table local_inflow diversion return_flow evaporation max_release) view zeros =
+    store_zero table view (given_zero view zeros)
 sight_zero kind view zeros = given_zero view zeros
 
 held_zero : (content : Option Content) → ((c : Content) → content ≡ Some c → c.number ≡ 0) → (held_by content).number ≡ 0
 held_zero None f = refl
 held_zero (Some content) f = f content refl
 
-after_zero : (most : ℕ) (view : View) (balanced : Balanced) (place : ℕ) → SolvesBelow most balanced → KnownZero view → (known_after view balanced place).number ≡ 0
+after_zero : (most : ℕ) (view : View) (balanced : Balanced) (place : ℕ) → SolvesBelow most balanced → KnownZero view
+    → (known_after view balanced place).number ≡ 0
 after_zero most view (Solves solved_place value number) place is zeros = by (solved_place == place)
   where
     by : (test : Bool) → (if test then record { value = value; number = number } else held_by (known view place)).number ≡ 0
@@ -194,7 +212,8 @@ puts_plain (Canal seepage) view zeros free =
     let kind : Kind = Canal seepage in
     let balanced = balanced_of kind view in
     let solved_one = solves_below kind view zeros free 2 (omega arith, (omega arith, tt)) in
-    plain_both 0 2 12 (solved_put balanced) (seepage_put (known_after view balanced 0) (known_after view balanced 1)) (solved_plain 2 2 balanced (omega arith) solved_one)
+    plain_both 0 2 12 (solved_put balanced) (seepage_put (known_after view balanced 0) (known_after view balanced 1))
+    (solved_plain 2 2 balanced (omega arith) solved_one)
     ((after_zero 2 view balanced 0 solved_one zeros, tt), (omega arith, omega arith))
 puts_plain (Reservoir initial_storage table local_inflow diversion return_flow evaporation max_release) view zeros free =
     let kind : Kind = Reservoir initial_storage table local_inflow diversion return_flow evaporation max_release in
@@ -204,12 +223,15 @@ puts_plain (Reservoir initial_storage table local_inflow diversion return_flow e
     let lost = evaporation_put evaporation (evaporation_of evaporation table view) in
     plain_both 0 9 12 ((solved_put balanced ++ level) ++ lost) (release_puts max_release (known_after view balanced 1))
     (plain_both 0 4 9 (solved_put balanced ++ level) lost
-    (level_plain table (given view 2) (given view 3) balanced (zero_at (given view) 2 (given_zero view zeros)) (zero_at (given view) 3 (given_zero view zeros)) solved_one)
-    (plain_if 4 9 evaporation (put 8 (unwrap_or (evaporation_of evaporation table view) (pos 0)) 0 ∷ []) [] ((refl, tt), (omega arith, omega arith)) (tt, omega arith)))
+    (level_plain table (given view 2) (given view 3) balanced (zero_at (given view) 2 (given_zero view zeros))
+    (zero_at (given view) 3 (given_zero view zeros)) solved_one)
+    (plain_if 4 9 evaporation (put 8 (unwrap_or (evaporation_of evaporation table view) (pos 0)) 0 ∷ []) [] ((refl, tt), (omega arith, omega arith))
+    (tt, omega arith)))
     (release_plain max_release (known_after view balanced 1) (after_zero 3 view balanced 1 solved_one zeros))
 puts_plain (PowerReservoir initial_storage table max_release tailwater power) view zeros free = absurd (both_ways false refl free)
 puts_plain (RoutedReach initial_content release) view zeros free = absurd (both_ways false refl free)
 
 -- where all numbers are 0, those of the puts are, and their places rise
-pub answers_plain : (kind : Kind) (view : View) (puts : List Put) → KnownZero view → is_free kind ≡ true → solve_of kind view ≡ Puts puts → ArePlain 0 puts 12
+pub answers_plain : (kind : Kind) (view : View) (puts : List Put) → KnownZero view → is_free kind ≡ true → solve_of kind view ≡ Puts puts
+    → ArePlain 0 puts 12
 answers_plain kind view puts zeros free e = subst (λ xs. ArePlain 0 xs 12) (answered_puts kind view puts free e) (puts_plain kind view zeros free)

@@ -1,5 +1,8 @@
 -- The cells of one object's slots, and its puts to them.
-use Rattle.rw_order.proofs.Common.{AllByRecursion, Asked, Cells, Content, Draft, List, None, Option, Put, Some, [], ap, arith, asked_by, asked_for, cases_lt, cell_at, content_in, false, get_or-map-range_with_len, get_or_past, inl, inr, is_shared, known, map, none-some, option_and_then, option_map, places, put, slot_in_place, subst, suc, sym, true, unwrap_or, value_in, view_of, ℕ, ℤ, ◌+◌, ◌<◌, ◌∙◌, ◌∷◌, ◌≡◌, ◌≢◌}
+use Rattle.rw_order.proofs.Common.{AllByRecursion, Asked, Cells, Content, Draft, List, None, Option, Put, Some, [], ap, arith, asked_by, asked_for}
+use Rattle.rw_order.proofs.Common.{cases_lt, cell_at, content_in, false, get_or-map-range_with_len, get_or_past, inl, inr, is_shared, known, map}
+use Rattle.rw_order.proofs.Common.{none-some, option_and_then, option_map, places, put, slot_in_place, subst, suc, sym, true, unwrap_or, value_in}
+use Rattle.rw_order.proofs.Common.{view_of, ℕ, ℤ, ◌+◌, ◌<◌, ◌∙◌, ◌∷◌, ◌≡◌, ◌≢◌}
 use Rattle.rw_order.proofs.Lists.{all_mapped, all_weaker}
 use Rattle.rw_order.proofs.Held.{AreHeld, Values}
 use Rattle.rw_order.proofs.Numbers.{Rise}
@@ -14,12 +17,14 @@ pub content_at : (basin : Draft) (cells : Cells) (object step place : ℕ) (slot
     → content_in basin cells object step place ≡ option_and_then cells (option_map (λ s. cell_at s step) slot)
 content_at basin cells object step place slot at = ap (λ s. option_and_then cells (option_map (λ n. cell_at n step) s)) at
 
-pub known_at : (basin : Draft) (cells : Cells) (object step place : ℕ) → place < 12 → known (view_of basin cells object step) place ≡ content_in basin cells object step place
+pub known_at : (basin : Draft) (cells : Cells) (object step place : ℕ) → place < 12
+    → known (view_of basin cells object step) place ≡ content_in basin cells object step place
 known_at basin cells object step place near =
     let at : 0 + place ≡ place = omega arith in
     get_or-map-range_with_len (content_in basin cells object step) 0 12 place place None near at
 
-pub known_is : (basin : Draft) (cells : Cells) (object step place : ℕ) (content : Content) → known (view_of basin cells object step) place ≡ Some content
+pub known_is : (basin : Draft) (cells : Cells) (object step place : ℕ) (content : Content)
+    → known (view_of basin cells object step) place ≡ Some content
     → content_in basin cells object step place ≡ Some content
 known_is basin cells object step place content is = elim (cases_lt place 12) [
   | inl near ↦ sym (known_at basin cells object step place near) ∙ is
@@ -32,8 +37,10 @@ HaveSlots basin object puts = AllByRecursion (λ (put : Put). (slot : ℕ) × (s
 
 -- slots of one object share no value
 pub record IsApart (basin : Draft) (object : ℕ) : Type 0 where
-  pub own : (place slot step : ℕ) → slot_in_place basin.objects object place ≡ Some slot → is_shared basin (cell_at slot step) (cell_at slot step) ≡ true
-  pub apart : (place other slot there step : ℕ) → slot_in_place basin.objects object place ≡ Some slot → slot_in_place basin.objects object other ≡ Some there
+  pub own : (place slot step : ℕ) → slot_in_place basin.objects object place ≡ Some slot
+      → is_shared basin (cell_at slot step) (cell_at slot step) ≡ true
+  pub apart : (place other slot there step : ℕ) → slot_in_place basin.objects object place ≡ Some slot
+      → slot_in_place basin.objects object other ≡ Some there
       → place ≢ other → is_shared basin (cell_at slot step) (cell_at there step) ≡ false
 
 cell_held : (cells : Cells) (step : ℕ) (found : Option ℕ) (value : ℤ)
@@ -46,7 +53,8 @@ pub asked_held : (basin : Draft) (cells : Cells) (object step : ℕ) (puts : Lis
     → HeldIn cells (asked_for basin object step puts)
 asked_held basin cells object step puts held =
     all_mapped (λ (put : Asked). value_in cells put.cell ≡ Some put.content.value) (asked_by basin object step) puts
-    (all_weaker (λ (put : Put). values_at basin cells object step put.place ≡ Some put.value) (λ (put : Put). value_in cells (asked_by basin object step put).cell ≡ Some put.value)
+    (all_weaker (λ (put : Put). values_at basin cells object step put.place ≡ Some put.value)
+    (λ (put : Put). value_in cells (asked_by basin object step put).cell ≡ Some put.value)
     puts (λ put is. cell_held cells step (slot_in_place basin.objects object put.place) put.value is) held)
 
 clear_from : (basin : Draft) (object step place slot low high : ℕ) (content : Content) (puts : List Put) → IsApart basin object
@@ -59,8 +67,10 @@ clear_from basin object step place slot low high content (put ∷ puts) is at lt
     let turned : put.place ≢ place = λ same. absurd (omega (arith, lt, first, same)) in
     let there = slots.0.1 in (
       (
-        ap (λ slot_there. is_shared basin (cell_at slot step) (cell_at (unwrap_or slot_there 0) step)) there ∙ is.apart place put.place slot slots.0.0 step at there other,
-        ap (λ slot_there. is_shared basin (cell_at (unwrap_or slot_there 0) step) (cell_at slot step)) there ∙ is.apart put.place place slots.0.0 slot step there at turned,
+        ap (λ slot_there. is_shared basin (cell_at slot step) (cell_at (unwrap_or slot_there 0) step)) there
+            ∙ is.apart place put.place slot slots.0.0 step at there other,
+        ap (λ slot_there. is_shared basin (cell_at (unwrap_or slot_there 0) step) (cell_at slot step)) there
+            ∙ is.apart put.place place slots.0.0 slot step there at turned,
       ),
       clear_from basin object step place slot (suc put.place) high content puts is at (omega (arith, lt, first)) rise.1 slots.1,
     )
@@ -72,20 +82,24 @@ are_clear basin object step low high (put ∷ puts) is rise slots =
     let there = slots.0.1 in (
       ap (λ slot. is_shared basin (cell_at (unwrap_or slot 0) step) (cell_at (unwrap_or slot 0) step)) there ∙ is.own put.place slots.0.0 step there,
       (
-        subst (λ slot. IsClear basin (record { cell = cell_at (unwrap_or slot 0) step; content = (asked_by basin object step put).content }) (asked_for basin object step puts))
+        subst (λ slot. IsClear basin (record { cell = cell_at (unwrap_or slot 0) step; content = (asked_by basin object step put).content })
+            (asked_for basin object step puts))
             (sym there)
-            (clear_from basin object step put.place slots.0.0 (suc put.place) high (asked_by basin object step put).content puts is there (omega arith) rise.1 slots.1),
+            (clear_from basin object step put.place slots.0.0 (suc put.place) high (asked_by basin object step put).content puts is there
+            (omega arith) rise.1 slots.1),
         are_clear basin object step (suc put.place) high puts is rise.1 slots.1,
       ),
     )
 
 -- where its puts stand in their cells, their values stand in its places
-pub puts_stand : (basin : Draft) (cells : Cells) (object step : ℕ) (puts : List Put) → HaveSlots basin object puts → HeldIn cells (asked_for basin object step puts)
+pub puts_stand : (basin : Draft) (cells : Cells) (object step : ℕ) (puts : List Put) → HaveSlots basin object puts
+    → HeldIn cells (asked_for basin object step puts)
     → AreHeld (values_at basin cells object step) puts
 puts_stand basin cells object step [] slots stand = tt
 puts_stand basin cells object step (put ∷ puts) slots stand =
     let there = slots.0.1 in
-    let here : value_in cells (cell_at slots.0.0 step) ≡ Some put.value = subst (λ slot. value_in cells (cell_at (unwrap_or slot 0) step) ≡ Some put.value) there stand.0 in (
+    let here : value_in cells (cell_at slots.0.0 step) ≡ Some put.value =
+    subst (λ slot. value_in cells (cell_at (unwrap_or slot 0) step) ≡ Some put.value) there stand.0 in (
       ap (option_map (λ (c : Content). c.value)) (content_at basin cells object step put.place (Some slots.0.0) there) ∙ here,
       puts_stand basin cells object step puts slots.1 stand.1,
     )

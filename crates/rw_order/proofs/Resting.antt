@@ -1,5 +1,10 @@
 -- An object at rest, and what any other dispatch of it comes to from less than the cells hold.
-use Rattle.rw_order.proofs.Common.{Asked, Bool, Cell, Cells, Content, Draft, Event, IdleAnswer, IsFault, Kind, List, Look, None, Object, Option, Past, Put, Puts, Reservoir, Solved, Some, View, [], answer, answered, ap, asked_for, before_of, cell_at, cell_in, content_in, dispatch_of, dispatched, end_in, false, given, held_after, if◌then◌else◌, inl, inr, is_bounded, is_written, looks_of, nat_lt, none-some, object_at, option_and_then, option_map, past_of, past_value, pos, puts_written, refl, solve_of, solved_by, subst, sym, true, unwrap_or, value_in, value_of_past, view_of, ℕ, ℤ, ◌-ℤ◌, ◌-◌, ◌∙◌, ◌≡◌, ◌⊎◌}
+use Rattle.rw_order.proofs.Common.{Asked, Bool, Cell, Cells, Content, Draft, Event, IdleAnswer, IsFault, Kind, List, Look, None, Object, Option, Past}
+use Rattle.rw_order.proofs.Common.{Put, Puts, Reservoir, Solved, Some, View, [], answer, answered, ap, asked_for, before_of, cell_at, cell_in}
+use Rattle.rw_order.proofs.Common.{content_in, dispatch_of, dispatched, end_in, false, given, held_after, if◌then◌else◌, inl, inr, is_bounded}
+use Rattle.rw_order.proofs.Common.{is_written, looks_of, nat_lt, none-some, object_at, option_and_then, option_map, past_of, past_value, pos}
+use Rattle.rw_order.proofs.Common.{puts_written, refl, solve_of, solved_by, subst, sym, true, unwrap_or, value_in, value_of_past, view_of, ℕ, ℤ, ◌-ℤ◌}
+use Rattle.rw_order.proofs.Common.{◌-◌, ◌∙◌, ◌≡◌, ◌⊎◌}
 use Rattle.rw_order.specs.Free.{is_free}
 use Rattle.rw_order.proofs.Lists.{all_kept, all_weaker}
 use Rattle.rw_order.proofs.Held.{AnswersWithin, AreHeld, AreZero, FitsThere, IsSeenOf, IsWhole}
@@ -16,7 +21,8 @@ pub record StaysWithin (basin : Draft) (low high : Cells) (event : Event) : Type
   pub no_fault : ¬ IsFault event
   pub below : AreBelow (held_after basin event low) high
 
-answered_within : (basin : Draft) (low high : Cells) (looked : List Look) (object step : ℕ) (answer : Solved) → HaveZeros low → AreBelow low high → AreShared basin high
+answered_within : (basin : Draft) (low high : Cells) (looked : List Look) (object step : ℕ) (answer : Solved) → HaveZeros low → AreBelow low high
+    → AreShared basin high
     → AnswersWithin (values_at basin high object step) answer → StaysWithin basin low high (answered basin low looked object step answer)
 answered_within basin low high looked object step IdleAnswer zeros below shared within =
     record { no_fault = λ is. is; below = stays_below basin low high [] shared below tt }
@@ -43,8 +49,10 @@ past_below : (basin : Draft) (low high : Cells) (step : ℕ) (past : Option Past
 past_below basin low high step None value below is = is
 past_below basin low high step (Some past) value below is = by (nat_lt past.ago step) is
   where
-    by : (test : Bool) → (if test then value_in low (cell_at past.slot (step - past.ago)) else before_of basin.objects past.slot (pos step -ℤ pos past.ago)) ≡ Some value
-        → (if test then value_in high (cell_at past.slot (step - past.ago)) else before_of basin.objects past.slot (pos step -ℤ pos past.ago)) ≡ Some value
+    by : (test : Bool) → (if test then value_in low (cell_at past.slot (step - past.ago)) else before_of basin.objects past.slot
+        (pos step -ℤ pos past.ago)) ≡ Some value
+        → (if test then value_in high (cell_at past.slot (step - past.ago)) else before_of basin.objects past.slot (pos step -ℤ pos past.ago))
+        ≡ Some value
     by true is = value_below low high (cell_at past.slot (step - past.ago)) (low (cell_at past.slot (step - past.ago))) value below refl is
     by false is = is
 
@@ -101,19 +109,26 @@ module _ (basin : Draft) (start low high : Cells) (object step : ℕ) where
       → AnswersWithin (values_at basin high object step) (solve_of kind (view_of basin low object step))
   rest_within kind keeps (inl spoken) below zeros levelled can =
       answers_within (values_at basin high object step) (past_value basin high object step) spoken.view (view_of basin low object step) spoken.seen
-      (seen_below basin low high object step below) spoken.zeros (given_zero (view_of basin low object step) (known_zero basin low object step zeros)) kind spoken.puts keeps
-      (levelled_both kind spoken.view (view_of basin low object step) (view_of basin start object step) spoken.levelled levelled) can spoken.answer spoken.held
+      (seen_below basin low high object step below) spoken.zeros (given_zero (view_of basin low object step) (known_zero basin low object step zeros))
+      kind spoken.puts keeps
+      (levelled_both kind spoken.view (view_of basin low object step) (view_of basin start object step) spoken.levelled levelled) can spoken.answer
+      spoken.held
   rest_within kind keeps (inr silent) below zeros levelled can =
       subst (AnswersWithin (values_at basin high object step))
-      (sym (answers_idle (values_at basin high object step) (past_value basin high object step) (view_of basin high object step) (view_of basin low object step)
+      (sym (answers_idle (values_at basin high object step) (past_value basin high object step) (view_of basin high object step)
+      (view_of basin low object step)
       silent.whole (seen_below basin low high object step below) kind keeps
-      (levelled_both kind (view_of basin high object step) (view_of basin low object step) (view_of basin start object step) silent.levelled levelled) silent.answer))
+      (levelled_both kind (view_of basin high object step) (view_of basin low object step) (view_of basin start object step) silent.levelled levelled)
+      silent.answer))
       tt
 
   -- so a dispatch of it, in any order, is no fault, and leaves nothing but what the cells hold at rest
-  pub stays_within : (found : Object) → object_at basin.objects object ≡ Some found → is_free found.kind ≡ true → IsAtRest basin start high object step found.kind
-      → AreBelow low high → HaveZeros low → AreShared basin high → AreLevelledOf found.kind (view_of basin low object step) (view_of basin start object step)
-      → FitsThere (values_at basin high object step) (is_bounded (view_of basin low object step)) → StaysWithin basin low high (dispatched basin low object step)
+  pub stays_within : (found : Object) → object_at basin.objects object ≡ Some found → is_free found.kind ≡ true
+      → IsAtRest basin start high object step found.kind
+      → AreBelow low high → HaveZeros low → AreShared basin high
+      → AreLevelledOf found.kind (view_of basin low object step) (view_of basin start object step)
+      → FitsThere (values_at basin high object step) (is_bounded (view_of basin low object step))
+      → StaysWithin basin low high (dispatched basin low object step)
   stays_within found is keeps rest below zeros shared levelled can =
       answered_within basin low high (looks_of basin low object step) object step (solved_by basin low object step) zeros below shared
       (subst (λ (o : Option Object). AnswersWithin (values_at basin high object step)
@@ -143,6 +158,8 @@ module _ (basin : Draft) (start old new : Cells) (object step : ℕ) (grow : Gro
     zeros = spoken.zeros;
     levelled = spoken.levelled;
     answer = spoken.answer;
-    held = all_weaker (λ (put : Put). values_at basin old object step put.place ≡ Some put.value) (λ (put : Put). values_at basin new object step put.place ≡ Some put.value)
+    held =
+        all_weaker (λ (put : Put). values_at basin old object step put.place ≡ Some put.value)
+        (λ (put : Put). values_at basin new object step put.place ≡ Some put.value)
         spoken.puts (λ put is. values_grow put.place put.value is) spoken.held;
   }

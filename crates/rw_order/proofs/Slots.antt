@@ -1,5 +1,8 @@
 -- An object's slots by place, and the place of each slot.
-use Rattle.rw_order.proofs.Common.{Bool, List, None, Object, Option, Placed, Slot, Some, [], all_slots, and_parts, ap, ap₂, arith, false, first_from, if◌then◌else◌, inl, inr, is_in_place, length, nat_eq_equiv, nat_tests, none-some, numbered-known, option_map, owner_of, placed_from, refl, same_Some, slice_get, slot_at, slot_in_place, slots_from, slots_of, subst, suc, sym, true, unwrap_or, zero, ℕ, ◌&&◌, ◌++◌, ◌+◌, ◌-◌, ◌==◌, ◌∙◌, ◌∷◌, ◌≡◌, ◌≤◌, ◌⊎◌}
+use Rattle.rw_order.proofs.Common.{Bool, List, None, Object, Option, Placed, Slot, Some, [], all_slots, and_parts, ap, ap₂, arith, false, first_from}
+use Rattle.rw_order.proofs.Common.{if◌then◌else◌, inl, inr, is_in_place, length, nat_eq_equiv, nat_tests, none-some, numbered-known, option_map}
+use Rattle.rw_order.proofs.Common.{owner_of, placed_from, refl, same_Some, slice_get, slot_at, slot_in_place, slots_from, slots_of, subst, suc, sym}
+use Rattle.rw_order.proofs.Common.{true, unwrap_or, zero, ℕ, ◌&&◌, ◌++◌, ◌+◌, ◌-◌, ◌==◌, ◌∙◌, ◌∷◌, ◌≡◌, ◌≤◌, ◌⊎◌}
 
 pub record IsFoundAt (n k : ℕ) (test : Placed → Bool) (slots : List Placed) : Type 0 where
   pub placed_one : Placed
@@ -20,7 +23,12 @@ found_at n k test (first ∷ rest) found = by (test first) refl found (found_at 
     by false here found later =
         let is = later found in
         let start : k - n ≡ suc (k - (n + 1)) = omega (arith, is.after) in
-        record { placed_one = is.placed_one; after = omega (arith, is.after); found = ap (slice_get (first ∷ rest)) start ∙ is.found; passes_it = is.passes_it }
+        record {
+          placed_one = is.placed_one;
+          after = omega (arith, is.after);
+          found = ap (slice_get (first ∷ rest)) start ∙ is.found;
+          passes_it = is.passes_it;
+        }
 
 -- the slot of this number is the object's, in this place
 pub record IsPlaced (objects : List Object) (object place slot : ℕ) : Type 0 where
@@ -47,13 +55,16 @@ owner_is objects object place slot at =
 
 -- ---- each slot has a place of its own
 
-place_from : (owner place : ℕ) (slots : List (Option Slot)) (k : ℕ) (p : Placed) → slice_get (placed_from owner place slots) k ≡ Some p → (place ≤ p.place) × (p.owner ≡ owner)
+place_from : (owner place : ℕ) (slots : List (Option Slot)) (k : ℕ) (p : Placed) → slice_get (placed_from owner place slots) k ≡ Some p
+    → (place ≤ p.place) × (p.owner ≡ owner)
 place_from owner place [] k p is = absurd (none-some _ is)
-place_from owner place (None ∷ slots) k p is = let rest = place_from owner (place + 1) slots k p is in let low = rest.0 in (omega (arith, low), rest.1)
+place_from owner place (None ∷ slots) k p is = let rest = place_from owner (place + 1) slots k p is in let low =
+    rest.0 in (omega (arith, low), rest.1)
 place_from owner place (Some slot ∷ slots) zero p is =
     let same : record { owner = owner; place = place; slot = slot } ≡ p = same_Some _ _ is in
     let at : place ≡ p.place = ap (λ (q : Placed). q.place) same in (omega (arith, at), ap (λ (q : Placed). q.owner) (sym same))
-place_from owner place (Some slot ∷ slots) (suc k) p is = let rest = place_from owner (place + 1) slots k p is in let low = rest.0 in (omega (arith, low), rest.1)
+place_from owner place (Some slot ∷ slots) (suc k) p is = let rest = place_from owner (place + 1) slots k p is in let low =
+    rest.0 in (omega (arith, low), rest.1)
 
 one_place : (owner place : ℕ) (slots : List (Option Slot)) (j k : ℕ) (p q : Placed) → slice_get (placed_from owner place slots) j ≡ Some p
     → slice_get (placed_from owner place slots) k ≡ Some q → p.place ≡ q.place → j ≡ k
@@ -85,7 +96,8 @@ owner_from number (object ∷ objects) k p is = elim (split_at (placed_from numb
   | inr later ↦ let low = owner_from (number + 1) objects later.0 p later.2 in omega (arith, low)
 ]
 
-one_number : (number : ℕ) (objects : List Object) (j k : ℕ) (p q : Placed) → slice_get (slots_from number objects) j ≡ Some p → slice_get (slots_from number objects) k ≡ Some q
+one_number : (number : ℕ) (objects : List Object) (j k : ℕ) (p q : Placed) → slice_get (slots_from number objects) j ≡ Some p
+    → slice_get (slots_from number objects) k ≡ Some q
     → p.owner ≡ q.owner → p.place ≡ q.place → j ≡ k
 one_number number [] j k p q x y owners places_same = absurd (none-some _ x)
 one_number number (object ∷ objects) j k p q x y owners places_same =
@@ -108,14 +120,16 @@ one_number number (object ∷ objects) j k p q x y owners places_same =
       ]
     ]
 
-first_there : (n j : ℕ) (test : Placed → Bool) (slots : List Placed) (p : Placed) → slice_get slots j ≡ Some p → test p ≡ true → (k : ℕ) × (first_from n test slots ≡ Some k)
+first_there : (n j : ℕ) (test : Placed → Bool) (slots : List Placed) (p : Placed) → slice_get slots j ≡ Some p → test p ≡ true
+    → (k : ℕ) × (first_from n test slots ≡ Some k)
 first_there n j test [] p is passes_it = absurd (none-some _ is)
 first_there n zero test (first ∷ slots) p is passes_it =
     let here : test first ≡ true = subst (λ q. test q ≡ true) (sym (same_Some _ _ is)) passes_it in
     (n, ap (λ t. if t then Some n else first_from (n + 1) test slots) here)
 first_there n (suc j) test (first ∷ slots) p is passes_it = by (test first) refl (first_there (n + 1) j test slots p is passes_it)
   where
-    by : (here : Bool) → test first ≡ here → (k : ℕ) × (first_from (n + 1) test slots ≡ Some k) → (k : ℕ) × ((if test first then Some n else first_from (n + 1) test slots) ≡ Some k)
+    by : (here : Bool) → test first ≡ here → (k : ℕ) × (first_from (n + 1) test slots ≡ Some k)
+        → (k : ℕ) × ((if test first then Some n else first_from (n + 1) test slots) ≡ Some k)
     by true passes_here later = (n, ap (λ t. if t then Some n else first_from (n + 1) test slots) passes_here)
     by false fails later = (later.0, ap (λ t. if t then Some n else first_from (n + 1) test slots) fails ∙ later.1)
 
@@ -124,11 +138,13 @@ pub in_its_place : (objects : List Object) (slot : ℕ) (placed_one : Placed) �
     → slot_in_place objects placed_one.owner placed_one.place ≡ Some slot
 in_its_place objects slot placed_one first at =
     let got : slice_get (all_slots objects) (slot - 1) ≡ Some placed_one = sym (numbered-known (all_slots objects) slot first) ∙ at in
-    let passes_it : is_in_place placed_one.owner placed_one.place placed_one ≡ true = ap₂ (λ a b. a && b) (nat_eq_equiv.refl placed_one.owner) (nat_eq_equiv.refl placed_one.place) in
+    let passes_it : is_in_place placed_one.owner placed_one.place placed_one ≡ true =
+    ap₂ (λ a b. a && b) (nat_eq_equiv.refl placed_one.owner) (nat_eq_equiv.refl placed_one.place) in
     let some = first_there 1 (slot - 1) (is_in_place placed_one.owner placed_one.place) (all_slots objects) placed_one got passes_it in
     let found = found_at 1 some.0 (is_in_place placed_one.owner placed_one.place) (all_slots objects) some.1 in
     let own = placed_in objects placed_one.owner placed_one.place some.0 some.1 in
-    let is_own : own.placed_one ≡ found.placed_one = same_Some _ _ (sym own.found ∙ numbered-known (all_slots objects) some.0 found.after ∙ found.found) in
+    let is_own : own.placed_one ≡ found.placed_one =
+    same_Some _ _ (sym own.found ∙ numbered-known (all_slots objects) some.0 found.after ∙ found.found) in
     let same = one_number 1 objects (some.0 - 1) (slot - 1) found.placed_one placed_one found.found got
     (subst (λ (q : Placed). q.owner ≡ placed_one.owner) is_own own.owner) (subst (λ (q : Placed). q.place ≡ placed_one.place) is_own own.place_is) in
     let after = found.after in

@@ -1,5 +1,10 @@
 -- The log of the inputs, with which every log begins.
-use Rattle.rw_order.proofs.Common.{All-append, All-cons, All-nil, AllByRecursion, Bool, Bounds, Cell, Content, Decides-int_le, Draft, Input, Inputs, IsBasin, IsBetween, IsInputsOf, List, Log, None, Option, Shared-of, Some, [], all_known, all_quantities, all_slots, ap, ap₂, arith, bounds-shared, bounds_in, bounds_in-quantities, cell_at, cells_of, false, given_to, givens, givens_of, givens_to, if_given, if◌then◌else◌, inl, input_content, ints, is_between, is_shared, last_closed, length, none-some, option_or, placed, recursion_from_All, refl, rests, same_Some, slot_numbers, standing, subst, suc, sym, true, value_at, value_in, zero, ℕ, ℤ, ◌&&◌, ◌∷◌, ◌≡◌, ◌≤ℤ◌}
+use Rattle.rw_order.proofs.Common.{All-append, All-cons, All-nil, AllByRecursion, Bool, Bounds, Cell, Content, Decides-int_le, Draft, Input, Inputs}
+use Rattle.rw_order.proofs.Common.{IsBasin, IsBetween, IsInputsOf, List, Log, None, Option, Shared-of, Some, [], all_known, all_quantities, all_slots}
+use Rattle.rw_order.proofs.Common.{ap, ap₂, arith, bounds-shared, bounds_in, bounds_in-quantities, cell_at, cells_of, false, given_to, givens}
+use Rattle.rw_order.proofs.Common.{givens_of, givens_to, if_given, if◌then◌else◌, inl, input_content, ints, is_between, is_shared, last_closed}
+use Rattle.rw_order.proofs.Common.{length, none-some, option_or, placed, recursion_from_All, refl, rests, same_Some, slot_numbers, standing, subst}
+use Rattle.rw_order.proofs.Common.{suc, sym, true, value_at, value_in, zero, ℕ, ℤ, ◌&&◌, ◌∷◌, ◌≡◌, ◌≤ℤ◌}
 use Rattle.rw_order.specs.AnyRun.{IsAnyRun, IsSettledLog}
 use Rattle.rw_order.specs.Inside.{AreInside, CanHave}
 use Rattle.rw_order.proofs.Writing.{AreShared}
@@ -16,9 +21,11 @@ between_tests bounds value low high = ap₂ (λ a b. a && b) ((Decides-int_le bo
 shared_inside : (basin : Draft) (at cell : Cell) (value : ℤ) → IsBasin basin → is_shared basin at cell ≡ true → CanHave basin (at, value)
     → in_bounds basin cell.slot.0 value ≡ true
 shared_inside basin at cell value valid shares between =
-    let known_slot = among_known basin.objects (slot_numbers basin.objects) cell.slot.0 (all_known basin.objects) (Shared-of basin at cell shares).known in
+    let known_slot =
+    among_known basin.objects (slot_numbers basin.objects) cell.slot.0 (all_known basin.objects) (Shared-of basin at cell shares).known in
     let wide = bounds_in-quantities basin cell.slot.0 valid known_slot in
-    let here : IsBetween (bounds_in basin.objects basin.links basin.bounds cell.slot.0) value = subst (λ b. IsBetween b value) (bounds-shared basin at cell shares) between in
+    let here : IsBetween (bounds_in basin.objects basin.links basin.bounds cell.slot.0) value =
+    subst (λ b. IsBetween b value) (bounds-shared basin at cell shares) between in
     let low = here.low in
     let high = here.high in
     let least = wide.low in
@@ -40,7 +47,8 @@ module _ (basin : Draft) (valid : IsBasin basin) (laid : IsLaidOut basin) where
     stands = refl;
     each = λ cell content e. by cell content (is_shared basin at cell) refl e;
     shared = λ cell other shares.
-        ap₂ option_or (ap (λ test. if test then Some (input_content value) else None) (laid.same_group at cell other shares)) (begun.shared cell other shares);
+        ap₂ option_or (ap (λ test. if test then Some (input_content value) else None) (laid.same_group at cell other shares))
+        (begun.shared cell other shares);
   }
     where
       by : (cell : Cell) (content : Content) (test : Bool) → is_shared basin at cell ≡ test
@@ -77,19 +85,24 @@ module _ (basin : Draft) (valid : IsBasin basin) (laid : IsLaidOut basin) where
         few = λ object found there ready some. absurd (omega (arith, some, opens));
       }
 
-  pub orders_agree : (inputs : List (Cell × ℤ)) (log other : Log) → AreInside basin inputs → IsAnyRun basin inputs log → IsSettledLog log → IsAnyRun basin inputs other
-      → IsSettledLog other × (last_closed other ≡ basin.control.stamps.count) × ((cell : Cell) → value_in (cells_of basin log) cell ≡ value_in (cells_of basin other) cell)
+  pub orders_agree : (inputs : List (Cell × ℤ)) (log other : Log) → AreInside basin inputs → IsAnyRun basin inputs log → IsSettledLog log
+      → IsAnyRun basin inputs other
+      → IsSettledLog other × (last_closed other ≡ basin.control.stamps.count)
+      × ((cell : Cell) → value_in (cells_of basin log) cell ≡ value_in (cells_of basin other) cell)
   orders_agree inputs log other inside one settled_one two =
       let begun = begun_of inputs inside in
-      any_order basin (cells_of basin (placed [] inputs)) laid (λ cell content is. (begun.each cell content is).1) valid.whole.control.least_object (placed [] inputs) one.events
-      two.events log other valid.whole.control.timesteps.some (first_orderly (placed [] inputs) begun) (λ cell. refl) one.leads one.end settled_one two.leads two.end
+      any_order basin (cells_of basin (placed [] inputs)) laid (λ cell content is. (begun.each cell content is).1) valid.whole.control.least_object
+      (placed [] inputs) one.events
+      two.events log other valid.whole.control.timesteps.some (first_orderly (placed [] inputs) begun) (λ cell. refl) one.leads one.end settled_one
+      two.leads two.end
 
 -- ---- what is read as inputs
 
 module _ (basin : Draft) (inputs : Inputs) (made : IsInputsOf basin inputs) where
   if_inside : (slot step : ℕ) (found : Option ℤ) → value_at inputs slot step ≡ found → AreInside basin (if_given slot step found)
   if_inside slot step None is = All-nil (CanHave basin)
-  if_inside slot step (Some value) is = All-cons (CanHave basin) (cell_at slot step, value) [] (made.sound slot step value is).within (All-nil (CanHave basin))
+  if_inside slot step (Some value) is =
+      All-cons (CanHave basin) (cell_at slot step, value) [] (made.sound slot step value is).within (All-nil (CanHave basin))
 
   of_inside : (slot steps : ℕ) → AreInside basin (givens_of inputs slot steps)
   of_inside slot zero = All-nil (CanHave basin)
@@ -99,7 +112,8 @@ module _ (basin : Draft) (inputs : Inputs) (made : IsInputsOf basin inputs) wher
 
   to_inside : (slots steps : ℕ) → AreInside basin (givens_to inputs slots steps)
   to_inside zero steps = All-nil (CanHave basin)
-  to_inside (suc slot) steps = All-append (CanHave basin) (givens_to inputs slot steps) (givens_of inputs (suc slot) steps) (to_inside slot steps) (of_inside (suc slot) steps)
+  to_inside (suc slot) steps =
+      All-append (CanHave basin) (givens_to inputs slot steps) (givens_of inputs (suc slot) steps) (to_inside slot steps) (of_inside (suc slot) steps)
 
   pub givens_inside : AreInside basin (givens basin inputs)
   givens_inside = to_inside (length (all_slots basin.objects)) basin.control.stamps.count

@@ -1,5 +1,10 @@
 -- The terms of a balance, each of a share in a place, and what stands in these places all together.
-use Rattle.rw_order.proofs.Common.{AllByRecursion, Balanced, Bifurcation, Bool, Brings, ByRule, Canal, Conflicts, Confluence, Conveys, Gage, Given, Holds, Idle, IsSome, Kind, List, None, Option, PowerReservoir, Reach, Request, Reservoir, RoutedReach, Row, Share, Solves, Some, Takes, Term, View, WaterUser, [], ap, ap₂, arith, balance_of, balanced_of, basis_of, both_ways, brought, brought_by, contents_by, false, given, gives_way_before, if◌then◌else◌, int_eq, ints, is_some, map, missing, nat_le, net_of, option_map, pos, refl, settled, settled_at, solves, suc, known_sum, true, value_from_others, weakest, zero, ℕ, ℤ, ◌++◌, ◌+ℤ◌, ◌==◌, ◌∙◌, ◌∷◌, ◌≡◌}
+use Rattle.rw_order.proofs.Common.{AllByRecursion, Balanced, Bifurcation, Bool, Brings, ByRule, Canal, Conflicts, Confluence, Conveys, Gage, Given}
+use Rattle.rw_order.proofs.Common.{Holds, Idle, IsSome, Kind, List, None, Option, PowerReservoir, Reach, Request, Reservoir, RoutedReach, Row, Share}
+use Rattle.rw_order.proofs.Common.{Solves, Some, Takes, Term, View, WaterUser, [], ap, ap₂, arith, balance_of, balanced_of, basis_of, both_ways}
+use Rattle.rw_order.proofs.Common.{brought, brought_by, contents_by, false, given, gives_way_before, if◌then◌else◌, int_eq, ints, is_some, map}
+use Rattle.rw_order.proofs.Common.{missing, nat_le, net_of, option_map, pos, refl, settled, settled_at, solves, suc, known_sum, true}
+use Rattle.rw_order.proofs.Common.{value_from_others, weakest, zero, ℕ, ℤ, ◌++◌, ◌+ℤ◌, ◌==◌, ◌∙◌, ◌∷◌, ◌≡◌}
 use Rattle.rw_order.specs.Free.{is_free}
 use Rattle.rw_order.proofs.Held.{Sight, Stands, Values}
 
@@ -50,7 +55,8 @@ terms_are (PowerReservoir initial_storage table max_release tailwater power) vie
 terms_are (RoutedReach initial_content release) view free = absurd (both_ways false refl free)
 terms_are kind view free = refl
 
-pub balanced_is : (kind : Kind) (view : View) → is_free kind ≡ true → balanced_of kind view ≡ settled (balance_of kind view).steady (terms_of (sight_of kind view) (parts_of kind))
+pub balanced_is : (kind : Kind) (view : View) → is_free kind ≡ true
+    → balanced_of kind view ≡ settled (balance_of kind view).steady (terms_of (sight_of kind view) (parts_of kind))
 balanced_is kind view free = ap (settled (balance_of kind view).steady) (terms_are kind view free)
 
 -- ---- the term that gives way is given where all are
@@ -77,14 +83,16 @@ Comes steady terms Holds = AreGiven terms × (int_eq (steady +ℤ net_of terms) 
 Comes steady terms (Solves place value number) = nat_le 2 (missing terms) ≡ false
 Comes steady terms (Conflicts place held solved) = AreGiven terms × (int_eq (steady +ℤ net_of terms) (pos 0) ≡ false)
 
-comes_if : (steady : ℤ) (terms : List Term) (test : Bool) (a b : Balanced) → (test ≡ true → Comes steady terms a) → (test ≡ false → Comes steady terms b)
+comes_if : (steady : ℤ) (terms : List Term) (test : Bool) (a b : Balanced) → (test ≡ true → Comes steady terms a)
+    → (test ≡ false → Comes steady terms b)
     → Comes steady terms (if test then a else b)
 comes_if steady terms true a b x y = x refl
 comes_if steady terms false a b x y = y refl
 
 pub comes : (steady : ℤ) (first : Term) (rest : List Term) → Comes steady (first ∷ rest) (settled (Some steady) (first ∷ rest))
 comes steady first rest =
-    comes_if steady (first ∷ rest) (nat_le 2 (missing (first ∷ rest))) Idle (settled_at steady (first ∷ rest) (weakest first rest) (weakest first rest).given) (λ many. many)
+    comes_if steady (first ∷ rest) (nat_le 2 (missing (first ∷ rest))) Idle
+    (settled_at steady (first ∷ rest) (weakest first rest) (weakest first rest).given) (λ many. many)
     (λ few. at (weakest first rest).given refl few)
   where
     at : (found : Option Given) → (weakest first rest).given ≡ found → nat_le 2 (missing (first ∷ rest)) ≡ false
@@ -120,7 +128,8 @@ first_sum share None net = refl
 first_sum share (Some w) net = ap Some (omega (arith, ints))
 
 more_sum : (share : Share) (value : Option ℤ) (more before after : ℤ)
-    → known_sum (Some more) (option_map (λ w. before +ℤ brought share w +ℤ after) value) ≡ option_map (λ w. (more +ℤ before) +ℤ brought share w +ℤ after) value
+    → known_sum (Some more) (option_map (λ w. before +ℤ brought share w +ℤ after) value)
+    ≡ option_map (λ w. (more +ℤ before) +ℤ brought share w +ℤ after) value
 more_sum share None more before after = refl
 more_sum share (Some w) more before after = ap Some (omega (arith, ints))
 

@@ -1,5 +1,10 @@
 -- Who waits, and what a dispatch changes of that, of counts, and of where the log stands.
-use Rattle.rw_order.proofs.Common.{Bool, Contains, Draft, Event, Log, None, Object, Option, Some, [], any-times, ap, ap₂, arith, both_ways, code_of, cond, dispatches, ends_wait, false, fired, idle, if◌then◌else◌, inl, inr, inside, is_data, is_put_at, is_some, length, list_any, list_any-from_Contains, nat_eq_equiv, nat_le, nat_lt, nat_tests, none-some, not, not-true, numbers, object_at, opened, option_map, option_or, put, refl, since, slice_get, slice_get_within, solved, standing, subst, sym, times, times-numbers, times-waiting, true, unwrap_or, waiting, wakes, written_by, ℕ, ◌&&◌, ◌+◌, ◌-◌, ◌<◌, ◌==◌, ◌∙◌, ◌∷◌, ◌≡◌, ◌≢◌, ◌≤◌, ◌⊎◌}
+use Rattle.rw_order.proofs.Common.{Bool, Contains, Draft, Event, Log, None, Object, Option, Some, [], any-times, ap, ap₂, arith, both_ways, code_of}
+use Rattle.rw_order.proofs.Common.{cond, dispatches, ends_wait, false, fired, idle, if◌then◌else◌, inl, inr, inside, is_data, is_put_at, is_some}
+use Rattle.rw_order.proofs.Common.{length, list_any, list_any-from_Contains, nat_eq_equiv, nat_le, nat_lt, nat_tests, none-some, not, not-true}
+use Rattle.rw_order.proofs.Common.{numbers, object_at, opened, option_map, option_or, put, refl, since, slice_get, slice_get_within, solved, standing}
+use Rattle.rw_order.proofs.Common.{subst, sym, times, times-numbers, times-waiting, true, unwrap_or, waiting, wakes, written_by, ℕ, ◌&&◌, ◌+◌, ◌-◌}
+use Rattle.rw_order.proofs.Common.{◌<◌, ◌==◌, ◌∙◌, ◌∷◌, ◌≡◌, ◌≢◌, ◌≤◌, ◌⊎◌}
 use Rattle.rw_order.proofs.Leaving.{IsAsked}
 use Rattle.rw_order.proofs.Counting.{one_if}
 
@@ -17,13 +22,16 @@ ready_object basin object ready = by (object_at basin.objects object) refl
   where
     by : (found : Option Object) → object_at basin.objects object ≡ found → (there : Object) × (object_at basin.objects object ≡ Some there)
     by None is =
-        absurd (both_ways (is_data basin object) ready (ap (λ (o : Option Object). unwrap_or (option_map (λ (f : Object). code_of f.kind) o) 0 == 0) is))
+        absurd (both_ways (is_data basin object) ready
+        (ap (λ (o : Option Object). unwrap_or (option_map (λ (f : Object). code_of f.kind) o) 0 == 0) is))
     by (Some there) is = (there, is)
 
-pub in_range : (basin : Draft) (object : ℕ) (found : Object) → object_at basin.objects object ≡ Some found → (1 ≤ object) × (object ≤ length basin.objects)
+pub in_range : (basin : Draft) (object : ℕ) (found : Object) → object_at basin.objects object ≡ Some found
+    → (1 ≤ object) × (object ≤ length basin.objects)
 in_range basin object found is = by (nat_le 1 object) refl is
   where
-    by : (test : Bool) → nat_le 1 object ≡ test → (if test then slice_get basin.objects (object - 1) else None) ≡ Some found → (1 ≤ object) × (object ≤ length basin.objects)
+    by : (test : Bool) → nat_le 1 object ≡ test → (if test then slice_get basin.objects (object - 1) else None) ≡ Some found
+        → (1 ≤ object) × (object ≤ length basin.objects)
     by false low e = absurd (none-some _ e)
     by true low e =
         let first : 1 ≤ object = grind (arith, nat_tests, low) in
@@ -46,7 +54,8 @@ since_ready basin (event ∷ log) object e =
     by (ends_wait event object) (since basin log object) (wakes basin event object) refl e (λ some. since_ready basin log object some)
   where
     by : (ends : Bool) (before : Option ℕ) (woken : Bool) → wakes basin event object ≡ woken
-        → is_some (option_or (if ends then None else before) (if woken then Some (length log) else None)) ≡ true → (is_some before ≡ true → is_data basin object ≡ false)
+        → is_some (option_or (if ends then None else before) (if woken then Some (length log) else None)) ≡ true
+        → (is_some before ≡ true → is_data basin object ≡ false)
         → is_data basin object ≡ false
     by ends before true is some rest = wakes_ready basin event object is
     by true before false is some rest = absurd (both_ways false refl some)
@@ -61,7 +70,8 @@ pub waits_since : (basin : Draft) (log : Log) (object : ℕ) → Contains (waiti
 waits_since basin log object is =
     let listed : list_any (λ x. object == x) (waiting basin log) ≡ true = list_any-from_Contains nat_eq_equiv object (waiting basin log) is in
     let more : nat_lt 0 (times object (waiting basin log)) ≡ true = sym (any-times object (waiting basin log)) ∙ listed in
-    some_of_times (is_some (since basin log object)) (times object (numbers (length basin.objects))) (times object (waiting basin log)) (times-waiting basin log object)
+    some_of_times (is_some (since basin log object)) (times object (numbers (length basin.objects))) (times object (waiting basin log))
+    (times-waiting basin log object)
     (grind (arith, nat_tests, more))
 
 none_of_times : (found : Option ℕ) (n m : ℕ) → m ≡ cond (is_some found) n 0 → m ≡ 0 → 1 ≤ n → found ≡ None
@@ -76,8 +86,10 @@ nobody_waits basin log object found empty is =
     let final = range.1 in
     let low : nat_lt 0 object ≡ true = grind (arith, nat_tests, first) in
     let high : nat_lt object (length basin.objects + 1) ≡ true = grind (arith, nat_tests, final) in
-    let one : times object (numbers (length basin.objects)) ≡ 1 = times-numbers object (length basin.objects) ∙ ap₂ (λ a b. cond (a && b) 1 0) low high in
-    none_of_times (since basin log object) (times object (numbers (length basin.objects))) (times object (waiting basin log)) (times-waiting basin log object)
+    let one : times object (numbers (length basin.objects)) ≡ 1 =
+    times-numbers object (length basin.objects) ∙ ap₂ (λ a b. cond (a && b) 1 0) low high in
+    none_of_times (since basin log object) (times object (numbers (length basin.objects))) (times object (waiting basin log))
+    (times-waiting basin log object)
     (ap (times object) empty) (omega (arith, one))
 
 -- ---- what a dispatch changes
@@ -138,7 +150,8 @@ if_none : (test : Bool) (place : ℕ) → (if test then Some place else None) �
 if_none true place e = absurd (none-some _ (sym e))
 if_none false place e = refl
 
-woken_or_not : (before : Option ℕ) (put : Bool) (place : ℕ) → (one_if (is_some (option_or before (if put then Some place else None))) ≤ one_if (is_some before))
+woken_or_not : (before : Option ℕ) (put : Bool) (place : ℕ)
+    → (one_if (is_some (option_or before (if put then Some place else None))) ≤ one_if (is_some before))
     ⊎ ((before ≡ None) × (put ≡ true))
 woken_or_not (Some at) put place = inl (omega arith)
 woken_or_not None true place = inr (refl, refl)
@@ -162,13 +175,17 @@ module _ (basin : Draft) (log : Log) (object step : ℕ) (event : Event) (asked 
 
   -- the object waits no more
   pub own_rests : since basin (event ∷ log) object ≡ None
-  own_rests = ap₂ (λ ends woken. option_or (if ends then None else since basin log object) (if woken then Some (length log) else None)) turn.own_ends turn.own_sleeps
+  own_rests =
+      ap₂ (λ ends woken. option_or (if ends then None else since basin log object) (if woken then Some (length log) else None)) turn.own_ends
+      turn.own_sleeps
 
   -- another waits since it did, or is woken by a put that reaches it
   since_other : (other : ℕ) → other ≢ object → is_data basin other ≡ false
-      → since basin (event ∷ log) other ≡ option_or (since basin log other) (if is_put_at basin other step (written_by event) then Some (length log) else None)
+      → since basin (event ∷ log) other ≡ option_or (since basin log other)
+      (if is_put_at basin other step (written_by event) then Some (length log) else None)
   since_other other apart ready =
-      ap₂ (λ ends woken. option_or (if ends then None else since basin log other) (if woken then Some (length log) else None)) (turn.other_waits other apart)
+      ap₂ (λ ends woken. option_or (if ends then None else since basin log other) (if woken then Some (length log) else None))
+      (turn.other_waits other apart)
       (turn.other_wakes other apart ready)
 
   pub other_rests : (other : ℕ) → other ≢ object → is_data basin other ≡ false → since basin (event ∷ log) other ≡ None
@@ -181,5 +198,6 @@ module _ (basin : Draft) (log : Log) (object step : ℕ) (event : Event) (asked 
       → (one_if (is_some (since basin (event ∷ log) other)) ≤ one_if (is_some (since basin log other)))
       ⊎ ((since basin log other ≡ None) × (is_put_at basin other step (written_by event) ≡ true))
   other_woken other apart ready =
-      subst (λ s. (one_if (is_some s) ≤ one_if (is_some (since basin log other))) ⊎ ((since basin log other ≡ None) × (is_put_at basin other step (written_by event) ≡ true)))
+      subst (λ s. (one_if (is_some s) ≤ one_if (is_some (since basin log other)))
+      ⊎ ((since basin log other ≡ None) × (is_put_at basin other step (written_by event) ≡ true)))
       (sym (since_other other apart ready)) (woken_or_not (since basin log other) (is_put_at basin other step (written_by event)) (length log))

@@ -1,5 +1,9 @@
 -- What a balance comes to from less than stands in the places: nothing, or what stands there.
-use Rattle.rw_order.proofs.Common.{*ℤ-zero, All, All-from_recursion, AllByRecursion, Balanced, Brings, ByRule, Canal, Conflicts, Conveys, DataObject, Decides-int_eq, Gage, Holds, Idle, IsShare, IsSolved, IsSome, Kind, List, None, Option, PowerReservoir, Reach, Request, RoutedReach, Routes, Share, Solves, Some, Takes, Term, WaterUser, [], agree, ap, arith, both_ways, brought, int_eq, ints, nat_tests, net_of, none-some, option_map, pos, recursion_from_All, refl, same_Some, settled, solved_term, subst, suc, sym, true, zero, ℕ, ℤ, ◌++◌, ◌+ℤ◌, ◌∙◌, ◌∷◌, ◌≡◌}
+use Rattle.rw_order.proofs.Common.{*ℤ-zero, All, All-from_recursion, AllByRecursion, Balanced, Brings, ByRule, Canal, Conflicts, Conveys, DataObject}
+use Rattle.rw_order.proofs.Common.{Decides-int_eq, Gage, Holds, Idle, IsShare, IsSolved, IsSome, Kind, List, None, Option, PowerReservoir, Reach}
+use Rattle.rw_order.proofs.Common.{Request, RoutedReach, Routes, Share, Solves, Some, Takes, Term, WaterUser, [], agree, ap, arith, both_ways}
+use Rattle.rw_order.proofs.Common.{brought, int_eq, ints, nat_tests, net_of, none-some, option_map, pos, recursion_from_All, refl, same_Some, settled}
+use Rattle.rw_order.proofs.Common.{solved_term, subst, suc, sym, true, zero, ℕ, ℤ, ◌++◌, ◌+ℤ◌, ◌∙◌, ◌∷◌, ◌≡◌}
 use Rattle.rw_order.specs.Free.{is_free}
 use Rattle.rw_order.proofs.Lists.{all_left, all_mapped, all_right, all_weaker}
 use Rattle.rw_order.proofs.Held.{Sight, Stands, Values}
@@ -37,7 +41,8 @@ shares_of sight parts keep =
     (all_mapped (λ (term : Term). IsShare term.share) (term_in sight) parts
     (all_weaker (λ (part : Share × ℕ). KeepsAll part.0) (λ (part : Share × ℕ). IsShare part.0) parts (λ part keeps. share_of part.0 keeps) keep))
 
-kept_of : (sight : Sight) (parts : Parts) (before : List Term) (term : Term) (after : List Term) → KeepAll parts → terms_of sight parts ≡ before ++ term ∷ after
+kept_of : (sight : Sight) (parts : Parts) (before : List Term) (term : Term) (after : List Term) → KeepAll parts
+    → terms_of sight parts ≡ before ++ term ∷ after
     → KeepsAll term.share
 kept_of sight parts before term after keep among =
     (all_right (λ (t : Term). KeepsAll t.share) before (term ∷ after)
@@ -79,19 +84,23 @@ module _ (values : Values) (sight : Sight) (parts : Parts) (steady : ℤ) (stand
       → brought_in values parts ≡ option_map (brought_with is.way.before is.term is.way.after) (values place)
   brought_beside place value is =
       let all = recursion_from_All (λ (term : Term). IsSome term.given) (is.way.before ++ is.way.after) is.given in
-      but_one values sight parts is.way.before is.term is.way.after stands is.way.among (all_left (λ (term : Term). IsSome term.given) is.way.before is.way.after all)
+      but_one values sight parts is.way.before is.term is.way.after stands is.way.among
+      (all_left (λ (term : Term). IsSome term.given) is.way.before is.way.after all)
       (all_right (λ (term : Term). IsSome term.given) is.way.before is.way.after all)
       ∙ ap (λ p. option_map (brought_with is.way.before is.term is.way.after) (values p)) is.there
 
-  true_solved : (place : ℕ) (value : ℤ) → IsSolved steady (terms_of sight parts) place value → values place ≡ Some value → IsTrueOf values steady parts
+  true_solved : (place : ℕ) (value : ℤ) → IsSolved steady (terms_of sight parts) place value → values place ≡ Some value
+      → IsTrueOf values steady parts
   true_solved place value is there =
-      ap (option_map (λ total. steady +ℤ total)) (brought_beside place value is ∙ ap (option_map (brought_with is.way.before is.term is.way.after)) there)
+      ap (option_map (λ total. steady +ℤ total))
+      (brought_beside place value is ∙ ap (option_map (brought_with is.way.before is.term is.way.after)) there)
       ∙ ap Some is.balances
 
   solved_stands : (place : ℕ) (value : ℤ) (found : Option ℤ) → (is : IsSolved steady (terms_of sight parts) place value)
       → IsTrueOf values steady parts → values place ≡ found → values place ≡ Some value
   solved_stands place value None is true_here there =
-      let none : brought_in values parts ≡ None = brought_beside place value is ∙ ap (option_map (brought_with is.way.before is.term is.way.after)) there in
+      let none : brought_in values parts ≡ None =
+      brought_beside place value is ∙ ap (option_map (brought_with is.way.before is.term is.way.after)) there in
       absurd (none-some _ (sym (ap (option_map (λ total. steady +ℤ total)) none) ∙ true_here))
   solved_stands place value (Some other) is true_here there =
       let all : brought_in values parts ≡ Some (brought_with is.way.before is.term is.way.after other) =
@@ -104,7 +113,8 @@ module _ (values : Values) (sight : Sight) (parts : Parts) (steady : ℤ) (stand
 
 -- ---- one comes to what stands there, and the other to nothing else
 
-module _ (values : Values) (sight : Sight) (part : Share × ℕ) (parts : Parts) (steady : ℤ) (stands : Stands values sight) (keep : KeepAll (part ∷ parts)) where
+module _ (values : Values) (sight : Sight) (part : Share × ℕ) (parts : Parts) (steady : ℤ) (stands : Stands values sight)
+    (keep : KeepAll (part ∷ parts)) where
   abbrev terms : List Term
   terms = terms_of sight (part ∷ parts)
 
@@ -126,7 +136,8 @@ module _ (values : Values) (sight : Sight) (part : Share × ℕ) (parts : Parts)
       solved_stands values sight (part ∷ parts) steady stands keep place value (values place)
       (solved_term steady terms place number value (shares_of sight (part ∷ parts) keep) is) true_here refl
   within_by (Conflicts place held solved) is true_here =
-      let all : Comes steady terms (Conflicts place held solved) = subst (Comes steady terms) is (comes steady (term_in sight part) (terms_of sight parts)) in
+      let all : Comes steady terms (Conflicts place held solved) =
+      subst (Comes steady terms) is (comes steady (term_in sight part) (terms_of sight parts)) in
       let sum : steady +ℤ net_of terms ≡ pos 0 =
       same_Some _ _ (sym (ap (option_map (λ total. steady +ℤ total)) (all_in values sight (part ∷ parts) stands all.0)) ∙ true_here) in
       both_ways (int_eq (steady +ℤ net_of terms) (pos 0)) all.1 ((Decides-int_eq (steady +ℤ net_of terms) (pos 0)).1 sum)
@@ -139,9 +150,12 @@ within values one other (part ∷ parts) steady keep stands_one stands_other the
     within_by values other part parts steady stands_other keep (settled (Some steady) (terms_of other (part ∷ parts))) refl
     (true_by values one part parts steady stands_one keep (settled (Some steady) (terms_of one (part ∷ parts))) refl there)
 
-pub settled_within : (values : Values) (one other : Sight) (parts : Parts) (steady_one steady_other : Option ℤ) → KeepAll parts → Stands values one → Stands values other
-    → Agree steady_one steady_other → StandsIn values (settled steady_one (terms_of one parts)) → IsWithin values (settled steady_other (terms_of other parts))
+pub settled_within : (values : Values) (one other : Sight) (parts : Parts) (steady_one steady_other : Option ℤ) → KeepAll parts → Stands values one
+    → Stands values other
+    → Agree steady_one steady_other → StandsIn values (settled steady_one (terms_of one parts))
+    → IsWithin values (settled steady_other (terms_of other parts))
 settled_within values one other parts None steady_other keep stands_one stands_other agree there = absurd there
 settled_within values one other parts (Some s) None keep stands_one stands_other agree there = tt
 settled_within values one other parts (Some s) (Some t) keep stands_one stands_other agree there =
-    subst (λ steady. IsWithin values (settled (Some steady) (terms_of other parts))) agree (within values one other parts s keep stands_one stands_other there)
+    subst (λ steady. IsWithin values (settled (Some steady) (terms_of other parts))) agree
+    (within values one other parts s keep stands_one stands_other there)

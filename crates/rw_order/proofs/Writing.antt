@@ -1,5 +1,9 @@
 -- What puts leave in cells.
-use Rattle.rw_order.proofs.Common.{AllByRecursion, Asked, Bool, ByObject, Cell, Cells, Content, Decides-int_eq, Denied, Draft, Event, IsFault, Kept, List, None, Option, Some, [], ap, ap₂, arith, both_ways, denied_by, end_in, end_of_put, false, filter_passes, find, if◌then◌else◌, int_eq, is_same_object, is_shared, is_written, judged, last_put, nat_le, nat_tests, none-some, option_map, option_or, or_fault, put, puts_written, recursion_from_All, refl, same_Some, subst, sym, true, value_in, ℕ, ℤ, ◌==◌, ◌∙◌, ◌∷◌, ◌≡◌}
+use Rattle.rw_order.proofs.Common.{AllByRecursion, Asked, Bool, ByObject, Cell, Cells, Content, Decides-int_eq, Denied, Draft, Event, IsFault, Kept}
+use Rattle.rw_order.proofs.Common.{List, None, Option, Some, [], ap, ap₂, arith, both_ways, denied_by, end_in, end_of_put, false, filter_passes, find}
+use Rattle.rw_order.proofs.Common.{if◌then◌else◌, int_eq, is_same_object, is_shared, is_written, judged, last_put, nat_le, nat_tests, none-some}
+use Rattle.rw_order.proofs.Common.{option_map, option_or, or_fault, put, puts_written, recursion_from_All, refl, same_Some, subst, sym, true}
+use Rattle.rw_order.proofs.Common.{value_in, ℕ, ℤ, ◌==◌, ◌∙◌, ◌∷◌, ◌≡◌}
 use Rattle.rw_order.proofs.Lists.{all_both, all_kept, all_weaker}
 
 -- what one has in a cell has the value that stands there in the other
@@ -37,20 +41,25 @@ pub record IsLast (basin : Draft) (P : Asked → Type 0) (cell : Cell) (content 
   pub shares : is_shared basin put.cell cell ≡ true
   pub same : put.content ≡ content
 
-last_by : (basin : Draft) (P : Asked → Type 0) (put : Asked) (cell : Cell) (content : Content) (later : Option Content) (test : Bool) → is_shared basin put.cell cell ≡ test
-    → P put → ((c : Content) → later ≡ Some c → IsLast basin P cell c) → option_or later (if test then Some put.content else None) ≡ Some content → IsLast basin P cell content
+last_by : (basin : Draft) (P : Asked → Type 0) (put : Asked) (cell : Cell) (content : Content) (later : Option Content) (test : Bool)
+    → is_shared basin put.cell cell ≡ test
+    → P put → ((c : Content) → later ≡ Some c → IsLast basin P cell c) → option_or later (if test then Some put.content else None) ≡ Some content
+    → IsLast basin P cell content
 last_by basin P put cell content (Some c) test shares is more e = subst (IsLast basin P cell) (same_Some _ _ e) (more c refl)
 last_by basin P put cell content None true shares is more e = record { put = put; is = is; shares = shares; same = same_Some _ _ e }
 last_by basin P put cell content None false shares is more e = absurd (none-some _ e)
 
-pub last_of : (basin : Draft) (P : Asked → Type 0) (puts : List Asked) (cell : Cell) (content : Content) → AllByRecursion P puts → last_put basin puts cell ≡ Some content
+pub last_of : (basin : Draft) (P : Asked → Type 0) (puts : List Asked) (cell : Cell) (content : Content) → AllByRecursion P puts
+    → last_put basin puts cell ≡ Some content
     → IsLast basin P cell content
 last_of basin P [] cell content all e = absurd (none-some _ e)
 last_of basin P (put ∷ puts) cell content all e =
-    last_by basin P put cell content (last_put basin puts cell) (is_shared basin put.cell cell) refl all.0 (λ c later. last_of basin P puts cell c all.1 later) e
+    last_by basin P put cell content (last_put basin puts cell) (is_shared basin put.cell cell) refl all.0
+    (λ c later. last_of basin P puts cell c all.1 later) e
 
 -- what stands in a cell afterwards was put just now, or stood there
-pub either_by : {X : Type 0} → (new old : Option Content) (content : Content) → option_or new old ≡ Some content → (new ≡ Some content → X) → (new ≡ None → old ≡ Some content → X) → X
+pub either_by : {X : Type 0} → (new old : Option Content) (content : Content) → option_or new old ≡ Some content → (new ≡ Some content → X)
+    → (new ≡ None → old ≡ Some content → X) → X
 either_by (Some c) old content e f g = f e
 either_by None old content e f g = g refl e
 
@@ -94,12 +103,15 @@ none_denied low high object puts rest zeros below held =
     (all_weaker (λ (put : Asked). value_in high put.cell ≡ Some put.content.value) (λ (put : Asked). denied_by (end_in low put) put ≡ None) puts
     (λ put stands. passes low high put (low put.cell) refl zeros below stands) held)
 
-pass_first : (cells : Cells) (object : ℕ) (put : Asked) (puts : List Asked) (rest event : Event) (found : Option (ℤ × ℤ)) → denied_by (end_in cells put) put ≡ found
-    → or_fault found object put (judged cells object puts rest) ≡ event → ¬ IsFault event → (denied_by (end_in cells put) put ≡ None) × (judged cells object puts rest ≡ event)
+pass_first : (cells : Cells) (object : ℕ) (put : Asked) (puts : List Asked) (rest event : Event) (found : Option (ℤ × ℤ))
+    → denied_by (end_in cells put) put ≡ found
+    → or_fault found object put (judged cells object puts rest) ≡ event → ¬ IsFault event
+    → (denied_by (end_in cells put) put ≡ None) × (judged cells object puts rest ≡ event)
 pass_first cells object put puts rest event None is e fine = (is, e)
 pass_first cells object put puts rest event (Some values) is e fine = absurd (fine (subst IsFault e tt))
 
-pub all_pass : (cells : Cells) (object : ℕ) (puts : List Asked) (rest event : Event) → judged cells object puts rest ≡ event → ¬ IsFault event → AllPass cells puts
+pub all_pass : (cells : Cells) (object : ℕ) (puts : List Asked) (rest event : Event) → judged cells object puts rest ≡ event → ¬ IsFault event
+    → AllPass cells puts
 all_pass cells object [] rest event e fine = tt
 all_pass cells object (put ∷ puts) rest event e fine =
     let first = pass_first cells object put puts rest event (denied_by (end_in cells put) put) refl e fine in
@@ -146,7 +158,8 @@ find_pass object put (Some held) writer others pass =
 abbrev pub AllNew : Cells → List Asked → Type 0
 AllNew cells puts = AllByRecursion (λ (put : Asked). cells put.cell ≡ None) puts
 
-found_new : (cells : Cells) (put : Asked) → HaveZeros cells → Finds (cells put.cell) put.content.value → is_written (end_in cells put) ≡ true → cells put.cell ≡ None
+found_new : (cells : Cells) (put : Asked) → HaveZeros cells → Finds (cells put.cell) put.content.value → is_written (end_in cells put) ≡ true
+    → cells put.cell ≡ None
 found_new cells put zeros (nothing none) is = none
 found_new cells put zeros (the_same content held same) is =
     let end : is_written (end_in cells put) ≡ false =
@@ -155,13 +168,17 @@ found_new cells put zeros (the_same content held same) is =
 
 pub all_new : (cells : Cells) (puts : List Asked) → HaveZeros cells → AllFind cells puts → AllNew cells (puts_written cells puts)
 all_new cells puts zeros find =
-    all_weaker (λ (put : Asked). Finds (cells put.cell) put.content.value × (is_written (end_in cells put) ≡ true)) (λ (put : Asked). cells put.cell ≡ None)
+    all_weaker (λ (put : Asked). Finds (cells put.cell) put.content.value × (is_written (end_in cells put) ≡ true))
+    (λ (put : Asked). cells put.cell ≡ None)
     (puts_written cells puts) (λ put both. found_new cells put zeros both.0 both.1)
-    (all_both (λ (put : Asked). Finds (cells put.cell) put.content.value) (λ (put : Asked). is_written (end_in cells put) ≡ true) (puts_written cells puts)
+    (all_both (λ (put : Asked). Finds (cells put.cell) put.content.value) (λ (put : Asked). is_written (end_in cells put) ≡ true)
+    (puts_written cells puts)
     (all_kept (λ (put : Asked). Finds (cells put.cell) put.content.value) (λ (put : Asked). is_written (end_in cells put)) puts find)
-    (recursion_from_All (λ (put : Asked). is_written (end_in cells put) ≡ true) (puts_written cells puts) (filter_passes (λ (put : Asked). is_written (end_in cells put)) puts)))
+    (recursion_from_All (λ (put : Asked). is_written (end_in cells put) ≡ true) (puts_written cells puts)
+    (filter_passes (λ (put : Asked). is_written (end_in cells put)) puts)))
 
-pub known_stays : (basin : Draft) (cells : Cells) (written : List Asked) → AreShared basin cells → AllNew cells written → Grow cells (after_puts basin cells written)
+pub known_stays : (basin : Draft) (cells : Cells) (written : List Asked) → AreShared basin cells → AllNew cells written
+    → Grow cells (after_puts basin cells written)
 known_stays basin cells written shared new cell content is = by (last_put basin written cell) refl
   where
     by : (last : Option Content) → last_put basin written cell ≡ last → option_or last (cells cell) ≡ Some content
@@ -191,7 +208,8 @@ clear_if : (basin : Draft) (cells : Cells) (put other : Asked) (others : List As
 clear_if basin cells put other others true apart rest = ap₂ option_or rest (ap (λ shared. if shared then Some other.content else None) apart)
 clear_if basin cells put other others false apart rest = rest
 
-clear_last : (basin : Draft) (cells : Cells) (put : Asked) (puts : List Asked) → IsClear basin put puts → last_put basin (puts_written cells puts) put.cell ≡ None
+clear_last : (basin : Draft) (cells : Cells) (put : Asked) (puts : List Asked) → IsClear basin put puts
+    → last_put basin (puts_written cells puts) put.cell ≡ None
 clear_last basin cells put [] clear = refl
 clear_last basin cells put (other ∷ others) clear =
     clear_if basin cells put other others (is_written (end_in cells other)) clear.0.1 (clear_last basin cells put others clear.1)
@@ -200,13 +218,15 @@ pub or_none : {X : Type 0} (held : Option X) → option_or held None ≡ held
 or_none None = refl
 or_none (Some content) = refl
 
-stand_more : (basin : Draft) (cells : Cells) (put : Asked) (written puts : List Asked) (test : Bool) → IsClear basin put puts → StandWith basin cells written puts
+stand_more : (basin : Draft) (cells : Cells) (put : Asked) (written puts : List Asked) (test : Bool) → IsClear basin put puts
+    → StandWith basin cells written puts
     → StandWith basin cells (if test then put ∷ written else written) puts
 stand_more basin cells put written puts false clear stand = stand
 stand_more basin cells put written [] true clear stand = tt
 stand_more basin cells put written (other ∷ others) true clear stand = (
   ap (λ last. option_map (λ (content : Content). content.value) (option_or last (cells other.cell)))
-      (ap (λ shared. option_or (last_put basin written other.cell) (if shared then Some put.content else None)) clear.0.0 ∙ or_none (last_put basin written other.cell))
+      (ap (λ shared. option_or (last_put basin written other.cell) (if shared then Some put.content else None)) clear.0.0
+      ∙ or_none (last_put basin written other.cell))
       ∙ stand.0,
   stand_more basin cells put written others true clear.1 stand.1,
 )
@@ -214,7 +234,8 @@ stand_more basin cells put written (other ∷ others) true clear stand = (
 stand_first : (basin : Draft) (cells : Cells) (put : Asked) (puts : List Asked) (test : Bool) → is_written (end_in cells put) ≡ test
     → is_shared basin put.cell put.cell ≡ true → IsClear basin put puts → Finds (cells put.cell) put.content.value
     → option_map (λ (content : Content). content.value)
-    (option_or (last_put basin (if test then put ∷ puts_written cells puts else puts_written cells puts) put.cell) (cells put.cell)) ≡ Some put.content.value
+    (option_or (last_put basin (if test then put ∷ puts_written cells puts else puts_written cells puts) put.cell) (cells put.cell))
+    ≡ Some put.content.value
 stand_first basin cells put puts true is own clear find =
     ap (λ last. option_map (λ (content : Content). content.value) (option_or last (cells put.cell)))
     (ap₂ option_or (clear_last basin cells put puts clear) (ap (λ shared. if shared then Some put.content else None) own))

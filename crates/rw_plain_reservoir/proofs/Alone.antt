@@ -1,5 +1,6 @@
 -- One plain reservoir alone with its flows. It has no links, since a link joins slots of two objects.
-use Rattle.rw_plain_reservoir.proofs.Common.{All, FirstModel, List, Some, [], arith, nat_tests, plain_reservoir, pos, refl, slice_index_or, storage_at, suc, zero, ℕ, ℤ, ◌+◌, ◌<◌, ◌∷◌, ◌≡◌, ◌≤◌}
+use Rattle.rw_plain_reservoir.proofs.Common.{All, FirstModel, List, Some, [], arith, nat_tests, plain_reservoir, pos, refl, slice_index_or}
+use Rattle.rw_plain_reservoir.proofs.Common.{storage_at, suc, zero, ℕ, ℤ, ◌+◌, ◌<◌, ◌∷◌, ◌≡◌, ◌≤◌}
 use Rattle.std.specs.List.{IsDistinct}
 use Rattle.rw_model.specs.declared.control.RunControl.{RunControl}
 use Rattle.rw_model.proofs.Common.{Bound, Draft, IsLink, owner_of}

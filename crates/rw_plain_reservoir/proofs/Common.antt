@@ -1,5 +1,9 @@
 -- The names that proofs cite, passed on from one place. Declares nothing.
-pub use Rattle.rw_base.proofs.Common.{All, Bool, List, None, Option, Some, [], ap, append_assoc, ap₂, arith, below_more, codes, decimal, decimal_digit, false, find, if◌then◌else◌, inl, inr, int_le, ints, length, map, nat_le, nat_lt, nat_tests, neg_ℤ, negsuc, none-some, option_map, option_or, pos, refl, replicate, signed_decimal, slice_index_or, subst, suc, suc-eq-add-one, sym, take, true, zero, ℕ, ℤ, ◌&&◌, ◌++◌, ◌+ℤ◌, ◌+◌, ◌-ℤ◌, ◌-◌, ◌<◌, ◌==◌, ◌↔◌, ◌∙◌, ◌∷◌, ◌≡◌, ◌≢◌, ◌≤◌, ◌⊎◌}
+pub use Rattle.rw_base.proofs.Common.{All, Bool, List, None, Option, Some, [], ap, append_assoc, ap₂, arith, below_more, codes, decimal}
+pub use Rattle.rw_base.proofs.Common.{decimal_digit, false, find, if◌then◌else◌, inl, inr, int_le, ints, length, map, nat_le, nat_lt, nat_tests}
+pub use Rattle.rw_base.proofs.Common.{neg_ℤ, negsuc, none-some, option_map, option_or, pos, refl, replicate, signed_decimal, slice_index_or, subst}
+pub use Rattle.rw_base.proofs.Common.{suc, suc-eq-add-one, sym, take, true, zero, ℕ, ℤ, ◌&&◌, ◌++◌, ◌+ℤ◌, ◌+◌, ◌-ℤ◌, ◌-◌, ◌<◌, ◌==◌, ◌↔◌, ◌∙◌, ◌∷◌}
+pub use Rattle.rw_base.proofs.Common.{◌≡◌, ◌≢◌, ◌≤◌, ◌⊎◌}
 pub use Rattle.rw_base.specs.declared.number.Cell.{Cell}
 pub use Rattle.rw_inputs.specs.Givens.{givens, givens_of, givens_to, if_given}
 pub use Rattle.rw_inputs.specs.Inputs.{Inputs, value_at}

@@ -1,5 +1,7 @@
 -- What the cells hold once the inputs are placed.
-use Rattle.rw_plain_reservoir.proofs.Common.{Bool, Cell, Inputs, List, None, Option, Some, [], ap, arith, false, givens_of, givens_to, if_given, if◌then◌else◌, nat_tests, option_map, option_or, refl, suc, true, value_at, zero, ℕ, ℤ, ◌++◌, ◌==◌, ◌∙◌, ◌∷◌, ◌≡◌, ◌≤◌}
+use Rattle.rw_plain_reservoir.proofs.Common.{Bool, Cell, Inputs, List, None, Option, Some, [], ap, arith, false, givens_of, givens_to, if_given}
+use Rattle.rw_plain_reservoir.proofs.Common.{if◌then◌else◌, nat_tests, option_map, option_or, refl, suc, true, value_at, zero, ℕ, ℤ, ◌++◌, ◌==◌, ◌∙◌}
+use Rattle.rw_plain_reservoir.proofs.Common.{◌∷◌, ◌≡◌, ◌≤◌}
 use Rattle.rw_model.specs.Draft.{Draft}
 use Rattle.rw_series.specs.Series.{is_shared}
 use Rattle.rw_run.proofs.Common.{Log, given, cells_of, input_content, cell_at, placed}
@@ -48,7 +50,8 @@ module _ (basin : Draft) (inputs : Inputs) (log : Log) (slot : ℕ) where
   own step (suc n) alone low high = newest (step == suc n) refl (λ le. own step n alone low le)
     where
       newest : (same : Bool) → (step == suc n) ≡ same
-          → (step ≤ n → cells_of basin (behind n) (cell_at slot step) ≡ option_or (option_map input_content (value_at inputs slot step)) (cells_of basin log (cell_at slot step)))
+          → (step ≤ n → cells_of basin (behind n) (cell_at slot step)
+          ≡ option_or (option_map input_content (value_at inputs slot step)) (cells_of basin log (cell_at slot step)))
           → cells_of basin (behind (suc n)) (cell_at slot step)
           ≡ option_or (option_map input_content (value_at inputs slot step)) (cells_of basin log (cell_at slot step))
       newest true e earlier =
@@ -68,14 +71,16 @@ module _ (s : Case) (inputs : Inputs) (step n : ℕ) (low : 1 ≤ step) (high : 
   abbrev after_flows : Log
   after_flows = placed after_inflows (givens_of inputs 2 n)
 
-  in_turn : (cell : Cell) → cells_of (basin_of s) (placed [] (givens_to inputs 3 n)) cell ≡ cells_of (basin_of s) (placed after_flows (givens_of inputs 3 n)) cell
+  in_turn : (cell : Cell) → cells_of (basin_of s) (placed [] (givens_to inputs 3 n)) cell
+      ≡ cells_of (basin_of s) (placed after_flows (givens_of inputs 3 n)) cell
   in_turn cell =
       ap (λ l. cells_of (basin_of s) l cell) (placed-append [] (givens_of inputs 1 n ++ givens_of inputs 2 n) (givens_of inputs 3 n)
       ∙ ap (λ l. placed l (givens_of inputs 3 n)) (placed-append [] (givens_of inputs 1 n) (givens_of inputs 2 n)))
 
   -- the cell of a slot holds what is given there
   abbrev HoldsGiven : ℕ → Type 0
-  HoldsGiven slot = cells_of (basin_of s) (placed [] (givens_to inputs 3 n)) (cell_at slot step) ≡ option_map input_content (value_at inputs slot step)
+  HoldsGiven slot =
+      cells_of (basin_of s) (placed [] (givens_to inputs 3 n)) (cell_at slot step) ≡ option_map input_content (value_at inputs slot step)
 
   pub inflow-placed : HoldsGiven 1
   inflow-placed =

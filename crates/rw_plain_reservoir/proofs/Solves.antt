@@ -1,5 +1,7 @@
 -- What a dispatch of the plain reservoir is, from the flows that are given and the storage before.
-use Rattle.rw_plain_reservoir.proofs.Common.{Bool, Content, Kind, List, Look, None, ObjectOutOfRange, Option, Reservoir, Some, [], ap, arith, false, if◌then◌else◌, inl, inr, int_le, ints, map, neg_ℤ, plain_reservoir, pos, refl, replicate, slice_index_or, true, ℕ, ℤ, ◌&&◌, ◌+ℤ◌, ◌-ℤ◌, ◌∙◌, ◌∷◌, ◌≡◌, ◌⊎◌}
+use Rattle.rw_plain_reservoir.proofs.Common.{Bool, Content, Kind, List, Look, None, ObjectOutOfRange, Option, Reservoir, Some, [], ap, arith, false}
+use Rattle.rw_plain_reservoir.proofs.Common.{if◌then◌else◌, inl, inr, int_le, ints, map, neg_ℤ, plain_reservoir, pos, refl, replicate, slice_index_or}
+use Rattle.rw_plain_reservoir.proofs.Common.{true, ℕ, ℤ, ◌&&◌, ◌+ℤ◌, ◌-ℤ◌, ◌∙◌, ◌∷◌, ◌≡◌, ◌⊎◌}
 use Rattle.rw_table.proofs.Comparison.{below_or_not, le_fails}
 use Rattle.rw_base.specs.Quantity.{quantity_max}
 use Rattle.rw_model.specs.declared.writer.Writer.TheVariants.{Object}
@@ -9,7 +11,8 @@ use Rattle.rw_method.specs.declared.view.View.{View}
 use Rattle.rw_method.specs.View.{is_between}
 use Rattle.rw_method.specs.Puts.{put}
 use Rattle.rw_method.specs.Solve.{solve_of, all_or_misfit, fits}
-use Rattle.rw_run.proofs.Common.{Asked, Cells, Dispatch, Event, solved, fault, input_content, cell_at, places, bounds_in_place, past_value, looked_cells, looks_at, dispatched, answered, or_fault, denied_by, is_written}
+use Rattle.rw_run.proofs.Common.{Asked, Cells, Dispatch, Event, solved, fault, input_content, cell_at, places, bounds_in_place, past_value}
+use Rattle.rw_run.proofs.Common.{looked_cells, looks_at, dispatched, answered, or_fault, denied_by, is_written}
 use Rattle.rw_plain_reservoir.proofs.Alone.{Case, basin_of}
 
 -- ---- whether a storage is in range

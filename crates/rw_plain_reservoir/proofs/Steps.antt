@@ -1,9 +1,14 @@
 -- The run of a plain reservoir, event by event.
-use Rattle.rw_plain_reservoir.proofs.Common.{Bool, Content, Fault, IsReservoirRun, List, Look, None, ObjectLimit, ObjectOutOfRange, Option, RunEnd, Settled, Some, [], ap, arith, below_more, false, find, if◌then◌else◌, inl, inr, length, nat_le, nat_lt, nat_tests, option_map, option_or, plain_reservoir, pos, refl, subst, suc, sym, true, zero, ℕ, ℤ, ◌+◌, ◌-ℤ◌, ◌-◌, ◌<◌, ◌==◌, ◌∙◌, ◌∷◌, ◌≡◌, ◌≢◌, ◌≤◌}
+use Rattle.rw_plain_reservoir.proofs.Common.{Bool, Content, Fault, IsReservoirRun, List, Look, None, ObjectLimit, ObjectOutOfRange, Option, RunEnd}
+use Rattle.rw_plain_reservoir.proofs.Common.{Settled, Some, [], ap, arith, below_more, false, find, if◌then◌else◌, inl, inr, length, nat_le, nat_lt}
+use Rattle.rw_plain_reservoir.proofs.Common.{nat_tests, option_map, option_or, plain_reservoir, pos, refl, subst, suc, sym, true, zero, ℕ, ℤ, ◌+◌}
+use Rattle.rw_plain_reservoir.proofs.Common.{◌-ℤ◌, ◌-◌, ◌<◌, ◌==◌, ◌∙◌, ◌∷◌, ◌≡◌, ◌≢◌, ◌≤◌}
 use Rattle.rw_model.specs.declared.control.AgendaOrder.{AgendaOrder}
 use Rattle.rw_model.specs.declared.control.AgendaOrder.TheVariants.{HighFirst, LowFirst}
 use Rattle.rw_model.proofs.Common.{before_of, IsAmount, bounds_in, from_zero}
-use Rattle.rw_run.proofs.Common.{Cells, Event, Log, opened, closed, solved, fault, cells_of, input_content, value_in, first_waiting, first_of, cell_at, dispatched, past_value, no_rules, next_of, after_objects, agenda_of, is_due, first_due, Leads, IsOver, follows, follows_in, standing, rests, end_of, last_closed, opens, solves}
+use Rattle.rw_run.proofs.Common.{Cells, Event, Log, opened, closed, solved, fault, cells_of, input_content, value_in, first_waiting, first_of}
+use Rattle.rw_run.proofs.Common.{cell_at, dispatched, past_value, no_rules, next_of, after_objects, agenda_of, is_due, first_due, Leads, IsOver}
+use Rattle.rw_run.proofs.Common.{follows, follows_in, standing, rests, end_of, last_closed, opens, solves}
 use Rattle.rw_plain_reservoir.proofs.Alone.{Case, HasValues, basin_of, count_of, inflow_at, outflow_at, storage_of}
 use Rattle.rw_plain_reservoir.proofs.Solves.{amount_or_not, dispatches, event_of, is_amount, leaves_range, looked_by, stores_at, storing}
 use Rattle.rw_plain_reservoir.proofs.Storages.{next-storage, first-storage}
@@ -44,7 +49,8 @@ dispatches_next s step log is =
     let least = is.limit in
     let below : nat_le s.control.object_limit 0 ≡ false = grind (arith, nat_tests, least) in
     ap (next_of basin no_rules (cells_of basin now) now step) first
-    ∙ ap (λ t. Some (if t then fault (ObjectLimit (record { 0 = 1 }) (record { 0 = step }) 0) else dispatched basin (cells_of basin now) 1 step)) below
+    ∙ ap (λ t. Some (if t then fault (ObjectLimit (record { 0 = 1 }) (record { 0 = step }) 0) else dispatched basin (cells_of basin now) 1
+    step)) below
 
 past_later : (s : Case) (cells : Cells) (step at : ℕ) → nat_lt 1 step ≡ true → step - 1 ≡ at
     → past_value (basin_of s) cells 1 step ≡ value_in cells (cell_at 3 at)
@@ -72,7 +78,8 @@ closes_next s step log looked z =
     let basin = basin_of s in
     let event : Event = solved (stores_at looked step z) in
     let now : Log = event ∷ opened step ∷ log in
-    let none : first_waiting basin now ≡ None = ap first_of (solves basin (opened step ∷ log) (stores_at looked step z) [] [] (opens basin log step)) in
+    let none : first_waiting basin now ≡ None =
+    ap first_of (solves basin (opened step ∷ log) (stores_at looked step z) [] [] (opens basin log step)) in
     let undue : first_due basin no_rules (cells_of basin now) now ≡ None = ap (find (is_due (cells_of basin now) now)) (no_agenda s.control.agenda) in
     ap (next_of basin no_rules (cells_of basin now) now step) none
     ∙ ap (after_objects basin no_rules (cells_of basin now) now step) undue
@@ -108,7 +115,8 @@ stands_on s looked step log h fits = record {
   stored =
       let new : Log = log_after looked (step + 1) (storage_of s (step + 1)) log in
       below_more (λ t. value_in (cells_of (basin_of s) new) (cell_at 3 (t + 1)) ≡ Some (storage_of s (t + 1))) step
-      (λ t lt. ap (option_map (λ (content : Content). content.value)) (older_storage s looked t step (storage_of s (step + 1)) log (omega (arith, lt))) ∙ h.stored t lt)
+      (λ t lt. ap (option_map (λ (content : Content). content.value))
+      (older_storage s looked t step (storage_of s (step + 1)) log (omega (arith, lt))) ∙ h.stored t lt)
       (newest_storage s looked step (storage_of s (step + 1)) log);
   unknown = λ t le lt. older_storage s looked t step (storage_of s (step + 1)) log (omega (arith, le)) ∙ h.unknown t (omega (arith, le)) lt;
   inside = below_more (λ t. IsAmount (storage_of s (t + 1))) step h.inside fits;
@@ -202,7 +210,8 @@ runs_on s (suc left) step log is all h =
     let z : ℤ = storage_of s (step + 1) in
     let looked : List Look = looked_at s (step + 1) log in
     let opening = opens_next s step log h.standing more in
-    let moving : ((fit : Bool) → is_amount z ≡ fit → follows (basin_of s) no_rules (opened (step + 1) ∷ log) ≡ Some (event_of fit looked (step + 1) z)) =
+    let moving : ((fit : Bool) → is_amount z ≡ fit
+    → follows (basin_of s) no_rules (opened (step + 1) ∷ log) ≡ Some (event_of fit looked (step + 1) z)) =
     λ fit is_fit. moves_next s step log is h more ∙ ap (λ t. Some (event_of t looked (step + 1) z)) is_fit in
     elim (amount_or_not z) [
       | inl fits ↦

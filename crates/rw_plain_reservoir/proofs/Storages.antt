@@ -1,5 +1,6 @@
 -- One storage follows the other.
-use Rattle.rw_plain_reservoir.proofs.Common.{List, [], ap, arith, ints, length, pos, slice_index_or, storage_at, suc, suc-eq-add-one, sym, take, total, zero, ℕ, ℤ, ◌+ℤ◌, ◌+◌, ◌<◌, ◌∙◌, ◌∷◌, ◌≡◌}
+use Rattle.rw_plain_reservoir.proofs.Common.{List, [], ap, arith, ints, length, pos, slice_index_or, storage_at, suc, suc-eq-add-one, sym, take}
+use Rattle.rw_plain_reservoir.proofs.Common.{total, zero, ℕ, ℤ, ◌+ℤ◌, ◌+◌, ◌<◌, ◌∙◌, ◌∷◌, ◌≡◌}
 use Rattle.rw_plain_reservoir.proofs.Solves.{after}
 
 total_suc : (flows : List ℤ) (t : ℕ) → t < length flows → total (take (suc t) flows) ≡ total (take t flows) +ℤ slice_index_or flows t (pos 0)

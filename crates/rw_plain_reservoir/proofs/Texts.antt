@@ -1,5 +1,7 @@
 -- The text of the run of a plain reservoir.
-use Rattle.rw_plain_reservoir.proofs.Common.{List, None, Option, Some, [], ap, append_assoc, ap₂, arith, codes, columns_line, decimal, decimal_digit, heading_line, refl, table_row, table_rows, signed_decimal, suc, suc-eq-add-one, sym, zero, ℕ, ℤ, ◌++◌, ◌+◌, ◌<◌, ◌∙◌, ◌∷◌, ◌≡◌, ◌≤◌}
+use Rattle.rw_plain_reservoir.proofs.Common.{List, None, Option, Some, [], ap, append_assoc, ap₂, arith, codes, columns_line, decimal, decimal_digit}
+use Rattle.rw_plain_reservoir.proofs.Common.{heading_line, refl, table_row, table_rows, signed_decimal, suc, suc-eq-add-one, sym, zero, ℕ, ℤ, ◌++◌}
+use Rattle.rw_plain_reservoir.proofs.Common.{◌+◌, ◌<◌, ◌∙◌, ◌∷◌, ◌≡◌, ◌≤◌}
 use Rattle.rw_calendar.specs.Stamps.{end_of_step, stamp_text}
 use Rattle.rw_run.specs.Log.{Cells}
 use Rattle.rw_report.specs.Section.{heading as heading_of, columns as columns_of, row as row_of, rows as rows_of, value_words, section_of, values_in}
@@ -7,8 +9,10 @@ use Rattle.rw_plain_reservoir.proofs.Alone.{Case, HasValues, basin_of, inflow_at
 use Rattle.rw_plain_reservoir.proofs.Steps.{run_end}
 
 list_fault : (hash nought space fault out object name slot storage step number value quantity end : List ℕ)
-    → hash ++ (nought ++ (space ++ ((fault ++ ((out ++ (object ++ (name ++ (slot ++ ((name ++ storage) ++ (step ++ number)))))) ++ (value ++ quantity))) ++ end)))
-    ≡ hash ++ (nought ++ (space ++ (fault ++ (out ++ (object ++ (name ++ (slot ++ (name ++ (storage ++ (step ++ (number ++ (value ++ (quantity ++ end)))))))))))))
+    → hash ++ (nought ++ (space ++ ((fault ++ ((out ++ (object ++ (name ++ (slot ++ ((name ++ storage) ++ (step ++ number))))))
+    ++ (value ++ quantity))) ++ end)))
+    ≡ hash ++ (nought ++ (space ++ (fault ++ (out
+    ++ (object ++ (name ++ (slot ++ (name ++ (storage ++ (step ++ (number ++ (value ++ (quantity ++ end)))))))))))))
 list_fault hash nought space fault out object name slot storage step number value quantity end = simp append_assoc refl
 
 list_columns : (head comma name inflow outflow storage end : List ℕ)
@@ -27,7 +31,8 @@ zero_written = decimal_digit 0 (omega arith)
 same_heading : (s : Case) (closed : ℕ) (fault : Option ℤ) → heading_of (basin_of s) 0 (run_end closed fault) ≡ heading_line s.name closed fault
 same_heading s closed None = ap (λ d. codes "# batch " ++ (d ++ codes " settled\n")) zero_written
 same_heading s closed (Some value) =
-    list_fault (codes "# batch ") (decimal 0) (codes " ") (codes "fault ") (codes "out of range") (codes " object ") s.name (codes " slot ") (codes ".Storage") (codes " step ")
+    list_fault (codes "# batch ") (decimal 0) (codes " ") (codes "fault ") (codes "out of range") (codes " object ") s.name (codes " slot ")
+    (codes ".Storage") (codes " step ")
     (decimal (closed + 1)) (codes " value ") (signed_decimal value) (codes "\n")
     ∙ ap (λ d. codes "# batch " ++ (d ++ (codes " fault out of range object " ++ (s.name ++ (codes " slot " ++ (s.name ++ (codes ".Storage step "
     ++ (decimal (closed + 1) ++ (codes " value " ++ (signed_decimal value ++ codes "\n")))))))))) zero_written
@@ -37,7 +42,8 @@ same_columns s = list_columns (codes "step,stamp") (codes ",") s.name (codes ".I
 
 abbrev line : ℕ → List ℕ → Option ℤ → Option ℤ → Option ℤ → List ℕ
 line step stamp inflow outflow storage =
-    decimal step ++ (codes "," ++ (stamp ++ (codes "," ++ (value_words inflow ++ (codes "," ++ (value_words outflow ++ (codes "," ++ (value_words storage ++ codes "\n"))))))))
+    decimal step ++ (codes "," ++ (stamp ++ (codes ","
+    ++ (value_words inflow ++ (codes "," ++ (value_words outflow ++ (codes "," ++ (value_words storage ++ codes "\n"))))))))
 
 same_row : (s : Case) (values : ℕ → ℕ → Option ℤ) (step : ℕ) (inflow outflow storage : ℤ)
     → values 1 step ≡ Some inflow → values 2 step ≡ Some outflow → values 3 step ≡ Some storage

@@ -1,5 +1,7 @@
 -- The section of the run of a plain reservoir is the text of its run.
-use Rattle.rw_plain_reservoir.proofs.Common.{All, Cell, Fault, FirstModel, Inputs, IsFirstFlows, IsFirstForm, IsFirstText, List, None, Option, RunEnd, Settled, Some, [], ap, arith, givens, none-some, option_map, plain_reservoir, refl, subst, sym, ℕ, ℤ, ◌+◌, ◌↔◌, ◌∙◌, ◌∷◌, ◌≡◌}
+use Rattle.rw_plain_reservoir.proofs.Common.{All, Cell, Fault, FirstModel, Inputs, IsFirstFlows, IsFirstForm, IsFirstText, List, None, Option, RunEnd}
+use Rattle.rw_plain_reservoir.proofs.Common.{Settled, Some, [], ap, arith, givens, none-some, option_map, plain_reservoir, refl, subst, sym, ℕ, ℤ}
+use Rattle.rw_plain_reservoir.proofs.Common.{◌+◌, ◌↔◌, ◌∙◌, ◌∷◌, ◌≡◌}
 use Rattle.rw_calendar.specs.Stamps.{Timesteps}
 use Rattle.rw_model.proofs.Common.{IsBasin, IsLink, Draft, bounds_in}
 use Rattle.rw_run.proofs.Common.{Log, cells_of, Policy, input_content, no_rules, end_of, last_closed, IsRun, placed}
@@ -19,16 +21,22 @@ starts s inputs flows = record {
   standing = standing-placed [] (givens (basin_of s) inputs) refl;
   end = end-placed [] (givens (basin_of s) inputs) refl;
   closed = closed-placed [] (givens (basin_of s) inputs);
-  inflow = λ t lt. inflow-placed s inputs (t + 1) (count_of s) (omega arith) (omega (arith, lt)) ∙ ap (option_map input_content) (flows.inflow.each t lt);
-  outflow = λ t lt. outflow-placed s inputs (t + 1) (count_of s) (omega arith) (omega (arith, lt)) ∙ ap (option_map input_content) (flows.outflow.each t lt);
+  inflow =
+      λ t lt. inflow-placed s inputs (t + 1) (count_of s) (omega arith) (omega (arith, lt)) ∙ ap (option_map input_content) (flows.inflow.each t lt);
+  outflow =
+      λ t lt. outflow-placed s inputs (t + 1) (count_of s) (omega arith) (omega (arith, lt))
+      ∙ ap (option_map input_content) (flows.outflow.each t lt);
   stored = λ t lt. absurd (omega (arith, lt));
-  unknown = λ t le lt. storage-placed s inputs (t + 1) (count_of s) (omega arith) (omega (arith, lt)) ∙ ap (option_map input_content) (flows.storage t lt);
+  unknown =
+      λ t le lt. storage-placed s inputs (t + 1) (count_of s) (omega arith) (omega (arith, lt)) ∙ ap (option_map input_content) (flows.storage t lt);
   inside = λ t lt. absurd (omega (arith, lt));
 }
 
 -- inputs have one run
 abbrev IsOneRun : Type 0
-IsOneRun = (basin : Draft) (policy : Policy) (inputs : List (Cell × ℤ)) (log other : Log) → IsRun basin policy inputs log → IsRun basin policy inputs other → log ≡ other
+IsOneRun =
+    (basin : Draft) (policy : Policy) (inputs : List (Cell × ℤ)) (log other : Log) → IsRun basin policy inputs log → IsRun basin policy inputs other
+    → log ≡ other
 
 -- what the law says of a basin and a model
 abbrev Tells : Draft → FirstModel → List ℤ → List ℤ → Log → Type 0
@@ -54,7 +62,8 @@ tells s log h =
       record {
         closed = h.closed;
         run = h.run;
-        text_is = ap (λ e. section_of basin 0 e (last_closed log) values) h.end ∙ ap (λ n. section_of basin 0 (run_end h.closed h.fault) n values) h.last
+        text_is =
+            ap (λ e. section_of basin 0 e (last_closed log) values) h.end ∙ ap (λ n. section_of basin 0 (run_end h.closed h.fault) n values) h.last
             ∙ same-text s (cells_of basin log) h.closed h.fault h.values;
       },
       subst (λ e. (h.fault ≡ None) ↔ (e ≡ Settled)) (sym h.end) (settled_where h.closed h.fault),
@@ -71,7 +80,8 @@ alone : (basin : Draft) (model : FirstModel) → IsBasin basin → IsFirstForm b
     → basin ≡ record { control = basin.control; objects = plain_reservoir model.name model.initial ∷ []; links = []; bounds = basin.bounds }
 alone basin model valid form =
     let objects = plain_reservoir model.name model.initial ∷ [] in
-    let none : basin.links ≡ [] = no-links model.name model.initial basin.links (subst (λ o. All (IsLink o) basin.links) form.alone valid.whole.links) in
+    let none : basin.links ≡ [] =
+    no-links model.name model.initial basin.links (subst (λ o. All (IsLink o) basin.links) form.alone valid.whole.links) in
     ap (λ o. record { control = basin.control; objects = o; links = basin.links; bounds = basin.bounds }) form.alone
     ∙ ap (λ l. record { control = basin.control; objects = objects; links = l; bounds = basin.bounds }) none
 
@@ -81,7 +91,15 @@ in_first_form : (basin : Draft) (model : FirstModel) (inputs : Inputs) (inflows 
     → ((s : Case) → IsCase s → IsFirstFlows inputs (count_of s) s.inflows s.outflows → P (basin_of s) (model_of s) s.inflows s.outflows)
     → P basin model inflows outflows
 in_first_form basin model inputs inflows outflows P valid form flows all =
-    let s : Case = record { control = basin.control; name = model.name; initial = model.initial; bounds = basin.bounds; inflows = inflows; outflows = outflows } in
+    let s : Case =
+    record {
+      control = basin.control;
+      name = model.name;
+      initial = model.initial;
+      bounds = basin.bounds;
+      inflows = inflows;
+      outflows = outflows;
+    } in
     let same = alone basin model valid form in
     let here = subst (λ (r : Timesteps). IsFirstFlows inputs r.count inflows outflows) (sym form.run) flows in
     let is : IsCase s = record {
@@ -105,7 +123,8 @@ pub first-text : IsOneRun → (basin : Draft) (model : FirstModel) (inputs : Inp
     → IsRun basin no_rules (givens basin inputs) log
     → Tells basin model inflows outflows log
 first-text one basin model inputs inflows outflows log valid form flows run =
-    in_first_form basin model inputs inflows outflows (λ b m ins outs. IsRun b no_rules (givens b inputs) log → Tells b m ins outs log) valid form flows
+    in_first_form basin model inputs inflows outflows (λ b m ins outs. IsRun b no_rules (givens b inputs) log → Tells b m ins outs log)
+    valid form flows
     (λ s is here that.
     let run = comes s inputs is here in
     let same = one (basin_of s) no_rules (givens (basin_of s) inputs) run.log log (run_of s inputs run) that in

@@ -1,5 +1,6 @@
 -- Worked values, where they don't compute by themselves.
-use Rattle.rw_plain_reservoir.proofs.Common.{IsReservoirRun, Some, [], ap, arith, codes, decimal, decimal_digit, heading_line, ints, negsuc, pos, refl, ◌++◌, ◌∷◌, ◌≡◌}
+use Rattle.rw_plain_reservoir.proofs.Common.{IsReservoirRun, Some, [], ap, arith, codes, decimal, decimal_digit, heading_line, ints, negsuc, pos}
+use Rattle.rw_plain_reservoir.proofs.Common.{refl, ◌++◌, ◌∷◌, ◌≡◌}
 use Rattle.rw_model.specs.Kind.{IsAmount}
 
 one_written : decimal 1 ≡ 49 ∷ []
@@ -7,7 +8,8 @@ one_written = decimal_digit 1 (omega arith)
 
 pub faulted : heading_line (codes "Dam") 0 (Some (negsuc 0))
     ≡ codes "# batch 0 fault out of range object Dam slot Dam.Storage step 1 value -1\n"
-faulted = ap (λ d. codes "# batch 0 fault out of range object Dam slot Dam.Storage step " ++ (d ++ (codes " value -" ++ (d ++ codes "\n")))) one_written
+faulted =
+    ap (λ d. codes "# batch 0 fault out of range object Dam slot Dam.Storage step " ++ (d ++ (codes " value -" ++ (d ++ codes "\n")))) one_written
 
 pub emptied : IsReservoirRun 1 (pos 1000) (pos 0 ∷ []) (pos 1001 ∷ []) 0 (Some (negsuc 0))
 emptied = record {

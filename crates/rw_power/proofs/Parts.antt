@@ -1,5 +1,6 @@
 -- Puts in three parts, of which the first two are asked for together.
-use Rattle.rw_base.proofs.Common.{Bool, Err, List, None, Ok, OnOk, Option, Result, Some, [], ap, arith, false, if◌then◌else◌, inl, inr, length, refl, sym, true, ℕ, ℤ, ◌++◌, ◌+◌, ◌==◌, ◌∙◌, ◌∷◌, ◌≡◌, ◌≤◌, ◌⊎◌}
+use Rattle.rw_base.proofs.Common.{Bool, Err, List, None, Ok, OnOk, Option, Result, Some, [], ap, arith, false, if◌then◌else◌, inl, inr, length, refl}
+use Rattle.rw_base.proofs.Common.{sym, true, ℕ, ℤ, ◌++◌, ◌+◌, ◌==◌, ◌∙◌, ◌∷◌, ◌≡◌, ◌≤◌, ◌⊎◌}
 use Rattle.std.proofs.lemmas.List.{length-append}
 use Rattle.rw_table.specs.Table.{Row}
 use Rattle.rw_model.specs.declared.kind.Kind.TheVariants.{PowerReservoir}
@@ -22,17 +23,21 @@ use Rattle.rw_method.specs.View.{given}
 use Rattle.rw_method.proofs.Misfits.{all_fit, judged_all, judged_refused, refused_at_once, refused_later}
 use Rattle.rw_method.proofs.PutFacts.{first_fits}
 
-pub front_refused : (fit : Put → Bool) (a b c : List Put) (answer : Solved) → IsRefused fit (a ++ b) answer → answer_of_puts fit ((a ++ b) ++ c) ≡ answer
+pub front_refused : (fit : Put → Bool) (a b c : List Put) (answer : Solved) → IsRefused fit (a ++ b) answer
+    → answer_of_puts fit ((a ++ b) ++ c) ≡ answer
 front_refused fit a b c answer refused = judged_refused fit ((a ++ b) ++ c) answer (refused_at_once fit (a ++ b) c answer refused)
 
-pub back_refused : (fit : Put → Bool) (a b c : List Put) (answer : Solved) → AllFit fit (a ++ b) → IsRefused fit c answer → answer_of_puts fit ((a ++ b) ++ c) ≡ answer
+pub back_refused : (fit : Put → Bool) (a b c : List Put) (answer : Solved) → AllFit fit (a ++ b) → IsRefused fit c answer
+    → answer_of_puts fit ((a ++ b) ++ c) ≡ answer
 back_refused fit a b c answer all refused = judged_refused fit ((a ++ b) ++ c) answer (refused_later fit (a ++ b) c answer all refused)
 
-pub three_fit : (fit : Put → Bool) (a b c puts : List Put) → AllFit fit (a ++ b) → AllFit fit c → puts ≡ (a ++ b) ++ c → answer_of_puts fit ((a ++ b) ++ c) ≡ Puts puts
+pub three_fit : (fit : Put → Bool) (a b c puts : List Put) → AllFit fit (a ++ b) → AllFit fit c → puts ≡ (a ++ b) ++ c
+    → answer_of_puts fit ((a ++ b) ++ c) ≡ Puts puts
 three_fit fit a b c puts all others is = rw is (judged_all fit ((a ++ b) ++ c) (all_fit fit (a ++ b) c all others))
 
 -- the solved term fits where the flows do
-pub solved_fits : (fit : Put → Bool) (asked : Option Given) (terms : List Term) (balanced : Balanced) → AllFit fit (flow_puts asked terms balanced) → AllFit fit (solved_put balanced)
+pub solved_fits : (fit : Put → Bool) (asked : Option Given) (terms : List Term) (balanced : Balanced) → AllFit fit (flow_puts asked terms balanced)
+    → AllFit fit (solved_put balanced)
 solved_fits fit None terms balanced all = all
 solved_fits fit (Some asked) terms Idle all = refl
 solved_fits fit (Some asked) terms Holds all = refl
@@ -45,13 +50,15 @@ solved_fits fit (Some asked) terms (Solves place value number) all = by (place =
     beside : Put
     beside = asked_put terms (Solves place value number) asked
 
-    by : (out in_ : Bool) → AllFit fit (if out then solved ∷ [] else (if in_ then solved ∷ beside ∷ [] else beside ∷ solved ∷ [])) → AllFit fit (solved ∷ [])
+    by : (out in_ : Bool) → AllFit fit (if out then solved ∷ [] else (if in_ then solved ∷ beside ∷ [] else beside ∷ solved ∷ []))
+        → AllFit fit (solved ∷ [])
     by true in_ all = all
     by false true all = rw ((first_fits fit solved (beside ∷ []) all).0) refl
     by false false all = (first_fits fit beside (solved ∷ []) all).1
 
 -- so many puts at most are there then
-pub room : {X : Type 0} (fit : Put → Bool) (puts old new : List Put) (result : Result X Solved) (most : ℕ) → length puts ≤ most → Asks fit puts old new result
+pub room : {X : Type 0} (fit : Put → Bool) (puts old new : List Put) (result : Result X Solved) (most : ℕ) → length puts ≤ most
+    → Asks fit puts old new result
     → OnOk result (length new ≤ length old + most)
 room fit puts old new (Ok done) most few asks = let same = ap length asks.added in let sum = length-append old puts in omega (arith, same, sum, few)
 room fit puts old new (Err answer) most few asks = tt
@@ -68,21 +75,27 @@ unsolved asked terms balanced (inr (inl is)) = rw is refl
 unsolved asked terms balanced (inr (inr (place, held, solved, is))) = rw is refl
 
 -- what is answered once the balance is settled, with what was reckoned for it
-pub answered_by : (plant : Plant) (view : View) (head : ℤ) (asked : Option Given) (terms : List Term) (balanced : Balanced) (fault : Option Solved) (solved : Solved)
-    → head ≡ head_of plant view → asked ≡ asked_of plant view → terms ≡ (power_balance plant view).terms → balanced ≡ settled view.past (power_balance plant view).terms
+pub answered_by : (plant : Plant) (view : View) (head : ℤ) (asked : Option Given) (terms : List Term) (balanced : Balanced) (fault : Option Solved)
+    (solved : Solved)
+    → head ≡ head_of plant view → asked ≡ asked_of plant view → terms ≡ (power_balance plant view).terms
+    → balanced ≡ settled view.past (power_balance plant view).terms
     → fault ≡ fault_of_level (Some plant.table) view
-    → solved ≡ answer_of_puts (can_get (Some plant.table) view) (flow_puts asked terms balanced ++ level_puts (Some plant.table) (given view STORAGE) (given view POOL_ELEVATION) balanced
+    → solved ≡ answer_of_puts (can_get (Some plant.table) view)
+    (flow_puts asked terms balanced ++ level_puts (Some plant.table) (given view STORAGE) (given view POOL_ELEVATION) balanced
     ++ energy_puts plant head (held_after_puts view (flow_puts asked terms balanced) OUTFLOW))
     → ((fit : Put → Bool) (puts : List Put) → answer fit puts balanced fault ≡ answer_of_puts fit puts)
-    → solved ≡ answer (can_get (Some plant.table) view) (power_puts plant view (settled view.past (power_balance plant view).terms)) (settled view.past (power_balance plant view).terms)
+    → solved ≡ answer (can_get (Some plant.table) view) (power_puts plant view (settled view.past (power_balance plant view).terms))
+    (settled view.past (power_balance plant view).terms)
     (fault_of_level (Some plant.table) view)
 answered_by plant view head asked terms balanced fault solved head_is asked_is terms_are balanced_is fault_is is ends =
     is ∙ sym (ends (can_get (Some plant.table) view) (puts head asked terms balanced))
     ∙ ap (λ h. answer (can_get (Some plant.table) view) (puts h asked terms balanced) balanced fault) head_is
     ∙ ap (λ a. answer (can_get (Some plant.table) view) (puts (head_of plant view) a terms balanced) balanced fault) asked_is
     ∙ ap (λ ts. answer (can_get (Some plant.table) view) (puts (head_of plant view) (asked_of plant view) ts balanced) balanced fault) terms_are
-    ∙ ap (λ b. answer (can_get (Some plant.table) view) (puts (head_of plant view) (asked_of plant view) (power_balance plant view).terms b) b fault) balanced_is
-    ∙ ap (λ f. answer (can_get (Some plant.table) view) (puts (head_of plant view) (asked_of plant view) (power_balance plant view).terms (settled view.past (power_balance plant view).terms))
+    ∙ ap (λ b. answer (can_get (Some plant.table) view) (puts (head_of plant view) (asked_of plant view) (power_balance plant view).terms b) b fault)
+    balanced_is
+    ∙ ap (λ f. answer (can_get (Some plant.table) view)
+    (puts (head_of plant view) (asked_of plant view) (power_balance plant view).terms (settled view.past (power_balance plant view).terms))
     (settled view.past (power_balance plant view).terms) f) fault_is
   where
     puts : ℤ → Option Given → List Term → Balanced → List Put
@@ -95,10 +108,14 @@ three_same a b c x y z first second third =
     ap (λ t. t ∷ b ∷ c ∷ []) first ∙ ap (λ t. x ∷ t ∷ c ∷ []) second ∙ ap (λ t. x ∷ y ∷ t ∷ []) third
 
 -- where nothing is wrong before all else
-pub solved_as : (initial_storage : ℤ) (table : List Row) (max_release tailwater : ℤ) (power : ℕ) (view : View) → fault_of_power (plant table max_release tailwater power) view ≡ None
-    → answer (can_get (Some table) view) (power_puts (plant table max_release tailwater power) view (settled view.past (power_balance (plant table max_release tailwater power) view).terms))
+pub solved_as : (initial_storage : ℤ) (table : List Row) (max_release tailwater : ℤ) (power : ℕ) (view : View)
+    → fault_of_power (plant table max_release tailwater power) view ≡ None
+    → answer (can_get (Some table) view) (power_puts (plant table max_release tailwater power) view
+    (settled view.past (power_balance (plant table max_release tailwater power) view).terms))
     (settled view.past (power_balance (plant table max_release tailwater power) view).terms) (fault_of_level (Some table) view)
     ≡ solve_of (PowerReservoir initial_storage table max_release tailwater power) view
 solved_as initial_storage table max_release tailwater power view fine =
-    sym (ap (λ first. unless_faulty first (answer (can_get (Some table) view) (power_puts (plant table max_release tailwater power) view (settled view.past (power_balance (plant table max_release tailwater power) view).terms))
+    sym (ap (λ first. unless_faulty first (answer (can_get (Some table) view)
+    (power_puts (plant table max_release tailwater power) view
+    (settled view.past (power_balance (plant table max_release tailwater power) view).terms))
     (settled view.past (power_balance (plant table max_release tailwater power) view).terms) (fault_of_level (Some table) view))) fine)

@@ -1,5 +1,7 @@
 -- Putting back what cells held.
-use Rattle.rw_record.proofs.Common.{Bool, Cell, Cells, Contains, Contains-append_right, Draft, Held, IsCell, IsSeriesOf, List, None, Series, Sets, [], ap, ap₂, arith, drop, false, false≢true, get_or_past, held, if◌then◌else◌, is_noted, is_same_cell, is_shared, length, nat_eq_equiv, nat_le, nat_tests, refl, subst, sym, true, ℕ, ◌&&◌, ◌-◌, ◌||◌, ◌∙◌, ◌∷◌, ◌≡◌, ◌≤◌}
+use Rattle.rw_record.proofs.Common.{Bool, Cell, Cells, Contains, Contains-append_right, Draft, Held, IsCell, IsSeriesOf, List, None, Series, Sets, []}
+use Rattle.rw_record.proofs.Common.{ap, ap₂, arith, drop, false, false≢true, get_or_past, held, if◌then◌else◌, is_noted, is_same_cell, is_shared}
+use Rattle.rw_record.proofs.Common.{length, nat_eq_equiv, nat_le, nat_tests, refl, subst, sym, true, ℕ, ◌&&◌, ◌-◌, ◌||◌, ◌∙◌, ◌∷◌, ◌≡◌, ◌≤◌}
 use Rattle.std.proofs.lemmas.List.{drop_all}
 use Rattle.rw_model.specs.Links.{is_same_link, link_of}
 use Rattle.rw_series.specs.Cells.{is_kept}
@@ -26,7 +28,8 @@ shared_itself basin cell known =
 
 -- ---- what is no cell holds nothing
 
-no_column : (columns : List ℕ) (slot : ℕ) → (nat_le 1 slot && nat_le slot (length columns)) ≡ false → (first : Bool) → nat_le 1 slot ≡ first → column_of columns slot ≡ 0
+no_column : (columns : List ℕ) (slot : ℕ) → (nat_le 1 slot && nat_le slot (length columns)) ≡ false → (first : Bool) → nat_le 1 slot ≡ first
+    → column_of columns slot ≡ 0
 no_column columns slot none true first =
     let far : length columns ≤ slot - 1 = grind (arith, nat_tests, none, first) in rw first (get_or_past columns (slot - 1) 0 far)
 no_column columns slot none false first = rw first refl
@@ -92,7 +95,8 @@ module _ (basin : Draft) (before : Cells) (one : Held) (items : List Held) (was 
       by true known = one_put old new (IsCell-of basin one.cell known) (put known) can
       by false unknown = subst (λ series. CanTakeBack before (held series) items) (sym (passed unknown)) (one_passed old made unknown can)
 
-pub all_back : (before : Cells) (now : Series) (items : List Held) (count : ℕ) → length items ≤ count → CanTakeBack before (held now) (drop count items)
+pub all_back : (before : Cells) (now : Series) (items : List Held) (count : ℕ) → length items ≤ count
+    → CanTakeBack before (held now) (drop count items)
     → (cell : Cell) → held now cell ≡ before cell
 all_back before now items count past can cell =
     can.same cell (ap (λ left. is_noted left cell) (drop_all count items past))

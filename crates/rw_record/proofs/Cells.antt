@@ -1,5 +1,8 @@
 -- Cells that are the same, and lists that have them.
-use Rattle.rw_record.proofs.Common.{Asked, Cell, Contains, Contains-append_cases, Contains-append_left, Contains-append_right, Contains-from_any, Contains-push_cases, Draft, IsEquivalence, List, [], and_parts, ap, ap₂, arith, cell_at, cells_reached, cells_with, group_of, is_among, is_same_cell, is_shared, map, nat_eq_equiv, nat_tests, refl, subst, sym, true, ℕ, ◌&&◌, ◌==◌, ◌∷◌, ◌≡◌, ◌⊎◌, inl, inr}
+use Rattle.rw_record.proofs.Common.{Asked, Cell, Contains, Contains-append_cases, Contains-append_left, Contains-append_right, Contains-from_any}
+use Rattle.rw_record.proofs.Common.{Contains-push_cases, Draft, IsEquivalence, List, [], and_parts, ap, ap₂, arith, cell_at, cells_reached}
+use Rattle.rw_record.proofs.Common.{cells_with, group_of, is_among, is_same_cell, is_shared, map, nat_eq_equiv, nat_tests, refl, subst, sym, true, ℕ}
+use Rattle.rw_record.proofs.Common.{◌&&◌, ◌==◌, ◌∷◌, ◌≡◌, ◌⊎◌, inl, inr}
 
 pub same_cell : (one other : Cell) → is_same_cell one other ≡ true → one ≡ other
 same_cell one other same =
@@ -69,7 +72,8 @@ pub shared_in : (basin : Draft) (one other : Cell) → is_shared basin one other
 shared_in basin one other shared =
     let parts = and_parts (is_among other.slot.0 (group_of basin.objects basin.links one.slot.0)) (other.step.0 == one.step.0) shared in
     let group : List ℕ = group_of basin.objects basin.links one.slot.0 in
-    let among : Contains group other.slot.0 = Contains-from_any {eq = λ (a : ℕ) b. a == b} (λ a b same. grind (arith, nat_tests, same)) other.slot.0 group parts.0 in
+    let among : Contains group other.slot.0 =
+    Contains-from_any {eq = λ (a : ℕ) b. a == b} (λ a b same. grind (arith, nat_tests, same)) other.slot.0 group parts.0 in
     let step : one.step.0 ≡ other.step.0 = grind (arith, nat_tests, parts.1) in
     let rest : List Cell = map (λ slot. cell_at slot one.step.0) group in
     Contains-append_right (one ∷ []) rest other
@@ -81,7 +85,8 @@ pub reached_at : (basin : Draft) (puts : List Asked) (put : Asked) (cell : Cell)
 reached_at basin [] put cell has near = absurd (omega (arith, has.1))
 reached_at basin (first ∷ puts) put cell has near = by (λ more. reached_at basin puts put cell more near) (first_or first puts put has)
   where
-    by : (Contains puts put → Contains (cells_reached basin puts) cell) → (first ≡ put) ⊎ Contains puts put → Contains (cells_reached basin (first ∷ puts)) cell
+    by : (Contains puts put → Contains (cells_reached basin puts) cell) → (first ≡ put) ⊎ Contains puts put
+        → Contains (cells_reached basin (first ∷ puts)) cell
     by others (inl is) =
         Contains-append_left (cells_with basin first.cell) (cells_reached basin puts) cell
         (subst (λ (it : Asked). Contains (cells_with basin it.cell) cell) (sym is) near)

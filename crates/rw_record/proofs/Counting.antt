@@ -1,5 +1,7 @@
 -- How many cells are noted.
-use Rattle.rw_record.proofs.Common.{AreLooked, AreOnce, Cell, Cells, Contains, Contains-from_any, Draft, Event, Held, IsTrue, List, [], ap, cell_count, cells_noted, distinct, flat_map, if◌then◌else◌, is_noted, is_same_cell, length, length-map, list_any, list_any-from_Contains, reached_by, refl, subst, sym, ℕ, ◌↔◌, ◌∙◌, ◌∷◌, ◌≡◌}
+use Rattle.rw_record.proofs.Common.{AreLooked, AreOnce, Cell, Cells, Contains, Contains-from_any, Draft, Event, Held, IsTrue, List, [], ap}
+use Rattle.rw_record.proofs.Common.{cell_count, cells_noted, distinct, flat_map, if◌then◌else◌, is_noted, is_same_cell, length, length-map, list_any}
+use Rattle.rw_record.proofs.Common.{list_any-from_Contains, reached_by, refl, subst, sym, ℕ, ◌↔◌, ◌∙◌, ◌∷◌, ◌≡◌}
 use Rattle.std.proofs.lemmas.Map.Made.{length-from_keys}
 use Rattle.std.specs.Cmp.{both_ways}
 use Rattle.std.specs.Set.{unique_keys}
@@ -31,4 +33,5 @@ looked basin before events noted once are = counted noted (flat_map (reached_by 
 -- the record has what was looked at
 pub recorded : (basin : Draft) (before : Cells) (events : List Event) (step : ℕ) (noted : List Held) (lines : List TraceEvent) (kept : StepRecord)
     → AreLooked basin before events noted → IsRecordOf step noted lines kept → AreLooked basin before events kept.looked
-recorded basin before events step noted lines kept are is = λ one. (λ has. (are one).0 ((is.members one).0 has), λ has. (is.members one).1 ((are one).1 has))
+recorded basin before events step noted lines kept are is =
+    λ one. (λ has. (are one).0 ((is.members one).0 has), λ has. (is.members one).1 ((are one).1 has))

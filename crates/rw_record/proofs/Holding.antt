@@ -1,5 +1,6 @@
 -- That cells hold what they held.
-use Rattle.rw_record.proofs.Common.{AreHeld, Cells, Contains, Contains-push_cases, Held, List, [], ap, inl, inr, length, slice_index_or, subst, sym, take, take_all, take_more, ℕ, ◌++◌, ◌+◌, ◌<◌, ◌∙◌, ◌∷◌, ◌≡◌, ◌≤◌, ◌⊎◌}
+use Rattle.rw_record.proofs.Common.{AreHeld, Cells, Contains, Contains-push_cases, Held, List, [], ap, inl, inr, length, slice_index_or, subst, sym}
+use Rattle.rw_record.proofs.Common.{take, take_all, take_more, ℕ, ◌++◌, ◌+◌, ◌<◌, ◌∙◌, ◌∷◌, ◌≡◌, ◌≤◌, ◌⊎◌}
 
 pub one_more : (cells : Cells) (items : List Held) (count : ℕ) (one : Held) → count < length items → one ≡ slice_index_or items count one
     → cells one.cell ≡ one.content → AreHeld cells (take count items) → AreHeld cells (take (count + 1) items)

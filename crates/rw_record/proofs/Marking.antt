@@ -1,5 +1,8 @@
 -- Marks of cells.
-use Rattle.rw_record.proofs.Common.{Bool, Cell, Cells, Held, IsTrue, List, [], ap, arith, cells_noted, false, false≢true, get_or-set_other, get_or-set_same, if◌then◌else◌, is_noted, is_same_cell, length, length-replicate, list_any, list_any-append, map-append, nat_tests, noted_after, refl, replicate, set, slice_index_or, subst, suc, sym, true, zero, ℕ, ◌*◌, ◌++◌, ◌<◌, ◌||◌, ◌∙◌, ◌∷◌, ◌≡◌, ◌≢◌}
+use Rattle.rw_record.proofs.Common.{Bool, Cell, Cells, Held, IsTrue, List, [], ap, arith, cells_noted, false, false≢true, get_or-set_other}
+use Rattle.rw_record.proofs.Common.{get_or-set_same, if◌then◌else◌, is_noted, is_same_cell, length, length-replicate, list_any, list_any-append}
+use Rattle.rw_record.proofs.Common.{map-append, nat_tests, noted_after, refl, replicate, set, slice_index_or, subst, suc, sym, true, zero, ℕ, ◌*◌}
+use Rattle.rw_record.proofs.Common.{◌++◌, ◌<◌, ◌||◌, ◌∙◌, ◌∷◌, ◌≡◌, ◌≢◌}
 use Rattle.std.specs.List.{IsDistinct}
 use Rattle.std.proofs.lemmas.List.Elements.{All-from_recursion}
 use Rattle.std.proofs.lemmas.List.Folds.{list_any_none}
@@ -19,7 +22,8 @@ near slots steps marks cell many there =
 -- a cell is set, and no other changes
 pub mark_set : (slots steps : ℕ) (marks : List Bool) (cell other : Cell) (mark : Bool) → length marks ≡ slots * steps
     → has_mark slots steps cell ≡ true → has_mark slots steps other ≡ true
-    → is_cell_marked slots (set marks (position_of slots cell.slot.0 cell.step.0) mark) other ≡ (if is_same_cell cell other then mark else is_cell_marked slots marks other)
+    → is_cell_marked slots (set marks (position_of slots cell.slot.0 cell.step.0) mark) other
+    ≡ (if is_same_cell cell other then mark else is_cell_marked slots marks other)
 mark_set slots steps marks cell other mark many there too = by (is_same_cell cell other) refl
   where
     apart : is_same_cell cell other ≡ false → position_of slots other.slot.0 other.step.0 ≢ position_of slots cell.slot.0 cell.step.0
@@ -32,11 +36,13 @@ mark_set slots steps marks cell other mark many there too = by (is_same_cell cel
         false≢true (sym none ∙ same)
 
     by : (same : Bool) → is_same_cell cell other ≡ same
-        → is_cell_marked slots (set marks (position_of slots cell.slot.0 cell.step.0) mark) other ≡ (if same then mark else is_cell_marked slots marks other)
+        → is_cell_marked slots (set marks (position_of slots cell.slot.0 cell.step.0) mark) other
+        ≡ (if same then mark else is_cell_marked slots marks other)
     by true same =
         subst (λ it. is_cell_marked slots (set marks (position_of slots cell.slot.0 cell.step.0) mark) it ≡ mark) (same_cell cell other same)
         (get_or-set_same marks (position_of slots cell.slot.0 cell.step.0) mark false (near slots steps marks cell many there))
-    by false none = get_or-set_other marks (position_of slots cell.slot.0 cell.step.0) (position_of slots other.slot.0 other.step.0) mark false (apart none)
+    by false none =
+        get_or-set_other marks (position_of slots cell.slot.0 cell.step.0) (position_of slots other.slot.0 other.step.0) mark false (apart none)
 
 -- ---- with what is noted
 
@@ -56,7 +62,8 @@ no_marks slots steps = record {
 -- a cell that isn't noted is noted and marked
 pub one_added : (slots steps : ℕ) (marks new : List Bool) (cells : Cells) (noted : List Held) (cell : Cell) → KeepsMarks slots steps marks noted
     → is_noted noted cell ≡ false → length new ≡ slots * steps
-    → ((other : Cell) → IsTrue (has_mark slots steps other) → is_cell_marked slots new other ≡ (if is_same_cell cell other then true else is_cell_marked slots marks other))
+    → ((other : Cell) → IsTrue (has_mark slots steps other)
+    → is_cell_marked slots new other ≡ (if is_same_cell cell other then true else is_cell_marked slots marks other))
     → KeepsMarks slots steps new (noted_after cells noted (cell ∷ []))
 one_added slots steps marks new cells noted cell keeps fresh many sets = record {
   many = many;
@@ -81,16 +88,21 @@ record IsBut (first : List Cell) (last : Cell) : Type 0 where
 
 but_last : (first : List Cell) (last : Cell) → IsDistinct is_same_cell (first ++ last ∷ []) → IsBut first last
 but_last first last once =
-    let turned = IsDistinct-IsPermutation is_same_cell cells_equiv.symm (first ++ last ∷ []) (last ∷ first) (IsPermutation-to_front first last) once in
+    let turned =
+    IsDistinct-IsPermutation is_same_cell cells_equiv.symm (first ++ last ∷ []) (last ∷ first) (IsPermutation-to_front first last) once in
     record {
       once = IsDistinct-tail is_same_cell last first turned;
-      fresh = list_any_none (is_same_cell last) first (All-from_recursion (λ cell. is_same_cell last cell ≡ false) first (IsDistinct-head is_same_cell last first turned));
+      fresh =
+          list_any_none (is_same_cell last) first (All-from_recursion (λ cell. is_same_cell last cell ≡ false) first
+          (IsDistinct-head is_same_cell last first turned));
     }
 
 -- the last one is noted no more, and has no mark
-pub one_taken : (slots steps : ℕ) (marks new : List Bool) (all noted : List Held) (last : Held) → all ≡ noted ++ last ∷ [] → KeepsMarks slots steps marks all
+pub one_taken : (slots steps : ℕ) (marks new : List Bool) (all noted : List Held) (last : Held) → all ≡ noted ++ last ∷ []
+    → KeepsMarks slots steps marks all
     → length new ≡ slots * steps
-    → ((other : Cell) → IsTrue (has_mark slots steps other) → is_cell_marked slots new other ≡ (if is_same_cell last.cell other then false else is_cell_marked slots marks other))
+    → ((other : Cell) → IsTrue (has_mark slots steps other)
+    → is_cell_marked slots new other ≡ (if is_same_cell last.cell other then false else is_cell_marked slots marks other))
     → KeepsMarks slots steps new noted
 one_taken slots steps marks new all noted last is keeps many sets = record {
   many = many;

@@ -1,5 +1,9 @@
 -- What is noted after some cells.
-use Rattle.rw_record.proofs.Common.{AreOnce, Bool, Cell, Cells, Contains, Contains-append_left, Contains-append_right, Contains-from_any, Contains-push, Contains-push_cases, Held, IsDistinct, IsDistinct-push, IsFalse, IsTrue, List, [], ap, cells_noted, false, false≢true, if◌then◌else◌, inl, inr, is_noted, is_same_cell, list_any, list_any-append, list_any-from_Contains, map-append, noted_after, or_cases, refl, subst, sym, arith, true, ◌++◌, ◌||◌, ◌↔◌, ◌∙◌, ◌∷◌, ◌≡◌, ◌⊎◌}
+use Rattle.rw_record.proofs.Common.{AreOnce, Bool, Cell, Cells, Contains, Contains-append_left, Contains-append_right, Contains-from_any}
+use Rattle.rw_record.proofs.Common.{Contains-push, Contains-push_cases, Held, IsDistinct, IsDistinct-push, IsFalse, IsTrue, List, [], ap, cells_noted}
+use Rattle.rw_record.proofs.Common.{false, false≢true, if◌then◌else◌, inl, inr, is_noted, is_same_cell, list_any, list_any-append}
+use Rattle.rw_record.proofs.Common.{list_any-from_Contains, map-append, noted_after, or_cases, refl, subst, sym, arith, true, ◌++◌, ◌||◌, ◌↔◌, ◌∙◌}
+use Rattle.rw_record.proofs.Common.{◌∷◌, ◌≡◌, ◌⊎◌}
 use Rattle.rw_record.proofs.Cells.{From, cells_equiv, first_of, first_or, map_from, map_of, same_cell}
 
 or_known : (a b : Bool) → (b ≡ true → a ≡ true) → a ≡ (a || b)
@@ -23,12 +27,14 @@ held_now cells cell = record { cell = cell; content = cells cell }
 abbrev with_one : Cells → List Held → Cell → List Held
 with_one cells noted cell = if is_noted noted cell then noted else noted ++ held_now cells cell ∷ []
 
-pushed : (cells : Cells) (noted : List Held) (cell other : Cell) → is_noted (noted ++ held_now cells cell ∷ []) other ≡ (is_noted noted other || (is_same_cell other cell || false))
+pushed : (cells : Cells) (noted : List Held) (cell other : Cell)
+    → is_noted (noted ++ held_now cells cell ∷ []) other ≡ (is_noted noted other || (is_same_cell other cell || false))
 pushed cells noted cell other =
     ap (list_any (is_same_cell other)) (map-append (λ (one : Held). one.cell) noted (held_now cells cell ∷ []))
     ∙ list_any-append (is_same_cell other) (cells_noted noted) (cell ∷ [])
 
-one_noted : (cells : Cells) (noted : List Held) (cell other : Cell) → is_noted (with_one cells noted cell) other ≡ (is_noted noted other || is_same_cell other cell)
+one_noted : (cells : Cells) (noted : List Held) (cell other : Cell)
+    → is_noted (with_one cells noted cell) other ≡ (is_noted noted other || is_same_cell other cell)
 one_noted cells noted cell other = by (is_noted noted cell) refl
   where
     by : (known : Bool) → is_noted noted cell ≡ known
@@ -90,7 +96,8 @@ among cells noted more cell = (to, from)
         ∙ right (is_noted noted cell) (list_any (is_same_cell cell) more) (list_any-from_Contains cells_equiv cell more has)
 
 -- what isn't noted after them wasn't before
-pub before_none : (cells : Cells) (noted : List Held) (more : List Cell) (cell : Cell) → is_noted (noted_after cells noted more) cell ≡ false → is_noted noted cell ≡ false
+pub before_none : (cells : Cells) (noted : List Held) (more : List Cell) (cell : Cell) → is_noted (noted_after cells noted more) cell ≡ false
+    → is_noted noted cell ≡ false
 before_none cells noted more cell none =
     or_left (is_noted noted cell) (list_any (is_same_cell cell) more) (sym (noted_is cells noted more cell) ∙ none)
 
@@ -118,7 +125,8 @@ old_or_new : (cells : Cells) (noted : List Held) (cell : Cell) (one : Held) → 
     → Contains noted one ⊎ ((is_noted noted cell ≡ false) × (held_now cells cell ≡ one))
 old_or_new cells noted cell one has = by (is_noted noted cell) refl has
   where
-    pushed_or : is_noted noted cell ≡ false → Contains noted one ⊎ (held_now cells cell ≡ one) → Contains noted one ⊎ ((is_noted noted cell ≡ false) × (held_now cells cell ≡ one))
+    pushed_or : is_noted noted cell ≡ false → Contains noted one ⊎ (held_now cells cell ≡ one)
+        → Contains noted one ⊎ ((is_noted noted cell ≡ false) × (held_now cells cell ≡ one))
     pushed_or fresh (inl old) = inl old
     pushed_or fresh (inr is) = inr (fresh, is)
 
@@ -132,7 +140,8 @@ pub old_or : (cells : Cells) (noted : List Held) (more : List Cell) (one : Held)
 old_or cells noted [] one has = inl has
 old_or cells noted (cell ∷ more) one has = by (old_or cells (with_one cells noted cell) more one has)
   where
-    here : Contains noted one ⊎ ((is_noted noted cell ≡ false) × (held_now cells cell ≡ one)) → Contains noted one ⊎ IsNew cells noted (cell ∷ more) one
+    here : Contains noted one ⊎ ((is_noted noted cell ≡ false) × (held_now cells cell ≡ one))
+        → Contains noted one ⊎ IsNew cells noted (cell ∷ more) one
     here (inl old) = inl old
     here (inr new) =
         let at : cell ≡ one.cell = ap (λ (held : Held). held.cell) new.1 in
@@ -142,7 +151,8 @@ old_or cells noted (cell ∷ more) one has = by (old_or cells (with_one cells no
           is = sym (ap (λ (held : Held). held.content) new.1) ∙ ap cells at;
         })
 
-    by : Contains (with_one cells noted cell) one ⊎ IsNew cells (with_one cells noted cell) more one → Contains noted one ⊎ IsNew cells noted (cell ∷ more) one
+    by : Contains (with_one cells noted cell) one ⊎ IsNew cells (with_one cells noted cell) more one
+        → Contains noted one ⊎ IsNew cells noted (cell ∷ more) one
     by (inl old) = here (old_or_new cells noted cell one old)
     by (inr new) = inr (record {
       fresh = or_left (is_noted noted one.cell) (is_same_cell one.cell cell) (sym (one_noted cells noted cell one.cell) ∙ new.fresh);
@@ -154,7 +164,8 @@ pub old_in : (cells : Cells) (noted : List Held) (more : List Cell) (one : Held)
 old_in cells noted [] one has = has
 old_in cells noted (cell ∷ more) one has = old_in cells (with_one cells noted cell) more one (kept_one cells noted cell one has)
 
-pub new_in : (cells : Cells) (noted : List Held) (more : List Cell) (one : Held) → IsNew cells noted more one → Contains (noted_after cells noted more) one
+pub new_in : (cells : Cells) (noted : List Held) (more : List Cell) (one : Held) → IsNew cells noted more one
+    → Contains (noted_after cells noted more) one
 new_in cells noted [] one new = absurd (omega (arith, new.has.1))
 new_in cells noted (cell ∷ more) one new = by (new_in cells (with_one cells noted cell) more one) (is_same_cell one.cell cell) refl
   where
@@ -166,7 +177,8 @@ new_in cells noted (cell ∷ more) one new = by (new_in cells (with_one cells no
         → (same : Bool) → is_same_cell one.cell cell ≡ same → Contains (noted_after cells (with_one cells noted cell) more) one
     by others true same =
         let at : one.cell ≡ cell = same_cell one.cell cell same in
-        let is : held_now cells cell ≡ one = ap (held_now cells) (sym at) ∙ ap (λ content. record { cell = one.cell; content = content }) (sym new.is) in
+        let is : held_now cells cell ≡ one =
+        ap (held_now cells) (sym at) ∙ ap (λ content. record { cell = one.cell; content = content }) (sym new.is) in
         old_in cells (with_one cells noted cell) more one
         (subst (Contains (with_one cells noted cell)) is (new_one cells noted cell (ap (is_noted noted) (sym at) ∙ new.fresh)))
     by others false apart = others (record {

@@ -1,5 +1,7 @@
 -- Cells in order.
-use Rattle.rw_record.proofs.Common.{AreOnce, Bool, Cell, Contains, Held, List, [], arith, cells_noted, false, false≢true, inl, inr, is_same_cell, length, length-map, nat_tests, refl, slice_index_or, subst, suc, sym, true, ℕ, ◌<◌, ◌==◌, ◌↔◌, ◌∙◌, ◌∷◌, ◌≡◌, ◌≤◌, ◌⊎◌}
+use Rattle.rw_record.proofs.Common.{AreOnce, Bool, Cell, Contains, Held, List, [], arith, cells_noted, false, false≢true, inl, inr, is_same_cell}
+use Rattle.rw_record.proofs.Common.{length, length-map, nat_tests, refl, slice_index_or, subst, suc, sym, true, ℕ, ◌<◌, ◌==◌, ◌↔◌, ◌∙◌, ◌∷◌, ◌≡◌, ◌≤◌}
+use Rattle.rw_record.proofs.Common.{◌⊎◌}
 use Rattle.rw_base.proofs.Common.{get_or-map, nat_cmp, nat_lt}
 use Rattle.std.proofs.lemmas.Bool.{cases_order}
 use Rattle.std.proofs.lemmas.Cmp.{nat_cmp_total, on_total, then_total}
@@ -21,7 +23,8 @@ comes_first one other = is_lt (ordering_then (nat_cmp one.slot.0 other.slot.0) (
 below : (one other : Cell) → comes_first other one ≡ false → is_same_cell one other ≡ false → IsBelow one other
 below one other none apart = by_slot (cases_order one.slot.0 other.slot.0)
   where
-    by_step : one.slot.0 ≡ other.slot.0 → (one.step.0 ≡ other.step.0) ⊎ ((one.step.0 < other.step.0) ⊎ (other.step.0 < one.step.0)) → IsBelow one other
+    by_step : one.slot.0 ≡ other.slot.0 → (one.step.0 ≡ other.step.0) ⊎ ((one.step.0 < other.step.0) ⊎ (other.step.0 < one.step.0))
+        → IsBelow one other
     by_step slot (inl step) =
         let same : is_same_cell one other ≡ true = grind (arith, nat_tests, slot, step) in absurd (false≢true (sym apart ∙ same))
     by_step slot (inr (inl less)) = inr (slot, less)
@@ -40,7 +43,8 @@ below one other none apart = by_slot (cases_order one.slot.0 other.slot.0)
 
 -- none comes before an earlier one
 abbrev AreInOrder : List Held → Type 0
-AreInOrder items = (i j : ℕ) (d : Held) → i ≤ j → j < length items → comes_first (slice_index_or items j d).cell (slice_index_or items i d).cell ≡ false
+AreInOrder items =
+    (i j : ℕ) (d : Held) → i ≤ j → j < length items → comes_first (slice_index_or items j d).cell (slice_index_or items i d).cell ≡ false
 
 in_order : (items : List Held) → AreOnce items → AreInOrder items → AreRisingCells items
 in_order [] once far = tt
@@ -48,20 +52,26 @@ in_order (first ∷ items) once far = (
   λ k d near.
       let there : is_same_cell first.cell (slice_index_or items k d).cell ≡ false =
       subst (λ cell. is_same_cell first.cell cell ≡ false) (get_or-map (λ (one : Held). one.cell) items k d first.cell near)
-      (All-from_recursion (λ cell. is_same_cell first.cell cell ≡ false) (cells_noted items) (IsDistinct-head is_same_cell first.cell (cells_noted items) once) k first.cell (omega (arith, near, length-map items (λ (one : Held). one.cell)))) in
+      (All-from_recursion (λ cell. is_same_cell first.cell cell ≡ false) (cells_noted items)
+      (IsDistinct-head is_same_cell first.cell (cells_noted items) once) k first.cell
+      (omega (arith, near, length-map items (λ (one : Held). one.cell)))) in
       below first.cell (slice_index_or items k d).cell (far 0 (suc k) d (omega arith) (omega (arith, near))) there,
-  in_order items (IsDistinct-tail is_same_cell first.cell (cells_noted items) once) (λ i j d low high. far (suc i) (suc j) d (omega (arith, low)) (omega (arith, high))),
+  in_order items (IsDistinct-tail is_same_cell first.cell (cells_noted items) once)
+      (λ i j d low high. far (suc i) (suc j) d (omega (arith, low)) (omega (arith, high))),
 )
 
 pub sorted_once : (items sorted : List Held) → IsPermutation items sorted → AreOnce items → AreOnce sorted
 sorted_once items sorted moved once =
-    IsDistinct-IsPermutation is_same_cell cells_equiv.symm (cells_noted items) (cells_noted sorted) (IsPermutation-map (λ (one : Held). one.cell) items sorted moved) once
+    IsDistinct-IsPermutation is_same_cell cells_equiv.symm (cells_noted items) (cells_noted sorted)
+    (IsPermutation-map (λ (one : Held). one.cell) items sorted moved) once
 
 pub rising : (items sorted : List Held) → IsPermutation items sorted → AreOnce items
     → IsSortedByKey place_of (λ one other. ordering_then (nat_cmp one.0 other.0) (nat_cmp one.1 other.1)) sorted → AreRisingCells sorted
 rising items sorted moved once up =
     in_order sorted (sorted_once items sorted moved once)
-    (sorted_far (λ one other. comes_first one.cell other.cell) (ranks_by (then_total (on_total (λ (pair : ℕ × ℕ). pair.0) nat_cmp_total) (on_total (λ (pair : ℕ × ℕ). pair.1) nat_cmp_total)) place_of) sorted up)
+    (sorted_far (λ one other. comes_first one.cell other.cell)
+    (ranks_by (then_total (on_total (λ (pair : ℕ × ℕ). pair.0) nat_cmp_total) (on_total (λ (pair : ℕ × ℕ). pair.1) nat_cmp_total))
+    place_of) sorted up)
 
 pub same_members : (items sorted : List Held) → IsPermutation items sorted → (one : Held) → Contains sorted one ↔ Contains items one
 same_members items sorted moved one =

@@ -1,5 +1,8 @@
 -- What can be taken back, and what is noted of a timestep.
-use Rattle.rw_record.proofs.Common.{Asked, Bool, Cell, Cells, Contains, Contains-append_cases, Contains-append_left, Contains-append_right, Draft, Event, Held, IsTrue, List, None, [], ap, append-nil, arith, asked_in, cells_looked, cells_reached, false, false≢true, flat_map, flat_map-append, held_after, inl, inr, is_noted, is_shared, last_put, looks_in, noted_after, option_or, reached_by, refl, subst, sym, true, written_by, ◌++◌, ◌∙◌, ◌∷◌, ◌≡◌, ◌⊎◌}
+use Rattle.rw_record.proofs.Common.{Asked, Bool, Cell, Cells, Contains, Contains-append_cases, Contains-append_left, Contains-append_right, Draft}
+use Rattle.rw_record.proofs.Common.{Event, Held, IsTrue, List, None, [], ap, append-nil, arith, asked_in, cells_looked, cells_reached, false}
+use Rattle.rw_record.proofs.Common.{false≢true, flat_map, flat_map-append, held_after, inl, inr, is_noted, is_shared, last_put, looks_in, noted_after}
+use Rattle.rw_record.proofs.Common.{option_or, reached_by, refl, subst, sym, true, written_by, ◌++◌, ◌∙◌, ◌∷◌, ◌≡◌, ◌⊎◌}
 use Rattle.std.specs.List.{IsDistinct}
 use Rattle.rw_record.specs.Notes.{CanTakeBack, Notes}
 use Rattle.rw_record.proofs.Cells.{first_of, reached_at, shared_in}
@@ -11,7 +14,8 @@ fresh before = record {
   same = λ cell none. refl;
 }
 
-pub more_noted : (before now : Cells) (noted : List Held) (more : List Cell) → CanTakeBack before now noted → CanTakeBack before now (noted_after now noted more)
+pub more_noted : (before now : Cells) (noted : List Held) (more : List Cell) → CanTakeBack before now noted
+    → CanTakeBack before now (noted_after now noted more)
 more_noted before now noted more can = record {
   held = λ one has. by one (old_or now noted more one has);
   same = λ cell none. can.same cell (before_none now noted more cell none);
@@ -24,7 +28,8 @@ more_noted before now noted more can = record {
 -- ---- puts
 
 -- to a cell that no put shares its value with, nothing is put
-unreached : (basin : Draft) (puts : List Asked) (cell : Cell) → ((put : Asked) → Contains puts put → is_shared basin put.cell cell ≡ false) → last_put basin puts cell ≡ None
+unreached : (basin : Draft) (puts : List Asked) (cell : Cell) → ((put : Asked) → Contains puts put → is_shared basin put.cell cell ≡ false)
+    → last_put basin puts cell ≡ None
 unreached basin [] cell apart = refl
 unreached basin (put ∷ puts) cell apart =
     rw (unreached basin puts cell (λ it has. apart it (Contains-append_right (put ∷ []) puts it has)), apart put (first_of put puts)) refl
@@ -39,7 +44,8 @@ apart_from basin puts noted cell all none put has = by (is_shared basin put.cell
     by false apart = refl
     by true shared = absurd (false≢true (sym none ∙ all cell (reached_at basin puts put cell has (shared_in basin put.cell cell shared))))
 
-unchanged : (basin : Draft) (puts : List Asked) (now : Cells) (cell : Cell) → last_put basin puts cell ≡ None → option_or (last_put basin puts cell) (now cell) ≡ now cell
+unchanged : (basin : Draft) (puts : List Asked) (now : Cells) (cell : Cell) → last_put basin puts cell ≡ None
+    → option_or (last_put basin puts cell) (now cell) ≡ now cell
 unchanged basin puts now cell none = ap (λ put. option_or put (now cell)) none
 
 pub all_put : (basin : Draft) (before now : Cells) (noted : List Held) (puts : List Asked) → CanTakeBack before now noted
@@ -53,7 +59,8 @@ all_put basin before now noted puts can all = record {
 
 -- ---- a timestep
 
-pub whole : (basin : Draft) (before now : Cells) (events : List Event) (noted : List Held) → Notes basin before now events noted → CanTakeBack before now noted
+pub whole : (basin : Draft) (before now : Cells) (events : List Event) (noted : List Held) → Notes basin before now events noted
+    → CanTakeBack before now noted
 whole basin before now events noted notes = record {
   held = λ one has. sym ((notes.looked one).0 has).1;
   same = notes.same;
@@ -87,7 +94,8 @@ module _ (basin : Draft) (before now : Cells) (events : List Event) (noted : Lis
     new.is ∙ notes.same one.cell new.fresh,
   )
 
-  found : (one : Held) → one.content ≡ before one.cell → Contains (flat_map (reached_by basin) events) one.cell → Contains (noted_after now noted reached) one
+  found : (one : Held) → one.content ≡ before one.cell → Contains (flat_map (reached_by basin) events) one.cell
+      → Contains (noted_after now noted reached) one
   found one is has = old_in now noted reached one ((notes.looked one).1 (has, is))
 
   found_new : (one : Held) → one.content ≡ before one.cell → Contains reached one.cell → (known : Bool) → is_noted noted one.cell ≡ known
@@ -103,17 +111,20 @@ module _ (basin : Draft) (before now : Cells) (events : List Event) (noted : Lis
   is_noted_one one is (inr new) = found_new one is new (is_noted noted one.cell) refl
 
   -- what it writes was asked for, and all that this reaches is noted
-  written : (cell : Cell) → is_noted (noted_after now noted reached) cell ≡ false → (put : Asked) → Contains (written_by event) put → is_shared basin put.cell cell ≡ false
+  written : (cell : Cell) → is_noted (noted_after now noted reached) cell ≡ false → (put : Asked) → Contains (written_by event) put
+      → is_shared basin put.cell cell ≡ false
   written cell none put has =
       apart_from basin (asked_in event) (noted_after now noted reached) cell
-      (λ other near. (among now noted reached other).1 (inr (Contains-append_right (cells_looked (looks_in event)) (cells_reached basin (asked_in event)) other near)))
+      (λ other near. (among now noted reached other).1
+      (inr (Contains-append_right (cells_looked (looks_in event)) (cells_reached basin (asked_in event)) other near)))
       none put (asks put has)
 
   pub one_more : Notes basin before (held_after basin event now) (events ++ event ∷ []) (noted_after now noted reached)
   one_more = record {
     looked = λ one. (
       λ has. is_looked one (old_or now noted reached one has),
-      λ is. is_noted_one one is.1 (Contains-append_cases (flat_map (reached_by basin) events) reached one.cell (subst (λ cells. Contains cells one.cell) both is.0)),
+      λ is. is_noted_one one is.1 (Contains-append_cases (flat_map (reached_by basin) events) reached one.cell
+          (subst (λ cells. Contains cells one.cell) both is.0)),
     );
     once = once now noted reached notes.once;
     same = λ cell none.

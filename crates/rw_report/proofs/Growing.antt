@@ -1,5 +1,6 @@
 -- A text that grows part by part.
-use Rattle.rw_base.proofs.Common.{◌≡◌, ℕ, ◌+◌, List, [], ◌∷◌, ◌++◌, Some, sym, ap, ◌∙◌, drop, drop-cons, suc, append_assoc, suc-eq-add-one, slice_get, slice_get_within, get_or_from_slice_get}
+use Rattle.rw_base.proofs.Common.{◌≡◌, ℕ, ◌+◌, List, [], ◌∷◌, ◌++◌, Some, sym, ap, ◌∙◌, drop, drop-cons, suc, append_assoc, suc-eq-add-one, slice_get}
+use Rattle.rw_base.proofs.Common.{slice_get_within, get_or_from_slice_get}
 use Rattle.rw_report.specs.Section.{for_each}
 
 -- two parts, one after the other

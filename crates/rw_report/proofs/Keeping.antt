@@ -1,5 +1,7 @@
 -- Lines that are kept, and tell of the first timesteps.
-use Rattle.rw_base.proofs.Common.{◌≡◌, ◌≤◌, ◌<◌, ◌+◌, ◌∙◌, ℕ, zero, suc, ℤ, Bool, true, false, List, [], ◌∷◌, ◌++◌, All, All-contains, Option, Some, ap, ap₂, arith, get_or_from_slice_get, length, length-set, map, nat_lt, nat_tests, none-some, option_map, refl, same_Some, set, slice_get, slice_get_within, string_bytes, subst, sym, take}
+use Rattle.rw_base.proofs.Common.{◌≡◌, ◌≤◌, ◌<◌, ◌+◌, ◌∙◌, ℕ, zero, suc, ℤ, Bool, true, false, List, [], ◌∷◌, ◌++◌, All, All-contains, Option, Some}
+use Rattle.rw_base.proofs.Common.{ap, ap₂, arith, get_or_from_slice_get, length, length-set, map, nat_lt, nat_tests, none-some, option_map, refl}
+use Rattle.rw_base.proofs.Common.{same_Some, set, slice_get, slice_get_within, string_bytes, subst, sym, take}
 use Rattle.rw_base.specs.declared.number.Cell.{Cell}
 use Rattle.rw_model.specs.Draft.{Draft}
 use Rattle.rw_model.specs.Objects.{all_slots}

@@ -1,5 +1,6 @@
 -- A line told from a list of values.
-use Rattle.rw_base.proofs.Common.{◌≡◌, ◌++◌, ◌+◌, ◌∙◌, ◌∷◌, ◌<◌, List, Option, [], ap, ap₂, append_assoc, append-nil, codes, decimal, get_or, length, refl, suc, take, take_more, suc-eq-add-one, sym, zero, ℕ, ℤ}
+use Rattle.rw_base.proofs.Common.{◌≡◌, ◌++◌, ◌+◌, ◌∙◌, ◌∷◌, ◌<◌, List, Option, [], ap, ap₂, append_assoc, append-nil, codes, decimal, get_or, length}
+use Rattle.rw_base.proofs.Common.{refl, suc, take, take_more, suc-eq-add-one, sym, zero, ℕ, ℤ}
 use Rattle.rw_calendar.specs.Stamps.{end_of_step, stamp_text}
 use Rattle.rw_model.specs.Objects.{all_slots}
 use Rattle.rw_model.specs.Draft.{Draft}

@@ -1,5 +1,6 @@
 -- What is kept of a timestep that was run, and of one that was taken over.
-use Rattle.rw_base.proofs.Common.{◌≡◌, ◌⊎◌, ◌<◌, ◌≤◌, ◌∙◌, ℕ, Bool, true, false, List, [], ◌∷◌, Contains, Option, Some, None, IsSome, length, length-append, nat_lt, refl, sym, ap, subst, arith, inl, inr, nat_tests}
+use Rattle.rw_base.proofs.Common.{◌≡◌, ◌⊎◌, ◌<◌, ◌≤◌, ◌∙◌, ℕ, Bool, true, false, List, [], ◌∷◌, Contains, Option, Some, None, IsSome, length}
+use Rattle.rw_base.proofs.Common.{length-append, nat_lt, refl, sym, ap, subst, arith, inl, inr, nat_tests}
 use Rattle.std.specs.List.{flat_map}
 use Rattle.rw_base.specs.declared.number.Cell.{Cell}
 use Rattle.rw_model.specs.Draft.{Draft}
@@ -32,7 +33,8 @@ pub record IsClosedIn (step : ℕ) (log old : Log) (first : Event) (events : Lis
   pub own : events_of step log ≡ log_after (first ∷ events) (opened step ∷ [])
   pub closing : IsSome (before_closing step log)
 
-module _ (basin : Draft) (policy : Policy) (step : ℕ) (log old : Log) (first : Event) (events : List Event) (closed : IsClosedIn step log old first events)
+module _ (basin : Draft) (policy : Policy) (step : ℕ) (log old : Log) (first : Event) (events : List Event)
+    (closed : IsClosedIn step log old first events)
     (timestep : IsTimestep basin policy step old first events) where
   abbrev own : Log
   own = log_after (first ∷ events) (opened step ∷ [])
@@ -79,8 +81,12 @@ module _ (basin : Draft) (policy : Policy) (step : ℕ) (log old : Log) (first :
     kept_anew (Some kept) both = record {
       keepable = record {
         closing = closed.closing;
-        few_cells = subst (λ n. n ≤ most_kept) (sym cells_same) (at_most most_kept (cell_count (flat_map (reached_by basin) (first ∷ events))) (λ more. both.0 (inl more)));
-        few_lines = subst (λ n. n ≤ most_kept) (sym lines_same) (at_most most_kept (length (lines_of_step step (first ∷ events))) (λ more. both.0 (inr more)));
+        few_cells =
+            subst (λ n. n ≤ most_kept) (sym cells_same)
+            (at_most most_kept (cell_count (flat_map (reached_by basin) (first ∷ events))) (λ more. both.0 (inl more)));
+        few_lines =
+            subst (λ n. n ≤ most_kept) (sym lines_same)
+            (at_most most_kept (length (lines_of_step step (first ∷ events))) (λ more. both.0 (inr more)));
       };
       old = old;
       first = first;
@@ -124,7 +130,8 @@ module _ (basin : Draft) (policy : Policy) (earlier log now : Log) (step : ℕ) 
     can = is.these.can;
   }
 
-  pub kept_again : IsClosedIn step log now is.first is.events → IsTimestep basin policy step now is.first is.events → IsKeptOrNot basin policy log step (Some kept)
+  pub kept_again : IsClosedIn step log now is.first is.events → IsTimestep basin policy step now is.first is.events
+      → IsKeptOrNot basin policy log step (Some kept)
   kept_again closed timestep = record {
     keepable = record {
       closing = closed.closing;

@@ -1,5 +1,6 @@
 -- A run that begins where a batch begins: the timesteps that it doesn't touch are taken over.
-use Rattle.rw_base.proofs.Common.{◌≡◌, ◌≤◌, ◌+◌, ◌∙◌, ℕ, zero, suc, false, List, [], ◌∷◌, ◌++◌, map, Contains, Option, Some, None, replicate, take, length, length-append, append-nil, append_assoc, refl, sym, ap, subst, arith}
+use Rattle.rw_base.proofs.Common.{◌≡◌, ◌≤◌, ◌+◌, ◌∙◌, ℕ, zero, suc, false, List, [], ◌∷◌, ◌++◌, map, Contains, Option, Some, None, replicate, take}
+use Rattle.rw_base.proofs.Common.{length, length-append, append-nil, append_assoc, refl, sym, ap, subst, arith}
 use Rattle.std.specs.List.{flat_map}
 use Rattle.std.proofs.lemmas.List.{length-replicate}
 use Rattle.rw_base.specs.declared.number.Cell.{Cell}
@@ -63,14 +64,17 @@ module _ (basin : Draft) (policy : Policy) (step last : ℕ) (one next : Log) (k
     these = link.these;
   }
 
-  module _ (inputs : Inputs) (earlier now : Log) (all_kept : List (Option StepRecord)) (taken : HasTakenOver basin policy inputs earlier all_kept now last)
-      (next_one : step ≡ last + 1) (near : step ≤ basin.control.stamps.count) (framed : IsFramed policy) (was : IsKeptAs basin policy earlier step kept)
+  module _ (inputs : Inputs) (earlier now : Log) (all_kept : List (Option StepRecord))
+      (taken : HasTakenOver basin policy inputs earlier all_kept now last)
+      (next_one : step ≡ last + 1) (near : step ≤ basin.control.stamps.count) (framed : IsFramed policy)
+      (was : IsKeptAs basin policy earlier step kept)
       (held : AreHeld (cells_of basin now) kept.looked) where
     abbrev pub log_on : Log
     log_on = log_after (link.first ∷ link.events) (opened step ∷ now)
 
     timestep_on : IsTimestep basin policy step now link.first link.events
-    timestep_on = again basin policy step last one now link.first link.events kept.looked framed link.timestep link.these.looked held taken.stands next_one
+    timestep_on =
+        again basin policy step last one now link.first link.events kept.looked framed link.timestep link.these.looked held taken.stands next_one
 
     none_yet : (other : ℕ) → step ≤ other → events_of other now ≡ []
     none_yet other far = taken.later other (omega (arith, far, next_one))
@@ -100,7 +104,8 @@ module _ (basin : Draft) (policy : Policy) (step last : ℕ) (one next : Log) (k
           (begins_step basin policy (first_waiting basin now) now step before_on, timestep_on.leads);
       stands = rests_behind step link.first link.events (opened step ∷ now) timestep_on.goes;
       shown = shown_behind basin step one now link.first link.events kept link.timestep.goes link.these shown_here;
-      later = λ other far. closed_on.behind.events other (λ same. absurd (omega (arith, far, same))) ∙ taken.later other (omega (arith, far, next_one));
+      later =
+          λ other far. closed_on.behind.events other (λ same. absurd (omega (arith, far, same))) ∙ taken.later other (omega (arith, far, next_one));
       rerun = taken_over basin earlier now log_on step [] closed_on.behind (λ other far. (nothing_of other now (none_yet other far)).0) taken.rerun
           (is_reused basin policy earlier log_on now step kept was closed_on.behind.opening held);
       kept = kept_more basin policy step 1 log_on all_kept (Some kept) place_on
@@ -150,7 +155,9 @@ takes_over basin policy inputs earlier (first ∷ rest) step last one other end 
     let link = linked.1 in
     let held = held_there basin step one other (link.first ∷ link.events) first link.these alike.0 in
     let here : step ≤ basin.control.stamps.count = omega (arith, near, next_one) in
-    let on = taken_on basin policy step last one linked.0 first link (none step (omega arith)) inputs earlier other all_kept taken next_one here framed kept.0 held in
+    let on =
+    taken_on basin policy step last one linked.0 first link (none step (omega arith)) inputs earlier other all_kept taken next_one here framed
+    kept.0 held in
     let behind = linked_in basin policy step last one linked.0 first link (none step (omega arith)) in
     let none_next : (other : ℕ) → step + 1 ≤ other → events_of other linked.0 ≡ [] =
     λ other far. behind.behind.events other (λ same. absurd (omega (arith, far, same))) ∙ none other (omega (arith, far)) in
@@ -164,7 +171,8 @@ takes_over basin policy inputs earlier (first ∷ rest) step last one other end 
           (append_assoc all_kept (Some first ∷ []) (map (λ kept. Some kept) rest))
           (subst (HasTakenOver basin policy inputs earlier ((all_kept ++ Some first ∷ []) ++ map (λ kept. Some kept) rest) more.log) same more.taken);
       alike = λ cell same. more.alike cell
-          (ap (λ log. cells_of basin log cell) link.is ∙ alike_behind basin (link.first ∷ link.events) (opened step ∷ one) (opened step ∷ other) cell same);
+          (ap (λ log. cells_of basin log cell) link.is
+          ∙ alike_behind basin (link.first ∷ link.events) (opened step ∷ one) (opened step ∷ other) cell same);
     }
 
 -- ---- a run on its way

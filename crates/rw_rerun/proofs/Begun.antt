@@ -48,7 +48,8 @@ unmoved_behind : (basin : Draft) (events : List Event) (log : Log) (cell : Cell)
     → cells_of basin (log_after events log) cell ≡ cells_of basin log cell
 unmoved_behind basin [] log cell none = refl
 unmoved_behind basin (event ∷ events) log cell none =
-    unmoved_behind basin events (event ∷ log) cell (λ has. none (Contains-append_right (put_by basin event) (flat_map (put_by basin) events) cell has))
+    unmoved_behind basin events (event ∷ log) cell
+    (λ has. none (Contains-append_right (put_by basin event) (flat_map (put_by basin) events) cell has))
     ∙ ap (λ put. option_or put (cells_of basin log cell))
     (unreached basin (written_by event) cell (λ has. none (Contains-append_left (put_by basin event) (flat_map (put_by basin) events) cell has)))
 
@@ -70,7 +71,9 @@ rests_behind step event (next ∷ events) log goes = rests_behind step next even
 
 -- by what is known of the events of one timestep
 abbrev pub Reuses : Type 0
-Reuses = (basin : Draft) (policy : Policy) (step : ℕ) (old other end : Log) (first : Event) (events : List Event) → IsFramed policy → IsStepFrom step first events
+Reuses =
+    (basin : Draft) (policy : Policy) (step : ℕ) (old other end : Log) (first : Event) (events : List Event) → IsFramed policy
+    → IsStepFrom step first events
     → Leads basin policy (opened step ∷ old) (first ∷ events) end → AreAlike (cells_of basin old) (cells_of basin other) (looked_in (first ∷ events))
     → Leads basin policy (opened step ∷ other) (first ∷ events) (log_after (first ∷ events) (opened step ∷ other))
 
@@ -89,7 +92,8 @@ timesteps reuse basin policy step last one other (first ∷ steps) framed are re
         (alike_each basin (cells_of basin one) (cells_of basin other) (events_in first)
         (λ cell has. same cell (Contains-append_left (flat_map (reached_by basin) (events_in first)) (cells_touched basin steps) cell has))));
   },
-  timesteps reuse basin policy (step + 1) step (log_after (events_in first) (opened step ∷ one)) (log_after (events_in first) (opened step ∷ other)) steps framed are.1
+  timesteps reuse basin policy (step + 1) step (log_after (events_in first) (opened step ∷ one)) (log_after (events_in first) (opened step ∷ other))
+      steps framed are.1
       (rests_behind step first.first first.events (opened step ∷ other) are.0.goes) refl
       (λ cell has. alike_behind basin (events_in first) (opened step ∷ one) (opened step ∷ other) cell
       (same cell (Contains-append_right (flat_map (reached_by basin) (events_in first)) (cells_touched basin steps) cell has))),

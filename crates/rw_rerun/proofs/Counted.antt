@@ -27,7 +27,8 @@ wants basin policy step Fits old new before after (Err fault) why is rises few =
   few = few;
 }
 
-pub wants_all : (basin : Draft) (policy : Accepted) (inputs : Inputs) (traced : Bool) (was : List (Option StepRecord)) (before after : ℕ) (result : Result Pass NoMemory)
+pub wants_all : (basin : Draft) (policy : Accepted) (inputs : Inputs) (traced : Bool) (was : List (Option StepRecord)) (before after : ℕ)
+    (result : Result Pass NoMemory)
     (why : NoMemory) → IsErrAnd result (λ fault. fault ≡ why) → before ≤ after → after ≤ before + basin.control.stamps.count
     → PassesAll basin policy inputs traced was before after result
 wants_all basin policy inputs traced was before after (Ok pass) why is rises few = absurd is
@@ -54,7 +55,8 @@ wants_rest basin policy was behind old new before after (Err fault) why is rises
   few = few;
 }
 
-pub wants_from : (basin : Draft) (policy : Accepted) (was : List (Option StepRecord)) (spare : Spare) (before after : ℕ) (result : Result Pass NoMemory)
+pub wants_from : (basin : Draft) (policy : Accepted) (was : List (Option StepRecord)) (spare : Spare) (before after : ℕ)
+    (result : Result Pass NoMemory)
     (why : NoMemory) → IsErrAnd result (λ fault. fault ≡ why) → before ≤ after → after ≤ before + basin.control.stamps.count
     → PassesFrom basin policy was spare before after result
 wants_from basin policy was spare before after (Ok pass) why is rises few = absurd is
@@ -84,6 +86,7 @@ weaker basin policy step Fits Known old new before after result known on = recor
 }
 
 pub wants_runs : {A : Type 0} (basin : Draft) (before after : ℕ) (result : Result A NoMemory) (reran : A → List StepNo) (why : NoMemory)
-    → IsErrAnd result (λ fault. fault ≡ why) → before ≤ after → after ≤ before + basin.control.stamps.count → CountsRuns basin before after result reran
+    → IsErrAnd result (λ fault. fault ≡ why) → before ≤ after → after ≤ before + basin.control.stamps.count
+    → CountsRuns basin before after result reran
 wants_runs basin before after (Ok done) reran why is rises few = absurd is
 wants_runs basin before after (Err fault) reran why is rises few = record { each = tt; rises = rises; few = few }

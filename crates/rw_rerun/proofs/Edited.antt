@@ -1,5 +1,8 @@
 -- The cells of a batch: what inputs give them, and records that hold none of them.
-use Rattle.rw_base.proofs.Common.{◌≡◌, ◌≤◌, ◌<◌, ◌+◌, ◌∙◌, ◌==◌, ◌||◌, ℕ, zero, suc, ℤ, Bool, true, false, not, if◌then◌else◌, List, [], ◌∷◌, ◌++◌, map, length, list_any, list_any_at, Any-from_list_any, All-contains, All-head, All-tail, Contains, Contains-from_any, Option, Some, None, option_map, option_or, take, slice_index_or, same_Some, none-some, filter_agree, false≢true, and_parts, nat_tests, arith, refl, sym, ap, subst}
+use Rattle.rw_base.proofs.Common.{◌≡◌, ◌≤◌, ◌<◌, ◌+◌, ◌∙◌, ◌==◌, ◌||◌, ℕ, zero, suc, ℤ, Bool, true, false, not, if◌then◌else◌, List, [], ◌∷◌, ◌++◌}
+use Rattle.rw_base.proofs.Common.{map, length, list_any, list_any_at, Any-from_list_any, All-contains, All-head, All-tail, Contains}
+use Rattle.rw_base.proofs.Common.{Contains-from_any, Option, Some, None, option_map, option_or, take, slice_index_or, same_Some, none-some}
+use Rattle.rw_base.proofs.Common.{filter_agree, false≢true, and_parts, nat_tests, arith, refl, sym, ap, subst}
 use Rattle.std.proofs.lemmas.List.Elements.{Contains-append_right}
 use Rattle.rw_base.specs.declared.number.Cell.{Cell}
 use Rattle.rw_model.specs.Draft.{Draft}
@@ -44,20 +47,25 @@ unplaced basin log slot step None cell apart = refl
 unplaced basin log slot step (Some value) cell apart =
     ap (λ (test : Bool). option_or (if test then Some (input_content value) else None) (cells_of basin log cell)) apart
 
-placed_alike : (basin : Draft) (one other : Log) (slot step : ℕ) (value : Option ℤ) (cell : Cell) → cells_of basin one cell ≡ cells_of basin other cell
+placed_alike : (basin : Draft) (one other : Log) (slot step : ℕ) (value : Option ℤ) (cell : Cell)
+    → cells_of basin one cell ≡ cells_of basin other cell
     → cells_of basin (placed one (if_given slot step value)) cell ≡ cells_of basin (placed other (if_given slot step value)) cell
 placed_alike basin one other slot step None cell same = same
-placed_alike basin one other slot step (Some value) cell same = ap (option_or (last_put basin (written_by (given (cell_at slot step) value)) cell)) same
+placed_alike basin one other slot step (Some value) cell same =
+    ap (option_or (last_put basin (written_by (given (cell_at slot step) value)) cell)) same
 
 module _ (basin : Draft) (old new : Inputs) (cell : Cell)
     (alike : (slot step : ℕ) → is_shared basin (cell_at slot step) cell ≡ true → value_at old slot step ≡ value_at new slot step) where
-  one_alike : (one other : Log) (slot step : ℕ) → cells_of basin one cell ≡ cells_of basin other cell → (shared : Bool) → is_shared basin (cell_at slot step) cell ≡ shared
-      → cells_of basin (placed one (if_given slot step (value_at old slot step))) cell ≡ cells_of basin (placed other (if_given slot step (value_at new slot step))) cell
+  one_alike : (one other : Log) (slot step : ℕ) → cells_of basin one cell ≡ cells_of basin other cell → (shared : Bool)
+      → is_shared basin (cell_at slot step) cell ≡ shared
+      → cells_of basin (placed one (if_given slot step (value_at old slot step))) cell
+      ≡ cells_of basin (placed other (if_given slot step (value_at new slot step))) cell
   one_alike one other slot step same true shared =
       placed_alike basin one other slot step (value_at old slot step) cell same
       ∙ ap (λ value. cells_of basin (placed other (if_given slot step value)) cell) (alike slot step shared)
   one_alike one other slot step same false apart =
-      unplaced basin one slot step (value_at old slot step) cell apart ∙ same ∙ sym (unplaced basin other slot step (value_at new slot step) cell apart)
+      unplaced basin one slot step (value_at old slot step) cell apart ∙ same
+      ∙ sym (unplaced basin other slot step (value_at new slot step) cell apart)
 
   of_alike : (slot steps : ℕ) (one other : Log) → cells_of basin one cell ≡ cells_of basin other cell
       → cells_of basin (placed one (givens_of old slot steps)) cell ≡ cells_of basin (placed other (givens_of new slot steps)) cell
@@ -66,14 +74,16 @@ module _ (basin : Draft) (old new : Inputs) (cell : Cell)
       ap (λ log. cells_of basin log cell) (placed-append one (givens_of old slot step) (if_given slot (suc step) (value_at old slot (suc step))))
       ∙ one_alike (placed one (givens_of old slot step)) (placed other (givens_of new slot step)) slot (suc step) (of_alike slot step one other same)
       (is_shared basin (cell_at slot (suc step)) cell) refl
-      ∙ sym (ap (λ log. cells_of basin log cell) (placed-append other (givens_of new slot step) (if_given slot (suc step) (value_at new slot (suc step)))))
+      ∙ sym (ap (λ log. cells_of basin log cell)
+      (placed-append other (givens_of new slot step) (if_given slot (suc step) (value_at new slot (suc step)))))
 
   to_alike : (slots steps : ℕ) (one other : Log) → cells_of basin one cell ≡ cells_of basin other cell
       → cells_of basin (placed one (givens_to old slots steps)) cell ≡ cells_of basin (placed other (givens_to new slots steps)) cell
   to_alike zero steps one other same = same
   to_alike (suc slot) steps one other same =
       ap (λ log. cells_of basin log cell) (placed-append one (givens_to old slot steps) (givens_of old (suc slot) steps))
-      ∙ of_alike (suc slot) steps (placed one (givens_to old slot steps)) (placed other (givens_to new slot steps)) (to_alike slot steps one other same)
+      ∙ of_alike (suc slot) steps (placed one (givens_to old slot steps)) (placed other (givens_to new slot steps))
+      (to_alike slot steps one other same)
       ∙ sym (ap (λ log. cells_of basin log cell) (placed-append other (givens_to new slot steps) (givens_of new (suc slot) steps)))
 
 -- other cells are given what they were given before the batch
@@ -87,7 +97,8 @@ given_alike basin batch old new cells made values edited cell apart =
     ∙ sym (ap (λ (v : Values). v slot step) values))
     (length (all_slots basin.objects)) basin.control.stamps.count [] [] refl
   where
-    unnamed : (slot step : ℕ) → is_shared basin (cell_at slot step) cell ≡ true → (there : Bool) → list_any (is_same_cell (cell_at slot step)) cells ≡ there → there ≡ false
+    unnamed : (slot step : ℕ) → is_shared basin (cell_at slot step) cell ≡ true → (there : Bool)
+        → list_any (is_same_cell (cell_at slot step)) cells ≡ there → there ≡ false
     unnamed slot step shared false there = refl
     unnamed slot step shared true there =
         absurd (false≢true (sym apart ∙ any_of (λ one. is_shared basin one cell) cells (cell_at slot step)
@@ -99,7 +110,8 @@ first_is : (slots : List ℕ) (slot one other : ℕ) → is_among slot slots ≡
 first_is [] slot one other among = absurd (false≢true among)
 first_is (first ∷ slots) slot one other among = refl
 
-together_first : (links : List (List ℕ)) (one other slot : ℕ) → is_together links one other ≡ true → is_together links one slot ≡ is_together links other slot
+together_first : (links : List (List ℕ)) (one other slot : ℕ) → is_together links one other ≡ true
+    → is_together links one slot ≡ is_together links other slot
 together_first links one other slot together =
     together_turned links one slot ∙ together_alike links slot one other (one == other) refl together ∙ together_turned links slot other
 
@@ -167,8 +179,10 @@ module _ (basin : Draft) (inputs : Inputs) (cell kept : Cell) (made : IsInputsOf
         ap (λ l. cells_of basin l cell) (placed-append log (givens_of inputs slot step) (if_given slot (suc step) (value_at inputs slot (suc step))))
         ∙ by (of_there slot step log same some) (kept.step.0 == suc step) refl
       where
-        by : (kept.step.0 ≤ step → cells_of basin (placed log (givens_of inputs slot step)) cell ≡ due) → (test : Bool) → (kept.step.0 == suc step) ≡ test
-            → cells_of basin (placed (placed log (givens_of inputs slot step)) (if_given slot (suc step) (value_at inputs slot (suc step)))) cell ≡ due
+        by : (kept.step.0 ≤ step → cells_of basin (placed log (givens_of inputs slot step)) cell ≡ due) → (test : Bool)
+            → (kept.step.0 == suc step) ≡ test
+            → cells_of basin (placed (placed log (givens_of inputs slot step))
+            (if_given slot (suc step) (value_at inputs slot (suc step)))) cell ≡ due
         by earlier true here = one_there (placed log (givens_of inputs slot step)) slot (suc step) same (grind (arith, nat_tests, here))
         by earlier false apart =
             let before : kept.step.0 ≤ step = grind (arith, nat_tests, apart, few) in
@@ -182,14 +196,16 @@ module _ (basin : Draft) (inputs : Inputs) (cell kept : Cell) (made : IsInputsOf
         ap (λ l. cells_of basin l cell) (placed-append log (givens_to inputs slot steps) (givens_of inputs (suc slot) steps))
         ∙ by (λ before. to_there slot steps log some before first last) (kept.slot.0 == suc slot) refl
       where
-        by : (kept.slot.0 ≤ slot → cells_of basin (placed log (givens_to inputs slot steps)) cell ≡ due) → (test : Bool) → (kept.slot.0 == suc slot) ≡ test
+        by : (kept.slot.0 ≤ slot → cells_of basin (placed log (givens_to inputs slot steps)) cell ≡ due) → (test : Bool)
+            → (kept.slot.0 == suc slot) ≡ test
             → cells_of basin (placed (placed log (givens_to inputs slot steps)) (givens_of inputs (suc slot) steps)) cell ≡ due
         by earlier true here = of_there (suc slot) steps (placed log (givens_to inputs slot steps)) (grind (arith, nat_tests, here)) first last
         by earlier false apart =
             let before : kept.slot.0 ≤ slot = grind (arith, nat_tests, apart, few) in
             of_stays (suc slot) steps (placed log (givens_to inputs slot steps)) (earlier before)
 
-  held_given : IsCell basin kept → (value : Option ℤ) → value_at inputs kept.slot.0 kept.step.0 ≡ value → cells_of basin (placed [] (givens basin inputs)) cell ≡ due
+  held_given : IsCell basin kept → (value : Option ℤ) → value_at inputs kept.slot.0 kept.step.0 ≡ value
+      → cells_of basin (placed [] (givens basin inputs)) cell ≡ due
   held_given known None is =
       to_stays (length (all_slots basin.objects)) basin.control.stamps.count [] (sym (ap (option_map input_content) is))
   held_given known (Some value) is =
@@ -199,15 +215,18 @@ module _ (basin : Draft) (inputs : Inputs) (cell kept : Cell) (made : IsInputsOf
 
 -- what cells hold once one of them is given anew
 abbrev once_given : Draft → Inputs → Cell → Cells → Cells
-once_given basin inputs cell was one = if is_shared basin cell one then option_map input_content (value_at inputs cell.slot.0 cell.step.0) else was one
+once_given basin inputs cell was one =
+    if is_shared basin cell one then option_map input_content (value_at inputs cell.slot.0 cell.step.0) else was one
 
 -- other cells hold what they held
 pub not_given : (basin : Draft) (inputs : Inputs) (cells : List Cell) (was : Cells) (cell : Cell) → is_edited basin cells cell ≡ false
     → given_all basin inputs cells was cell ≡ was cell
 not_given basin inputs [] was cell apart = refl
-not_given basin inputs (first ∷ cells) was cell apart = by (not_given basin inputs cells (once_given basin inputs first was) cell) (is_shared basin first cell) refl
+not_given basin inputs (first ∷ cells) was cell apart =
+    by (not_given basin inputs cells (once_given basin inputs first was) cell) (is_shared basin first cell) refl
   where
-    by : (is_edited basin cells cell ≡ false → given_all basin inputs cells (once_given basin inputs first was) cell ≡ once_given basin inputs first was cell)
+    by : (is_edited basin cells cell ≡ false
+        → given_all basin inputs cells (once_given basin inputs first was) cell ≡ once_given basin inputs first was cell)
         → (test : Bool) → is_shared basin first cell ≡ test → given_all basin inputs cells (once_given basin inputs first was) cell ≡ was cell
     by rest true here = absurd (false≢true (sym apart ∙ ap (λ b. b || is_edited basin cells cell) here))
     by rest false here =
@@ -216,11 +235,13 @@ not_given basin inputs (first ∷ cells) was cell apart = by (not_given basin in
 
 module _ (basin : Draft) (inputs : Inputs) (cell kept : Cell) (made : IsInputsOf basin inputs) (shared : is_shared basin kept cell ≡ true)
     (least : kept_slot basin kept.slot.0 ≡ kept.slot.0) where
-  last_given : (cells : List Cell) (was : Cells) → ((one : Cell) → Contains cells one → kept_slot basin one.slot.0 ≡ one.slot.0) → is_edited basin cells cell ≡ true
+  last_given : (cells : List Cell) (was : Cells) → ((one : Cell) → Contains cells one → kept_slot basin one.slot.0 ≡ one.slot.0)
+      → is_edited basin cells cell ≡ true
       → given_all basin inputs cells was cell ≡ option_map input_content (value_at inputs kept.slot.0 kept.step.0)
   last_given [] was alike edited = absurd (false≢true edited)
   last_given (first ∷ cells) was alike edited =
-      by (last_given cells (once_given basin inputs first was) (λ one has. alike one (Contains-append_right (first ∷ []) cells one has))) (is_edited basin cells cell) refl
+      by (last_given cells (once_given basin inputs first was) (λ one has. alike one (Contains-append_right (first ∷ []) cells one has)))
+      (is_edited basin cells cell) refl
     where
       first_shared : (test : Bool) → is_shared basin first cell ≡ test → is_edited basin cells cell ≡ false → test ≡ true
       first_shared true here none = refl
@@ -228,7 +249,8 @@ module _ (basin : Draft) (inputs : Inputs) (cell kept : Cell) (made : IsInputsOf
           absurd (false≢true (sym (ap (λ b. b || is_edited basin cells cell) here ∙ none) ∙ edited))
 
       by : (is_edited basin cells cell ≡ true
-          → given_all basin inputs cells (once_given basin inputs first was) cell ≡ option_map input_content (value_at inputs kept.slot.0 kept.step.0))
+          → given_all basin inputs cells (once_given basin inputs first was) cell
+          ≡ option_map input_content (value_at inputs kept.slot.0 kept.step.0))
           → (test : Bool) → is_edited basin cells cell ≡ test
           → given_all basin inputs cells (once_given basin inputs first was) cell ≡ option_map input_content (value_at inputs kept.slot.0 kept.step.0)
       by rest true later = rest later
@@ -252,7 +274,8 @@ given_anew basin batch inputs cells made edited was cell shared =
 -- ---- timesteps that are untouched
 
 -- the record holds no cell that shares its value with one of these
-one_without : (basin : Draft) (cells : List Cell) (kept : StepRecord) (cell : Cell) → is_untouched basin cells (Some kept) ≡ true → is_edited basin cells cell ≡ true
+one_without : (basin : Draft) (cells : List Cell) (kept : StepRecord) (cell : Cell) → is_untouched basin cells (Some kept) ≡ true
+    → is_edited basin cells cell ≡ true
     → is_noted kept.looked cell ≡ false
 one_without basin cells kept cell untouched shared = by (is_noted kept.looked cell) refl
   where
@@ -305,7 +328,8 @@ module _ (basin : Draft) (cells : List Cell) (one other : Log)
     alike = (held_alike kept untouched, rest.alike);
   }
 
-  first_untouched : (was : List (Option StepRecord)) (behind : ℕ) → CountsUntouched basin cells was behind → AreUntouched basin cells one other (take behind was) behind
+  first_untouched : (was : List (Option StepRecord)) (behind : ℕ) → CountsUntouched basin cells was behind
+      → AreUntouched basin cells one other (take behind was) behind
   first_untouched was zero counts = record { records = []; are = refl; many = refl; without = λ cell shared. tt; alike = tt }
   first_untouched [] (suc behind) counts = absurd (let few = counts.few in omega (arith, few))
   first_untouched (entry ∷ was) (suc behind) counts =
@@ -315,7 +339,8 @@ module _ (basin : Draft) (cells : List Cell) (one other : Log)
         each = λ place it near there. counts.each (suc place) it (omega (arith, near)) there;
       }))
 
-pub untouched_first : (basin : Draft) (cells : List Cell) (was : List (Option StepRecord)) (behind : ℕ) (one other : Log) → CountsUntouched basin cells was behind
+pub untouched_first : (basin : Draft) (cells : List Cell) (was : List (Option StepRecord)) (behind : ℕ) (one other : Log)
+    → CountsUntouched basin cells was behind
     → ((cell : Cell) → is_edited basin cells cell ≡ false → cells_of basin one cell ≡ cells_of basin other cell)
     → AreUntouched basin cells one other (take behind was) behind
 untouched_first basin cells was behind one other counts alike = first_untouched basin cells one other alike was behind counts

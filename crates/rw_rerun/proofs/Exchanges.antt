@@ -1,5 +1,6 @@
 -- Changes take the place of what was kept, the last one first.
-use Rattle.rw_base.proofs.Common.{◌≡◌, ◌≤◌, ◌<◌, ◌∙◌, ℕ, suc, List, [], ◌∷◌, ◌++◌, Option, Some, None, unwrap_or, length, refl, sym, ap, arith, set, drop, length-append, length-set}
+use Rattle.rw_base.proofs.Common.{◌≡◌, ◌≤◌, ◌<◌, ◌∙◌, ℕ, suc, List, [], ◌∷◌, ◌++◌, Option, Some, None, unwrap_or, length, refl, sym, ap, arith, set}
+use Rattle.rw_base.proofs.Common.{drop, length-append, length-set}
 use Rattle.rw_record.specs.Record.{StepRecord}
 use Rattle.rw_rerun.specs.Kept.{changed}
 
@@ -30,17 +31,20 @@ one_less (one ∷ kept) (first ∷ changes) change near =
     ap (λ ks. both ks (first ∷ changes)) (placed_later one kept (length changes) change)
     ∙ ap (λ rest. unwrap_or first one ∷ rest) (one_less kept changes change (omega (arith, near)))
 
-length_placed : (kept : List (Option StepRecord)) (place : ℕ) (change : Option (Option StepRecord)) → length (placed_in kept place change) ≡ length kept
+length_placed : (kept : List (Option StepRecord)) (place : ℕ) (change : Option (Option StepRecord))
+    → length (placed_in kept place change) ≡ length kept
 length_placed kept place None = refl
 length_placed kept place (Some record') = length-set kept place record'
 
 -- one change fewer is left, and what comes of all of them is the same
-pub exchange_on : (kept was : List (Option StepRecord)) (all changes : List (Option (Option StepRecord))) (change : Option (Option StepRecord)) (place : ℕ)
+pub exchange_on : (kept was : List (Option StepRecord)) (all changes : List (Option (Option StepRecord))) (change : Option (Option StepRecord))
+    (place : ℕ)
     → place ≡ length changes → all ≡ changes ++ change ∷ [] → length all ≤ length kept → both kept all ≡ was
     → (length changes ≤ length (placed_in kept place change)) × (both (placed_in kept place change) changes ≡ was)
 exchange_on kept was all changes change place at popped near whole =
     let many = ap length popped ∙ length-append changes (change ∷ []) in
     let same = length_placed kept place change in (
       omega (arith, many, near, same),
-      ap (λ k. both (placed_in kept k change) changes) at ∙ one_less kept changes change (omega (arith, many, near)) ∙ ap (both kept) (sym popped) ∙ whole,
+      ap (λ k. both (placed_in kept k change) changes) at ∙ one_less kept changes change (omega (arith, many, near))
+          ∙ ap (both kept) (sym popped) ∙ whole,
     )

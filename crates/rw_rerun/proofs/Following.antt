@@ -1,5 +1,6 @@
 -- The next run of a session, and the spare engine behind it.
-use Rattle.rw_base.proofs.Common.{◌≡◌, ◌≤◌, ◌+◌, ◌++◌, ◌∙◌, ℕ, List, [], Err, Ok, Result, Option, Some, None, IfOk, IfSome, length, map, take, drop, refl, sym, ap, subst, arith}
+use Rattle.rw_base.proofs.Common.{◌≡◌, ◌≤◌, ◌+◌, ◌++◌, ◌∙◌, ℕ, List, [], Err, Ok, Result, Option, Some, None, IfOk, IfSome, length, map, take, drop}
+use Rattle.rw_base.proofs.Common.{refl, sym, ap, subst, arith}
 use Rattle.std.specs.Prelude.{Bool, is_some}
 use Rattle.rw_base.specs.declared.memory.NoMemory.{NoMemory}
 use Rattle.rw_base.specs.declared.number.Cell.{Cell}
@@ -33,7 +34,8 @@ use Rattle.rw_rerun.proofs.Taken.{comes_behind, first_are_kept, same_end, stands
 use Rattle.rw_rerun.proofs.Ways.{whole_way}
 
 -- the other timesteps are passed, one by one
-pub passes_from : (basin : Draft) (policy : Accepted) (was : List (Option StepRecord)) (spare : Spare) (first last : Pass) (before after : ℕ) (done : Unit {0})
+pub passes_from : (basin : Draft) (policy : Accepted) (was : List (Option StepRecord)) (spare : Spare) (first last : Pass) (before after : ℕ)
+    (done : Unit {0})
     → spare.behind ≤ length was → BeginsBy spare first → PassesRest basin policy was spare.behind first last before after (Ok done)
     → PassesFrom basin policy was spare before after (Ok last)
 passes_from basin policy was spare first last before after done near begins rest =
@@ -62,14 +64,17 @@ kept_first : (one other : Engine) (result : Result Pass NoMemory) → KeepsOn on
 kept_first one other (Err fault) first kept = tt
 kept_first one other (Ok pass) first kept = keeps_more one other pass.engine first kept
 
-pub passes_behind : (basin : Draft) (policy : Accepted) (inputs : Inputs) (cells : List Cell) (was : List (Option StepRecord)) (behind : ℕ) (old new : Spare)
+pub passes_behind : (basin : Draft) (policy : Accepted) (inputs : Inputs) (cells : List Cell) (was : List (Option StepRecord)) (behind : ℕ)
+    (old new : Spare)
     (before after : ℕ) (result : Result Pass NoMemory) → IsFramed (policy_in basin policy) → IsSpareReady basin inputs cells was behind old new
     → PassesFrom basin policy was new before after result → PassesBehind basin policy inputs cells was behind old before after result
 passes_behind basin policy inputs cells was behind old new before after result framed ready passes =
     let in_run = policy_in basin policy in
     let at : ready.mid.behind ≡ behind = ready.brings.behind_is in record {
       made = passes.made;
-      kept = kept_first old.engine new.engine result (keeps_more old.engine ready.mid.engine new.engine ready.brings.kept (gives_keep basin inputs cells ready.mid.engine new.engine ready.gives)) passes.kept;
+      kept =
+          kept_first old.engine new.engine result (keeps_more old.engine ready.mid.engine new.engine ready.brings.kept
+          (gives_keep basin inputs cells ready.mid.engine new.engine ready.gives)) passes.kept;
       goes = λ given batch earlier leaves kept stands.
           let comes = comes_behind basin policy given inputs batch cells earlier was ready.mid new framed
           (subst (LeavesFirst basin batch cells given inputs was) (sym at) leaves) kept
@@ -84,7 +89,8 @@ passes_behind basin policy inputs cells was behind old new before after result f
 -- ---- the next run of a session
 
 -- what its state keeps of the spare engine
-found_spare : (basin : Draft) (policy : Accepted) (session : Session) (is : IsSessionOf basin policy session) (found : Option Spare) → MayBeSpare session found
+found_spare : (basin : Draft) (policy : Accepted) (session : Session) (is : IsSessionOf basin policy session) (found : Option Spare)
+    → MayBeSpare session found
     → IfSome found (IsSpareIn basin policy session is.log)
 found_spare basin policy session is found may =
     let here : (same : IsSessionOf session.basin policy session) × (same.log ≡ is.log) =
@@ -95,17 +101,21 @@ found_spare basin policy session is found may =
     (subst (λ p. IfSome found (IsSpareIn session.basin p session is.log)) is.by_policy
     (subst (λ log. IfSome found (IsSpareIn session.basin session.policy session log)) there.1 (may there.0)))
 
-pub spare_ready : (basin : Draft) (policy : Accepted) (session seen : Session) (is : IsSessionOf basin policy session) (kept found : Option Spare) (spare : Spare)
+pub spare_ready : (basin : Draft) (policy : Accepted) (session seen : Session) (is : IsSessionOf basin policy session) (kept found : Option Spare)
+    (spare : Spare)
     (traced : Bool) → seen ≡ session → traced ≡ is_some seen.engine.trace → MayBeSpare seen kept → found ≡ kept
-    → ((one : Session) (there : IsSessionOf basin policy one) → one.inputs ≡ seen.inputs → is_some one.engine.trace ≡ traced → IfSome found (IsSpareIn basin policy one there.log)
+    → ((one : Session) (there : IsSessionOf basin policy one) → one.inputs ≡ seen.inputs → is_some one.engine.trace ≡ traced
+    → IfSome found (IsSpareIn basin policy one there.log)
     → IsSpareIn basin policy one there.log spare) → IsSpareIn basin policy session is.log spare
 spare_ready basin policy session seen is kept found spare traced same told may was ready =
     ready session is (sym (ap (λ (s : Session). s.inputs) same)) (sym (ap (λ (s : Session). is_some s.engine.trace) same) ∙ sym told)
     (subst (λ one. IfSome one (IsSpareIn basin policy session is.log)) (sym was)
     (found_spare basin policy session is kept (subst (λ (s : Session). MayBeSpare s kept) same may)))
 
-pub passes_next : (basin : Draft) (policy : Accepted) (session : Session) (inputs : Inputs) (cells : List Cell) (behind : ℕ) (was : List (Option StepRecord))
-    (spare : Spare) (before after : ℕ) (result : Result Pass NoMemory) (is : IsSessionOf basin policy session) → IsSpareIn basin policy session is.log spare
+pub passes_next : (basin : Draft) (policy : Accepted) (session : Session) (inputs : Inputs) (cells : List Cell) (behind : ℕ)
+    (was : List (Option StepRecord))
+    (spare : Spare) (before after : ℕ) (result : Result Pass NoMemory) (is : IsSessionOf basin policy session)
+    → IsSpareIn basin policy session is.log spare
     → session.kept ≡ was → PassesBehind basin policy inputs cells was behind spare before after result
     → PassesNext basin policy session inputs cells behind before after result
 passes_next basin policy session inputs cells behind was spare before after (Err fault) is stands lent passes = record {
@@ -132,7 +142,8 @@ passes_next basin policy session inputs cells behind was spare before after (Ok 
     }
 
 pub leaves_first : (basin : Draft) (policy : Accepted) (session : Session) (batch : Batch) (inputs : Inputs) (given cells : List Cell) (behind : ℕ)
-    (was : List (Option StepRecord)) → IsSessionOf basin policy session → value_at inputs ≡ after_batch batch (value_at session.inputs) → IsInputsOf basin inputs
+    (was : List (Option StepRecord)) → IsSessionOf basin policy session → value_at inputs ≡ after_batch batch (value_at session.inputs)
+    → IsInputsOf basin inputs
     → AreEdited basin batch given → given ≡ cells → session.kept ≡ was → CountsUntouched basin cells was behind
     → LeavesFirst basin batch cells session.inputs inputs session.kept behind
 leaves_first basin policy session batch inputs given cells behind was is values made edited same lent untouched = record {
@@ -144,7 +155,8 @@ leaves_first basin policy session batch inputs given cells behind was is values 
   untouched = subst (λ kept. CountsUntouched basin cells kept behind) (sym lent) untouched;
 }
 
-pub applies_next : (basin : Draft) (policy : Accepted) (session old new : Session) (batch : Batch) (inputs : Inputs) (cells : List Cell) (behind : ℕ) (pass : Pass)
+pub applies_next : (basin : Draft) (policy : Accepted) (session old new : Session) (batch : Batch) (inputs : Inputs) (cells : List Cell) (behind : ℕ)
+    (pass : Pass)
     (before after : ℕ) → PassesNext basin policy session inputs cells behind before after (Ok pass)
     → LeavesFirst basin batch cells session.inputs inputs session.kept behind → old ≡ session
     → new ≡ session_behind old.basin old.policy inputs old.kept pass new.same → HoldAsBefore old new → Applies basin policy batch session new
@@ -172,7 +184,8 @@ module _ (basin : Draft) (policy : Accepted) (session : Session) (inputs : Input
   is_spare spare becomes is =
       let at : spare.behind ≡ behind = becomes.behind_is in
       let start : Log = placed [] (givens basin inputs) in
-      let comes = becomes.comes policy session.inputs next.batch next.is.log next.leaves next.is.kept (stands_behind_all basin policy session next.is) in
+      let comes =
+      becomes.comes policy session.inputs next.batch next.is.log next.leaves next.is.kept (stands_behind_all basin policy session next.is) in
       let some = next.leaves.untouched.few in
       let left = known_records session.kept behind some (first_are_kept basin cells session.kept behind next.leaves.untouched) in
       let first : take spare.behind session.kept ≡ map (λ kept. Some kept) left.0 = ap (λ n. take n session.kept) at ∙ left.1 in
@@ -181,7 +194,8 @@ module _ (basin : Draft) (policy : Accepted) (session : Session) (inputs : Input
       let few : spare.behind ≤ length now_kept =
       let all = is.many in let many = next.leaves.many in omega (arith, at, all, many, some) in
       let met_end : next.way.log ≡ is.log =
-      one_run basin in_run (givens basin inputs) next.way.log is.log (whole_way basin in_run inputs next.is.log session.kept pass next.way) is.whole in
+      one_run basin in_run (givens basin inputs) next.way.log is.log (whole_way basin in_run inputs next.is.log session.kept pass next.way)
+      is.whole in
       let split = split_at basin in_run 1 start next.way.log now_kept spare.behind (spare.behind + 1) (omega arith) few next.way.linked in
       let met : split.0 ≡ comes.log =
       same_end basin in_run left.0 1 start split.0 comes.log
@@ -210,7 +224,8 @@ module _ (basin : Draft) (policy : Accepted) (session : Session) (inputs : Input
       → MayBeSpare (session_behind session.basin session.policy inputs session.kept pass same) spare
   next_spare spare becomes =
       subst (λ of_basin. MayBeSpare (session_behind of_basin session.policy inputs session.kept pass same) spare) (sym next.is.of_basin)
-      (subst (λ by_policy. MayBeSpare (session_behind basin by_policy inputs session.kept pass same) spare) (sym next.is.by_policy) (may_be spare becomes))
+      (subst (λ by_policy. MayBeSpare (session_behind basin by_policy inputs session.kept pass same) spare) (sym next.is.by_policy)
+      (may_be spare becomes))
 
   -- ---- at its place
 

@@ -1,5 +1,6 @@
 -- What cells hold once inputs are given to them.
-use Rattle.rw_base.proofs.Common.{◌≡◌, ◌<◌, ◌+◌, ◌∙◌, ℕ, ℤ, if◌then◌else◌, List, [], ◌∷◌, Option, Some, None, IfSome, drop, get_or, length, option_map, sym, ap}
+use Rattle.rw_base.proofs.Common.{◌≡◌, ◌<◌, ◌+◌, ◌∙◌, ℕ, ℤ, if◌then◌else◌, List, [], ◌∷◌, Option, Some, None, IfSome, drop, get_or, length}
+use Rattle.rw_base.proofs.Common.{option_map, sym, ap}
 use Rattle.std.specs.Prelude.{is_some}
 use Rattle.std.proofs.lemmas.List.{at_drop_more}
 use Rattle.rw_base.specs.declared.number.Cell.{Cell}
@@ -13,7 +14,8 @@ use Rattle.rw_engine.specs.Engine.{Engine}
 use Rattle.rw_engine.specs.Shows.{KeepsOn}
 use Rattle.rw_rerun.specs.Spare.{GivesAll, given_all}
 
-pub within_given : (basin : Draft) (inputs : Inputs) → IsInputsOf basin inputs → (slot step : ℕ) (value : Option ℤ) → value ≡ value_at inputs slot step
+pub within_given : (basin : Draft) (inputs : Inputs) → IsInputsOf basin inputs → (slot step : ℕ) (value : Option ℤ)
+    → value ≡ value_at inputs slot step
     → IfSome value (λ value. IsBetween (bounds_in basin.objects basin.links basin.bounds slot) value)
 within_given basin inputs made slot step None is = tt
 within_given basin inputs made slot step (Some value) is = (made.sound slot step value (sym is)).within
@@ -25,9 +27,11 @@ given_same basin inputs (first ∷ rest) one other same cell =
     given_same basin inputs rest
     (λ at. if is_shared basin first at then option_map input_content (value_at inputs first.slot.0 first.step.0) else one at)
     (λ at. if is_shared basin first at then option_map input_content (value_at inputs first.slot.0 first.step.0) else other at)
-    (λ at. ap (λ there. if is_shared basin first at then option_map input_content (value_at inputs first.slot.0 first.step.0) else there) (same at)) cell
+    (λ at. ap (λ there. if is_shared basin first at then option_map input_content (value_at inputs first.slot.0 first.step.0) else there)
+    (same at)) cell
 
-pub gives_on : (basin : Draft) (inputs : Inputs) (cells : List Cell) (place : ℕ) (blank : Cell) (value : Option ℤ) (old new : Series) (was : Option Content) (cell : Cell)
+pub gives_on : (basin : Draft) (inputs : Inputs) (cells : List Cell) (place : ℕ) (blank : Cell) (value : Option ℤ) (old new : Series)
+    (was : Option Content) (cell : Cell)
     → place < length cells → value ≡ value_at inputs (get_or cells place blank).slot.0 (get_or cells place blank).step.0
     → Sets basin (get_or cells place blank) (option_map input_content value) old new → given_all basin inputs (drop place cells) (held old) cell ≡ was
     → given_all basin inputs (drop (place + 1) cells) (held new) cell ≡ was
@@ -41,7 +45,8 @@ gives_on basin inputs cells place blank value old new was cell near is sets same
 -- ---- what an engine keeps
 
 pub keeps_same : (old new : Engine) → new ≡ old → KeepsOn old new
-keeps_same old new same = record { trace = ap (λ (engine : Engine). is_some engine.trace) same; noted = ap (λ (engine : Engine). is_some engine.noted) same }
+keeps_same old new same =
+    record { trace = ap (λ (engine : Engine). is_some engine.trace) same; noted = ap (λ (engine : Engine). is_some engine.noted) same }
 
 pub keeps_more : (one other last : Engine) → KeepsOn one other → KeepsOn other last → KeepsOn one last
 keeps_more one other last first next = record { trace = next.trace ∙ first.trace; noted = next.noted ∙ first.noted }

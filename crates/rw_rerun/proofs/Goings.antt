@@ -1,5 +1,6 @@
 -- What each way of passing a timestep comes to.
-use Rattle.rw_base.proofs.Common.{◌≡◌, ◌≤◌, ◌+◌, ◌∙◌, ℕ, true, false, List, [], ◌∷◌, ◌++◌, Ok, Option, Some, None, IsSome, IfSome, length, length-append, false≢true, refl, sym, ap, subst, arith}
+use Rattle.rw_base.proofs.Common.{◌≡◌, ◌≤◌, ◌+◌, ◌∙◌, ℕ, true, false, List, [], ◌∷◌, ◌++◌, Ok, Option, Some, None, IsSome, IfSome, length}
+use Rattle.rw_base.proofs.Common.{length-append, false≢true, refl, sym, ap, subst, arith}
 use Rattle.rw_base.specs.declared.number.StepNo.{StepNo}
 use Rattle.rw_model.specs.Draft.{Draft}
 use Rattle.rw_model.specs.Turn.{IsStep}
@@ -65,11 +66,16 @@ module _ (basin : Draft) (policy : Accepted) (step : ℕ) (old new : Pass) (made
   pub skip_goes : (steps : ℕ) (done : Unit {0}) → old.over ≡ true → new.over ≡ true → new.engine ≡ old.engine → new.reran.items ≡ old.reran.items
       → new.changes.items ≡ old.changes.items ++ Some None ∷ [] → GoesOn basin policy step (λ entry. Unit {0}) old new steps steps (Ok done)
   skip_goes steps done was_over is_over engine reran changes = record {
-    made = record { made = subst (λ e. IsEngineOf basin policy e) (sym engine) made.made; noted = subst (λ (e : Engine). IsSome e.noted) (sym engine) made.noted };
+    made =
+        record {
+          made = subst (λ e. IsEngineOf basin policy e) (sym engine) made.made;
+          noted = subst (λ (e : Engine). IsSome e.noted) (sym engine) made.noted;
+        };
     kept = keeps_same old.engine new.engine engine;
     goes = λ inputs earlier was last entry framed there fits next_one way.
         none_on basin in_run inputs earlier was old new last step entry (Some None) way next_one there.there changes was_over is_over engine reran
-        (nothing_of step way.log (none_open basin in_run inputs earlier was old new last step entry (Some None) way next_one there.there changes step (omega arith))).1
+        (nothing_of step way.log (none_open basin in_run inputs earlier was old new last step entry (Some None) way next_one there.there changes step
+        (omega arith))).1
         refl;
     grows = (Some None ∷ [], changes);
     each = let same = ap length reran in omega (arith, same);
@@ -77,7 +83,8 @@ module _ (basin : Draft) (policy : Accepted) (step : ℕ) (old new : Pass) (made
     few = omega arith;
   }
 
-  pub take_goes : (steps : ℕ) (done : Unit {0}) (kept : StepRecord) → old.over ≡ false → new.over ≡ false → IsStep basin step → IsReplayable basin step kept
+  pub take_goes : (steps : ℕ) (done : Unit {0}) (kept : StepRecord) → old.over ≡ false → new.over ≡ false → IsStep basin step
+      → IsReplayable basin step kept
       → AreHeld (held old.engine.series) kept.looked → Replays basin kept old.engine new.engine (Ok done) → new.reran.items ≡ old.reran.items
       → new.changes.items ≡ old.changes.items ++ None ∷ [] → GoesOn basin policy step (λ entry. entry ≡ Some kept) old new steps steps (Ok done)
   take_goes steps done kept goes still_goes exists can alike replays reran changes = record {
@@ -107,10 +114,12 @@ module _ (basin : Draft) (policy : Accepted) (step : ℕ) (old new : Pass) (made
         let facts = closed_behind basin in_run step now is.first is.events timestep (none step (omega arith)) in
         let closed_in : IsClosedIn step log now is.first is.events =
         subst (λ l. IsClosedIn step l now is.first is.events) (sym same) (record { behind = facts.0; own = facts.1; closing = facts.2 }) in
-        one_on basin in_run inputs earlier was old new last step entry None way next_one there.there changes log passes.events passes.leads passes.shows
+        one_on basin in_run inputs earlier was old new last step entry None way next_one there.there changes log passes.events passes.leads
+        passes.shows
         (ap standing ends ∙ sym (ap (λ o. stands_at o step) still_goes)) closed_in.behind
         (subst (λ (steps : List StepNo). AreRerun basin earlier log (numbers_of_steps steps)) (sym reran)
-        (taken_over basin earlier now log step (numbers_of_steps old.reran.items) closed_in.behind (λ other far. (nothing_of other now (none other far)).0) way.rerun
+        (taken_over basin earlier now log step (numbers_of_steps old.reran.items) closed_in.behind
+        (λ other far. (nothing_of other now (none other far)).0) way.rerun
         (is_reused basin in_run earlier log now step kept is closed_in.behind.opening held_now)))
         (subst (IsKeptOrNot basin in_run log step) (sym fits) (kept_again basin in_run earlier log now step kept is held_now closed_in timestep))
         (subst (λ kept. IsStepLink basin in_run step now kept log) (sym fits) (record {
@@ -132,15 +141,18 @@ module _ (basin : Draft) (policy : Accepted) (step : ℕ) (old new : Pass) (made
   }
 
   -- of a timestep that is run
-  module _ (before after : ℕ) (number : StepNo) (at : number.0 ≡ step) (goes : old.over ≡ false) (exists : IsStep basin step) (counted : after ≡ before + 1)
+  module _ (before after : ℕ) (number : StepNo) (at : number.0 ≡ step) (goes : old.over ≡ false) (exists : IsStep basin step)
+      (counted : after ≡ before + 1)
       (reran : new.reran.items ≡ old.reran.items ++ number ∷ []) (done : Unit {0}) where
     one_more : after + length old.reran.items ≡ before + length new.reran.items
     one_more = let all = ap length reran in let more = length-append old.reran.items (number ∷ []) in omega (arith, all, more, counted)
 
-    listed : (earlier log : Log) → AreRerun basin earlier log (numbers_of_steps old.reran.items ++ step ∷ []) → AreRerun basin earlier log (numbers_of_steps new.reran.items)
+    listed : (earlier log : Log) → AreRerun basin earlier log (numbers_of_steps old.reran.items ++ step ∷ [])
+        → AreRerun basin earlier log (numbers_of_steps new.reran.items)
     listed earlier log are =
         subst (AreRerun basin earlier log)
-        (ap (λ n. numbers_of_steps old.reran.items ++ n ∷ []) (sym at) ∙ sym (numbers_more old.reran.items number) ∙ ap numbers_of_steps (sym reran)) are
+        (ap (λ n. numbers_of_steps old.reran.items ++ n ∷ []) (sym at) ∙ sym (numbers_more old.reran.items number)
+        ∙ ap numbers_of_steps (sym reran)) are
 
     pub run_goes : (found : Option StepRecord) → new.over ≡ false → RunsStep basin policy step old.engine new.engine (Ok IsClosed)
         → ((basin : Draft) (step : ℕ) (old : Log) (events : List Event) → HasNoted basin step old events new.engine → new.engine.closed ≡ step
@@ -156,24 +168,31 @@ module _ (basin : Draft) (policy : Accepted) (step : ℕ) (old new : Pass) (made
           let none : (other : ℕ) → step ≤ other → events_of other now ≡ [] =
           none_open basin in_run inputs earlier was old new last step entry (Some found) way next_one there.there changes in
           let passes : Passes basin in_run now IsClosed new.engine step =
-          runs.passes now way.shows (before_next basin in_run inputs earlier was old new last step entry (Some found) way next_one there.there changes goes exists.last) in
+          runs.passes now way.shows (before_next basin in_run inputs earlier was old new last step entry (Some found) way next_one there.there changes
+          goes exists.last) in
           let closes = passes.closes in
           let log : Log = passes.last ∷ passes.before in
           let noted = closes.noted (runs.kept.noted ∙ made.noted) in
           let facts = closed_behind basin in_run step now closes.first closes.events closes.timestep (none step (omega arith)) in
           let closed_in : IsClosedIn step log now closes.first closes.events =
-          subst (λ l. IsClosedIn step l now closes.first closes.events) (sym closes.is) (record { behind = facts.0; own = facts.1; closing = facts.2 }) in
-          one_on basin in_run inputs earlier was old new last step entry (Some found) way next_one there.there changes log passes.events passes.leads passes.shows
+          subst (λ l. IsClosedIn step l now closes.first closes.events) (sym closes.is)
+          (record { behind = facts.0; own = facts.1; closing = facts.2 }) in
+          one_on basin in_run inputs earlier was old new last step entry (Some found) way next_one there.there changes log passes.events passes.leads
+          passes.shows
           (ap (λ e. standing (e ∷ passes.before)) passes.ends ∙ sym (ap (λ o. stands_at o step) still_goes)) closed_in.behind
           (listed earlier log
-          (run_again basin earlier now log step (numbers_of_steps old.reran.items) closed_in.behind (λ other far. (nothing_of other now (none other far)).0) way.rerun
-          (not_reused basin in_run earlier log now step entry (subst (λ s. IsKeptOrNot basin in_run earlier s entry) (sym next_one) there.kept) closed_in.behind.opening
+          (run_again basin earlier now log step (numbers_of_steps old.reran.items) closed_in.behind
+          (λ other far. (nothing_of other now (none other far)).0) way.rerun
+          (not_reused basin in_run earlier log now step entry (subst (λ s. IsKeptOrNot basin in_run earlier s entry) (sym next_one) there.kept)
+          closed_in.behind.opening
           (unlike_now (held old.engine.series) (cells_of basin now) entry (λ one. way.shows.cells one.cell) fits))))
-          (kept_anew basin in_run step log now closes.first closes.events closed_in closes.timestep new.engine noted (how_many basin (cells_of basin now)) found
+          (kept_anew basin in_run step log now closes.first closes.events closed_in closes.timestep new.engine noted
+          (how_many basin (cells_of basin now)) found
           (records basin step now (closes.first ∷ closes.events) noted runs.closed_steps))
           (link_anew basin in_run step now log closes.first closes.events found closes.timestep closes.is closed_in.own
           (records basin step now (closes.first ∷ closes.events) noted runs.closed_steps)
-          (kept_anew basin in_run step log now closes.first closes.events closed_in closes.timestep new.engine noted (how_many basin (cells_of basin now)) found
+          (kept_anew basin in_run step log now closes.first closes.events closed_in closes.timestep new.engine noted
+          (how_many basin (cells_of basin now)) found
           (records basin step now (closes.first ∷ closes.events) noted runs.closed_steps))
           (shown_next basin in_run inputs earlier was old new last step entry (Some found) way next_one there.there changes goes))
           (λ same. can_show basin new.engine (step + 1) log runs.made.series passes.shows (ap (λ n. n + 1) (sym runs.closed_steps)));
@@ -194,17 +213,21 @@ module _ (basin : Draft) (policy : Accepted) (step : ℕ) (old new : Pass) (made
           none_open basin in_run inputs earlier was old new last step entry (Some None) way next_one there.there changes in
           let rest : standing now ≡ rests last = way.stands ∙ ap (λ o. stands_at o last) goes in
           let passes : Passes basin in_run now (IsFault why) new.engine step =
-          runs.passes now way.shows (before_next basin in_run inputs earlier was old new last step entry (Some None) way next_one there.there changes goes exists.last) in
+          runs.passes now way.shows (before_next basin in_run inputs earlier was old new last step entry (Some None) way next_one there.there changes
+          goes exists.last) in
           let log : Log = passes.last ∷ passes.before in
           let ends : log ≡ fault why ∷ passes.before = ap (λ e. e ∷ passes.before) passes.ends in
           let facts = faulted_behind basin in_run step last now passes.before passes.events why rest next_one passes.within
           (subst (Leads basin in_run now passes.events) ends passes.leads) (none step (omega arith)) in
           let behind : IsBehind step now log = subst (IsBehind step now) (sym ends) facts.0 in
-          one_on basin in_run inputs earlier was old new last step entry (Some None) way next_one there.there changes log passes.events passes.leads passes.shows
+          one_on basin in_run inputs earlier was old new last step entry (Some None) way next_one there.there changes log passes.events passes.leads
+          passes.shows
           (ap standing ends ∙ sym (ap (λ o. stands_at o step) ended)) behind
           (listed earlier log
-          (run_again basin earlier now log step (numbers_of_steps old.reran.items) behind (λ other far. (nothing_of other now (none other far)).0) way.rerun
-          (not_reused basin in_run earlier log now step entry (subst (λ s. IsKeptOrNot basin in_run earlier s entry) (sym next_one) there.kept) behind.opening
+          (run_again basin earlier now log step (numbers_of_steps old.reran.items) behind
+          (λ other far. (nothing_of other now (none other far)).0) way.rerun
+          (not_reused basin in_run earlier log now step entry (subst (λ s. IsKeptOrNot basin in_run earlier s entry) (sym next_one) there.kept)
+          behind.opening
           (unlike_now (held old.engine.series) (cells_of basin now) entry (λ one. way.shows.cells one.cell) fits))))
           (not_kept basin in_run step log (ap (before_closing step) ends ∙ facts.1)) tt (λ same. absurd (false≢true (sym same ∙ ended)));
       grows = (Some None ∷ [], changes);

@@ -1,5 +1,6 @@
 -- What is kept of timesteps stays so behind a longer log, and what a run changes of it.
-use Rattle.rw_base.proofs.Common.{◌≡◌, ◌≢◌, ◌≤◌, ◌<◌, ◌+◌, ◌∙◌, ℕ, zero, suc, List, [], ◌∷◌, ◌++◌, map, replicate, Option, Some, None, IsSome, unwrap_or, length, refl, sym, ap, subst, arith, false≢true, same_Some, none-some, slice_get, drop, take}
+use Rattle.rw_base.proofs.Common.{◌≡◌, ◌≢◌, ◌≤◌, ◌<◌, ◌+◌, ◌∙◌, ℕ, zero, suc, List, [], ◌∷◌, ◌++◌, map, replicate, Option, Some, None, IsSome}
+use Rattle.rw_base.proofs.Common.{unwrap_or, length, refl, sym, ap, subst, arith, false≢true, same_Some, none-some, slice_get, drop, take}
 use Rattle.std.specs.List.{flat_map}
 use Rattle.rw_model.specs.Draft.{Draft}
 use Rattle.rw_run.specs.Behind.{IsBehind}
@@ -13,7 +14,8 @@ use Rattle.rw_rerun.specs.Kept.{AreKept, AreStepLinks, IsKeptOrNot, IsKeepable, 
 use Rattle.rw_rerun.specs.Spare.{AreKeptFrom}
 
 -- by what it closed and its events
-pub keepable_same : (basin : Draft) (step : ℕ) (log other : Log) → before_closing step other ≡ before_closing step log → events_of step other ≡ events_of step log
+pub keepable_same : (basin : Draft) (step : ℕ) (log other : Log) → before_closing step other ≡ before_closing step log
+    → events_of step other ≡ events_of step log
     → IsKeepable basin log step → IsKeepable basin other step
 keepable_same basin step log other closings events is = record {
   closing = subst IsSome (sym closings) is.closing;
@@ -21,7 +23,8 @@ keepable_same basin step log other closings events is = record {
   few_lines = subst (λ es. length (flat_map lines es) ≤ most_kept) (sym events) is.few_lines;
 }
 
-kept_same : (basin : Draft) (policy : Policy) (step : ℕ) (log other : Log) (entry : Option StepRecord) → before_opening step other ≡ before_opening step log
+kept_same : (basin : Draft) (policy : Policy) (step : ℕ) (log other : Log) (entry : Option StepRecord)
+    → before_opening step other ≡ before_opening step log
     → before_closing step other ≡ before_closing step log → events_of step other ≡ events_of step log → IsKeptOrNot basin policy log step entry
     → IsKeptOrNot basin policy other step entry
 kept_same basin policy step log other None openings closings events is =
@@ -55,7 +58,8 @@ kept_more basin policy step first log [] entry at are is =
 kept_more basin policy step first log (one ∷ kept) entry at are is =
     (are.0, kept_more basin policy step (first + 1) log kept entry (omega (arith, at)) are.1 is)
 
-pub linked_more : (basin : Draft) (policy : Policy) (step first : ℕ) (log end next : Log) (kept : List (Option StepRecord)) (entry : Option StepRecord)
+pub linked_more : (basin : Draft) (policy : Policy) (step first : ℕ) (log end next : Log) (kept : List (Option StepRecord))
+    (entry : Option StepRecord)
     → step ≡ first + length kept → AreStepLinks basin policy first log kept end → IsStepLink basin policy step end entry next
     → AreStepLinks basin policy first log (kept ++ entry ∷ []) next
 linked_more basin policy step first log end next [] entry at are is =
@@ -65,20 +69,23 @@ linked_more basin policy step first log end next (one ∷ kept) entry at are is 
     (are.0, are.1, linked_more basin policy step (first + 1) are.0 end next kept entry (omega (arith, at)) are.2 is)
 
 -- up to one of them, which leads to the others
-pub record SplitsAt (basin : Draft) (policy : Policy) (first here : ℕ) (start log end : Log) (was : List (Option StepRecord)) (count : ℕ) (entry : Option StepRecord) : Type 0 where
+pub record SplitsAt (basin : Draft) (policy : Policy) (first here : ℕ) (start log end : Log) (was : List (Option StepRecord)) (count : ℕ)
+    (entry : Option StepRecord) : Type 0 where
   pub mid : Log
   pub before : AreStepLinks basin policy first start (take count was) mid
   pub link : IsStepLink basin policy here mid entry log
   pub rest : AreStepLinks basin policy here mid (drop count was) end
 
-pub split_back : (basin : Draft) (policy : Policy) (first here : ℕ) (start log end : Log) (was : List (Option StepRecord)) (count : ℕ) (entry : Option StepRecord)
+pub split_back : (basin : Draft) (policy : Policy) (first here : ℕ) (start log end : Log) (was : List (Option StepRecord)) (count : ℕ)
+    (entry : Option StepRecord)
     → here ≡ first + count → slice_get was count ≡ Some entry → AreStepLinks basin policy first start (take (suc count) was) log
     → AreStepLinks basin policy (here + 1) log (drop (suc count) was) end → SplitsAt basin policy first here start log end was count entry
 split_back basin policy first here start log end [] count entry at there before rest = absurd (none-some _ there)
 split_back basin policy first here start log end (one ∷ was) zero entry at there before rest =
     let same : first ≡ here = omega (arith, at) in
     let link : IsStepLink basin policy here start one log =
-    subst (λ s. IsStepLink basin policy s start one log) same (subst (λ l. IsStepLink basin policy first start one l) (sym before.2) before.1) in record {
+    subst (λ s. IsStepLink basin policy s start one log) same
+    (subst (λ l. IsStepLink basin policy first start one l) (sym before.2) before.1) in record {
       mid = start;
       before = refl;
       link = subst (λ e. IsStepLink basin policy here start e log) (same_Some one entry there) link;
@@ -93,7 +100,8 @@ split_back basin policy first here start log end (one ∷ was) (suc count) entry
     }
 
 -- they split at each place
-pub split_at : (basin : Draft) (policy : Policy) (first : ℕ) (start end : Log) (was : List (Option StepRecord)) (count next : ℕ) → next ≡ first + count
+pub split_at : (basin : Draft) (policy : Policy) (first : ℕ) (start end : Log) (was : List (Option StepRecord)) (count next : ℕ)
+    → next ≡ first + count
     → count ≤ length was → AreStepLinks basin policy first start was end
     → (mid : Log) × AreStepLinks basin policy first start (take count was) mid × AreStepLinks basin policy next mid (drop count was) end
 split_at basin policy first start end was zero next at few linked =
@@ -105,7 +113,8 @@ split_at basin policy first start end (one ∷ was) (suc count) next at few link
 
 -- ---- changes
 
-pub changed_more : (was : List (Option StepRecord)) (changes : List (Option (Option StepRecord))) (entry : Option StepRecord) (change : Option (Option StepRecord))
+pub changed_more : (was : List (Option StepRecord)) (changes : List (Option (Option StepRecord))) (entry : Option StepRecord)
+    (change : Option (Option StepRecord))
     → slice_get was (length changes) ≡ Some entry → changed was (changes ++ change ∷ []) ≡ changed was changes ++ unwrap_or change entry ∷ []
 changed_more [] changes entry change there = absurd (none-some _ there)
 changed_more (one ∷ was) [] entry change there = ap (λ (e : Option StepRecord). unwrap_or change e ∷ []) (same_Some one entry there)
@@ -153,5 +162,7 @@ known_records was zero few known = ([], refl)
 known_records [] (suc behind) few known = absurd (omega (arith, few))
 known_records (None ∷ was) (suc behind) few known = absurd (false≢true (known zero None (omega arith) (omega arith) refl))
 known_records (Some kept ∷ was) (suc behind) few known =
-    let more = known_records was behind (omega (arith, few)) (λ place entry first last there. known (suc place) entry (omega arith) (omega (arith, last)) there) in
+    let more =
+    known_records was behind (omega (arith, few))
+    (λ place entry first last there. known (suc place) entry (omega arith) (omega (arith, last)) there) in
     (kept ∷ more.0, ap (λ rest. Some kept ∷ rest) more.1)

@@ -1,5 +1,8 @@
 -- The cells that the edits of a batch name.
-use Rattle.rw_base.proofs.Common.{◌≡◌, ◌≢◌, ◌≤◌, ◌<◌, ◌+◌, ◌-◌, ◌∙◌, ◌==◌, ℕ, zero, suc, ℤ, Bool, true, false, if◌then◌else◌, List, [], ◌∷◌, ◌++◌, length, flat_map, list_any, range_with_len, get_or-range_with_len, length-range_with_len, Any-from_list_any, All, All-append, All-contains, All-filter, All-head, All-map, All-nil, All-tail, Contains, list_any-from_Contains, Option, Some, None, IfSome, slice_index_or, false≢true, nat_tests, arith, refl, sym, ap, subst, ◌⊎◌, inl, inr}
+use Rattle.rw_base.proofs.Common.{◌≡◌, ◌≢◌, ◌≤◌, ◌<◌, ◌+◌, ◌-◌, ◌∙◌, ◌==◌, ℕ, zero, suc, ℤ, Bool, true, false, if◌then◌else◌, List, [], ◌∷◌, ◌++◌}
+use Rattle.rw_base.proofs.Common.{length, flat_map, list_any, range_with_len, get_or-range_with_len, length-range_with_len, Any-from_list_any, All}
+use Rattle.rw_base.proofs.Common.{All-append, All-contains, All-filter, All-head, All-map, All-nil, All-tail, Contains, list_any-from_Contains}
+use Rattle.rw_base.proofs.Common.{Option, Some, None, IfSome, slice_index_or, false≢true, nat_tests, arith, refl, sym, ap, subst, ◌⊎◌, inl, inr}
 use Rattle.std.proofs.lemmas.List.Elements.{Contains-append_left, Contains-append_right}
 use Rattle.rw_base.specs.declared.number.Cell.{Cell}
 use Rattle.rw_model.specs.Draft.{Draft, IsSlot}
@@ -27,7 +30,8 @@ flat_of f (first ∷ xs) x y has inside = by (λ more. flat_of f xs x y more ins
 
 -- ---- which cells these are
 
-first_known : (objects : List Object) (slots : List ℕ) (slot : ℕ) → All (IsSlot objects) slots → IsSlot objects slot → IsSlot objects (slice_index_or slots 0 slot)
+first_known : (objects : List Object) (slots : List ℕ) (slot : ℕ) → All (IsSlot objects) slots → IsSlot objects slot
+    → IsSlot objects (slice_index_or slots 0 slot)
 first_known objects [] slot all known = known
 first_known objects (first ∷ slots) slot all known = All-head (IsSlot objects) first slots all
 
@@ -71,17 +75,21 @@ named_at basin edit slot step kept first last =
 -- ---- values at other cells
 
 -- at a slot at which none is kept, none comes
-none_after : (basin : Draft) (batch : Batch) (values : Values) (slot step : ℕ) → IsBatch basin batch → (kept_slot basin slot ≡ slot → ⊥) → values slot step ≡ None
+none_after : (basin : Draft) (batch : Batch) (values : Values) (slot step : ℕ) → IsBatch basin batch → (kept_slot basin slot ≡ slot → ⊥)
+    → values slot step ≡ None
     → after_batch batch values slot step ≡ None
 none_after basin [] values slot step is other none = none
 none_after basin (edit ∷ batch) values slot step is other none =
-    none_after basin batch (after_edit edit values) slot step (All-tail (IsEdit basin) edit batch is) other (by (names edit slot step) refl edit.value refl)
+    none_after basin batch (after_edit edit values) slot step (All-tail (IsEdit basin) edit batch is) other
+    (by (names edit slot step) refl edit.value refl)
   where
-    by : (named : Bool) → names edit slot step ≡ named → (value : Option ℤ) → edit.value ≡ value → (if named then edit.value else values slot step) ≡ None
+    by : (named : Bool) → names edit slot step ≡ named → (value : Option ℤ) → edit.value ≡ value
+        → (if named then edit.value else values slot step) ≡ None
     by false named value said = none
     by true named None said = said
     by true named (Some value) said =
-        let kept : IsKeptValue basin edit.slot value = subst (λ v. IfSome v (IsKeptValue basin edit.slot)) said ((All-head (IsEdit basin) edit batch is).kept) in
+        let kept : IsKeptValue basin edit.slot value =
+        subst (λ v. IfSome v (IsKeptValue basin edit.slot)) said ((All-head (IsEdit basin) edit batch is).kept) in
         let same : edit.slot ≡ slot = grind (arith, nat_tests, named) in
         absurd (other (subst (λ s. kept_slot basin s ≡ s) same kept.least))
 
@@ -105,7 +113,8 @@ module _ (basin : Draft) (batch : Batch) (is : IsBatch basin batch) where
       (flat_of (cells_named basin) batch edit (cell_at slot step) (found.0, found.2, found.3)
       (named_at basin edit slot step (ap (kept_slot basin) (sym slot_is) ∙ least) first last))))
 
-  stays : (inputs : Inputs) (slot step : ℕ) → IsInputsOf basin inputs → list_any (is_same_cell (cell_at slot step)) (flat_map (cells_named basin) batch) ≡ false
+  stays : (inputs : Inputs) (slot step : ℕ) → IsInputsOf basin inputs
+      → list_any (is_same_cell (cell_at slot step)) (flat_map (cells_named basin) batch) ≡ false
       → (least : Bool) → (kept_slot basin slot == slot) ≡ least → after_batch batch (value_at inputs) slot step ≡ value_at inputs slot step
   stays inputs slot step made none true least =
       unnamed_stays batch (value_at inputs) slot step

@@ -1,5 +1,7 @@
 -- Which cells records hold, found by their order.
-use Rattle.rw_base.proofs.Common.{◌≡◌, ◌⊎◌, ◌<◌, ◌≤◌, ◌+◌, ◌∙◌, ◌||◌, ℕ, zero, suc, Bool, true, false, List, [], ◌∷◌, All, All-head, All-tail, Contains, Option, Some, None, length, list_any, nat_lt, nat_tests, refl, sym, ap, subst, arith, inl, inr, none-some, same_Some, slice_get, slice_get_within, slice_get-get_or, get_or_from_slice_get, false≢true}
+use Rattle.rw_base.proofs.Common.{◌≡◌, ◌⊎◌, ◌<◌, ◌≤◌, ◌+◌, ◌∙◌, ◌||◌, ℕ, zero, suc, Bool, true, false, List, [], ◌∷◌, All, All-head, All-tail}
+use Rattle.rw_base.proofs.Common.{Contains, Option, Some, None, length, list_any, nat_lt, nat_tests, refl, sym, ap, subst, arith, inl, inr, none-some}
+use Rattle.rw_base.proofs.Common.{same_Some, slice_get, slice_get_within, slice_get-get_or, get_or_from_slice_get, false≢true}
 use Rattle.rw_base.specs.declared.number.Cell.{Cell}
 use Rattle.rw_base.specs.declared.number.SlotNo.{SlotNo}
 use Rattle.rw_model.specs.Kept.{numbers_of}
@@ -27,7 +29,8 @@ rising_at : (looked : List Held) → AreRisingCells looked → (place later : �
 rising_at [] rising place later one other there here near = absurd (none-some _ there)
 rising_at (first ∷ looked) rising zero zero one other there here near = absurd (omega (arith, near))
 rising_at (first ∷ looked) rising zero (suc later) one other there here near =
-    subst (λ (it : Held). IsBelow it.cell other.cell) (same_Some first one there) (all_at (λ (it : Held). IsBelow first.cell it.cell) looked rising.0 later other here)
+    subst (λ (it : Held). IsBelow it.cell other.cell) (same_Some first one there)
+    (all_at (λ (it : Held). IsBelow first.cell it.cell) looked rising.0 later other here)
 rising_at (first ∷ looked) rising (suc place) zero one other there here near = absurd (omega (arith, near))
 rising_at (first ∷ looked) rising (suc place) (suc later) one other there here near =
     rising_at looked rising.1 place later one other there here (omega (arith, near))
@@ -49,7 +52,8 @@ module _ (looked : List Held) (cell : Cell) (middle : ℕ) (it : Held) (rising :
   on_others not_below place one there near below = by (nat_lt middle place) refl
     where
       by : (less : Bool) → nat_lt middle place ≡ less → ⊥
-      by true is = not_below (below_next it.cell one.cell cell (rising_at looked rising middle place it one at there (grind (arith, nat_tests, is))) below)
+      by true is =
+          not_below (below_next it.cell one.cell cell (rising_at looked rising middle place it one at there (grind (arith, nat_tests, is))) below)
       by false is =
           let far : place ≤ middle = grind (arith, nat_tests, is) in
           not_below (subst (λ (h : Held). IsBelow h.cell cell) (sym (same_one place one there (omega (arith, far, near)))) below)

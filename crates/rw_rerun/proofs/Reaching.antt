@@ -1,5 +1,6 @@
 -- From which timestep on cells are reached, of more and more of them.
-use Rattle.rw_base.proofs.Common.{◌≡◌, ◌≤◌, ◌<◌, ◌+◌, ◌∙◌, ℕ, Bool, true, false, List, Option, Some, None, length, nat_lt, nat_tests, refl, sym, ap, subst, arith, same_Some, slice_get, slice_get_within}
+use Rattle.rw_base.proofs.Common.{◌≡◌, ◌≤◌, ◌<◌, ◌+◌, ◌∙◌, ℕ, Bool, true, false, List, Option, Some, None, length, nat_lt, nat_tests, refl, sym, ap}
+use Rattle.rw_base.proofs.Common.{subst, arith, same_Some, slice_get, slice_get_within}
 use Rattle.rw_base.specs.declared.number.Cell.{Cell}
 use Rattle.rw_record.specs.Record.{StepRecord}
 use Rattle.rw_rerun.specs.Touched.{AreFrom, AreKeptOf, IsFrom, ReachFrom}

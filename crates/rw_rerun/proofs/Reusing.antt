@@ -1,5 +1,7 @@
 -- A timestep is taken over exactly where it is reused.
-use Rattle.rw_base.proofs.Common.{◌≡◌, ◌≢◌, ◌⊎◌, ◌↔◌, ◌<◌, ◌≤◌, ◌+◌, ◌==◌, ◌∙◌, ℕ, zero, suc, Bool, true, false, false≢true, nat_lt, List, [], ◌∷◌, ◌++◌, map, All, All-cons, All-head, All-nil, All-push, All-tail, Contains, Option, Some, None, IsSome, IfSome, length, length-append, refl, sym, ap, subst, arith, inl, inr, nat_tests, same_Some}
+use Rattle.rw_base.proofs.Common.{◌≡◌, ◌≢◌, ◌⊎◌, ◌↔◌, ◌<◌, ◌≤◌, ◌+◌, ◌==◌, ◌∙◌, ℕ, zero, suc, Bool, true, false, false≢true, nat_lt, List, [], ◌∷◌}
+use Rattle.rw_base.proofs.Common.{◌++◌, map, All, All-cons, All-head, All-nil, All-push, All-tail, Contains, Option, Some, None, IsSome, IfSome}
+use Rattle.rw_base.proofs.Common.{length, length-append, refl, sym, ap, subst, arith, inl, inr, nat_tests, same_Some}
 use Rattle.std.proofs.lemmas.List.Elements.{Contains-append_cases, Contains-append_left, Contains-append_right}
 use Rattle.std.specs.List.{flat_map}
 use Rattle.rw_base.specs.declared.number.Cell.{Cell}
@@ -20,7 +22,8 @@ use Rattle.rw_rerun.specs.Kept.{IsKeptOrNot, IsKeptAs}
 
 module _ {B : Type 0} (f : Event → List B) where
   -- of the newest first, and of those before them
-  pub reached_after : (events log : List Event) (c : B) → Contains (flat_map f (log_after events log)) c → Contains (flat_map f events) c ⊎ Contains (flat_map f log) c
+  pub reached_after : (events log : List Event) (c : B) → Contains (flat_map f (log_after events log)) c
+      → Contains (flat_map f events) c ⊎ Contains (flat_map f log) c
   reached_after [] log c has = inr has
   reached_after (event ∷ events) log c has = by (reached_after events (event ∷ log) c has)
     where
@@ -28,7 +31,8 @@ module _ {B : Type 0} (f : Event → List B) where
       last (inl one) = inl (Contains-append_left (f event) (flat_map f events) c one)
       last (inr rest) = inr rest
 
-      by : Contains (flat_map f events) c ⊎ Contains (flat_map f (event ∷ log)) c → Contains (flat_map f (event ∷ events)) c ⊎ Contains (flat_map f log) c
+      by : Contains (flat_map f events) c ⊎ Contains (flat_map f (event ∷ log)) c
+          → Contains (flat_map f (event ∷ events)) c ⊎ Contains (flat_map f log) c
       by (inl later) = inl (Contains-append_right (f event) (flat_map f events) c later)
       by (inr one) = last (Contains-append_cases (f event) (flat_map f log) c one)
 
@@ -43,7 +47,8 @@ module _ {B : Type 0} (f : Event → List B) where
       none (k, less, same) = absurd (omega (arith, less))
   reached_events (event ∷ events) log c has = by (Contains-append_cases (f event) (flat_map f events) c has) (reached_events events (event ∷ log) c)
     where
-      by : Contains (f event) c ⊎ Contains (flat_map f events) c → (Contains (flat_map f events) c → Contains (flat_map f (log_after events (event ∷ log))) c)
+      by : Contains (f event) c ⊎ Contains (flat_map f events) c
+          → (Contains (flat_map f events) c → Contains (flat_map f (log_after events (event ∷ log))) c)
           → Contains (flat_map f (log_after events (event ∷ log))) c
       by (inl one) rest = reached_log events (event ∷ log) c (Contains-append_left (f event) (flat_map f log) c one)
       by (inr later) rest = rest later
@@ -83,7 +88,8 @@ module _ (basin : Draft) (policy : Policy) (earlier later now : Log) (step : ℕ
       by (inl has) = has
       by (inr (k, less, same)) = absurd (omega (arith, less))
 
-  pub is_reused : (kept : StepRecord) → IsKeptAs basin policy earlier step kept → before_opening step later ≡ Some now → AreHeld (cells_of basin now) kept.looked
+  pub is_reused : (kept : StepRecord) → IsKeptAs basin policy earlier step kept → before_opening step later ≡ Some now
+      → AreHeld (cells_of basin now) kept.looked
       → IsReused basin earlier later step
   is_reused kept is opening held = record {
     closed = is.keepable.closing;
@@ -98,7 +104,8 @@ module _ (basin : Draft) (policy : Policy) (earlier later now : Log) (step : ℕ
         sym (held one ((is.these.looked one).1 ((looks kept is cell).0 has, refl))));
   }
 
-  pub is_alike : (kept : StepRecord) → IsKeptAs basin policy earlier step kept → before_opening step later ≡ Some now → IsReused basin earlier later step
+  pub is_alike : (kept : StepRecord) → IsKeptAs basin policy earlier step kept → before_opening step later ≡ Some now
+      → IsReused basin earlier later step
       → AreHeld (cells_of basin now) kept.looked
   is_alike kept is opening reused = λ one has.
       let both = (is.these.looked one).0 has in
@@ -129,7 +136,8 @@ rising_more (first ∷ steps) step rising all = (
 all_of : (P : ℕ → Type 0) (steps : List ℕ) → ((step : ℕ) → Contains steps step → P step) → All P steps
 all_of P [] each = All-nil P
 all_of P (first ∷ steps) each =
-    All-cons P first steps (each first (0, omega arith, refl)) (all_of P steps (λ step has. each step (Contains-append_right (first ∷ []) steps step has)))
+    All-cons P first steps (each first (0, omega arith, refl))
+    (all_of P steps (λ step has. each step (Contains-append_right (first ∷ []) steps step has)))
 
 reused_still : (basin : Draft) (earlier log later : Log) (step : ℕ) → before_opening step later ≡ before_opening step log
     → IsReused basin earlier later step → IsReused basin earlier log step

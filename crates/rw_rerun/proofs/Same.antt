@@ -1,5 +1,6 @@
 -- Cells at timesteps before all that a batch reaches hold what they held in the run before.
-use Rattle.rw_base.proofs.Common.{◌≡◌, ◌≤◌, ◌<◌, ◌+◌, ◌∙◌, ℕ, zero, suc, Bool, true, false, List, [], ◌∷◌, Any-from_list_any, Contains, Option, Some, None, drop, length, map, none-some, refl, sym, ap, subst, arith, slice_get-get_or}
+use Rattle.rw_base.proofs.Common.{◌≡◌, ◌≤◌, ◌<◌, ◌+◌, ◌∙◌, ℕ, zero, suc, Bool, true, false, List, [], ◌∷◌, Any-from_list_any, Contains, Option, Some}
+use Rattle.rw_base.proofs.Common.{None, drop, length, map, none-some, refl, sym, ap, subst, arith, slice_get-get_or}
 use Rattle.rw_base.specs.declared.number.Cell.{Cell}
 use Rattle.rw_model.specs.Draft.{Draft}
 use Rattle.rw_inputs.specs.Givens.{givens}
@@ -71,7 +72,8 @@ from_place step (suc behind) (one ∷ was) are =
 
 -- a cell holds behind such timesteps what it held before them
 rest_unmoved : (basin : Draft) (policy : Policy) (cell : Cell) (step behind next : ℕ) (was : List (Option StepRecord)) (log end : Log)
-    → cell.step.0 < step → AreKeptOf step behind was → AreStepLinks basin policy next log (drop behind was) end → cells_of basin end cell ≡ cells_of basin log cell
+    → cell.step.0 < step → AreKeptOf step behind was → AreStepLinks basin policy next log (drop behind was) end
+    → cells_of basin end cell ≡ cells_of basin log cell
 rest_unmoved basin policy cell step behind next was log end before from linked =
     let rest = rest_without cell step before (drop behind was) (from_place step behind was from) in
     unmoved_in basin policy rest.0 next log end cell (subst (λ ks. AreStepLinks basin policy next log ks end) rest.1 linked) rest.2

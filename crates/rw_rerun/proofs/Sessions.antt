@@ -1,5 +1,6 @@
 -- What a run comes to for its session.
-use Rattle.rw_base.proofs.Common.{◌≡◌, ◌<◌, ◌+◌, ◌∙◌, ℕ, zero, suc, false≢true, List, [], ◌∷◌, Option, Some, None, Ok, IfSome, get_or, length, refl, sym, ap, subst, arith, replicate, same_Some, none-some, slice_get}
+use Rattle.rw_base.proofs.Common.{◌≡◌, ◌<◌, ◌+◌, ◌∙◌, ℕ, zero, suc, false≢true, List, [], ◌∷◌, Option, Some, None, Ok, IfSome, get_or, length, refl}
+use Rattle.rw_base.proofs.Common.{sym, ap, subst, arith, replicate, same_Some, none-some, slice_get}
 use Rattle.std.proofs.lemmas.Option.{slice_get_read}
 use Rattle.rw_model.specs.Draft.{Draft}
 use Rattle.rw_inputs.specs.Edits.{Batch, after_batch}
@@ -34,7 +35,8 @@ session_behind of_basin by_policy inputs was pass same = record {
   same = same;
 }
 
-module _ (basin : Draft) (policy : Accepted) (inputs : Inputs) (earlier : Log) (was : List (Option StepRecord)) (pass : Pass) (given : IsInputsOf basin inputs)
+module _ (basin : Draft) (policy : Accepted) (inputs : Inputs) (earlier : Log) (was : List (Option StepRecord)) (pass : Pass)
+    (given : IsInputsOf basin inputs)
     (made : IsPassOf basin policy pass) (many : length was ≡ basin.control.stamps.count)
     (way : IsUnderWay basin (policy_in basin policy) inputs earlier was pass basin.control.stamps.count) (of_basin : Draft) (by_policy : Accepted)
     (basin_is : of_basin ≡ basin) (policy_is : by_policy ≡ policy) (same : ℕ) where
@@ -72,7 +74,8 @@ none_replayed basin count = λ place kept there. absurd (none_there count place 
 
 pub starts : (basin : Draft) (policy : Accepted) (inputs : Inputs) (was : List (Option StepRecord)) (pass : Pass) → IsInputsOf basin inputs
     → IsPassOf basin policy pass → length was ≡ basin.control.stamps.count
-    → IsUnderWay basin (policy_in basin policy) inputs [] was pass basin.control.stamps.count → IsStarted basin policy inputs (session_behind basin policy inputs was pass 0)
+    → IsUnderWay basin (policy_in basin policy) inputs [] was pass basin.control.stamps.count
+    → IsStarted basin policy inputs (session_behind basin policy inputs was pass 0)
 starts basin policy inputs was pass given made many way = record {
   is = is_session basin policy inputs [] was pass given made many way basin policy refl refl 0;
   inputs_are = refl;
@@ -88,7 +91,8 @@ starts basin policy inputs was pass given made many way = record {
 
 -- ---- and a later one
 
-replayed_from : (basin : Draft) (policy : Policy) (log : Log) (first place : ℕ) (was : List (Option StepRecord)) (kept : StepRecord) → AreKept basin policy log first was
+replayed_from : (basin : Draft) (policy : Policy) (log : Log) (first place : ℕ) (was : List (Option StepRecord)) (kept : StepRecord)
+    → AreKept basin policy log first was
     → slice_get was place ≡ Some (Some kept) → IsReplayable basin (first + place) kept
 replayed_from basin policy log first place [] kept are there = absurd (none-some _ there)
 replayed_from basin policy log first zero (entry ∷ was) kept are there =
@@ -98,18 +102,22 @@ replayed_from basin policy log first (suc place) (entry ∷ was) kept are there 
     let here : (first + 1) + place ≡ first + suc place = omega arith in
     subst (λ step. IsReplayable basin step kept) here (replayed_from basin policy log (first + 1) place was kept are.1 there)
 
-pub all_replayed : (basin : Draft) (policy : Policy) (log : Log) (was : List (Option StepRecord)) → AreKept basin policy log 1 was → AreReplayable basin was
+pub all_replayed : (basin : Draft) (policy : Policy) (log : Log) (was : List (Option StepRecord)) → AreKept basin policy log 1 was
+    → AreReplayable basin was
 all_replayed basin policy log was are = λ place kept there.
     let here : 1 + place ≡ place + 1 = omega arith in
     subst (λ step. IsReplayable basin step kept) here (replayed_from basin policy log 1 place was kept are there)
 
-pub applies : (basin : Draft) (policy : Accepted) (batch : Batch) (inputs : Inputs) (old : Session) (pass : Pass) (session : IsSessionOf basin policy old)
+pub applies : (basin : Draft) (policy : Accepted) (batch : Batch) (inputs : Inputs) (old : Session) (pass : Pass)
+    (session : IsSessionOf basin policy old)
     → value_at inputs ≡ after_batch batch (value_at old.inputs) → IsInputsOf basin inputs → IsPassOf basin policy pass
     → IsUnderWay basin (policy_in basin policy) inputs session.log old.kept pass basin.control.stamps.count → KeepsOn old.engine pass.engine
     → (same : ℕ) → HoldAsBefore old (session_behind old.basin old.policy inputs old.kept pass same)
     → Applies basin policy batch old (session_behind old.basin old.policy inputs old.kept pass same)
 applies basin policy batch inputs old pass session values given made way kept same before = record {
-  is = is_session basin policy inputs session.log old.kept pass given made session.many way old.basin old.policy session.of_basin session.by_policy same;
+  is =
+      is_session basin policy inputs session.log old.kept pass given made session.many way old.basin old.policy session.of_basin
+      session.by_policy same;
   values = values;
   rerun = λ earlier run'.
       subst (λ log. AreRerun basin log way.log (numbers_of_steps pass.reran.items))
@@ -124,12 +132,15 @@ rising_in : (basin : Draft) (policy : Policy) (log : Log) (step : ℕ) (entry : 
 rising_in basin policy log step None is = tt
 rising_in basin policy log step (Some kept) is = is.these.rising
 
-pub rising_from : (basin : Draft) (policy : Policy) (log : Log) (first : ℕ) (was : List (Option StepRecord)) → AreKept basin policy log first was → AreRisingIn was
-rising_from basin policy log first was are = λ place entry there. rising_in basin policy log (first + place) entry (kept_there basin policy log first place was entry are there)
+pub rising_from : (basin : Draft) (policy : Policy) (log : Log) (first : ℕ) (was : List (Option StepRecord)) → AreKept basin policy log first was
+    → AreRisingIn was
+rising_from basin policy log first was are =
+    λ place entry there. rising_in basin policy log (first + place) entry (kept_there basin policy log first place was entry are there)
 
 -- ---- one timestep of those that are kept
 
-pub entry_there : (was : List (Option StepRecord)) (place from count : ℕ) (entry : Option StepRecord) → from ≡ place → place < count → length was ≡ count
+pub entry_there : (was : List (Option StepRecord)) (place from count : ℕ) (entry : Option StepRecord) → from ≡ place → place < count
+    → length was ≡ count
     → entry ≡ get_or was from entry → slice_get was place ≡ Some entry
 entry_there was place from count entry at near many is =
     ap (slice_get was) (sym at) ∙ slice_get_read was count from entry (sym many) (omega (arith, at, near)) is
@@ -143,10 +154,15 @@ pub entry_is : (basin : Draft) (policy : Policy) (earlier : Log) (was : List (Op
     → AreKept basin policy earlier 1 was → slice_get was place ≡ Some entry → IsEntry basin policy earlier was place entry
 entry_is basin policy earlier was place entry are there =
     let here : 1 + place ≡ place + 1 = omega arith in
-    record { there = there; kept = subst (λ step. IsKeptOrNot basin policy earlier step entry) here (kept_there basin policy earlier 1 place was entry are there) }
+    record {
+      there = there;
+      kept = subst (λ step. IsKeptOrNot basin policy earlier step entry) here
+          (kept_there basin policy earlier 1 place was entry are there);
+    }
 
 -- a call that comes behind it
-pub passes_on : (basin : Draft) (policy : Accepted) (inputs : Inputs) (earlier : Log) (was : List (Option StepRecord)) (place : ℕ) (entry : Option StepRecord)
+pub passes_on : (basin : Draft) (policy : Accepted) (inputs : Inputs) (earlier : Log) (was : List (Option StepRecord)) (place : ℕ)
+    (entry : Option StepRecord)
     (old new : Pass) (before after : ℕ) (done : Unit {0}) → IsFramed (policy_in basin policy) → slice_get was place ≡ Some entry
     → AreKept basin (policy_in basin policy) earlier 1 was → GoesOn basin policy (place + 1) (λ kept. kept ≡ entry) old new before after (Ok done)
     → IsUnderWay basin (policy_in basin policy) inputs earlier was old place

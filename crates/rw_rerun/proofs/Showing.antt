@@ -1,5 +1,7 @@
 -- What inputs and puts leave in the cells is what an engine of the basin can show.
-use Rattle.rw_base.proofs.Common.{◌≡◌, ◌≤◌, ◌+◌, ◌∙◌, ◌==◌, ◌&&◌, ℕ, zero, suc, ℤ, Bool, true, false, if◌then◌else◌, List, [], ◌∷◌, All, All-append, All-cons, All-contains, All-head, All-nil, All-tail, Contains, Contains-from_any, Option, Some, None, length, option_or, false≢true, nat_tests, refl, sym, ap, ap₂, subst, arith, same_Some, none-some}
+use Rattle.rw_base.proofs.Common.{◌≡◌, ◌≤◌, ◌+◌, ◌∙◌, ◌==◌, ◌&&◌, ℕ, zero, suc, ℤ, Bool, true, false, if◌then◌else◌, List, [], ◌∷◌, All, All-append}
+use Rattle.rw_base.proofs.Common.{All-cons, All-contains, All-head, All-nil, All-tail, Contains, Contains-from_any, Option, Some, None, length}
+use Rattle.rw_base.proofs.Common.{option_or, false≢true, nat_tests, refl, sym, ap, ap₂, subst, arith, same_Some, none-some}
 use Rattle.std.specs.List.{flat_map}
 use Rattle.rw_base.specs.declared.number.Cell.{Cell}
 use Rattle.rw_model.specs.Draft.{Draft, IsSlot}
@@ -44,7 +46,8 @@ same_cells basin one other same was = record {
 -- ---- a put
 
 -- a cell is shared with all that share one value, or with none of them
-alike_to : (basin : Draft) (cell one other : Cell) → IsCell basin one → is_shared basin one other ≡ true → is_shared basin cell one ≡ is_shared basin cell other
+alike_to : (basin : Draft) (cell one other : Cell) → IsCell basin one → is_shared basin one other ≡ true
+    → is_shared basin cell one ≡ is_shared basin cell other
 alike_to basin cell one other known shared =
     let is = Shared-of basin one other shared in
     ap₂ (λ a b. a && b)
@@ -60,7 +63,8 @@ cell_with basin cell other known shared =
     let is = Shared-of basin cell other shared in
     let among : Contains (slot_numbers basin.objects) other.slot.0 =
     Contains-from_any {eq = λ (a : ℕ) b. a == b} (λ a b same. grind (arith, nat_tests, same)) other.slot.0 (slot_numbers basin.objects) is.known in
-    let slot : IsSlot basin.objects other.slot.0 = All-contains (IsSlot basin.objects) (slot_numbers basin.objects) other.slot.0 (all_known basin.objects) among in
+    let slot : IsSlot basin.objects other.slot.0 =
+    All-contains (IsSlot basin.objects) (slot_numbers basin.objects) other.slot.0 (all_known basin.objects) among in
     grind (arith, nat_tests, slot.first, slot.last, known.first, known.last, is.step)
 
 module _ (basin : Draft) (put : Asked) (cells : Cells) (can : CanWrite basin put) (was : AreShowable basin cells) where
@@ -106,13 +110,15 @@ writes_in basin (line ∷ told) can =
     (writes_in basin told (All-tail (CanWriteLine basin) line told can))
 
 pub shown_behind : (basin : Draft) (step : ℕ) (one now : Log) (first : Event) (events : List Event) (kept : StepRecord) → IsStepFrom step first events
-    → RecordsThese basin step one (first ∷ events) kept → CanShow basin step now → CanShow basin (step + 1) (log_after (first ∷ events) (opened step ∷ now))
+    → RecordsThese basin step one (first ∷ events) kept → CanShow basin step now
+    → CanShow basin (step + 1) (log_after (first ∷ events) (opened step ∷ now))
 shown_behind basin step one now first events kept goes these could =
     let is = same_cells basin (λ cell. option_or (last_put basin (puts_in kept.lines) cell) (cells_of basin now cell))
     (cells_of basin (log_after (first ∷ events) (opened step ∷ now)))
     (λ cell. ap (λ told. option_or (last_put basin (puts_in told) cell) (cells_of basin now cell)) these.lines_are
     ∙ held_again basin step first events (opened step ∷ now) cell goes)
-    (puts_shown basin (puts_in kept.lines) (cells_of basin now) (writes_in basin kept.lines these.can) (record { those = could.cells; bounded = could.bounded })) in record {
+    (puts_shown basin (puts_in kept.lines) (cells_of basin now) (writes_in basin kept.lines these.can)
+    (record { those = could.cells; bounded = could.bounded })) in record {
       cells = is.those;
       bounded = is.bounded;
       closed_steps = ap (λ last. last + 1) (sym (ap last_closed (closing step first events (opened step ∷ now) goes refl).is));
@@ -128,20 +134,24 @@ all_placed : (basin : Draft) (inputs : List (Cell × ℤ)) (log : Log) → All (
 all_placed basin [] log can was = was
 all_placed basin (input ∷ inputs) log can was =
     all_placed basin inputs (given input.0 input.1 ∷ log) (All-tail (CanGive basin) input inputs can)
-    (put_shown basin (record { cell = input.0; content = input_content input.1 }) (cells_of basin log) (All-head (CanGive basin) input inputs can) was)
+    (put_shown basin (record { cell = input.0; content = input_content input.1 }) (cells_of basin log)
+    (All-head (CanGive basin) input inputs can) was)
 
 module _ (basin : Draft) (inputs : Inputs) (made : IsInputsOf basin inputs) where
-  one_given : (slot step : ℕ) → IsSlot basin.objects slot → 1 ≤ step → step ≤ basin.control.stamps.count → (value : Option ℤ) → value_at inputs slot step ≡ value
+  one_given : (slot step : ℕ) → IsSlot basin.objects slot → 1 ≤ step → step ≤ basin.control.stamps.count → (value : Option ℤ)
+      → value_at inputs slot step ≡ value
       → All (CanGive basin) (if_given slot step value)
   one_given slot step known first last None is = All-nil (CanGive basin)
   one_given slot step known first last (Some value) is =
       All-cons (CanGive basin) (record { slot = record { 0 = slot }; step = record { 0 = step } }, value) []
-      (record { cell = record { slot = known; first = first; last = last }; within = (made.sound slot step value is).within }) (All-nil (CanGive basin))
+      (record { cell = record { slot = known; first = first; last = last }; within = (made.sound slot step value is).within })
+      (All-nil (CanGive basin))
 
   of_slot : (slot steps : ℕ) → IsSlot basin.objects slot → steps ≤ basin.control.stamps.count → All (CanGive basin) (givens_of inputs slot steps)
   of_slot slot zero known few = All-nil (CanGive basin)
   of_slot slot (suc step) known few =
-      All-append (CanGive basin) (givens_of inputs slot step) (if_given slot (suc step) (value_at inputs slot (suc step))) (of_slot slot step known (omega (arith, few)))
+      All-append (CanGive basin) (givens_of inputs slot step) (if_given slot (suc step) (value_at inputs slot (suc step)))
+      (of_slot slot step known (omega (arith, few)))
       (one_given slot (suc step) known (omega arith) few (value_at inputs slot (suc step)) refl)
 
   to_slot : (slot : ℕ) → slot ≤ length (all_slots basin.objects) → All (CanGive basin) (givens_to inputs slot basin.control.stamps.count)

@@ -1,5 +1,6 @@
 -- A spare engine, moved along the timesteps of a run.
-use Rattle.rw_base.proofs.Common.{◌≡◌, ◌≤◌, ◌+◌, ◌-◌, ◌∙◌, ℕ, zero, suc, IsFalse, List, [], ◌∷◌, ◌++◌, map, append-nil, append_assoc, length, Ok, Option, Some, drop, take, ap, refl, sym, subst, arith, slice_get, slice_get_within, get_or_from_slice_get}
+use Rattle.rw_base.proofs.Common.{◌≡◌, ◌≤◌, ◌+◌, ◌-◌, ◌∙◌, ℕ, zero, suc, IsFalse, List, [], ◌∷◌, ◌++◌, map, append-nil, append_assoc, length, Ok}
+use Rattle.rw_base.proofs.Common.{Option, Some, drop, take, ap, refl, sym, subst, arith, slice_get, slice_get_within, get_or_from_slice_get}
 use Rattle.std.proofs.lemmas.List.{drop_more, take_more}
 use Rattle.std.specs.List.{flat_map}
 use Rattle.rw_base.specs.declared.number.Cell.{Cell}
@@ -31,14 +32,16 @@ use Rattle.rw_rerun.proofs.Keeping.{SplitsAt, linked_more, split_back}
 
 -- ---- what a kept timestep leaves
 
-link_unmoved : (basin : Draft) (policy : Policy) (step : ℕ) (log next : Log) (kept : StepRecord) (cell : Cell) → IsLinkOf basin policy step log kept next
+link_unmoved : (basin : Draft) (policy : Policy) (step : ℕ) (log next : Log) (kept : StepRecord) (cell : Cell)
+    → IsLinkOf basin policy step log kept next
     → IsFalse (is_noted kept.looked cell) → cells_of basin next cell ≡ cells_of basin log cell
 link_unmoved basin policy step log next kept cell link none =
     ap (λ l. cells_of basin l cell) link.is
     ∙ (taken basin policy step log link.first link.events kept.looked link.timestep link.these.looked).same cell none
 
 pub unmoved_in : (basin : Draft) (policy : Policy) (records : List StepRecord) (step : ℕ) (log end : Log) (cell : Cell)
-    → AreStepLinks basin policy step log (map (λ kept. Some kept) records) end → AreWithout cell records → cells_of basin end cell ≡ cells_of basin log cell
+    → AreStepLinks basin policy step log (map (λ kept. Some kept) records) end → AreWithout cell records
+    → cells_of basin end cell ≡ cells_of basin log cell
 unmoved_in basin policy [] step log end cell linked without = ap (λ l. cells_of basin l cell) linked
 unmoved_in basin policy (first ∷ rest) step log end cell linked without =
     unmoved_in basin policy rest (step + 1) linked.0 end cell linked.2 without.1
@@ -61,7 +64,8 @@ told_by basin policy (first ∷ rest) step log end linked =
 -- ---- one timestep back
 
 -- by the record of the timestep behind which it stands
-link_back : (basin : Draft) (policy : Policy) (step : ℕ) (mid log : Log) (kept : StepRecord) (old new : Spare) → IsLinkOf basin policy step mid kept log
+link_back : (basin : Draft) (policy : Policy) (step : ℕ) (mid log : Log) (kept : StepRecord) (old new : Spare)
+    → IsLinkOf basin policy step mid kept log
     → TakesBack basin kept old.engine new.engine → Shows basin old.engine log → ComesBack basin mid old.engine new.engine
 link_back basin policy step mid log kept old new link takes shows =
     let at = sym link.these.step_is in
@@ -120,12 +124,14 @@ link_on basin policy step log next kept old new done framed exists link replays 
     (replays.passes policy log framed records shows (subst (λ s. IsBefore basin s log) at before) alike) in
     let ends : (passes.last ∷ passes.before) ≡ closed step ∷ passes.before = ap (λ e. e ∷ passes.before) passes.ends in
     let same : (passes.last ∷ passes.before) ≡ log_after (link.first ∷ link.events) (opened step ∷ log) =
-    ends ∙ one_timestep basin policy step link.timestep.last log passes.before passes.events link.events link.first link.timestep.rest link.timestep.next_one
+    ends ∙ one_timestep basin policy step link.timestep.last log passes.before passes.events link.events link.first link.timestep.rest
+    link.timestep.next_one
     passes.within (subst (Leads basin policy log passes.events) ends passes.leads) link.timestep in
     subst (Shows basin new.engine) (same ∙ sym link.is) passes.shows
 
 pub goes_on : (basin : Draft) (was : List (Option StepRecord)) (next : ℕ) (old new : Spare) (kept : StepRecord) (done : Unit {0})
-    → ((policy : Accepted) → verified basin policy.blocks ≡ Ok policy → IsFramed (policy_in basin policy)) → old.behind + 1 ≤ basin.control.stamps.count
+    → ((policy : Accepted) → verified basin policy.blocks ≡ Ok policy → IsFramed (policy_in basin policy))
+    → old.behind + 1 ≤ basin.control.stamps.count
     → next ≡ old.behind + 1 → new.behind ≡ next → slice_get was old.behind ≡ Some (Some kept) → Replays basin kept old.engine new.engine (Ok done)
     → BringsTo basin was next old new
 goes_on basin was next old new kept done framed exists on at there replays = record {
@@ -149,7 +155,8 @@ goes_on basin was next old new kept done framed exists on at there replays = rec
         before = subst (λ n. AreStepLinks basin in_run 1 start (take n was) linked.0) (sym is)
             (subst (λ ks. AreStepLinks basin in_run 1 start ks linked.0)
             (sym (take_more was old.behind (Some kept) within ∙ ap (λ (k : Option StepRecord). take old.behind was ++ k ∷ []) here))
-            (linked_more basin in_run step 1 start stands.log linked.0 (take old.behind was) (Some kept) (omega (arith, many)) stands.before linked.1));
+            (linked_more basin in_run step 1 start stands.log linked.0 (take old.behind was) (Some kept) (omega (arith, many)) stands.before
+            linked.1));
         rest = subst (λ n. AreStepLinks basin in_run (n + 1) linked.0 (drop n was) end) (sym is) linked.2;
       };
 }

@@ -1,5 +1,6 @@
 -- The first timesteps that a batch doesn't touch, in the run of the inputs behind it.
-use Rattle.rw_base.proofs.Common.{◌≡◌, ◌≤◌, ◌+◌, ◌∙◌, ℕ, zero, suc, Bool, true, false, List, [], ◌∷◌, ◌++◌, map, Option, Some, None, IsSome, IfSome, Ok, drop_all, length, take, take_all, refl, sym, ap, subst, arith, false≢true, same_Some}
+use Rattle.rw_base.proofs.Common.{◌≡◌, ◌≤◌, ◌+◌, ◌∙◌, ℕ, zero, suc, Bool, true, false, List, [], ◌∷◌, ◌++◌, map, Option, Some, None, IsSome, IfSome}
+use Rattle.rw_base.proofs.Common.{Ok, drop_all, length, take, take_all, refl, sym, ap, subst, arith, false≢true, same_Some}
 use Rattle.std.specs.List.{flat_map}
 use Rattle.rw_base.specs.declared.number.Cell.{Cell}
 use Rattle.rw_model.specs.Draft.{Draft}
@@ -66,7 +67,8 @@ module _ (basin : Draft) (policy : Policy) (step : ℕ) where
       ∙ sym again.is
 
 pub same_end : (basin : Draft) (policy : Policy) (records : List StepRecord) (step : ℕ) (log one other : Log)
-    → AreStepLinks basin policy step log (map (λ kept. Some kept) records) one → AreStepLinks basin policy step log (map (λ kept. Some kept) records) other
+    → AreStepLinks basin policy step log (map (λ kept. Some kept) records) one
+    → AreStepLinks basin policy step log (map (λ kept. Some kept) records) other
     → one ≡ other
 same_end basin policy [] step log one other first second = first ∙ sym second
 same_end basin policy (kept ∷ rest) step log one other first second =

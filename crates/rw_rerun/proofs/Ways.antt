@@ -1,5 +1,6 @@
 -- A run on its way, one timestep on.
-use Rattle.rw_base.proofs.Common.{◌≡◌, ◌<◌, ◌≤◌, ◌+◌, ◌∙◌, ℕ, Bool, true, false, List, [], ◌∷◌, ◌++◌, Option, Some, None, IsSome, unwrap_or, length, append_assoc, length-append, refl, sym, ap, subst, arith, false≢true, slice_get, slice_get_within}
+use Rattle.rw_base.proofs.Common.{◌≡◌, ◌<◌, ◌≤◌, ◌+◌, ◌∙◌, ℕ, Bool, true, false, List, [], ◌∷◌, ◌++◌, Option, Some, None, IsSome, unwrap_or, length}
+use Rattle.rw_base.proofs.Common.{append_assoc, length-append, refl, sym, ap, subst, arith, false≢true, slice_get, slice_get_within}
 use Rattle.rw_base.specs.declared.number.StepNo.{StepNo}
 use Rattle.rw_model.specs.Draft.{Draft}
 use Rattle.rw_inputs.specs.Givens.{givens}
@@ -38,13 +39,15 @@ grows_on old mid new first more = (
 )
 
 module _ (basin : Draft) (policy : Policy) (inputs : Inputs) (earlier : Log) (was : List (Option StepRecord)) (old new : Pass) (last step : ℕ)
-    (entry : Option StepRecord) (change : Option (Option StepRecord)) (way : IsUnderWay basin policy inputs earlier was old last) (next_one : step ≡ last + 1)
+    (entry : Option StepRecord) (change : Option (Option StepRecord)) (way : IsUnderWay basin policy inputs earlier was old last)
+    (next_one : step ≡ last + 1)
     (there : slice_get was last ≡ Some entry) (changes : new.changes.items ≡ old.changes.items ++ change ∷ []) where
   within : last < length was
   within = slice_get_within was last entry there
 
   so_many : length new.changes.items ≡ step
-  so_many = let all = ap length changes in let more = length-append old.changes.items (change ∷ []) in let were = way.many in omega (arith, all, more, were, next_one)
+  so_many = let all = ap length changes in let more = length-append old.changes.items (change ∷ []) in let were =
+      way.many in omega (arith, all, more, were, next_one)
 
   kept_so_far : length (changed was old.changes.items) ≡ last
   kept_so_far = length_changed was old.changes.items (let near = within in let were = way.many in omega (arith, near, were)) ∙ way.many
@@ -61,8 +64,10 @@ module _ (basin : Draft) (policy : Policy) (inputs : Inputs) (earlier : Log) (wa
       (omega (arith, many, next_one)) way.linked link)
 
   -- one timestep more was passed
-  pub one_on : (log : Log) (more : List Event) → Leads basin policy way.log more log → Shows basin new.engine log → standing log ≡ stands_at new.over step
-      → IsBehind step way.log log → AreRerun basin earlier log (numbers_of_steps new.reran.items) → IsKeptOrNot basin policy log step (unwrap_or change entry)
+  pub one_on : (log : Log) (more : List Event) → Leads basin policy way.log more log → Shows basin new.engine log
+      → standing log ≡ stands_at new.over step
+      → IsBehind step way.log log → AreRerun basin earlier log (numbers_of_steps new.reran.items)
+      → IsKeptOrNot basin policy log step (unwrap_or change entry)
       → IsStepLink basin policy step way.log (unwrap_or change entry) log → (new.over ≡ false → CanShow basin (step + 1) log)
       → IsUnderWay basin policy inputs earlier was new step
   one_on log more leads shows stands behind rerun kept link could = record {
@@ -142,7 +147,9 @@ first_way basin policy inputs earlier was pass changes reran goes shows stands n
     );
   });
   kept = subst (λ cs. AreKept basin policy (placed [] (givens basin inputs)) 1 (changed was cs)) (sym changes) tt;
-  linked = subst (λ cs. AreStepLinks basin policy 1 (placed [] (givens basin inputs)) (changed was cs) (placed [] (givens basin inputs))) (sym changes) refl;
+  linked =
+      subst (λ cs. AreStepLinks basin policy 1 (placed [] (givens basin inputs)) (changed was cs) (placed [] (givens basin inputs)))
+      (sym changes) refl;
 }
 
 over_by : (basin : Draft) (is_over : Bool) → IsOver basin (stands_at is_over basin.control.stamps.count)

@@ -6,7 +6,8 @@ use Rattle.rw_method.specs.Balance.{known_sum}
 use Rattle.rw_method.specs.Contents.{difference}
 use Rattle.rw_method.specs.Settling.{missing, settled}
 
-pub idle_beside : (steady : Option ℤ) (first : Term) (rest : List Term) → nat_le 2 (missing (first ∷ rest)) ≡ true → settled steady (first ∷ rest) ≡ Idle
+pub idle_beside : (steady : Option ℤ) (first : Term) (rest : List Term) → nat_le 2 (missing (first ∷ rest)) ≡ true
+    → settled steady (first ∷ rest) ≡ Idle
 idle_beside None first rest few = refl
 idle_beside (Some steady) first rest few = rw few refl
 

@@ -1,5 +1,7 @@
 -- The first rule that is due by the agenda is the one that is due by the log.
-use Rattle.rw_base.proofs.Common.{◌≡◌, ◌∙◌, ℕ, zero, suc, ◌≤◌, All, All-cons, All-head, All-nil, All-push, All-tail, Bool, true, false, List, [], ◌∷◌, IfSome, None, Option, Some, ap, ap₂, arith, find, if◌then◌else◌, length, none-some, option_map, refl, reverse, reverse-append, same_Some, subst, sym}
+use Rattle.rw_base.proofs.Common.{◌≡◌, ◌∙◌, ℕ, zero, suc, ◌≤◌, All, All-cons, All-head, All-nil, All-push, All-tail, Bool, true, false, List, [], ◌∷◌}
+use Rattle.rw_base.proofs.Common.{IfSome, None, Option, Some, ap, ap₂, arith, find, if◌then◌else◌, length, none-some, option_map, refl, reverse}
+use Rattle.rw_base.proofs.Common.{reverse-append, same_Some, subst, sym}
 use Rattle.rw_base.specs.declared.number.RuleNo.{RuleNo}
 use Rattle.rw_model.proofs.Common.{Draft}
 use Rattle.rw_model.specs.declared.control.AgendaOrder.{AgendaOrder}
@@ -42,16 +44,19 @@ module _ (agenda : Agenda) where
   first_listed test rule (first ∷ rules) all is =
       by (test first) is (first_listed test rule rules (All-tail (IsListed agenda) first rules all))
     where
-      by : (t : Bool) → (if t then Some first else find test rules) ≡ Some rule → (find test rules ≡ Some rule → IsListed agenda rule) → IsListed agenda rule
+      by : (t : Bool) → (if t then Some first else find test rules) ≡ Some rule → (find test rules ≡ Some rule → IsListed agenda rule)
+          → IsListed agenda rule
       by true own later = subst (IsListed agenda) (same_Some first rule own) (All-head (IsListed agenda) first rules all)
       by false behind later = later behind
 
   pub due_listed : (cells : Cells) (due : Option RuleNo) → option_map (λ (rule : RuleNo). rule.0) due ≡ due_in agenda cells
       → IfSome due (λ (rule : RuleNo). IsListed agenda rule.0)
   due_listed cells None is = tt
-  due_listed cells (Some rule) is = first_listed (is_due_in agenda cells) rule.0 (agenda_of agenda.order (length agenda.rules)) (listed agenda.order) (sym is)
+  due_listed cells (Some rule) is =
+      first_listed (is_due_in agenda cells) rule.0 (agenda_of agenda.order (length agenda.rules)) (listed agenda.order) (sym is)
 
-pub same_due : (basin : Draft) (policy : Accepted) (rules : Rules) (cells : Cells) (log : Log) → IsRulesOf basin policy rules → ShowsLooks policy rules log
+pub same_due : (basin : Draft) (policy : Accepted) (rules : Rules) (cells : Cells) (log : Log) → IsRulesOf basin policy rules
+    → ShowsLooks policy rules log
     → due_in rules.agenda cells ≡ first_due basin (policy_in basin policy) cells log
 same_due basin policy rules cells log made shows =
     let agenda = rules.agenda in

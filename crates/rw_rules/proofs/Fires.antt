@@ -1,5 +1,6 @@
 -- What a firing of verified code comes to, by the budget of its rule.
-use Rattle.rw_base.proofs.Common.{◌≡◌, ◌∙◌, ◌≢◌, ℕ, ◌-◌, ◌<◌, ◌≤◌, ℤ, List, [], ◌∷◌, All, Option, None, Some, ap, arith, get_or_from_slice_get, length, none-some, option_and_then, option_map, refl, same_Some, slice_get_within, subst, sym, unwrap_or}
+use Rattle.rw_base.proofs.Common.{◌≡◌, ◌∙◌, ◌≢◌, ℕ, ◌-◌, ◌<◌, ◌≤◌, ℤ, List, [], ◌∷◌, All, Option, None, Some, ap, arith, get_or_from_slice_get}
+use Rattle.rw_base.proofs.Common.{length, none-some, option_and_then, option_map, refl, same_Some, slice_get_within, subst, sym, unwrap_or}
 use Rattle.rw_base.specs.declared.number.Cell.{Cell}
 use Rattle.rw_model.proofs.Common.{Draft, numbered}
 use Rattle.rw_model.proofs.Numbered.{numbered-found}
@@ -22,7 +23,8 @@ use Rattle.rw_rules.specs.Firing.{most_looks}
 -- ---- blocks
 
 -- a rule's block is one of the code
-pub its_block : (basin : Draft) (policy : Accepted) → AreAccepted basin policy.blocks policy.budgets → (rule n : ℕ) → rule_from 1 policy.blocks rule ≡ Some n
+pub its_block : (basin : Draft) (policy : Accepted) → AreAccepted basin policy.blocks policy.budgets → (rule n : ℕ)
+    → rule_from 1 policy.blocks rule ≡ Some n
     → (1 ≤ n) × (n ≤ length policy.blocks)
 its_block basin policy accepted rule n stands =
     let there = rule_there basin policy.blocks policy.budgets accepted (λ cell. None) 0 1 policy.blocks rule n stands in
@@ -47,7 +49,8 @@ within budgets n b all is =
 -- ---- a firing
 
 module _ (basin : Draft) (policy : Accepted) (safe : AreSafe basin policy.blocks policy.budgets) (limited : All IsWithinLimits policy.budgets) where
-  pub few_puts : (rule step : ℕ) (values : Cell → Option ℤ) (fire : Fire) → fire_of_code policy.blocks basin rule step values ≡ Some fire → length fire.puts ≤ 2000
+  pub few_puts : (rule step : ℕ) (values : Cell → Option ℤ) (fire : Fire) → fire_of_code policy.blocks basin rule step values ≡ Some fire
+      → length fire.puts ≤ 2000
   few_puts rule step values fire is =
       let block = has_block policy.blocks basin rule step values fire is in
       let own = safe rule block.0 step values block.1 in
@@ -55,7 +58,8 @@ module _ (basin : Draft) (policy : Accepted) (safe : AreSafe basin policy.blocks
       let most = (within policy.budgets block.0 own.0 limited own.1).puts in
       omega (arith, told, own.2.puts, most)
 
-  looks_of_block : (rule n : ℕ) (b : Budget) → rule_from 1 policy.blocks rule ≡ Some n → numbered policy.budgets n ≡ Some b → most_looks policy rule ≡ b.looks
+  looks_of_block : (rule n : ℕ) (b : Budget) → rule_from 1 policy.blocks rule ≡ Some n → numbered policy.budgets n ≡ Some b
+      → most_looks policy rule ≡ b.looks
   looks_of_block rule n b stands is =
       ap (λ (o : Option ℕ). unwrap_or (option_map (λ (d : Budget). d.looks) (option_and_then (λ block. numbered policy.budgets block) o)) 0) stands
       ∙ ap (λ (o : Option Budget). unwrap_or (option_map (λ (d : Budget). d.looks) o) 0) is

@@ -1,5 +1,6 @@
 -- What rules have when they are made, when a timestep begins, and when one has fired.
-use Rattle.rw_base.proofs.Common.{◌≡◌, ◌∙◌, ℕ, zero, suc, ◌-◌, ◌<◌, List, [], ◌∷◌, None, Some, ap, arith, get_or-map, get_or-set_same, length, length-map, map, refl, slice_index_or}
+use Rattle.rw_base.proofs.Common.{◌≡◌, ◌∙◌, ℕ, zero, suc, ◌-◌, ◌<◌, List, [], ◌∷◌, None, Some, ap, arith, get_or-map, get_or-set_same, length}
+use Rattle.rw_base.proofs.Common.{length-map, map, refl, slice_index_or}
 use Rattle.rw_model.proofs.Common.{Draft}
 use Rattle.rw_series.specs.declared.look.Look.{Look}
 use Rattle.rw_run.specs.Log.{Asked}
@@ -17,13 +18,16 @@ pub fresh : (agenda : Agenda) (entries : List Entry) (rule : ℕ) → agenda.rul
 fresh agenda entries rule is =
     ap (λ (rules : List Entry). (slice_index_or rules (rule - 1) (unfired 0)).looked) is ∙ none_looked entries (rule - 1)
 
-pub looked_after : (old new : Agenda) (rule : ℕ) (looks : List Look) → IsListed old rule → new.rules ≡ after_firing old rule looks → looked_by new rule ≡ Some looks
+pub looked_after : (old new : Agenda) (rule : ℕ) (looks : List Look) → IsListed old rule → new.rules ≡ after_firing old rule looks
+    → looked_by new rule ≡ Some looks
 looked_after old new rule looks known is =
     ap (λ (rules : List Entry). (slice_index_or rules (rule - 1) (unfired 0)).looked) is
     ∙ ap (λ (e : Entry). e.looked)
-    (get_or-set_same old.rules (rule - 1) (record { room = look_room old rule; looked = Some looks }) (unfired 0) (omega (arith, known.first, known.last)))
+    (get_or-set_same old.rules (rule - 1) (record { room = look_room old rule; looked = Some looks }) (unfired 0)
+    (omega (arith, known.first, known.last)))
 
-pub made_for : (basin : Draft) (policy : Accepted) (agenda : Agenda) (asked written : List Asked) (reads : List ℕ) → agenda.order ≡ basin.control.agenda
+pub made_for : (basin : Draft) (policy : Accepted) (agenda : Agenda) (asked written : List Asked) (reads : List ℕ)
+    → agenda.order ≡ basin.control.agenda
     → agenda.rules ≡ map unfired reads → AreReads policy reads → IsRulesOf basin policy (record { agenda = agenda; asked = asked; written = written })
 made_for basin policy agenda asked written reads order is each = record {
   order = order;

@@ -59,7 +59,8 @@ module _ (basin : Draft) (one other : Cells) where
     alike_each events (λ c has. same c (Contains-append_right (reached_by basin event) (flat_map (reached_by basin) events) c has)),
   )
 
-pub again : (basin : Draft) (policy : Policy) (step last : ℕ) (old other : Log) (first : Event) (events : List Event) (looked : List Held) → IsFramed policy
+pub again : (basin : Draft) (policy : Policy) (step last : ℕ) (old other : Log) (first : Event) (events : List Event) (looked : List Held)
+    → IsFramed policy
     → IsTimestep basin policy step old first events → AreLooked basin (cells_of basin old) (first ∷ events) looked
     → ((held : Held) → Contains looked held → cells_of basin other held.cell ≡ held.content) → standing other ≡ rests last → step ≡ last + 1
     → IsTimestep basin policy step other first events

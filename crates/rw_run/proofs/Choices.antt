@@ -11,7 +11,8 @@ first_chosen : (waits : List ℕ) → CanBeChosen waits (first_of waits)
 first_chosen [] = refl
 first_chosen (first ∷ rest) = (0, omega arith, refl)
 
-pub may_follow : (basin : Draft) (policy : Policy) (log : Log) (event : Event) → follows basin policy log ≡ Some event → MayFollow basin policy log event
+pub may_follow : (basin : Draft) (policy : Policy) (log : Log) (event : Event) → follows basin policy log ≡ Some event
+    → MayFollow basin policy log event
 may_follow basin policy log event is =
     record { object = first_waiting basin log; waits = first_chosen (waiting basin log); is = is }
 

@@ -1,5 +1,7 @@
 -- Two logs that hold alike what a timestep's events look at go alike through it.
-use Rattle.rw_base.proofs.Common.{◌≡◌, ℕ, ◌-◌, ℤ, pos, ◌-ℤ◌, Bool, true, false, not, ◌&&◌, ◌||◌, cond, List, [], ◌∷◌, ◌++◌, map, length, Option, Some, None, nat_lt, nat_le, refl, sym, ap, ap₂, subst, ◌∙◌, arith, is_some, if◌then◌else◌, option_and_then, option_map, unwrap_or, option_or, cons_option, filter, filter_map, find, same_Some, none-some}
+use Rattle.rw_base.proofs.Common.{◌≡◌, ℕ, ◌-◌, ℤ, pos, ◌-ℤ◌, Bool, true, false, not, ◌&&◌, ◌||◌, cond, List, [], ◌∷◌, ◌++◌, map, length, Option, Some}
+use Rattle.rw_base.proofs.Common.{None, nat_lt, nat_le, refl, sym, ap, ap₂, subst, ◌∙◌, arith, is_some, if◌then◌else◌, option_and_then, option_map}
+use Rattle.rw_base.proofs.Common.{unwrap_or, option_or, cons_option, filter, filter_map, find, same_Some, none-some}
 use Rattle.rw_base.specs.declared.number.Cell.{Cell}
 use Rattle.rw_model.specs.declared.content.Content.{Content}
 use Rattle.rw_model.proofs.Common.{before_of, Draft, Object, object_at, end_of_put}
@@ -11,11 +13,16 @@ use Rattle.rw_series.specs.declared.fire.FireEnd.{FireEnd}
 use Rattle.rw_series.specs.declared.fire.FireEnd.TheVariants.{Done, Unknown, ZeroDivisor as DividesByZero, OutOfRange as EndsOutside}
 use Rattle.rw_series.specs.declared.look.Look.{Look}
 use Rattle.rw_run.specs.declared.fault.RunFault.TheVariants.{ObjectLimit, RuleLimit}
-use Rattle.rw_run.specs.Log.{Asked, Cells, Log, Event, Firing, opened, idle, solved, fired, fault, cells_of, firing_in, is_opened, last_put, written_by, value_in}
+use Rattle.rw_run.specs.Log.{Asked, Cells, Log, Event, Firing, opened, idle, solved, fired, fault, cells_of, firing_in, is_opened, last_put}
+use Rattle.rw_run.specs.Log.{written_by, value_in}
 use Rattle.rw_model.specs.Turn.{is_data}
 use Rattle.rw_run.specs.Waiting.{waiting, since, wakes, ends_wait, numbers, first_of}
-use Rattle.rw_run.specs.Dispatch.{Past, bounds_in_place, places, cell_in, past_of, cell_of_past, cell_at, past_cell_of, value_of_past, view_of, if_cell, looked_cells, looks_at, solved_by, asked_by, end_in, is_written, puts_written, denied_by, or_fault, judged, dispatch_of, answered, dispatched}
-use Rattle.rw_run.specs.Next.{Policy, next, next_of, after_objects, asked_next, firing_of, ended, agenda_of, count, dispatches, firings, is_dispatch_of, is_firing_of, last_looks, newest_firing, since_opening, is_changed, is_same_value, first_due, is_put_again, last_ones, asked_of_rule}
+use Rattle.rw_run.specs.Dispatch.{Past, bounds_in_place, places, cell_in, past_of, cell_of_past, cell_at, past_cell_of, value_of_past, view_of}
+use Rattle.rw_run.specs.Dispatch.{if_cell, looked_cells, looks_at, solved_by, asked_by, end_in, is_written, puts_written, denied_by, or_fault, judged}
+use Rattle.rw_run.specs.Dispatch.{dispatch_of, answered, dispatched}
+use Rattle.rw_run.specs.Next.{Policy, next, next_of, after_objects, asked_next, firing_of, ended, agenda_of, count, dispatches, firings}
+use Rattle.rw_run.specs.Next.{is_dispatch_of, is_firing_of, last_looks, newest_firing, since_opening, is_changed, is_same_value, first_due}
+use Rattle.rw_run.specs.Next.{is_put_again, last_ones, asked_of_rule}
 use Rattle.rw_run.specs.Frame.{IsFault, cells_looked, cells_asked, cells_of_event, looked_in, AreAlike, FollowInStep, IsFramed}
 use Rattle.rw_run.proofs.Lists.{filter-same}
 use Rattle.rw_run.proofs.Waits.{waiting-more, opens}
@@ -31,7 +38,8 @@ some_if true m n = refl
 some_if false m n = refl
 
 some_same : (ends wakes_it : Bool) (s u : Option ℕ) (m n : ℕ) → is_some s ≡ is_some u
-    → is_some (option_or (if ends then None else s) (if wakes_it then Some m else None)) ≡ is_some (option_or (if ends then None else u) (if wakes_it then Some n else None))
+    → is_some (option_or (if ends then None else s) (if wakes_it then Some m else None))
+    ≡ is_some (option_or (if ends then None else u) (if wakes_it then Some n else None))
 some_same true w s u m n e = some_if w m n
 some_same false w None None m n e = some_if w m n
 some_same false w (Some p) (Some q) m n e = refl
@@ -45,12 +53,14 @@ waits_same basin (event ∷ events) step x y object =
     some_same (ends_wait event object) (wakes basin event object) _ _ (length (events ++ opened step ∷ x)) (length (events ++ opened step ∷ y))
     (waits_same basin events step x y object)
 
-waiting_same : (basin : Draft) (events : Log) (step : ℕ) (x y : Log) → waiting basin (events ++ opened step ∷ x) ≡ waiting basin (events ++ opened step ∷ y)
+waiting_same : (basin : Draft) (events : Log) (step : ℕ) (x y : Log)
+    → waiting basin (events ++ opened step ∷ x) ≡ waiting basin (events ++ opened step ∷ y)
 waiting_same basin [] step x y = opens basin x step ∙ sym (opens basin y step)
 waiting_same basin (event ∷ events) step x y =
     waiting-more basin event (events ++ opened step ∷ x)
     ∙ ap₂ (λ xs ys. filter (λ a. not (ends_wait event a)) xs ++ ys) (waiting_same basin events step x y)
-    (filter-same _ _ (numbers (length basin.objects)) (λ a. ap (λ z. wakes basin event a && (ends_wait event a || not z)) (waits_same basin events step x y a)))
+    (filter-same _ _ (numbers (length basin.objects))
+    (λ a. ap (λ z. wakes basin event a && (ends_wait event a || not z)) (waits_same basin events step x y a)))
     ∙ sym (waiting-more basin event (events ++ opened step ∷ y))
 
 -- ---- cells that are alike before the timestep are alike in it
@@ -59,16 +69,19 @@ or_assoc : {A : Type 0} (x y z : Option A) → option_or (option_or x y) z ≡ o
 or_assoc None y z = refl
 or_assoc (Some x) y z = refl
 
-held_over : (basin : Draft) (events x : Log) (cell : Cell) → cells_of basin (events ++ x) cell ≡ option_or (cells_of basin events cell) (cells_of basin x cell)
+held_over : (basin : Draft) (events x : Log) (cell : Cell)
+    → cells_of basin (events ++ x) cell ≡ option_or (cells_of basin events cell) (cells_of basin x cell)
 held_over basin [] x cell = refl
 held_over basin (event ∷ events) x cell =
-    ap (λ z. option_or (last_put basin (written_by event) cell) z) (held_over basin events x cell) ∙ sym (or_assoc (last_put basin (written_by event) cell) _ _)
+    ap (λ z. option_or (last_put basin (written_by event) cell) z) (held_over basin events x cell)
+    ∙ sym (or_assoc (last_put basin (written_by event) cell) _ _)
 
 alike_over : (basin : Draft) (events : Log) (step : ℕ) (x y : Log) (cells : List Cell) → AreAlike (cells_of basin x) (cells_of basin y) cells
     → AreAlike (cells_of basin (events ++ opened step ∷ x)) (cells_of basin (events ++ opened step ∷ y)) cells
 alike_over basin events step x y [] a = tt
 alike_over basin events step x y (cell ∷ cells) a = (
-  held_over basin events (opened step ∷ x) cell ∙ ap (option_or (cells_of basin events cell)) a.0 ∙ sym (held_over basin events (opened step ∷ y) cell),
+  held_over basin events (opened step ∷ x) cell ∙ ap (option_or (cells_of basin events cell)) a.0
+      ∙ sym (held_over basin events (opened step ∷ y) cell),
   alike_over basin events step x y cells a.1,
 )
 
@@ -88,7 +101,8 @@ alike_values : (f g : Cells) (cells : List Cell) → AreAlike f g cells → AreA
 alike_values f g [] a = tt
 alike_values f g (cell ∷ cells) a = (ap (option_map (λ (content : Content). content.value)) a.0, alike_values f g cells a.1)
 
-map_same : {A B : Type 0} (f g : Cell → A) (k : Cell → A → B) (cells : List Cell) → AreAlike f g cells → map (λ c. k c (f c)) cells ≡ map (λ c. k c (g c)) cells
+map_same : {A B : Type 0} (f g : Cell → A) (k : Cell → A → B) (cells : List Cell) → AreAlike f g cells
+    → map (λ c. k c (f c)) cells ≡ map (λ c. k c (g c)) cells
 map_same f g k [] a = refl
 map_same f g k (cell ∷ cells) a = ap₂ (λ z zs. k cell z ∷ zs) a.0 (map_same f g k cells a.1)
 
@@ -133,7 +147,8 @@ since_looked f g [] step x a = tt
 since_looked f g (event ∷ events) step x a =
     let later = since_looked f g events step x (alike_right f g (cells_of_event event) (looked_in events) a) in
     if_since (is_opened event) event (since_opening (events ++ opened step ∷ x)) f g
-    (alike_both f g (cells_of_event event) (looked_in (since_opening (events ++ opened step ∷ x))) (alike_left f g (cells_of_event event) (looked_in events) a) later) later
+    (alike_both f g (cells_of_event event) (looked_in (since_opening (events ++ opened step ∷ x)))
+    (alike_left f g (cells_of_event event) (looked_in events) a) later) later
 
 -- the looks of the last firing are among those of the timestep
 due_same : (f g : Cells) (events : Log) (step : ℕ) (x : Log) (rule : ℕ) → AreAlike f g (looked_in events)
@@ -148,12 +163,14 @@ find_same f g (x ∷ xs) h = rw (h x) (ap (λ z. cond (g x) (Some x) z) (find_sa
 first_due_same : (basin : Draft) (policy : Policy) (f g : Cells) (events : Log) (step : ℕ) (x y : Log) → AreAlike f g (looked_in events)
     → first_due basin policy f (events ++ opened step ∷ x) ≡ first_due basin policy g (events ++ opened step ∷ y)
 first_due_same basin policy f g events step x y a =
-    find_same _ _ (agenda_of basin.control.agenda policy.rules) (λ r. due_same f g events step x r a ∙ ap (λ later. is_changed g (looks_of (newest_firing r later))) (same_since events step x y))
+    find_same _ _ (agenda_of basin.control.agenda policy.rules)
+    (λ r. due_same f g events step x r a ∙ ap (λ later. is_changed g (looks_of (newest_firing r later))) (same_since events step x y))
 
 -- ---- a dispatch
 
 -- puts at cells that are alike are judged alike
-judged_same : (f g : Cells) (object : ℕ) (puts : List Asked) (rest : Event) → AreAlike f g (cells_asked puts) → judged f object puts rest ≡ judged g object puts rest
+judged_same : (f g : Cells) (object : ℕ) (puts : List Asked) (rest : Event) → AreAlike f g (cells_asked puts)
+    → judged f object puts rest ≡ judged g object puts rest
 judged_same f g object [] rest a = refl
 judged_same f g object (put ∷ puts) rest a =
     ap₂ (λ z w. or_fault (denied_by (end_of_put z put.content) put) object put w) a.0 (judged_same f g object puts rest a.1)
@@ -168,7 +185,8 @@ rest_if_fine : (values : Option (ℤ × ℤ)) (object : ℕ) (put : Asked) (rest
 rest_if_fine None object put rest final h fine = h fine
 rest_if_fine (Some values) object put rest final h fine = absurd (fine tt)
 
-final_if_fine : (f : Cells) (object : ℕ) (puts : List Asked) (final : Event) → ¬ IsFault (judged f object puts final) → judged f object puts final ≡ final
+final_if_fine : (f : Cells) (object : ℕ) (puts : List Asked) (final : Event) → ¬ IsFault (judged f object puts final)
+    → judged f object puts final ≡ final
 final_if_fine f object [] final fine = refl
 final_if_fine f object (put ∷ puts) final fine =
     rest_if_fine (denied_by (end_in f put) put) object put (judged f object puts final) final (final_if_fine f object puts final) fine
@@ -182,7 +200,8 @@ cells_of_looks f (cell ∷ cells) = ap (λ z. cell ∷ z) (cells_of_looks f cell
 
 -- the event of an answer, over cells that are alike where it looked and put
 answered_same : (basin : Draft) (f g : Cells) (cells : List Cell) (object step : ℕ) (answer : Solved)
-    → AreAlike f g (cells_of_event (answered basin f (looks_at f cells) object step answer)) → ¬ IsFault (answered basin f (looks_at f cells) object step answer)
+    → AreAlike f g (cells_of_event (answered basin f (looks_at f cells) object step answer))
+    → ¬ IsFault (answered basin f (looks_at f cells) object step answer)
     → AreAlike f g cells × (answered basin f (looks_at f cells) object step answer ≡ answered basin g (looks_at g cells) object step answer)
 answered_same basin f g cells object step Idle a fine =
     let l : AreAlike f g cells = subst (AreAlike f g) (cells_of_looks f cells) (alike_left f g (cells_looked (looks_at f cells)) [] a) in
@@ -197,7 +216,8 @@ answered_same basin f g cells object step (Puts puts) a fine =
     let q : AreAlike f g (cells_asked asked) = alike_right f g (cells_looked (looks_at f cells)) _ all in (
       l,
       ap₂ (λ z w. judged f object asked (solved (record { object = object; step = step; looked = z; asked = asked; written = w })))
-          (looks_at_same f g cells l) (written_same f g asked q) ∙ judged_same f g object asked (dispatch_of g (looks_at g cells) object step asked) q,
+          (looks_at_same f g cells l) (written_same f g asked q)
+          ∙ judged_same f g object asked (dispatch_of g (looks_at g cells) object step asked) q,
     )
 
 seen_first : (f g : Cells) (found : Option Cell) (rest : List Cell) → AreAlike f g (cons_option found rest)
@@ -223,20 +243,23 @@ past_same basin f g step (Some past) a =
     if_past f g (nat_lt past.ago step) (cell_at past.slot (step - past.ago)) (before_of basin.objects past.slot (pos step -ℤ pos past.ago)) a
 
 -- the view is made of the cells at which a dispatch looks
-view_same : (basin : Draft) (f g : Cells) (object step : ℕ) → AreAlike f g (looked_cells basin object step) → view_of basin f object step ≡ view_of basin g object step
+view_same : (basin : Draft) (f g : Cells) (object step : ℕ) → AreAlike f g (looked_cells basin object step)
+    → view_of basin f object step ≡ view_of basin g object step
 view_same basin f g object step a =
     let own : List Cell = filter_map (cell_in basin object step) places in
     ap₂ (λ now past. record { own = record { 0 = object }; now = now; past = past; bounds = map (bounds_in_place basin object) places })
     (seen_same f g (cell_in basin object step) places (alike_left f g own (if_cell (past_cell_of basin object step)) a))
     (past_same basin f g step (past_of basin object) (alike_right f g own (if_cell (past_cell_of basin object step)) a))
 
-dispatched_same : (basin : Draft) (f g : Cells) (object step : ℕ) → AreAlike f g (cells_of_event (dispatched basin f object step)) → ¬ IsFault (dispatched basin f object step)
+dispatched_same : (basin : Draft) (f g : Cells) (object step : ℕ) → AreAlike f g (cells_of_event (dispatched basin f object step))
+    → ¬ IsFault (dispatched basin f object step)
     → dispatched basin f object step ≡ dispatched basin g object step
 dispatched_same basin f g object step a fine =
     let cells : List Cell = looked_cells basin object step in
     let h = answered_same basin f g cells object step (solved_by basin f object step) a fine in
     h.1
-    ∙ ap (λ view. answered basin g (looks_at g cells) object step (unwrap_or (option_map (λ (found : Object). solve_of found.kind view) (object_at basin.objects object)) Idle))
+    ∙ ap (λ view. answered basin g (looks_at g cells) object step
+    (unwrap_or (option_map (λ (found : Object). solve_of found.kind view) (object_at basin.objects object)) Idle))
     (view_same basin f g object step h.0)
 
 -- ---- a firing
@@ -251,14 +274,19 @@ last_alike basin f g [] a = tt
 last_alike basin f g (put ∷ puts) a =
     if_alike f g (is_put_again basin put puts) put (last_ones basin puts) a.0 (last_alike basin f g puts a.1)
 
-ended_same : (basin : Draft) (f g : Cells) (rule step : ℕ) (fire : Fire) (end : FireEnd) → AreAlike f g (cells_of_event (ended basin f rule step fire end))
+ended_same : (basin : Draft) (f g : Cells) (rule step : ℕ) (fire : Fire) (end : FireEnd)
+    → AreAlike f g (cells_of_event (ended basin f rule step fire end))
     → ¬ IsFault (ended basin f rule step fire end)
     → AreAlike f g fire.looked × (ended basin f rule step fire end ≡ ended basin g rule step fire end)
 ended_same basin f g rule step fire DividesByZero a fine = absurd (fine tt)
 ended_same basin f g rule step fire (EndsOutside value) a fine = absurd (fine tt)
 ended_same basin f g rule step fire Unknown a fine =
-    let l : AreAlike f g fire.looked = subst (AreAlike f g) (cells_of_looks f fire.looked) (alike_left f g (cells_looked (looks_at f fire.looked)) [] a) in
-    (l, ap (λ z. fired (record { rule = rule; step = step; is_done = false; looked = z; asked = []; written = []; count = fire.count })) (looks_at_same f g fire.looked l))
+    let l : AreAlike f g fire.looked =
+    subst (AreAlike f g) (cells_of_looks f fire.looked) (alike_left f g (cells_looked (looks_at f fire.looked)) [] a) in (
+      l,
+      ap (λ z. fired (record { rule = rule; step = step; is_done = false; looked = z; asked = []; written = []; count = fire.count }))
+          (looks_at_same f g fire.looked l),
+    )
 ended_same basin f g rule step fire Done a fine =
     let puts : List Asked = asked_of_rule basin rule step fire.puts in
     let l : AreAlike f g fire.looked =
@@ -284,7 +312,8 @@ firing_same basin policy f g rule step (Some fire) event framed by is a fine =
 
 -- below the limit, or the same fault
 either_same : (f g : Cells) (test : Bool) (limit d e : Event) → (AreAlike f g (cells_of_event d) → ¬ IsFault d → d ≡ e)
-    → AreAlike f g (cells_of_event (if test then limit else d)) → ¬ IsFault (if test then limit else d) → (if test then limit else d) ≡ (if test then limit else e)
+    → AreAlike f g (cells_of_event (if test then limit else d)) → ¬ IsFault (if test then limit else d)
+    → (if test then limit else d) ≡ (if test then limit else e)
 either_same f g true limit d e h a fine = refl
 either_same f g false limit d e h a fine = h a fine
 
@@ -298,9 +327,11 @@ after_same : (basin : Draft) (policy : Policy) (f g : Cells) (x y : Log) (step :
     → AreAlike f g (cells_of_event event) → ¬ IsFault event → after_objects basin policy g y step due ≡ Some event
 after_same basin policy f g x y step None event framed count is a fine = is
 after_same basin policy f g x y step (Some rule) event framed count is a fine =
-    ap (λ k. if nat_le basin.control.rule_limit k then Some (fault (RuleLimit (record { 0 = rule }) (record { 0 = step }) k)) else firing_of basin policy g rule step)
+    ap (λ k. if nat_le basin.control.rule_limit k then Some (fault (RuleLimit (record { 0 = rule }) (record { 0 = step }) k)) else firing_of basin
+    policy g rule step)
     (sym (count rule))
-    ∙ either_follows (nat_le basin.control.rule_limit (firings x rule)) (fault (RuleLimit (record { 0 = rule }) (record { 0 = step }) (firings x rule))) event
+    ∙ either_follows (nat_le basin.control.rule_limit (firings x rule))
+    (fault (RuleLimit (record { 0 = rule }) (record { 0 = step }) (firings x rule))) event
     (firing_of basin policy f rule step) (firing_of basin policy g rule step)
     (λ fires. firing_same basin policy f g rule step (policy.fire rule step (value_in f)) event framed refl fires a fine) is
 
@@ -308,20 +339,24 @@ asked_same : (basin : Draft) (f g : Cells) (x y : Log) (step object : ℕ) → d
     → AreAlike f g (cells_of_event (asked_next basin f x step object)) → ¬ IsFault (asked_next basin f x step object)
     → asked_next basin f x step object ≡ asked_next basin g y step object
 asked_same basin f g x y step object count a fine =
-    either_same f g (nat_le basin.control.object_limit (dispatches x object)) (fault (ObjectLimit (record { 0 = object }) (record { 0 = step }) (dispatches x object))) _ _
+    either_same f g (nat_le basin.control.object_limit (dispatches x object))
+    (fault (ObjectLimit (record { 0 = object }) (record { 0 = step }) (dispatches x object))) _ _
     (dispatched_same basin f g object step) a fine
-    ∙ ap (λ k. if nat_le basin.control.object_limit k then fault (ObjectLimit (record { 0 = object }) (record { 0 = step }) k) else dispatched basin g object step) count
+    ∙ ap (λ k. if nat_le basin.control.object_limit k then fault (ObjectLimit (record { 0 = object }) (record { 0 = step }) k) else dispatched basin g
+    object step) count
 
 next_of_same : (basin : Draft) (policy : Policy) (f g : Cells) (x y : Log) (step : ℕ) (waits : Option ℕ) (event : Event) → IsFramed policy
     → ((object : ℕ) → dispatches x object ≡ dispatches y object) → ((rule : ℕ) → firings x rule ≡ firings y rule)
     → first_due basin policy f x ≡ first_due basin policy g y → next_of basin policy f x step waits ≡ Some event
     → AreAlike f g (cells_of_event event) → ¬ IsFault event → next_of basin policy g y step waits ≡ Some event
 next_of_same basin policy f g x y step None event framed count fires due is a fine =
-    ap (after_objects basin policy g y step) (sym due) ∙ after_same basin policy f g x y step (first_due basin policy f x) event framed fires is a fine
+    ap (after_objects basin policy g y step) (sym due)
+    ∙ after_same basin policy f g x y step (first_due basin policy f x) event framed fires is a fine
 next_of_same basin policy f g x y step (Some object) event framed count fires due is a fine =
     let same : event ≡ asked_next basin f x step object = sym (same_Some _ _ is) in
     ap Some
-    (sym (asked_same basin f g x y step object (count object) (subst (λ e. AreAlike f g (cells_of_event e)) same a) (subst (λ e. ¬ IsFault e) same fine)) ∙ sym same)
+    (sym (asked_same basin f g x y step object (count object) (subst (λ e. AreAlike f g (cells_of_event e)) same a)
+    (subst (λ e. ¬ IsFault e) same fine)) ∙ sym same)
 
 going : (basin : Draft) (policy : Policy) (step : ℕ) (x y : Log) → IsFramed policy → (done : Log) (events : List Event)
     → FollowInStep basin policy step (done ++ opened step ∷ x) events → AreAlike (cells_of basin x) (cells_of basin y) (looked_in done)
@@ -334,11 +369,16 @@ going basin policy step x y framed done (event ∷ events) goes a c =
     let later = alike_right (cells_of basin x) (cells_of basin y) (cells_of_event event) (looked_in events) c in
     let same : next basin policy step v ≡ Some event =
     ap (λ q. next_of basin policy (cells_of basin v) v step (first_of q)) (sym (waiting_same basin done step x y))
-    ∙ next_of_same basin policy (cells_of basin u) (cells_of basin v) u v step (first_of (waiting basin u)) event framed (λ o. ap (count (is_dispatch_of o)) (same_since done step x y))
+    ∙ next_of_same basin policy (cells_of basin u) (cells_of basin v) u v step (first_of (waiting basin u)) event framed
+    (λ o. ap (count (is_dispatch_of o)) (same_since done step x y))
     (λ r. ap (count (is_firing_of r)) (same_since done step x y))
     (first_due_same basin policy (cells_of basin u) (cells_of basin v) done step x y (alike_over basin done step x y (looked_in done) a))
-    goes.0 (alike_over basin done step x y (cells_of_event event) own) goes.1 in
-    (same, goes.1, going basin policy step x y framed (event ∷ done) events goes.2 (alike_both (cells_of basin x) (cells_of basin y) (cells_of_event event) (looked_in done) own a) later)
+    goes.0 (alike_over basin done step x y (cells_of_event event) own) goes.1 in (
+      same,
+      goes.1,
+      going basin policy step x y framed (event ∷ done) events goes.2
+          (alike_both (cells_of basin x) (cells_of basin y) (cells_of_event event) (looked_in done) own a) later,
+    )
 
 pub frame : (basin : Draft) (policy : Policy) (step : ℕ) (x y : Log) (events : List Event) → IsFramed policy
     → FollowInStep basin policy step (opened step ∷ x) events → AreAlike (cells_of basin x) (cells_of basin y) (looked_in events)

@@ -1,5 +1,6 @@
 -- What a cell holds after puts, and what follows the end of a timestep.
-use Rattle.rw_base.proofs.Common.{◌≡◌, ◌<◌, ◌≤◌, ◌+◌, ℕ, ℤ, List, [], ◌∷◌, ◌++◌, Some, None, nat_lt, ap, true, false, arith, IsTrue, IsFalse, if◌then◌else◌, option_or, nat_tests}
+use Rattle.rw_base.proofs.Common.{◌≡◌, ◌<◌, ◌≤◌, ◌+◌, ℕ, ℤ, List, [], ◌∷◌, ◌++◌, Some, None, nat_lt, ap, true, false, arith, IsTrue, IsFalse}
+use Rattle.rw_base.proofs.Common.{if◌then◌else◌, option_or, nat_tests}
 use Rattle.rw_base.specs.declared.number.Cell.{Cell}
 use Rattle.rw_model.specs.Draft.{Draft}
 use Rattle.rw_series.specs.Series.{is_shared}
@@ -31,14 +32,17 @@ still_held basin log event cell none = ap (λ puts. option_or (last_put basin pu
 pub opens_first : (basin : Draft) (policy : Policy) (log : Log) (cell : Cell) (value : ℤ) → 1 ≤ basin.control.stamps.count
     → follows basin policy (given cell value ∷ log) ≡ Some (opened 1)
 opens_first basin policy log cell value some =
-    let more_left : nat_lt 0 basin.control.stamps.count ≡ true = grind (arith, nat_tests) in ap (λ test. if test then Some (opened 1) else None) more_left
+    let more_left : nat_lt 0 basin.control.stamps.count ≡ true =
+    grind (arith, nat_tests) in ap (λ test. if test then Some (opened 1) else None) more_left
 
 pub opens_next : (basin : Draft) (policy : Policy) (log : Log) (step : ℕ) → step < basin.control.stamps.count
     → follows basin policy (closed step ∷ log) ≡ Some (opened (step + 1))
 opens_next basin policy log step more =
-    let more_left : nat_lt step basin.control.stamps.count ≡ true = grind (arith, nat_tests) in ap (λ test. if test then Some (opened (step + 1)) else None) more_left
+    let more_left : nat_lt step basin.control.stamps.count ≡ true =
+    grind (arith, nat_tests) in ap (λ test. if test then Some (opened (step + 1)) else None) more_left
 
 pub opens_none : (basin : Draft) (policy : Policy) (log : Log) (step : ℕ) → basin.control.stamps.count ≤ step
     → follows basin policy (closed step ∷ log) ≡ None
 opens_none basin policy log step last =
-    let more_left : nat_lt step basin.control.stamps.count ≡ false = grind (arith, nat_tests) in ap (λ test. if test then Some (opened (step + 1)) else None) more_left
+    let more_left : nat_lt step basin.control.stamps.count ≡ false =
+    grind (arith, nat_tests) in ap (λ test. if test then Some (opened (step + 1)) else None) more_left

@@ -1,5 +1,6 @@
 -- Filters, and how often a number stands in a list.
-use Rattle.rw_base.proofs.Common.{◌≡◌, ◌<◌, ◌+◌, ◌==◌, ℕ, zero, suc, Bool, true, false, not, ◌&&◌, cond, List, [], ◌∷◌, ◌++◌, nat_lt, refl, ap, arith, filter, list_any, nat_tests}
+use Rattle.rw_base.proofs.Common.{◌≡◌, ◌<◌, ◌+◌, ◌==◌, ℕ, zero, suc, Bool, true, false, not, ◌&&◌, cond, List, [], ◌∷◌, ◌++◌, nat_lt, refl, ap, arith}
+use Rattle.rw_base.proofs.Common.{filter, list_any, nat_tests}
 use Rattle.rw_run.specs.Times.{times}
 use Rattle.rw_run.specs.Waiting.{numbers}
 
@@ -7,7 +8,8 @@ pub filter-same : {X : Type 0} (p q : X → Bool) (xs : List X) → ((x : X) →
 filter-same p q [] same = refl
 filter-same p q (x ∷ xs) same = rw (same x) (ap (λ ys. cond (q x) (x ∷ ys) ys) (filter-same p q xs same))
 
-both : {X : Type 0} (p : X → Bool) (x : X) (a b : Bool) (xs ys : List X) → p x ≡ a → xs ≡ filter p ys → cond (a && b) (x ∷ xs) xs ≡ filter p (cond b (x ∷ ys) ys)
+both : {X : Type 0} (p : X → Bool) (x : X) (a b : Bool) (xs ys : List X) → p x ≡ a → xs ≡ filter p ys
+    → cond (a && b) (x ∷ xs) xs ≡ filter p (cond b (x ∷ ys) ys)
 both p x true true xs ys e h = rw e (ap (λ zs. x ∷ zs) h)
 both p x false true xs ys e h = rw e h
 both p x true false xs ys e h = h
@@ -36,7 +38,8 @@ times-numbers a (suc count) =
     let e = times-append a (numbers count) (suc count ∷ []) in
     let h = times-numbers a count in grind (arith, nat_tests)
 
-without_step : (a x : ℕ) (b : Bool) (xs ys : List ℕ) → (a == x) ≡ b → cond b 1 0 + times a xs ≡ 0 → (times a xs ≡ 0 → ys ≡ xs) → cond (not b) (x ∷ ys) ys ≡ x ∷ xs
+without_step : (a x : ℕ) (b : Bool) (xs ys : List ℕ) → (a == x) ≡ b → cond b 1 0 + times a xs ≡ 0 → (times a xs ≡ 0 → ys ≡ xs)
+    → cond (not b) (x ∷ ys) ys ≡ x ∷ xs
 without_step a x true xs ys e h rest = absurd (omega arith)
 without_step a x false xs ys e h rest = ap (λ zs. x ∷ zs) (rest (omega arith))
 

@@ -1,5 +1,6 @@
 -- A policy and inputs have one run.
-use Rattle.rw_base.proofs.Common.{◌≡◌, ◌≤◌, ◌+◌, ℕ, ℤ, nat_lt, false, List, [], ◌∷◌, Option, Some, None, refl, sym, ap, subst, ◌∙◌, arith, if◌then◌else◌, nat_tests, same_Some, none-some}
+use Rattle.rw_base.proofs.Common.{◌≡◌, ◌≤◌, ◌+◌, ℕ, ℤ, nat_lt, false, List, [], ◌∷◌, Option, Some, None, refl, sym, ap, subst, ◌∙◌, arith}
+use Rattle.rw_base.proofs.Common.{if◌then◌else◌, nat_tests, same_Some, none-some}
 use Rattle.rw_base.specs.declared.number.Cell.{Cell}
 use Rattle.rw_model.specs.Draft.{Draft}
 use Rattle.rw_run.specs.Log.{Log, Event, opened}
@@ -12,7 +13,8 @@ rests_last step count event last =
     let more : nat_lt step count ≡ false = grind (arith, nat_tests) in ap (λ test. if test then Some event else None) more
 
 -- nothing follows a run that is over
-pub none_follows : (basin : Draft) (policy : Policy) (log : Log) (object : Option ℕ) (at : Standing) → IsOver basin at → follows_by basin policy log object at ≡ None
+pub none_follows : (basin : Draft) (policy : Policy) (log : Log) (object : Option ℕ) (at : Standing) → IsOver basin at
+    → follows_by basin policy log object at ≡ None
 none_follows basin policy log object (rests step) end = rests_last step basin.control.stamps.count (opened (step + 1)) end
 none_follows basin policy log object (inside step) end = absurd end
 none_follows basin policy log object over end = refl
@@ -26,8 +28,10 @@ same_end basin policy old (e ∷ es) (f ∷ fs) x y l m u v =
     let same : f ≡ e = same_Some _ _ (sym m.0 ∙ l.0) in
     same_end basin policy (e ∷ old) es fs x y l.1 (subst (λ z. Leads basin policy (z ∷ old) fs y) same m.1) u v
 
-pub one_run : (basin : Draft) (policy : Policy) (inputs : List (Cell × ℤ)) (one other : Log) → IsRun basin policy inputs one → IsRun basin policy inputs other
+pub one_run : (basin : Draft) (policy : Policy) (inputs : List (Cell × ℤ)) (one other : Log) → IsRun basin policy inputs one
+    → IsRun basin policy inputs other
     → one ≡ other
 one_run basin policy inputs one other r s =
     same_end basin policy (placed [] inputs) r.events s.events one other r.leads s.leads
-    (none_follows basin policy one (first_waiting basin one) (standing one) r.end) (none_follows basin policy other (first_waiting basin other) (standing other) s.end)
+    (none_follows basin policy one (first_waiting basin one) (standing one) r.end)
+    (none_follows basin policy other (first_waiting basin other) (standing other) s.end)

@@ -1,5 +1,6 @@
 -- A timestep that was passed, within the log behind it.
-use Rattle.rw_base.proofs.Common.{◌≡◌, ◌≢◌, ◌<◌, ◌≤◌, ◌+◌, ◌==◌, ℕ, ℤ, Bool, true, false, List, [], ◌∷◌, Option, Some, None, IsSome, refl, sym, ap, subst, ◌∙◌, arith, if◌then◌else◌, nat_tests, same_Some}
+use Rattle.rw_base.proofs.Common.{◌≡◌, ◌≢◌, ◌<◌, ◌≤◌, ◌+◌, ◌==◌, ℕ, ℤ, Bool, true, false, List, [], ◌∷◌, Option, Some, None, IsSome, refl, sym, ap}
+use Rattle.rw_base.proofs.Common.{subst, ◌∙◌, arith, if◌then◌else◌, nat_tests, same_Some}
 use Rattle.rw_base.specs.declared.number.Cell.{Cell}
 use Rattle.rw_model.specs.Draft.{Draft}
 use Rattle.rw_run.specs.Behind.{IsBehind}
@@ -10,7 +11,8 @@ use Rattle.rw_run.specs.Next.{Policy}
 use Rattle.rw_run.specs.Runs.{Leads, Standing, placed, rests, inside, over, standing}
 use Rattle.rw_run.specs.Step.{before_closing, before_opening, events_of, is_closing, is_of_step, is_opening}
 use Rattle.rw_run.specs.Timestep.{IsTimestep}
-use Rattle.rw_run.proofs.StepEvents.{IsAfter, IsWithin, closes_nothing, is_after, of_its_own, of_no_other, opened_of_no_other, opens_nothing, within_opens_nothing}
+use Rattle.rw_run.proofs.StepEvents.{IsAfter, IsWithin, closes_nothing, is_after, of_its_own, of_no_other, opened_of_no_other, opens_nothing}
+use Rattle.rw_run.proofs.StepEvents.{within_opens_nothing}
 
 -- ---- the events of a timestep
 
@@ -82,7 +84,8 @@ module _ (basin : Draft) (policy : Policy) (step : ℕ) (end : Event) (before : 
       let on = goes_on event log next events one leads.1 in
       (one, on.0, within_from (event ∷ log) next events on.1 leads.1)
 
-leads_after : (basin : Draft) (policy : Policy) (old : Log) (events : List Event) (new : Log) → Leads basin policy old events new → new ≡ log_after events old
+leads_after : (basin : Draft) (policy : Policy) (old : Log) (events : List Event) (new : Log) → Leads basin policy old events new
+    → new ≡ log_after events old
 leads_after basin policy old [] new leads = leads
 leads_after basin policy old (event ∷ events) new leads = leads_after basin policy (event ∷ old) events new leads.1
 
@@ -132,7 +135,8 @@ still f step other old before end apart differ passed =
 pub still_events : (step other : ℕ) (old before : Log) (end : Event) → step ≢ other → IsPassed step old end before
     → events_of other (end ∷ before) ≡ events_of other old
 still_events step other old before end =
-    still (events_of other) step other old before end (λ event log none. ap (λ (t : Bool). if t then event ∷ events_of other log else events_of other log) none)
+    still (events_of other) step other old before end
+    (λ event log none. ap (λ (t : Bool). if t then event ∷ events_of other log else events_of other log) none)
 
 pub still_opening : (step other : ℕ) (old before : Log) (end : Event) → step ≢ other → IsPassed step old end before
     → before_opening other (end ∷ before) ≡ before_opening other old
@@ -301,7 +305,8 @@ nothing_of step log none = (unopened step log none, unclosed step log none)
 
 module _ (basin : Draft) (policy : Policy) (step : ℕ) where
   same_closing : (log before other : Log) (xs ys : List Event) → standing before ≡ inside step → standing other ≡ inside step
-      → Leads basin policy log xs (closed step ∷ before) → Leads basin policy log ys (closed step ∷ other) → closed step ∷ before ≡ closed step ∷ other
+      → Leads basin policy log xs (closed step ∷ before) → Leads basin policy log ys (closed step ∷ other)
+      → closed step ∷ before ≡ closed step ∷ other
   same_closing log before other [] [] at to one two = one ∙ sym two
   same_closing log before other [] (y ∷ ys) at to one two =
       let there = subst (IsPast step) (ap standing one) (omega arith) in

@@ -1,5 +1,7 @@
 -- A timestep that is reused goes in the later run as it went in the earlier one.
-use Rattle.rw_base.proofs.Common.{◌≡◌, ◌<◌, ◌≤◌, ◌+◌, ◌==◌, ℕ, zero, suc, ℤ, Bool, true, false, false≢true, List, [], ◌∷◌, ◌++◌, Contains, Option, Some, None, IsSome, refl, sym, ap, subst, ◌∙◌, arith, inl, inr, ◌⊎◌, if◌then◌else◌, nat_tests, same_Some, none-some, append_assoc}
+use Rattle.rw_base.proofs.Common.{◌≡◌, ◌<◌, ◌≤◌, ◌+◌, ◌==◌, ℕ, zero, suc, ℤ, Bool, true, false, false≢true, List, [], ◌∷◌, ◌++◌, Contains, Option}
+use Rattle.rw_base.proofs.Common.{Some, None, IsSome, refl, sym, ap, subst, ◌∙◌, arith, inl, inr, ◌⊎◌, if◌then◌else◌, nat_tests, same_Some, none-some}
+use Rattle.rw_base.proofs.Common.{append_assoc}
 use Rattle.rw_base.specs.declared.number.Cell.{Cell}
 use Rattle.rw_model.specs.Draft.{Draft}
 use Rattle.rw_run.specs.Frame.{AreAlike, IsFramed, IsStepFrom, log_after, looked_in}
@@ -129,7 +131,8 @@ log_after_more : (events : List Event) (event : Event) (log : Log) → log_after
 log_after_more [] event log = refl
 log_after_more (first ∷ events) event log = log_after_more events event (first ∷ log)
 
-leads_to : (basin : Draft) (policy : Policy) (old : Log) (events : List Event) (new : Log) → Leads basin policy old events new → new ≡ log_after events old
+leads_to : (basin : Draft) (policy : Policy) (old : Log) (events : List Event) (new : Log) → Leads basin policy old events new
+    → new ≡ log_after events old
 leads_to basin policy old [] new leads = leads
 leads_to basin policy old (event ∷ events) new leads = leads_to basin policy (event ∷ old) events new leads.1
 
@@ -243,7 +246,8 @@ module _ (basin : Draft) (policy : Policy) where
   led_below (first ∷ newer) event log some (inl all) = absurd (some (given_below (first ∷ newer) (event ∷ log) all))
   led_below (first ∷ newer) event log some (inr led) = led_below newer event log some led.1
 
-  leads_more : (old : Log) (events : List Event) (event : Event) (new : Log) → Leads basin policy old events new → follows basin policy new ≡ Some event
+  leads_more : (old : Log) (events : List Event) (event : Event) (new : Log) → Leads basin policy old events new
+      → follows basin policy new ≡ Some event
       → Leads basin policy old (events ++ event ∷ []) (event ∷ new)
   leads_more old [] event new leads is = (ap (follows basin policy) (sym leads) ∙ is, ap (λ log. event ∷ log) leads)
   leads_more old (first ∷ events) event new leads is = (leads.0, leads_more (first ∷ old) events event new leads.1 is)
@@ -315,7 +319,9 @@ module _ (basin : Draft) (policy : Policy) where
             led = below.led;
             newest = ap (λ (t : Bool). if t then Some log else before_opening step log) (within_opens_nothing step step event own_one) ∙ below.newest;
             own = λ P all.
-                let both = subst (AreAll P) (ap (λ (t : Bool). if t then event ∷ events_of step log else events_of step log) (of_its_own step event own_one)) all in
+                let both =
+                subst (AreAll P) (ap (λ (t : Bool). if t then event ∷ events_of step log else events_of step log)
+                (of_its_own step event own_one)) all in
                 all_more P below.events event (below.own P both.1) both.0;
           }
       by earlier over is after = absurd after

@@ -1,5 +1,6 @@
 -- The events of a timestep follow in another log that holds alike what they look at, and marks that follow the puts keep an index.
-use Rattle.rw_base.proofs.Common.{◌≡◌, ℕ, Bool, true, false, not, ◌||◌, List, [], ◌∷◌, Option, Some, None, refl, sym, ap, ap₂, subst, ◌∙◌, arith, if◌then◌else◌, option_map, option_or, list_any}
+use Rattle.rw_base.proofs.Common.{◌≡◌, ℕ, Bool, true, false, not, ◌||◌, List, [], ◌∷◌, Option, Some, None, refl, sym, ap, ap₂, subst, ◌∙◌, arith}
+use Rattle.rw_base.proofs.Common.{if◌then◌else◌, option_map, option_or, list_any}
 use Rattle.rw_base.specs.declared.number.Cell.{Cell}
 use Rattle.rw_model.specs.declared.content.Content.{Content}
 use Rattle.rw_model.specs.Draft.{Draft}
@@ -48,12 +49,14 @@ to_goes basin policy step old event (later ∷ events) end s i l = (
 )
 
 from_goes : (basin : Draft) (policy : Policy) (step : ℕ) (old : Log) (event : Event) (events : List Event) → standing old ≡ inside step
-    → IsStepFrom step event events → FollowInStep basin policy step old (event ∷ events) → Leads basin policy old (event ∷ events) (log_after (event ∷ events) old)
+    → IsStepFrom step event events → FollowInStep basin policy step old (event ∷ events)
+    → Leads basin policy old (event ∷ events) (log_after (event ∷ events) old)
 from_goes basin policy step old event [] s i g = (inside_next basin policy old step s ∙ g.0, refl)
 from_goes basin policy step old event (later ∷ events) s i g =
     (inside_next basin policy old step s ∙ g.0, from_goes basin policy step (event ∷ old) later events (stands_by event old ∙ i.0) i.1 g.2)
 
-pub reuse : (basin : Draft) (policy : Policy) (step : ℕ) (x y end : Log) (event : Event) (events : List Event) → IsFramed policy → IsStepFrom step event events
+pub reuse : (basin : Draft) (policy : Policy) (step : ℕ) (x y end : Log) (event : Event) (events : List Event) → IsFramed policy
+    → IsStepFrom step event events
     → Leads basin policy (opened step ∷ x) (event ∷ events) end → AreAlike (cells_of basin x) (cells_of basin y) (looked_in (event ∷ events))
     → Leads basin policy (opened step ∷ y) (event ∷ events) (log_after (event ∷ events) (opened step ∷ y))
 reuse basin policy step x y end event events framed i l a =

@@ -1,5 +1,6 @@
 -- Policies that do the same have the same runs.
-use Rattle.rw_base.proofs.Common.{◌≡◌, ◌<◌, ◌+◌, ◌==◌, ℕ, ℤ, Bool, true, false, cond, List, [], ◌∷◌, Option, Some, None, find, reverse, nat_le, refl, sym, ap, subst, ◌∙◌, arith, if◌then◌else◌, option_map, nat_tests, reverse-append, same_Some, none-some}
+use Rattle.rw_base.proofs.Common.{◌≡◌, ◌<◌, ◌+◌, ◌==◌, ℕ, ℤ, Bool, true, false, cond, List, [], ◌∷◌, Option, Some, None, find, reverse, nat_le, refl}
+use Rattle.rw_base.proofs.Common.{sym, ap, subst, ◌∙◌, arith, if◌then◌else◌, option_map, nat_tests, reverse-append, same_Some, none-some}
 use Rattle.rw_base.specs.declared.number.Cell.{Cell}
 use Rattle.rw_model.specs.Draft.{Draft}
 use Rattle.rw_model.specs.declared.control.AgendaOrder.{AgendaOrder}
@@ -37,7 +38,8 @@ pub on_agenda : (order : AgendaOrder) (r rules : ℕ) → times r (agenda_of ord
 on_agenda HighFirst r rules = refl
 on_agenda LowFirst r rules = turned_round r (numbers rules)
 
-pub due_is_rule : (basin : Draft) (policy : Policy) (cells : Cells) (log : Log) (rule : ℕ) → first_due basin policy cells log ≡ Some rule → IsRule policy rule
+pub due_is_rule : (basin : Draft) (policy : Policy) (cells : Cells) (log : Log) (rule : ℕ) → first_due basin policy cells log ≡ Some rule
+    → IsRule policy rule
 due_is_rule basin policy cells log rule found =
     let there : 0 < times rule (numbers policy.rules) = subst (λ n. 0 < n) (on_agenda basin.control.agenda rule policy.rules)
     (found_in (is_due cells log) rule (agenda_of basin.control.agenda policy.rules) found) in
@@ -48,19 +50,22 @@ due_is_rule basin policy cells log rule found =
 
 module _ (basin : Draft) (one other : Policy) (alike : FireAlike one other) where
   fires_same : (cells : Cells) (rule step : ℕ) → IsRule one rule → firing_of basin one cells rule step ≡ firing_of basin other cells rule step
-  fires_same cells rule step is = ap (option_map (λ (fire : Fire). ended basin cells rule step fire fire.end)) (alike.same rule step (value_in cells) is)
+  fires_same cells rule step is =
+      ap (option_map (λ (fire : Fire). ended basin cells rule step fire fire.end)) (alike.same rule step (value_in cells) is)
 
   after_same : (cells : Cells) (log : Log) (step : ℕ) (due : Option ℕ) → ((rule : ℕ) → due ≡ Some rule → IsRule one rule)
       → after_objects basin one cells log step due ≡ after_objects basin other cells log step due
   after_same cells log step None is = refl
   after_same cells log step (Some rule) is =
-      ap (λ fires. if nat_le basin.control.rule_limit (firings log rule) then Some (fault (RuleLimit (record { 0 = rule }) (record { 0 = step }) (firings log rule))) else fires)
+      ap (λ fires. if nat_le basin.control.rule_limit (firings log rule) then Some
+      (fault (RuleLimit (record { 0 = rule }) (record { 0 = step }) (firings log rule))) else fires)
       (fires_same cells rule step (is rule refl))
 
   due_same : (cells : Cells) (log : Log) → first_due basin one cells log ≡ first_due basin other cells log
   due_same cells log = ap (λ rules. find (is_due cells log) (agenda_of basin.control.agenda rules)) alike.rules
 
-  next_of_same : (cells : Cells) (log : Log) (step : ℕ) (object : Option ℕ) → next_of basin one cells log step object ≡ next_of basin other cells log step object
+  next_of_same : (cells : Cells) (log : Log) (step : ℕ) (object : Option ℕ)
+      → next_of basin one cells log step object ≡ next_of basin other cells log step object
   next_of_same cells log step (Some object) = refl
   next_of_same cells log step None =
       after_same cells log step (first_due basin one cells log) (λ rule found. due_is_rule basin one cells log rule found)

@@ -1,5 +1,6 @@
 -- The look back finds the first event after the last dispatch that wakes the object.
-use Rattle.rw_base.proofs.Common.{◌≡◌, ℕ, Bool, true, false, [], ◌∷◌, ◌++◌, length, Option, Some, None, refl, sym, ap, ◌∙◌, inl, inr, ◌⊎◌, ◌↔◌, if◌then◌else◌, option_or, same_Some, none-some}
+use Rattle.rw_base.proofs.Common.{◌≡◌, ℕ, Bool, true, false, [], ◌∷◌, ◌++◌, length, Option, Some, None, refl, sym, ap, ◌∙◌, inl, inr, ◌⊎◌, ◌↔◌}
+use Rattle.rw_base.proofs.Common.{if◌then◌else◌, option_or, same_Some, none-some}
 use Rattle.rw_model.specs.Draft.{Draft}
 use Rattle.rw_run.specs.Log.{Log, Event}
 use Rattle.rw_run.specs.Waiting.{ends_wait, wakes, since}
@@ -41,8 +42,10 @@ found basin [] event before object w n f =
     (none_again (ends_wait event object) (since basin before object) (either_none (waits_none basin before object) f))
     ∙ ap (λ z. if z then Some (length before) else None) w
 found basin (x ∷ newer) event before object w n f =
-    ap (λ c. option_or (if c then None else since basin (newer ++ event ∷ before) object) (if wakes basin x object then Some (length (newer ++ event ∷ before)) else None)) n.0
-    ∙ ap (λ z. option_or z (if wakes basin x object then Some (length (newer ++ event ∷ before)) else None)) (found basin newer event before object w n.1 f)
+    ap (λ c. option_or (if c then None else since basin (newer ++ event ∷ before) object)
+    (if wakes basin x object then Some (length (newer ++ event ∷ before)) else None)) n.0
+    ∙ ap (λ z. option_or z (if wakes basin x object then Some (length (newer ++ event ∷ before)) else None))
+    (found basin newer event before object w n.1 f)
 
 more : (basin : Draft) (x : Event) (log : Log) (object place : ℕ) → ends_wait x object ≡ false → WaitsSince basin log object place
     → WaitsSince basin (x ∷ log) object place
@@ -74,7 +77,8 @@ by_bits basin x log object place false false None i j k h e = absurd (none-some 
 waits : (basin : Draft) (log : Log) (object place : ℕ) → since basin log object ≡ Some place → WaitsSince basin log object place
 waits basin [] object place e = absurd (none-some _ e)
 waits basin (x ∷ log) object place e =
-    by_bits basin x log object place (ends_wait x object) (wakes basin x object) (since basin log object) refl refl refl (waits basin log object place) e
+    by_bits basin x log object place (ends_wait x object) (wakes basin x object) (since basin log object) refl refl refl
+    (waits basin log object place) e
 
 pub since_is : (basin : Draft) (log : Log) (object place : ℕ) → (since basin log object ≡ Some place) ↔ WaitsSince basin log object place
 since_is basin log object place = (

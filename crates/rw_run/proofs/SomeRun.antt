@@ -1,5 +1,7 @@
 -- A run exists: in a timestep each event but its closing and a fault leaves fewer dispatches and firings below their limits.
-use Rattle.rw_base.proofs.Common.{◌≡◌, ◌<◌, ◌≤◌, ◌+◌, ◌-◌, ◌==◌, ℕ, zero, suc, ℤ, Bool, true, false, cond, List, [], ◌∷◌, length, map, Option, Some, None, is_some, IsSome, nat_le, nat_lt, refl, sym, ap, subst, ◌∙◌, arith, inl, inr, ◌⊎◌, if◌then◌else◌, option_map, nat_tests, same_Some, none-some}
+use Rattle.rw_base.proofs.Common.{◌≡◌, ◌<◌, ◌≤◌, ◌+◌, ◌-◌, ◌==◌, ℕ, zero, suc, ℤ, Bool, true, false, cond, List, [], ◌∷◌, length, map, Option, Some}
+use Rattle.rw_base.proofs.Common.{None, is_some, IsSome, nat_le, nat_lt, refl, sym, ap, subst, ◌∙◌, arith, inl, inr, ◌⊎◌, if◌then◌else◌, option_map}
+use Rattle.rw_base.proofs.Common.{nat_tests, same_Some, none-some}
 use Rattle.rw_base.specs.declared.number.Cell.{Cell}
 use Rattle.rw_model.specs.Draft.{Draft}
 use Rattle.rw_method.specs.declared.solved.Solved.{Solved}
@@ -88,7 +90,8 @@ answered_asked : (basin : Draft) (cells : Cells) (looked : List Look) (o step : 
     → IsFault (answered basin cells looked o step answer) ⊎ IsAsked o step (answered basin cells looked o step answer)
 answered_asked basin cells looked o step Idle = inr (refl, refl)
 answered_asked basin cells looked o step (Puts puts) =
-    judged_asked cells o step (map (asked_by basin o step) puts) (dispatch_of cells looked o step (map (asked_by basin o step) puts)) (inr (refl, refl))
+    judged_asked cells o step (map (asked_by basin o step) puts) (dispatch_of cells looked o step (map (asked_by basin o step) puts))
+    (inr (refl, refl))
 answered_asked basin cells looked o step (Conflict place held solves) = inl tt
 answered_asked basin cells looked o step (OutOfRange place value) = inl tt
 
@@ -113,7 +116,8 @@ module _ (basin : Draft) (policy : Policy) (step : ℕ) (log : Log) where
       (subst (λ z. dispatches log o < count_if (z == o) (dispatches log o)) (sym is.0) (counted_here o (dispatches log o))) below in
       inr (inr (ap inside is.1, omega (arith, falls)))
   after_asked o (solved dispatch) first last below is =
-      let falls = left_falls basin.control.object_limit (dispatches log) (λ k. count_if (dispatch.object == k) (dispatches log k)) (length basin.objects) o
+      let falls =
+      left_falls basin.control.object_limit (dispatches log) (λ k. count_if (dispatch.object == k) (dispatches log k)) (length basin.objects) o
       (λ k. counted dispatch.object k (dispatches log k)) first last
       (subst (λ z. dispatches log o < count_if (z == o) (dispatches log o)) (sym is.0) (counted_here o (dispatches log o))) below in
       inr (inr (ap inside is.1, omega (arith, falls)))
@@ -122,7 +126,8 @@ module _ (basin : Draft) (policy : Policy) (step : ℕ) (log : Log) where
   -- an object that waits is dispatched
   asked_outcome : (o : ℕ) (reached : Bool) → nat_le basin.control.object_limit (dispatches log o) ≡ reached → 1 ≤ o → o ≤ length basin.objects
       → Outcome basin policy step log
-      (if reached then fault (ObjectLimit (record { 0 = o }) (record { 0 = step }) (dispatches log o)) else dispatched basin (cells_of basin log) o step)
+      (if reached then fault (ObjectLimit (record { 0 = o }) (record { 0 = step }) (dispatches log o)) else dispatched basin
+      (cells_of basin log) o step)
   asked_outcome o true is first last = inl tt
   asked_outcome o false is first last =
       let cells = cells_of basin log in
@@ -153,12 +158,16 @@ module _ (basin : Draft) (policy : Policy) (step : ℕ) (log : Log) where
   fires rule None by some is reached test = absurd (cc)
   fires rule (Some fire) by some is true test = record {
     event = fault (RuleLimit (record { 0 = rule }) (record { 0 = step }) (firings log rule));
-    is = ap (λ t. if t then Some (fault (RuleLimit (record { 0 = rule }) (record { 0 = step }) (firings log rule))) else firing_of basin policy (cells_of basin log) rule step) test;
+    is =
+        ap (λ t. if t then Some (fault (RuleLimit (record { 0 = rule }) (record { 0 = step }) (firings log rule))) else firing_of basin policy
+        (cells_of basin log) rule step) test;
     leads_to = inl tt;
   }
   fires rule (Some fire) by some is false test = record {
     event = ended basin (cells_of basin log) rule step fire fire.end;
-    is = ap (λ t. if t then Some (fault (RuleLimit (record { 0 = rule }) (record { 0 = step }) (firings log rule))) else firing_of basin policy (cells_of basin log) rule step) test
+    is =
+        ap (λ t. if t then Some (fault (RuleLimit (record { 0 = rule }) (record { 0 = step }) (firings log rule))) else firing_of basin policy
+        (cells_of basin log) rule step) test
         ∙ ap (option_map (λ (z : Fire). ended basin (cells_of basin log) rule step z z.end)) by;
     leads_to = fired_outcome rule fire fire.end is (grind (arith, nat_tests, test));
   }
@@ -181,7 +190,9 @@ module _ (basin : Draft) (policy : Policy) (step : ℕ) (log : Log) where
 
   first_is : (o : ℕ) → first_waiting basin log ≡ Some o → (1 ≤ o) × (o ≤ length basin.objects)
   first_is o is =
-      let there = some_of (is_some (since basin log o)) (times o (numbers (length basin.objects))) (subst (λ n. 0 < n) (times-waiting basin log o) (times_first o (waiting basin log) is)) in
+      let there =
+      some_of (is_some (since basin log o)) (times o (numbers (length basin.objects)))
+      (subst (λ n. 0 < n) (times-waiting basin log o) (times_first o (waiting basin log) is)) in
       let count = times-numbers o (length basin.objects) in
       (grind (arith, nat_tests, there, count), grind (arith, nat_tests, there, count))
 
@@ -213,7 +224,8 @@ goes_on : (basin : Draft) (policy : Policy) (log : Log) (event : Event) → foll
 goes_on basin policy log event is rest =
     record { events = event ∷ rest.events; log = rest.log; leads = (is, rest.leads); end = rest.end }
 
-within_on : (basin : Draft) (policy : Policy) (step n : ℕ) (log : Log) → IsPolicyOf basin policy → standing log ≡ inside step → room basin policy log < n
+within_on : (basin : Draft) (policy : Policy) (step n : ℕ) (log : Log) → IsPolicyOf basin policy → standing log ≡ inside step
+    → room basin policy log < n
     → ((later : Log) → standing later ≡ rests step → Ends basin policy later) → Ends basin policy log
 within_on basin policy step zero log promise at small after = absurd (omega (arith, small))
 within_on basin policy step (suc n) log promise at small after =

@@ -1,5 +1,6 @@
 -- Of which timestep the events of a run are.
-use Rattle.rw_base.proofs.Common.{◌≡◌, ◌≢◌, ◌+◌, ◌==◌, ℕ, ℤ, Bool, true, false, List, [], ◌∷◌, map, Option, Some, None, nat_le, nat_lt, refl, sym, subst, arith, if◌then◌else◌, option_map, nat_tests, same_Some, none-some}
+use Rattle.rw_base.proofs.Common.{◌≡◌, ◌≢◌, ◌+◌, ◌==◌, ℕ, ℤ, Bool, true, false, List, [], ◌∷◌, map, Option, Some, None, nat_le, nat_lt, refl, sym}
+use Rattle.rw_base.proofs.Common.{subst, arith, if◌then◌else◌, option_map, nat_tests, same_Some, none-some}
 use Rattle.rw_model.specs.Draft.{Draft}
 use Rattle.rw_method.specs.declared.put.Put.{Put}
 use Rattle.rw_method.specs.declared.solved.Solved.{Solved}
@@ -92,11 +93,13 @@ IsAfter (rests step) event = event ≡ opened (step + 1)
 IsAfter (inside step) event = IsWithin step event
 IsAfter over event = ⊥
 
-opens_after : (count step : ℕ) (event : Event) (near : Bool) → (if near then Some (opened (step + 1)) else None) ≡ Some event → event ≡ opened (step + 1)
+opens_after : (count step : ℕ) (event : Event) (near : Bool) → (if near then Some (opened (step + 1)) else None) ≡ Some event
+    → event ≡ opened (step + 1)
 opens_after count step event true is = sym (same_Some _ _ is)
 opens_after count step event false is = absurd (none-some _ is)
 
-pub is_after : (basin : Draft) (policy : Policy) (log : Log) (event : Event) (at : Standing) → follows_in basin policy log at ≡ Some event → IsAfter at event
+pub is_after : (basin : Draft) (policy : Policy) (log : Log) (event : Event) (at : Standing) → follows_in basin policy log at ≡ Some event
+    → IsAfter at event
 is_after basin policy log event (rests step) is =
     opens_after basin.control.stamps.count step event (nat_lt step basin.control.stamps.count) is
 is_after basin policy log event (inside step) is = next_within basin policy log step (first_waiting basin log) event is

@@ -1,5 +1,7 @@
 -- How the waiting objects change with one event more.
-use Rattle.rw_base.proofs.Common.{◌≡◌, ◌≤◌, ◌<◌, ◌+◌, ◌==◌, ℕ, zero, suc, ℤ, Bool, true, false, not, ◌&&◌, ◌||◌, cond, List, [], ◌∷◌, ◌++◌, length, Option, Some, None, nat_lt, refl, sym, ap, ap₂, ◌∙◌, arith, is_some, if◌then◌else◌, option_or, filter, list_any, nat_tests, filter-append, same_Some, none-some}
+use Rattle.rw_base.proofs.Common.{◌≡◌, ◌≤◌, ◌<◌, ◌+◌, ◌==◌, ℕ, zero, suc, ℤ, Bool, true, false, not, ◌&&◌, ◌||◌, cond, List, [], ◌∷◌, ◌++◌, length}
+use Rattle.rw_base.proofs.Common.{Option, Some, None, nat_lt, refl, sym, ap, ap₂, ◌∙◌, arith, is_some, if◌then◌else◌, option_or, filter, list_any}
+use Rattle.rw_base.proofs.Common.{nat_tests, filter-append, same_Some, none-some}
 use Rattle.std.proofs.lemmas.List.{append-nil}
 use Rattle.rw_base.specs.declared.number.Cell.{Cell}
 use Rattle.rw_model.specs.Draft.{Draft}
@@ -8,8 +10,10 @@ use Rattle.rw_run.specs.declared.fault.RunFault.{RunFault}
 use Rattle.rw_run.specs.Log.{Asked, Log, Event, Dispatch, Firing, given, opened, closed, idle, solved, fired, fault, is_number}
 use Rattle.rw_run.specs.Times.{times}
 use Rattle.rw_model.specs.Turn.{is_data}
-use Rattle.rw_run.specs.Waiting.{numbers, ends_wait, wakes, since, is_since, waiting_below, waiting, is_at, is_put_at, is_owner, woken, slots_at, all_waiting}
-use Rattle.rw_run.proofs.Lists.{filter-same, filter-filter, times-append, times-filter, times-numbers, without, none-kept, all-kept, filter-within, any-times}
+use Rattle.rw_run.specs.Waiting.{numbers, ends_wait, wakes, since, is_since, waiting_below, waiting, is_at, is_put_at, is_owner, woken, slots_at}
+use Rattle.rw_run.specs.Waiting.{all_waiting}
+use Rattle.rw_run.proofs.Lists.{filter-same, filter-filter, times-append, times-filter, times-numbers, without, none-kept, all-kept, filter-within}
+use Rattle.rw_run.proofs.Lists.{any-times}
 
 -- ---- the places since which an object waits
 
@@ -53,7 +57,8 @@ older basin event log zero h = refl
 older basin event log (suc place) h =
     let all : List ℕ = numbers (length basin.objects) in
     let newest : filter (is_since basin (event ∷ log) place) all ≡ filter (λ a. not (ends_wait event a)) (filter (is_since basin log place) all) =
-    filter-same _ _ all (λ a. older_place (ends_wait event a) (wakes basin event a) (since basin log a) (length log) place (omega arith)) ∙ filter-filter _ _ all in
+    filter-same _ _ all (λ a. older_place (ends_wait event a) (wakes basin event a) (since basin log a) (length log) place (omega arith))
+    ∙ filter-filter _ _ all in
     ap₂ (λ xs ys. xs ++ ys) (older basin event log place (omega arith)) newest
     ∙ sym (filter-append (λ a. not (ends_wait event a)) (waiting_below basin log place) (filter (is_since basin log place) all))
 
@@ -120,7 +125,8 @@ pub waiting-once : (basin : Draft) (log : Log) (a : ℕ) → times a (waiting ba
 waiting-once basin log a =
     at_most (is_some (since basin log a)) _ _ (once a (length basin.objects)) (times-waiting basin log a)
 
-all_but : (o : ℕ) (before after : List ℕ) → times o before ≡ 0 → times o after ≡ 0 → filter (λ a. not (o == a)) (before ++ o ∷ after) ≡ before ++ after
+all_but : (o : ℕ) (before after : List ℕ) → times o before ≡ 0 → times o after ≡ 0
+    → filter (λ a. not (o == a)) (before ++ o ∷ after) ≡ before ++ after
 all_but o before after front back =
     let e : (o == o) ≡ true = grind (arith, nat_tests) in
     filter-append (λ a. not (o == a)) before (o ∷ after)
@@ -144,7 +150,8 @@ and_true false = refl
 pub opens : (basin : Draft) (log : Log) (step : ℕ) → waiting basin (opened step ∷ log) ≡ all_waiting basin
 opens basin log step =
     waiting-more basin (opened step) log
-    ∙ ap₂ (λ xs ys. xs ++ ys) (none-kept (waiting basin log)) (filter-same _ _ (numbers (length basin.objects)) (λ a. and_true (not (is_data basin a))))
+    ∙ ap₂ (λ xs ys. xs ++ ys) (none-kept (waiting basin log))
+    (filter-same _ _ (numbers (length basin.objects)) (λ a. and_true (not (is_data basin a))))
 
 pub closes : (basin : Draft) (log : Log) (step : ℕ) → waiting basin (closed step ∷ log) ≡ waiting basin log
 closes basin log step =
@@ -215,8 +222,10 @@ solves basin log d before after e =
     ∙ ap₂ (λ xs ys. xs ++ ys) (taken_out basin log d.object before after e) (filter-within _ _ (numbers (length basin.objects)) at)
   where
     at : (a : ℕ) → 0 < times a (numbers (length basin.objects))
-        → (not (is_data basin a) && (not (d.object == a) && is_put_at basin a d.step d.written)) && ((d.object == a) || not (is_some (since basin log a)))
-        ≡ not (is_data basin a) && (not (d.object == a) && (not (list_any (λ x. a == x) (before ++ after)) && is_owner basin (slots_at d.step d.written) a))
+        → (not (is_data basin a) && (not (d.object == a) && is_put_at basin a d.step d.written))
+        && ((d.object == a) || not (is_some (since basin log a)))
+        ≡ not (is_data basin a) && (not (d.object == a)
+        && (not (list_any (λ x. a == x) (before ++ after)) && is_owner basin (slots_at d.step d.written) a))
     at a l =
         let listed : (d.object == a) || list_any (λ x. a == x) (before ++ after) ≡ is_some (since basin log a) =
         ap (λ t. t || list_any (λ x. a == x) (before ++ after)) (sym (turned a d.object)) ∙ sym (any_middle (λ x. a == x) before d.object after)

@@ -1,5 +1,6 @@
 -- Slots that carry one value have the same bounds.
-use Rattle.rw_base.proofs.Common.{◌≡◌, ℕ, suc, ◌+◌, ◌==◌, ◌||◌, Bool, true, false, if◌then◌else◌, List, [], ◌∷◌, Some, refl, sym, ap, ap₂, subst, ◌∙◌, arith, ℤ, slice_get, unwrap_or, option_and_then, int_max, int_min, ints, int_max_is, int_min_is, nat_tests}
+use Rattle.rw_base.proofs.Common.{◌≡◌, ℕ, suc, ◌+◌, ◌==◌, ◌||◌, Bool, true, false, if◌then◌else◌, List, [], ◌∷◌, Some, refl, sym, ap, ap₂, subst, ◌∙◌}
+use Rattle.rw_base.proofs.Common.{arith, ℤ, slice_get, unwrap_or, option_and_then, int_max, int_min, ints, int_max_is, int_min_is, nat_tests}
 use Rattle.rw_base.specs.declared.number.Cell.{Cell}
 use Rattle.rw_model.proofs.Common.{Bounds, Object, Draft, Bound, is_among, link_from, link_of, is_together, own_bounds, meet, meet_all, bounds_in}
 use Rattle.rw_series.specs.Series.{is_shared}
@@ -40,7 +41,8 @@ meet_same b x = pair _ _ (max_same b.0 x.0) (min_same b.1 x.1)
 -- the bounds of one of the slots say nothing more than those of all
 module _ (objects : List Object) (given : List Bound) (slot : ℕ) where
   absorbed_at : (first : ℕ) (slots : List ℕ) (b : Bounds) → (is_among slot slots ≡ true
-      → meet_all objects given (meet (meet b (own_bounds objects given first)) (own_bounds objects given slot)) slots ≡ meet_all objects given (meet b (own_bounds objects given first)) slots)
+      → meet_all objects given (meet (meet b (own_bounds objects given first)) (own_bounds objects given slot)) slots
+      ≡ meet_all objects given (meet b (own_bounds objects given first)) slots)
       → (here : Bool) → (slot == first) ≡ here → (here || is_among slot slots) ≡ true
       → meet_all objects given (meet (meet b (own_bounds objects given slot)) (own_bounds objects given first)) slots
       ≡ meet_all objects given (meet b (own_bounds objects given first)) slots
@@ -96,7 +98,8 @@ bounds_linked basin one other p first second =
 
 bounds_at : (basin : Draft) (one other : ℕ) → (same : Bool) → (one == other) ≡ same → is_together basin.links one other ≡ true
     → bounds_in basin.objects basin.links basin.bounds one ≡ bounds_in basin.objects basin.links basin.bounds other
-bounds_at basin one other true same together = let at : one ≡ other = grind (arith, nat_tests) in ap (bounds_in basin.objects basin.links basin.bounds) at
+bounds_at basin one other true same together = let at : one ≡ other =
+    grind (arith, nat_tests) in ap (bounds_in basin.objects basin.links basin.bounds) at
 bounds_at basin one other false apart together =
     let linked = linked_alike (link_of basin.links one) (link_of basin.links other) (rw apart at together) in
     bounds_linked basin one other linked.0 linked.1.0 linked.1.1

@@ -1,5 +1,7 @@
 -- The places of cells.
-use Rattle.rw_base.proofs.Common.{◌≡◌, ◌≢◌, ℕ, ◌+◌, ◌-◌, ◌*◌, ◌<◌, ◌≤◌, ◌==◌, ◌&&◌, Bool, true, false, if◌then◌else◌, List, length, Option, None, refl, ap, ◌∙◌, arith, slice_index_or, slice_set, mul_comm, nat_tests, get_or-set_same, get_or-set_other, get_or_default}
+use Rattle.rw_base.proofs.Common.{◌≡◌, ◌≢◌, ℕ, ◌+◌, ◌-◌, ◌*◌, ◌<◌, ◌≤◌, ◌==◌, ◌&&◌, Bool, true, false, if◌then◌else◌, List, length, Option, None}
+use Rattle.rw_base.proofs.Common.{refl, ap, ◌∙◌, arith, slice_index_or, slice_set, mul_comm, nat_tests, get_or-set_same, get_or-set_other}
+use Rattle.rw_base.proofs.Common.{get_or_default}
 use Rattle.std.proofs.Math.Nat.{mul-le-mul_right}
 use Rattle.rw_series.specs.Cells.{is_kept, position_of, kept_at}
 
@@ -70,8 +72,10 @@ module _ (A : Type 0) (slots steps : ℕ) (cells : List (Option A)) (slot step :
       → kept_at slots steps (slice_set cells (position_of slots slot step) content) s t ≡ (if test then content else kept_at slots steps cells s t)
   set-kept there true same =
       let at = same_cell slot step s t same in
-      let near : position_of slots slot step < length cells = omega (arith, whole, within slots steps slot step (Kept-of slots steps slot step kept)) in
-      rw there (ap (λ u. slice_index_or (slice_set cells (position_of slots slot step) content) u None) (ap (λ u. position_of slots u t) at.0 ∙ ap (λ u. position_of slots slot u) at.1)
+      let near : position_of slots slot step < length cells =
+      omega (arith, whole, within slots steps slot step (Kept-of slots steps slot step kept)) in
+      rw there (ap (λ u. slice_index_or (slice_set cells (position_of slots slot step) content) u None)
+      (ap (λ u. position_of slots u t) at.0 ∙ ap (λ u. position_of slots slot u) at.1)
       ∙ get_or-set_same cells (position_of slots slot step) content None near)
   set-kept there false same =
       let one = Kept-of slots steps s t there in
@@ -91,7 +95,8 @@ pub kept_at-set : {A : Type 0} (slots steps : ℕ) (cells : List (Option A)) (sl
     → is_kept slots steps slot step ≡ true → (s t : ℕ)
     → kept_at slots steps (slice_set cells (position_of slots slot step) content) s t
     ≡ (if s == slot && t == step then content else kept_at slots steps cells s t)
-kept_at-set {A} slots steps cells slot step content whole kept s t = set-either A slots steps cells slot step content whole kept s t (is_kept slots steps s t) refl
+kept_at-set {A} slots steps cells slot step content whole kept s t =
+    set-either A slots steps cells slot step content whole kept s t (is_kept slots steps s t) refl
 
 -- what stands in the place of a cell is kept of it
 pub kept_at-at : {A : Type 0} (slots steps : ℕ) (cells : List (Option A)) (slot step place : ℕ) (d : Option A) → is_kept slots steps slot step ≡ true

@@ -1,5 +1,6 @@
 -- The cells of one timestep.
-use Rattle.rw_base.proofs.Common.{◌≡◌, ◌∙◌, ◌+◌, ◌-◌, ◌*◌, ◌<◌, ◌≤◌, ◌&&◌, ℕ, Bool, true, false, List, [], Option, None, map, take, drop, nat_le, nat_tests, slice_index_or, mul-le-mul_right, mul_comm, refl, ap, sym, arith, take-map}
+use Rattle.rw_base.proofs.Common.{◌≡◌, ◌∙◌, ◌+◌, ◌-◌, ◌*◌, ◌<◌, ◌≤◌, ◌&&◌, ℕ, Bool, true, false, List, [], Option, None, map, take, drop, nat_le}
+use Rattle.rw_base.proofs.Common.{nat_tests, slice_index_or, mul-le-mul_right, mul_comm, refl, ap, sym, arith, take-map}
 use Rattle.std.proofs.lemmas.List.{drop-map, get_or-drop, get_or-take}
 use Rattle.rw_series.specs.declared.kept.Kept.{Kept as IsKept}
 use Rattle.rw_series.specs.Cells.{is_kept, kept_at, position_of}

@@ -1,8 +1,10 @@
 -- Cells that share their value.
-use Rattle.rw_base.proofs.Common.{◌≡◌, ℕ, ◌+◌, ◌-◌, ◌<◌, ◌==◌, ◌&&◌, ◌||◌, Bool, true, false, if◌then◌else◌, List, length, Option, Some, None, refl, sym, ap, ap₂, subst, ◌∙◌, arith, and_parts, nat_eq_equiv, nat_tests, any-filter_same}
+use Rattle.rw_base.proofs.Common.{◌≡◌, ℕ, ◌+◌, ◌-◌, ◌<◌, ◌==◌, ◌&&◌, ◌||◌, Bool, true, false, if◌then◌else◌, List, length, Option, Some, None, refl}
+use Rattle.rw_base.proofs.Common.{sym, ap, ap₂, subst, ◌∙◌, arith, and_parts, nat_eq_equiv, nat_tests, any-filter_same}
 use Rattle.rw_base.specs.declared.number.Cell.{Cell}
 use Rattle.rw_model.specs.declared.content.Content.{Content}
-use Rattle.rw_model.proofs.Common.{Object, all_slots, Draft, IsSlot, link_of, is_same_link, is_together, is_among, slot_numbers, group_of, some_crossed}
+use Rattle.rw_model.proofs.Common.{Object, all_slots, Draft, IsSlot, link_of, is_same_link, is_together, is_among, slot_numbers, group_of}
+use Rattle.rw_model.proofs.Common.{some_crossed}
 use Rattle.rw_series.specs.Columns.{AreColumns}
 use Rattle.rw_series.specs.Series.{Series, IsCell, is_shared, IsSeriesOf, Sets}
 
@@ -57,7 +59,8 @@ Shared-of basin cell other shared =
     let in_group = and_parts _ _ (sym (among_group basin.objects basin.links cell.slot.0 other.slot.0) ∙ parts.0) in
     record { together = in_group.0; known = in_group.1; step = grind (arith, nat_tests, parts.1) }
 
-shared_alike : (basin : Draft) (cell one other : Cell) → IsCell basin one → is_shared basin one other ≡ true → is_shared basin cell one ≡ is_shared basin cell other
+shared_alike : (basin : Draft) (cell one other : Cell) → IsCell basin one → is_shared basin one other ≡ true
+    → is_shared basin cell one ≡ is_shared basin cell other
 shared_alike basin cell one other known shared =
     let is = Shared-of basin one other shared in
     ap₂ (λ a b. a && b)
@@ -72,7 +75,9 @@ pub Sets-made : (basin : Draft) (cell : Cell) (content : Option Content) (old ne
 Sets-made basin cell content old new made sets slots steps columns width = record {
   slots = slots ∙ made.slots;
   steps = steps ∙ made.steps;
-  columns = subst (λ n. AreColumns basin n new.width new.columns) (sym slots) (subst (λ n. AreColumns basin old.slots n new.columns) (sym width) (subst (AreColumns basin old.slots old.width) (sym columns) made.columns));
+  columns =
+      subst (λ n. AreColumns basin n new.width new.columns) (sym slots)
+      (subst (λ n. AreColumns basin old.slots n new.columns) (sym width) (subst (AreColumns basin old.slots old.width) (sym columns) made.columns));
   shared = λ one other known shared.
       sets one
       ∙ ap₂ (λ test there. if test then content else there) (shared_alike basin cell one other known shared) (made.shared one other known shared)

@@ -1,5 +1,6 @@
 -- The volume at an elevation, row after row: where it has a value, that it never falls, and which two rows decide it.
-use Rattle.rw_table.proofs.Common.{IsAbove, IsRisingAt, IsTable, List, None, Option, Row, Some, [], ap, arith, between, inl, inr, ints, length, refl, row_at, suc, sym, vol_from, zero, ℕ, ℤ, ◌<ℤ◌, ◌<◌, ◌∙◌, ◌∷◌, ◌≡◌, ◌≤ℤ◌, ◌≤◌}
+use Rattle.rw_table.proofs.Common.{IsAbove, IsRisingAt, IsTable, List, None, Option, Row, Some, [], ap, arith, between, inl, inr, ints, length, refl}
+use Rattle.rw_table.proofs.Common.{row_at, suc, sym, vol_from, zero, ℕ, ℤ, ◌<ℤ◌, ◌<◌, ◌∙◌, ◌∷◌, ◌≡◌, ◌≤ℤ◌, ◌≤◌}
 use Rattle.rw_table.proofs.Comparison.{below_or_not, same_or_not, le_passes, le_fails, lt_passes, lt_fails, eq_passes, eq_fails}
 use Rattle.rw_table.proofs.Line.{between_bounds, between_rises, between_low}
 
@@ -106,7 +107,8 @@ found low (high ∷ rows) e v rising is = elim (below_or_not e low.0) [
 ]
 
 -- an elevation inside has a volume
-pub has_volume : (low : Row) (rows : List Row) (e : ℤ) → IsChain low rows → low.0 ≤ℤ e → e ≤ℤ (last low rows).0 → (v : ℤ) × (vol_from low rows e ≡ Some v)
+pub has_volume : (low : Row) (rows : List Row) (e : ℤ) → IsChain low rows → low.0 ≤ℤ e → e ≤ℤ (last low rows).0
+    → (v : ℤ) × (vol_from low rows e ≡ Some v)
 has_volume low [] e rising from to = (low.1, at_end low e (omega (arith, ints)))
 has_volume low (high ∷ rows) e rising from to = elim (below_or_not e high.0) [
   | inl before ↦ (between low high e, in_interval low high rows e from before)
@@ -116,7 +118,8 @@ has_volume low (high ∷ rows) e rising from to = elim (below_or_not e high.0) [
 ]
 
 -- a volume at a greater elevation is no less
-pub volume_rises : (low : Row) (rows : List Row) (e later v w : ℤ) → IsChain low rows → e ≤ℤ later → vol_from low rows e ≡ Some v → vol_from low rows later ≡ Some w → v ≤ℤ w
+pub volume_rises : (low : Row) (rows : List Row) (e later v w : ℤ) → IsChain low rows → e ≤ℤ later → vol_from low rows e ≡ Some v
+    → vol_from low rows later ≡ Some w → v ≤ℤ w
 volume_rises low [] e later v w rising after first next =
     let one = found low [] e v tt first in
     let two = found low [] later w tt next in
@@ -138,7 +141,8 @@ volume_rises low (high ∷ rows) e later v w rising after first next =
           ]
       | inr past ↦
           let later_past : high.0 ≤ℤ later = omega (arith, ints) in
-          volume_rises high rows e later v w rising.1 after (sym (past_interval low high rows e rising.0 past) ∙ first) (sym (past_interval low high rows later rising.0 later_past) ∙ next)
+          volume_rises high rows e later v w rising.1 after (sym (past_interval low high rows e rising.0 past) ∙ first)
+          (sym (past_interval low high rows later rising.0 later_past) ∙ next)
     ]
 
 -- no row is below the first
@@ -149,7 +153,8 @@ rises_to low (high ∷ rows) (suc k) rising within =
     omega (arith, ints, rising.0.elevation, rises_to high rows k rising.1 (omega arith))
 
 -- at a row's elevation the volume is that row's
-pub volume_at_row : (low : Row) (rows : List Row) (k : ℕ) → IsChain low rows → k ≤ length rows → vol_from low rows (row_at (low ∷ rows) k).0 ≡ Some (row_at (low ∷ rows) k).1
+pub volume_at_row : (low : Row) (rows : List Row) (k : ℕ) → IsChain low rows → k ≤ length rows
+    → vol_from low rows (row_at (low ∷ rows) k).0 ≡ Some (row_at (low ∷ rows) k).1
 volume_at_row low [] zero rising within = at_end low low.0 refl
 volume_at_row low [] (suc k) rising within = absurd (omega arith)
 volume_at_row low (high ∷ rows) zero rising within =
@@ -159,7 +164,8 @@ volume_at_row low (high ∷ rows) (suc k) rising within =
     ∙ volume_at_row high rows k rising.1 (omega arith)
 
 -- from one row to the next the volume is on the line between them
-pub volume_between : (low : Row) (rows : List Row) (k : ℕ) (e : ℤ) → IsChain low rows → k < length rows → (row_at (low ∷ rows) k).0 ≤ℤ e → e <ℤ (row_at rows k).0 → vol_from low rows e ≡ Some (between (row_at (low ∷ rows) k) (row_at rows k) e)
+pub volume_between : (low : Row) (rows : List Row) (k : ℕ) (e : ℤ) → IsChain low rows → k < length rows → (row_at (low ∷ rows) k).0 ≤ℤ e
+    → e <ℤ (row_at rows k).0 → vol_from low rows e ≡ Some (between (row_at (low ∷ rows) k) (row_at rows k) e)
 volume_between low [] k e rising within from to = absurd (omega arith)
 volume_between low (high ∷ rows) zero e rising within from to = in_interval low high rows e from to
 volume_between low (high ∷ rows) (suc k) e rising within from to =

@@ -1,5 +1,6 @@
 -- What a comparison of two numbers computes.
-use Rattle.rw_base.proofs.Common.{◌≡◌, ℤ, ◌≤ℤ◌, ◌<ℤ◌, int_le, int_lt, Bool, true, false, refl, sym, arith, ◌⊎◌, inl, inr, int_eq, signed_Decides, ints, by_lt_z, cases_Bool, both_ways}
+use Rattle.rw_base.proofs.Common.{◌≡◌, ℤ, ◌≤ℤ◌, ◌<ℤ◌, int_le, int_lt, Bool, true, false, refl, sym, arith, ◌⊎◌, inl, inr, int_eq, signed_Decides}
+use Rattle.rw_base.proofs.Common.{ints, by_lt_z, cases_Bool, both_ways}
 
 -- the cases of two numbers
 pub below_or_not : (a b : ℤ) → (a <ℤ b) ⊎ (b ≤ℤ a)

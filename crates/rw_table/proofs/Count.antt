@@ -1,5 +1,6 @@
 -- The count down to the greatest elevation whose volume is at most s.
-use Rattle.rw_table.proofs.Common.{Bool, IsAtMost, IsSomeAnd, List, MatchOption, None, Option, Row, Some, arith, cases_eq, cond, false, greatest_up_to, inl, inr, ints, is_at_most, pos, refl, suc, true, vol_of, zero, ℕ, ℤ, ◌<◌, ◌≡◌, ◌≤ℤ◌, ◌≤◌}
+use Rattle.rw_table.proofs.Common.{Bool, IsAtMost, IsSomeAnd, List, MatchOption, None, Option, Row, Some, arith, cases_eq, cond, false}
+use Rattle.rw_table.proofs.Common.{greatest_up_to, inl, inr, ints, is_at_most, pos, refl, suc, true, vol_of, zero, ℕ, ℤ, ◌<◌, ◌≡◌, ◌≤ℤ◌, ◌≤◌}
 
 -- the volume that is at most s
 pub volume_at_most : (o : Option ℤ) (s : ℤ) → IsSomeAnd o (λ v. v ≤ℤ s) → (v : ℤ) × (o ≡ Some v) × (v ≤ℤ s)
@@ -47,7 +48,8 @@ count_on rows s n (Some e) not_here some = record {
 }
 
 -- one step of the count
-count_one : (rows : List Row) (s : ℤ) (n : ℕ) (below : Option ℤ) (b : Bool) → is_at_most (vol_of rows (pos n)) s ≡ b → Counts rows s n below → Counts rows s (suc n) (cond b (Some (pos n)) below)
+count_one : (rows : List Row) (s : ℤ) (n : ℕ) (below : Option ℤ) (b : Bool) → is_at_most (vol_of rows (pos n)) s ≡ b → Counts rows s n below
+    → Counts rows s (suc n) (cond b (Some (pos n)) below)
 count_one rows s n below true is counts = record {
   place = n;
   is = refl;

@@ -1,12 +1,15 @@
 -- The elevation at a volume in a table: the count finds the greatest, and so does the last on the line of the interval.
-use Rattle.rw_table.proofs.Common.{IsAtMost, IsElevationInside, IsGreatest, IsLastOnLine, IsTable, IsVolumeInside, List, None, Option, Row, Some, ap, arith, elev_of, first_row, greatest_up_to, inl, inr, ints, last_row, length, negsuc, pos, refl, row_at, suc, unsigned_abs, vol_of, zero, ℕ, ℤ, ◌+ℤ◌, ◌-◌, ◌<ℤ◌, ◌<◌, ◌∙◌, ◌≡◌, ◌≤ℤ◌}
+use Rattle.rw_table.proofs.Common.{IsAtMost, IsElevationInside, IsGreatest, IsLastOnLine, IsTable, IsVolumeInside, List, None, Option, Row, Some, ap}
+use Rattle.rw_table.proofs.Common.{arith, elev_of, first_row, greatest_up_to, inl, inr, ints, last_row, length, negsuc, pos, refl, row_at, suc}
+use Rattle.rw_table.proofs.Common.{unsigned_abs, vol_of, zero, ℕ, ℤ, ◌+ℤ◌, ◌-◌, ◌<ℤ◌, ◌<◌, ◌∙◌, ◌≡◌, ◌≤ℤ◌}
 use Rattle.rw_table.proofs.Comparison.{below_or_not, le_passes, le_fails}
 use Rattle.rw_table.proofs.Order.{no_less}
 use Rattle.rw_table.proofs.Volume.{inside, volume_of_row, volume_on_line, never_falls}
 use Rattle.rw_table.proofs.Count.{volume_at_most, at_most_from, IsCounted, Counts, counted}
 
 -- an elevation of a table is a natural number, which the count meets
-natural_inside : (rows : List Row) (e : ℤ) → IsTable rows → IsElevationInside rows e → (k : ℕ) × (e ≡ pos k) × (k < suc (unsigned_abs (last_row rows).0))
+natural_inside : (rows : List Row) (e : ℤ) → IsTable rows → IsElevationInside rows e
+    → (k : ℕ) × (e ≡ pos k) × (k < suc (unsigned_abs (last_row rows).0))
 natural_inside rows (pos k) table within =
     let to : pos k ≤ℤ (last_row rows).0 = within.to_last in
     (k, refl, omega (arith, ints))
@@ -50,7 +53,8 @@ pub record HasGreatest (rows : List Row) (s : ℤ) (o : Option ℤ) : Type 0 whe
   pub greatest : IsGreatest rows s elevation
 
 -- the count finds one, since the first row is at most s
-count_held : (rows : List Row) (s : ℤ) (o : Option ℤ) → IsTable rows → IsVolumeInside rows s → Counts rows s (suc (unsigned_abs (last_row rows).0)) o → HasGreatest rows s o
+count_held : (rows : List Row) (s : ℤ) (o : Option ℤ) → IsTable rows → IsVolumeInside rows s → Counts rows s (suc (unsigned_abs (last_row rows).0)) o
+    → HasGreatest rows s o
 count_held rows s None table held none =
     let first = natural_inside rows (first_row rows).0 table (first_inside rows table) in
     absurd (none first.0 first.2 (rw first.1 at (first_at_most rows s table held)))
@@ -82,7 +86,8 @@ elev_outside rows s outside = elim (below_or_not s (first_row rows).1) [
 ]
 
 -- where the next elevation's volume is more than s, every later one's is
-none_after : (rows : List Row) (s e next v : ℤ) → IsTable rows → next ≡ e +ℤ pos 1 → vol_of rows next ≡ Some v → s <ℤ v → (other : ℤ) → IsAtMost rows other s → other ≤ℤ e
+none_after : (rows : List Row) (s e next v : ℤ) → IsTable rows → next ≡ e +ℤ pos 1 → vol_of rows next ≡ Some v → s <ℤ v → (other : ℤ)
+    → IsAtMost rows other s → other ≤ℤ e
 none_after rows s e next v table is_next is more other at_most =
     let w = volume_at_most (vol_of rows other) s at_most in
     elim (below_or_not e other) [
@@ -93,7 +98,8 @@ none_after rows s e next v table is_next is more other at_most =
     ]
 
 -- an elevation at most s whose next one is more is the greatest
-greatest_from : (rows : List Row) (s e next u v : ℤ) → IsTable rows → vol_of rows e ≡ Some u → u ≤ℤ s → next ≡ e +ℤ pos 1 → vol_of rows next ≡ Some v → s <ℤ v → IsGreatest rows s e
+greatest_from : (rows : List Row) (s e next u v : ℤ) → IsTable rows → vol_of rows e ≡ Some u → u ≤ℤ s → next ≡ e +ℤ pos 1 → vol_of rows next ≡ Some v
+    → s <ℤ v → IsGreatest rows s e
 greatest_from rows s e next u v table is less is_next next_is more = record {
   inside = inside rows e u table is;
   at_most = at_most_from (vol_of rows e) s u is less;
@@ -101,7 +107,8 @@ greatest_from rows s e next u v table is less is_next next_is more = record {
 }
 
 -- the last elevation on the line of an interval is the greatest of all
-pub last_greatest : (rows : List Row) (k : ℕ) (s e : ℤ) → IsTable rows → suc k < length rows → s <ℤ (row_at rows (suc k)).1 → IsLastOnLine (row_at rows k) (row_at rows (suc k)) s e → IsGreatest rows s e
+pub last_greatest : (rows : List Row) (k : ℕ) (s e : ℤ) → IsTable rows → suc k < length rows → s <ℤ (row_at rows (suc k)).1
+    → IsLastOnLine (row_at rows k) (row_at rows (suc k)) s e → IsGreatest rows s e
 last_greatest rows k s e table within less line =
     let at = volume_on_line rows k e table within line.from_low line.to_high in
     elim (below_or_not (e +ℤ pos 1) (row_at rows (suc k)).0) [
@@ -126,7 +133,8 @@ row_greatest rows s table same =
     }
 
 -- as the search finds it, at the number of rows that have no more
-pub line_elevation : (rows : List Row) (place : ℕ) (s e : ℤ) → IsTable rows → 0 < place → place < length rows → (row_at rows (place - 1)).1 ≤ℤ s → s <ℤ (row_at rows place).1 → IsLastOnLine (row_at rows (place - 1)) (row_at rows place) s e → elev_of rows s ≡ Some e
+pub line_elevation : (rows : List Row) (place : ℕ) (s e : ℤ) → IsTable rows → 0 < place → place < length rows → (row_at rows (place - 1)).1 ≤ℤ s
+    → s <ℤ (row_at rows place).1 → IsLastOnLine (row_at rows (place - 1)) (row_at rows place) s e → elev_of rows s ≡ Some e
 line_elevation rows zero s e table some within from to line = absurd (omega arith)
 line_elevation rows (suc k) s e table some within from to line =
     let back : suc k - 1 ≡ k = omega arith in

@@ -1,5 +1,8 @@
 -- Nothing is wrong with rows exactly where they are a table.
-use Rattle.rw_table.proofs.Common.{Decides, Decides-and, Decides-like, Finds, IsAbove, IsGoodRow, IsRisingAt, IsTable, IsWithinBounds, List, None, Option, Row, Some, TableRefusal, ap, arith, below_more, cases_eq, inl, inr, is_above, is_rising_at, is_within_bounds, length, nat_lt, nat_tests, not_rising, option_or, refl, refusal_of, row_at, row_refusal, rows_refusal, subst, suc, sym, table_refusal, zero, ℕ, ◌+◌, ◌<◌, ◌↔◌, ◌∙◌, ◌≡◌, ◌≤◌}
+use Rattle.rw_table.proofs.Common.{Decides, Decides-and, Decides-like, Finds, IsAbove, IsGoodRow, IsRisingAt, IsTable, IsWithinBounds, List, None}
+use Rattle.rw_table.proofs.Common.{Option, Row, Some, TableRefusal, ap, arith, below_more, cases_eq, inl, inr, is_above, is_rising_at}
+use Rattle.rw_table.proofs.Common.{is_within_bounds, length, nat_lt, nat_tests, not_rising, option_or, refl, refusal_of, row_at, row_refusal}
+use Rattle.rw_table.proofs.Common.{rows_refusal, subst, suc, sym, table_refusal, zero, ℕ, ◌+◌, ◌<◌, ◌↔◌, ◌∙◌, ◌≡◌, ◌≤◌}
 use Rattle.rw_base.proofs.Answering.{found}
 use Rattle.rw_base.proofs.Tests.{Decides-from_to, Decides-int_lt, passed, spared, unless, where-true}
 use Rattle.rw_table.specs.declared.fault.TableFault.{TableFault}
@@ -44,7 +47,9 @@ rows-good rows (suc n) e =
 
 rows-free : (rows : List Row) (n : ℕ) → ((k : ℕ) → k < n → IsGoodRow rows k) → rows_refusal rows n ≡ None
 rows-free rows zero good = refl
-rows-free rows (suc n) good = ap (λ found. option_or found (row_refusal rows n)) (rows-free rows n (λ k below. good k (omega arith))) ∙ (row-iff rows n).1 (good n (omega arith))
+rows-free rows (suc n) good =
+    ap (λ found. option_or found (row_refusal rows n)) (rows-free rows n (λ k below. good k (omega arith)))
+    ∙ (row-iff rows n).1 (good n (omega arith))
 
 pub table_iff : (rows : List Row) → (table_refusal rows ≡ None) ↔ IsTable rows
 table_iff rows = (

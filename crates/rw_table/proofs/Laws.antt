@@ -1,5 +1,7 @@
 -- The laws of tables, by the names that they have in src/law.rt.
-use Rattle.rw_table.proofs.Common.{IsElevationInside, IsGreatest, IsSome, IsSomeAnd, IsTable, IsVolumeInside, List, MatchOption, None, Option, Row, Some, arith, between, elev_of, first_row, inl, inr, ints, last_row, length, refl, row_at, subst, suc, sym, vol_of, ℕ, ℤ, ◌+◌, ◌-◌, ◌<ℤ◌, ◌<◌, ◌↔◌, ◌≡◌, ◌≤ℤ◌, ◌⊎◌}
+use Rattle.rw_table.proofs.Common.{IsElevationInside, IsGreatest, IsSome, IsSomeAnd, IsTable, IsVolumeInside, List, MatchOption, None, Option, Row}
+use Rattle.rw_table.proofs.Common.{Some, arith, between, elev_of, first_row, inl, inr, ints, last_row, length, refl, row_at, subst, suc, sym, vol_of}
+use Rattle.rw_table.proofs.Common.{ℕ, ℤ, ◌+◌, ◌-◌, ◌<ℤ◌, ◌<◌, ◌↔◌, ◌≡◌, ◌≤ℤ◌, ◌⊎◌}
 use Rattle.rw_table.proofs.Comparison.{below_or_not}
 use Rattle.rw_table.proofs.Volume.{inside, has_volume_inside, volume_of_row, volume_on_line, never_falls}
 use Rattle.rw_table.proofs.Count.{volume_at_most, at_most_from}
@@ -24,7 +26,8 @@ volume_where rows e table = (
       some_from (vol_of rows e) v.0 v.1,
 )
 
-pub volume_between_rows : (rows : List Row) (k : ℕ) (e : ℤ) → IsTable rows → k + 1 < length rows → (row_at rows k).0 ≤ℤ e → e <ℤ (row_at rows (k + 1)).0 → vol_of rows e ≡ Some (between (row_at rows k) (row_at rows (k + 1)) e)
+pub volume_between_rows : (rows : List Row) (k : ℕ) (e : ℤ) → IsTable rows → k + 1 < length rows → (row_at rows k).0 ≤ℤ e
+    → e <ℤ (row_at rows (k + 1)).0 → vol_of rows e ≡ Some (between (row_at rows k) (row_at rows (k + 1)) e)
 volume_between_rows rows k e table within from to =
     let next : k + 1 ≡ suc k = omega arith in
     rw next (volume_on_line rows k e table (omega arith) from (rw next at to))
@@ -32,7 +35,8 @@ volume_between_rows rows k e table within from to =
 pub volume_at_row : (rows : List Row) (k : ℕ) → IsTable rows → k < length rows → vol_of rows (row_at rows k).0 ≡ Some (row_at rows k).1
 volume_at_row = volume_of_row
 
-pub volume_never_falls : (rows : List Row) (e later v w : ℤ) → IsTable rows → e ≤ℤ later → vol_of rows e ≡ Some v → vol_of rows later ≡ Some w → v ≤ℤ w
+pub volume_never_falls : (rows : List Row) (e later v w : ℤ) → IsTable rows → e ≤ℤ later → vol_of rows e ≡ Some v
+    → vol_of rows later ≡ Some w → v ≤ℤ w
 volume_never_falls = never_falls
 
 pub volume_inside : (rows : List Row) (e v : ℤ) → IsTable rows → vol_of rows e ≡ Some v → IsVolumeInside rows v
@@ -67,10 +71,12 @@ elevation_is_greatest rows s table =
     ]
 
 -- an elevation that is answered is the greatest
-greatest_of : (rows : List Row) (s : ℤ) (o : Option ℤ) (e : ℤ) → MatchOption o (¬ IsVolumeInside rows s) (IsGreatest rows s) → o ≡ Some e → IsGreatest rows s e
+greatest_of : (rows : List Row) (s : ℤ) (o : Option ℤ) (e : ℤ) → MatchOption o (¬ IsVolumeInside rows s) (IsGreatest rows s) → o ≡ Some e
+    → IsGreatest rows s e
 greatest_of rows s o e says is = subst (λ (o : Option ℤ). MatchOption o (¬ IsVolumeInside rows s) (IsGreatest rows s)) is says
 
-pub elevation_never_falls : (rows : List Row) (s more e f : ℤ) → IsTable rows → s ≤ℤ more → elev_of rows s ≡ Some e → elev_of rows more ≡ Some f → e ≤ℤ f
+pub elevation_never_falls : (rows : List Row) (s more e f : ℤ) → IsTable rows → s ≤ℤ more → elev_of rows s ≡ Some e
+    → elev_of rows more ≡ Some f → e ≤ℤ f
 elevation_never_falls rows s more e f table after first next =
     let one = greatest_of rows s (elev_of rows s) e (elevation_is_greatest rows s table) first in
     let two = greatest_of rows more (elev_of rows more) f (elevation_is_greatest rows more table) next in

@@ -1,5 +1,6 @@
 -- The order of a table's rows, and what it gives the searches.
-use Rattle.rw_table.proofs.Common.{IsAbove, IsPartitionPoint, IsPartitionedBy, IsTable, List, Row, arith, cases_eq, false, get_or_default, inl, inr, int_le, ints, length, pos, row_at, slice_index_or, suc, true, zero, ℕ, ℤ, ◌<ℤ◌, ◌<◌, ◌≡◌, ◌≤ℤ◌, ◌≤◌}
+use Rattle.rw_table.proofs.Common.{IsAbove, IsPartitionPoint, IsPartitionedBy, IsTable, List, Row, arith, cases_eq, false, get_or_default, inl, inr}
+use Rattle.rw_table.proofs.Common.{int_le, ints, length, pos, row_at, slice_index_or, suc, true, zero, ℕ, ℤ, ◌<ℤ◌, ◌<◌, ◌≡◌, ◌≤ℤ◌, ◌≤◌}
 use Rattle.rw_table.proofs.Comparison.{le_passes}
 
 -- above what is above is above
@@ -48,7 +49,9 @@ parted rows column z rise i j d up_to within passed = elim (cases_eq i j) [
 ]
 
 -- the place that the search finds, in words
-pub parted_at : (rows : List Row) (column : Row → ℤ) (z : ℤ) (place : ℕ) → IsPartitionPoint (λ row. int_le (column row) z ≡ true) (λ row. int_le (column row) z ≡ false) rows place → IsPartitionPoint (λ row. column row ≤ℤ z) (λ row. z <ℤ column row) rows place
+pub parted_at : (rows : List Row) (column : Row → ℤ) (z : ℤ) (place : ℕ)
+    → IsPartitionPoint (λ row. int_le (column row) z ≡ true) (λ row. int_le (column row) z ≡ false) rows place
+    → IsPartitionPoint (λ row. column row ≤ℤ z) (λ row. z <ℤ column row) rows place
 parted_at rows column z place point = (
   λ k d from to.
       let at : int_le (column (slice_index_or rows k d)) z ≡ true = point.0 k d from to in

@@ -1,5 +1,6 @@
 -- The volume at an elevation in a table.
-use Rattle.rw_table.proofs.Common.{IsElevationInside, IsTable, List, None, Option, Row, Some, [], ap, arith, between, first_row, ints, last_row, length, refl, row_at, suc, vol_of, zero, ℕ, ℤ, ◌-◌, ◌<ℤ◌, ◌<◌, ◌∷◌, ◌≡◌, ◌≤ℤ◌}
+use Rattle.rw_table.proofs.Common.{IsElevationInside, IsTable, List, None, Option, Row, Some, [], ap, arith, between, first_row, ints, last_row}
+use Rattle.rw_table.proofs.Common.{length, refl, row_at, suc, vol_of, zero, ℕ, ℤ, ◌-◌, ◌<ℤ◌, ◌<◌, ◌∷◌, ◌≡◌, ◌≤ℤ◌}
 use Rattle.rw_table.proofs.Chain.{chain, last, found, has_volume, volume_rises, volume_at_row, volume_between}
 
 -- the last row, by either name
@@ -25,7 +26,8 @@ volume_of_row [] k table within = absurd (omega arith)
 volume_of_row (low ∷ rows) k table within = volume_at_row low rows k (chain low rows table) (omega arith)
 
 -- from one row to the next it is on the line
-pub volume_on_line : (rows : List Row) (k : ℕ) (e : ℤ) → IsTable rows → suc k < length rows → (row_at rows k).0 ≤ℤ e → e <ℤ (row_at rows (suc k)).0 → vol_of rows e ≡ Some (between (row_at rows k) (row_at rows (suc k)) e)
+pub volume_on_line : (rows : List Row) (k : ℕ) (e : ℤ) → IsTable rows → suc k < length rows → (row_at rows k).0 ≤ℤ e → e <ℤ (row_at rows (suc k)).0
+    → vol_of rows e ≡ Some (between (row_at rows k) (row_at rows (suc k)) e)
 volume_on_line [] k e table within from to = absurd (omega arith)
 volume_on_line (low ∷ rows) k e table within from to =
     volume_between low rows k e (chain low rows table) (omega arith) from to
@@ -53,7 +55,8 @@ pub volume_after : (rows : List Row) (e : ℤ) → IsTable rows → (last_row ro
 volume_after rows e table after = no_volume rows e table (λ within. omega (arith, ints, within.to_last))
 
 -- as the search finds it, at the number of rows that are no higher
-pub line_volume : (rows : List Row) (place : ℕ) (e : ℤ) → IsTable rows → 0 < place → place < length rows → (row_at rows (place - 1)).0 ≤ℤ e → e <ℤ (row_at rows place).0 → vol_of rows e ≡ Some (between (row_at rows (place - 1)) (row_at rows place) e)
+pub line_volume : (rows : List Row) (place : ℕ) (e : ℤ) → IsTable rows → 0 < place → place < length rows → (row_at rows (place - 1)).0 ≤ℤ e
+    → e <ℤ (row_at rows place).0 → vol_of rows e ≡ Some (between (row_at rows (place - 1)) (row_at rows place) e)
 line_volume rows zero e table some within from to = absurd (omega arith)
 line_volume rows (suc k) e table some within from to =
     let back : suc k - 1 ≡ k = omega arith in

@@ -1,5 +1,6 @@
 -- The rules that there are, and the blocks that they are.
-use Rattle.rw_top.proofs.Common.{Bool, Declared, IsSome, List, Some, [], arith, declaration_from, declaration_of_rule, false, function, if◌then◌else◌, length, refl, rule, suc, true, zero, ℕ, ◌+◌, ◌-◌, ◌<◌, ◌==◌, ◌∷◌, ◌≡◌, ◌≤◌}
+use Rattle.rw_top.proofs.Common.{Bool, Declared, IsSome, List, Some, [], arith, declaration_from, declaration_of_rule, false, function, if◌then◌else◌}
+use Rattle.rw_top.proofs.Common.{length, refl, rule, suc, true, zero, ℕ, ◌+◌, ◌-◌, ◌<◌, ◌==◌, ◌∷◌, ◌≡◌, ◌≤◌}
 use Rattle.rpl_code.specs.declared.block.Block.{Block}
 use Rattle.rpl_code.specs.declared.block.BlockHead.TheVariants.{Rule}
 use Rattle.rpl_verify.proofs.Common.{is_alike, rule_from}

@@ -1,5 +1,9 @@
 -- Causes as the code comes to them, step by step.
-use Rattle.rw_top.proofs.Common.{AreRead, BadEdits, BadInputs, BadModel, BadPolicy, Cause, Change, Checked, Command, Declared, Err, FILE_MAX, File, FileCause, FilesRead, Holds, IsErrOf, IsPolicyRefusal, IsReading, IsSomeAnd, IsTooLong, List, LongFile, MatchResult, None, NoneFell, Ok, Option, Reaches, Reason, Refusal, Result, Rose, ShelfView, SinkView, Some, WasFound, ap, arith, change, checked, false, inl, inr, option_map, path_of, reason_of, refl, refusal_after, status_by, status_of, subst, sym, true, with_types, ℕ, ◌<◌, ◌∙◌, ◌≡◌}
+use Rattle.rw_top.proofs.Common.{AreRead, BadEdits, BadInputs, BadModel, BadPolicy, Cause, Change, Checked, Command, Declared, Err, FILE_MAX, File}
+use Rattle.rw_top.proofs.Common.{FileCause, FilesRead, Holds, IsErrOf, IsPolicyRefusal, IsReading, IsSomeAnd, IsTooLong, List, LongFile, MatchResult}
+use Rattle.rw_top.proofs.Common.{None, NoneFell, Ok, Option, Reaches, Reason, Refusal, Result, Rose, ShelfView, SinkView, Some, WasFound, ap, arith}
+use Rattle.rw_top.proofs.Common.{change, checked, false, inl, inr, option_map, path_of, reason_of, refl, refusal_after, status_by, status_of, subst}
+use Rattle.rw_top.proofs.Common.{sym, true, with_types, ℕ, ◌<◌, ◌∙◌, ◌≡◌}
 use Rattle.rw_inputs.specs.Refusal.{refused_at}
 use Rattle.rw_io.specs.declared.whole_file.ReadEnd.{ReadEnd}
 use Rattle.rw_io.specs.declared.whole_file.ReadEnd.TheVariants.{ReadFault, TooLong as EndTooLong, NoMemory as EndNoMemory}
@@ -30,7 +34,8 @@ use Rattle.rw_top.specs.declared.refusal.File.TheVariants.{Policy as PolicyFile}
 use Rattle.rw_top.specs.Written.{Stops}
 use Rattle.rw_top.specs.Ready.{IsMadeOf}
 use Rattle.rw_top.specs.declared.policy.Policy.TheVariants as Held
-use Rattle.rw_top.specs.declared.refusal.Refusal.TheVariants.{CannotRead, CannotWrite, NoMemory, Model, Grammar, Types, Code, Block as BlockAt, Inputs, Edits, NoCell, TooLong}
+use Rattle.rw_top.specs.declared.refusal.Refusal.TheVariants.{CannotRead, CannotWrite, NoMemory, Model, Grammar, Types, Code, Block as BlockAt}
+use Rattle.rw_top.specs.declared.refusal.Refusal.TheVariants.{Inputs, Edits, NoCell, TooLong}
 use Rattle.rw_top.specs.Command.{extras_of}
 
 -- a fault that doesn't tell nothing tells why
@@ -46,7 +51,8 @@ told_by wrap status same (Some bad) reason tells = let is : wrap bad ≡ reason 
 
 pub told_status : (why : Refusal) (reason : Reason) → reason_of why ≡ Some reason → status_of why ≡ status_by reason
 told_status (Model fault) reason tells = told_by (λ bad. BadModel bad) 6 (λ bad. refl) (refusal_of fault) reason tells
-told_status (Grammar fault) reason tells = told_by (λ bad. BadPolicy (BadRules (BadGrammar bad))) 7 (λ bad. refl) (refusal_of_grammar fault) reason tells
+told_status (Grammar fault) reason tells =
+    told_by (λ bad. BadPolicy (BadRules (BadGrammar bad))) 7 (λ bad. refl) (refusal_of_grammar fault) reason tells
 told_status (Types kind declaration node) reason tells =
     let same : BadPolicy (BadRules (BadNode (type_refusal kind declaration node))) ≡ reason = cc in ap status_by same
 told_status (Code fault) reason tells = told_by (λ bad. BadPolicy (BadBlocks (Unread bad))) 9 (λ bad. refl) (refusal_of_code fault) reason tells
@@ -98,7 +104,8 @@ code_refusal basin text fault some is =
     inr (BadBlocks (Unread told.0), ap (option_map (λ bad. BadPolicy (BadBlocks (Unread bad)))) told.1, (refl, is.0 told.0 told.1))
 
 -- and why a ruleset is refused
-judged_err : (rules : List Declared) (result : Result (List NodeTypes) NodeRefusal) (why : NodeRefusal) → with_types rules result ≡ Err why → result ≡ Err why
+judged_err : (rules : List Declared) (result : Result (List NodeTypes) NodeRefusal) (why : NodeRefusal) → with_types rules result ≡ Err why
+    → result ≡ Err why
 judged_err rules (Ok types) why is = absurd cc
 judged_err rules (Err refused) why is = cc
 
@@ -112,7 +119,8 @@ rules_with rules types = record { rules = rules; types = types }
 
 judged_ok : (rules : List Declared) (result : Result (List NodeTypes) NodeRefusal) (all : Checked) → with_types rules result ≡ Ok all
     → (rules ≡ all.rules) × (result ≡ Ok all.types)
-judged_ok rules (Ok types) all is = let same : rules_with rules types ≡ all = cc in (ap (λ (c : Checked). c.rules) same, ap (λ (c : Checked). Ok c.types) same)
+judged_ok rules (Ok types) all is = let same : rules_with rules types ≡ all =
+    cc in (ap (λ (c : Checked). c.rules) same, ap (λ (c : Checked). Ok c.types) same)
 judged_ok rules (Err refused) all is = absurd cc
 
 pub accepted_rules : (basin : Draft) (text : List ℕ) (rules : List Declared) (all : Checked) → IsReading text (Ok rules)

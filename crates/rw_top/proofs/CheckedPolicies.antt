@@ -1,5 +1,7 @@
 -- The budgets of a policy's rules, and those of a ruleset's code.
-use Rattle.rw_top.proofs.Common.{Bool, Declared, IsSome, List, None, Option, Some, [], ap, arith, counts_line, declaration_from, false, for_each, function, if◌then◌else◌, length, line_if, nat_tests, option_map, refl, rule, rules_in, subst, suc, sym, zero, ℕ, ◌++◌, ◌+◌, ◌-◌, ◌<◌, ◌==◌, ◌∙◌, ◌∷◌, ◌≡◌, ◌≤◌}
+use Rattle.rw_top.proofs.Common.{Bool, Declared, IsSome, List, None, Option, Some, [], ap, arith, counts_line, declaration_from, false, for_each}
+use Rattle.rw_top.proofs.Common.{function, if◌then◌else◌, length, line_if, nat_tests, option_map, refl, rule, rules_in, subst, suc, sym, zero, ℕ}
+use Rattle.rw_top.proofs.Common.{◌++◌, ◌+◌, ◌-◌, ◌<◌, ◌==◌, ◌∙◌, ◌∷◌, ◌≡◌, ◌≤◌}
 use Rattle.rw_base.proofs.Common.{option_and_then, slice_get}
 use Rattle.rw_model.proofs.Common.{Draft, numbered-known}
 use Rattle.rw_model.specs.Objects.{numbered}

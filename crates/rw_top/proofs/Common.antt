@@ -2,7 +2,10 @@
 pub use Rattle.rpl_parse.specs.Declarations.{IsReading}
 pub use Rattle.rpl_tree.specs.Tree.{Declared, function, rule}
 pub use Rattle.rpl_types.specs.Checked.{Checked, checked, declaration_from, declaration_of_rule, with_types}
-pub use Rattle.rw_base.proofs.Common.{Bool, Err, IfOk, IfSome, IsSome, IsSomeAnd, List, MatchBool, MatchResult, None, Ok, Option, Result, Some, [], ap, ap₂, arith, cases_lt, codes, common_steps, false, get_or, if◌then◌else◌, inl, inr, length, nat_tests, option_map, refl, rules, slice_index_or, string_bytes, subst, suc, sym, take_all, true, zero, ℕ, ℤ, ◌++◌, ◌+◌, ◌-◌, ◌<◌, ◌==◌, ◌↔◌, ◌∙◌, ◌∷◌, ◌≡◌, ◌≢◌, ◌≤◌, ◌⊎◌}
+pub use Rattle.rw_base.proofs.Common.{Bool, Err, IfOk, IfSome, IsSome, IsSomeAnd, List, MatchBool, MatchResult, None, Ok, Option, Result, Some, []}
+pub use Rattle.rw_base.proofs.Common.{ap, ap₂, arith, cases_lt, codes, common_steps, false, get_or, if◌then◌else◌, inl, inr, length, nat_tests}
+pub use Rattle.rw_base.proofs.Common.{option_map, refl, rules, slice_index_or, string_bytes, subst, suc, sym, take_all, true, zero, ℕ, ℤ, ◌++◌, ◌+◌}
+pub use Rattle.rw_base.proofs.Common.{◌-◌, ◌<◌, ◌==◌, ◌↔◌, ◌∙◌, ◌∷◌, ◌≡◌, ◌≢◌, ◌≤◌, ◌⊎◌}
 pub use Rattle.rw_inputs.specs.Reading.{Reads, Refuses}
 pub use Rattle.rw_inputs.specs.Refusal.{InputRefusal}
 pub use Rattle.rw_io.proofs.KnownLemmas.{GrowsBy-trans, PrefixGrew-left, PrefixGrew-right}
@@ -19,12 +22,17 @@ pub use Rattle.rw_run.specs.declared.run.RunEnd.{RunEnd}
 pub use Rattle.rw_series.specs.Series.{Series, held}
 pub use Rattle.rw_top.specs.Budgets.{counts_line, functions_in, line_if, rule_line, rules_in}
 pub use Rattle.rw_top.specs.Call.{Call}
-pub use Rattle.rw_top.specs.Command.{AskForCommand, AskNothing, AskOne, ReadsFile, command_said, files_of, order, path_of, place_among, simulation_of, takes_code}
+pub use Rattle.rw_top.specs.Command.{AskForCommand, AskNothing, AskOne, ReadsFile, command_said, files_of, order, path_of, place_among, simulation_of}
+pub use Rattle.rw_top.specs.Command.{takes_code}
 pub use Rattle.rw_words.specs.Command.{Command}
 pub use Rattle.rw_top.specs.Promise.{Promise, RefusedCommand, RefusedWords, WasRefused, Wrote, WroteCheck, WroteCode, WroteRun}
-pub use Rattle.rw_top.specs.Reading.{Accepts, AcceptsAll, AreRead, FilesRead, HoldsTooLong, IsHonest, IsHonestOfAll, IsHonestUpTo, IsTextAt, IsTooLong, Reaches, ReadsInputs, ReadsModel, ReadsPolicy, RefusesInputs, RefusesModel, RefusesPolicy, SaysAt, WasRead, reads_code}
-pub use Rattle.rw_top.specs.Reason.{BadEdits, BadInputs, BadModel, BadPolicy, IsFoundReason, IsHonestFor, LongFile, Reason, file_of, policy_status, status_by}
-pub use Rattle.rw_top.specs.Refusal.{Cause, EndsWith, FailsToRead, FileCause, FindsTooLong, IsPolicyRefusal, WasFound, reason_of, refusal_after, status_of}
+pub use Rattle.rw_top.specs.Reading.{Accepts, AcceptsAll, AreRead, FilesRead, HoldsTooLong, IsHonest, IsHonestOfAll, IsHonestUpTo, IsTextAt}
+pub use Rattle.rw_top.specs.Reading.{IsTooLong, Reaches, ReadsInputs, ReadsModel, ReadsPolicy, RefusesInputs, RefusesModel, RefusesPolicy, SaysAt}
+pub use Rattle.rw_top.specs.Reading.{WasRead, reads_code}
+pub use Rattle.rw_top.specs.Reason.{BadEdits, BadInputs, BadModel, BadPolicy, IsFoundReason, IsHonestFor, LongFile, Reason, file_of, policy_status}
+pub use Rattle.rw_top.specs.Reason.{status_by}
+pub use Rattle.rw_top.specs.Refusal.{Cause, EndsWith, FailsToRead, FileCause, FindsTooLong, IsPolicyRefusal, WasFound, reason_of, refusal_after}
+pub use Rattle.rw_top.specs.Refusal.{status_of}
 pub use Rattle.rw_top.specs.RunText.{IsRunText, section_text}
 pub use Rattle.rw_top.specs.Seen.{files_seen, policy_of}
 pub use Rattle.rw_top.specs.Written.{IsTextOf, TellsLine, WritesAll, WritesFront, status_of_end}

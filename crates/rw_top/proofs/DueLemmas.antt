@@ -1,5 +1,8 @@
 -- A refusal that is due is given, and none is given that isn't.
-use Rattle.rw_top.proofs.Common.{AcceptsAll, AreRead, Cause, Change, Command, EndsWith, FailsToRead, File, FilesRead, IfSome, IsFoundReason, IsHonest, IsHonestFor, IsHonestOfAll, IsHonestUpTo, IsSome, IsSomeAnd, List, LongFile, None, Option, Reason, Refusal, Rose, ShelfView, SinkView, Some, WasFound, cases_lt, file_of, inl, inr, order, path_of, refl, status_by, status_of, ℕ, ◌∙◌, ◌≡◌}
+use Rattle.rw_top.proofs.Common.{AcceptsAll, AreRead, Cause, Change, Command, EndsWith, FailsToRead, File, FilesRead, IfSome, IsFoundReason, IsHonest}
+use Rattle.rw_top.proofs.Common.{IsHonestFor, IsHonestOfAll, IsHonestUpTo, IsSome, IsSomeAnd, List, LongFile, None, Option, Reason, Refusal, Rose}
+use Rattle.rw_top.proofs.Common.{ShelfView, SinkView, Some, WasFound, cases_lt, file_of, inl, inr, order, path_of, refl, status_by, status_of, ℕ, ◌∙◌}
+use Rattle.rw_top.proofs.Common.{◌≡◌}
 use Rattle.rw_top.specs.Reading.{LacksCell}
 use Rattle.rw_top.specs.declared.refusal.File.TheVariants.{Model}
 use Rattle.rw_top.specs.declared.refusal.Refusal.TheVariants.{CannotRead, CannotWrite, NoMemory, NoCell}
@@ -29,7 +32,8 @@ module _ (command : Command) (shelf : Change ShelfView) where
       → IsFoundReason command shelf.before.holds reason → IsHonestFor command shelf reason → ⊥
   no_fault file fails reason found honest =
       elim (cases_lt (order (file_of reason)) (order file)) [
-        | inl before ↦ not_found command shelf.before.holds reason (told_by (file_of reason) honest) (fails.reached (file_of reason) (names command shelf.before.holds reason found) before) found
+        | inl before ↦ not_found command shelf.before.holds reason (told_by (file_of reason) honest)
+            (fails.reached (file_of reason) (names command shelf.before.holds reason found) before) found
         | inr least ↦ stands_at shelf (path_of command file) (honest file least) fails.rose
       ]
 
@@ -42,7 +46,8 @@ module _ (command : Command) (shelf : Change ShelfView) where
       (accepts_read command shelf.before.holds files read (file_of reason) (names command shelf.before.holds reason found)) found
 
   -- and the cell was there
-  pub none_lacks : (files : FilesRead) → AreRead command shelf.before.holds files → LacksCell command shelf.before.holds → IsHonestOfAll command shelf → ⊥
+  pub none_lacks : (files : FilesRead) → AreRead command shelf.before.holds files → LacksCell command shelf.before.holds
+      → IsHonestOfAll command shelf → ⊥
   none_lacks files read lacks honest = cell_clash command shelf.before.holds files (told_at shelf (path_of command Model) (honest Model)) read lacks
 
   module _ (out : Change SinkView) where

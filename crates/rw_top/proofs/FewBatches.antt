@@ -1,10 +1,12 @@
 -- A text gives at most 64 batches of edits.
-use Rattle.rw_top.proofs.Common.{Bool, Err, List, None, Ok, Option, Result, Some, [], arith, false, if◌then◌else◌, length, nat_tests, refl, subst, true, ℕ, ◌++◌, ◌+◌, ◌∷◌, ◌≡◌, ◌≤◌}
+use Rattle.rw_top.proofs.Common.{Bool, Err, List, None, Ok, Option, Result, Some, [], arith, false, if◌then◌else◌, length, nat_tests, refl, subst}
+use Rattle.rw_top.proofs.Common.{true, ℕ, ◌++◌, ◌+◌, ◌∷◌, ◌≡◌, ◌≤◌}
 use Rattle.rw_base.proofs.Common.{length-append, length-set, nat_le}
 use Rattle.rw_base.specs.Answers.{unless_refused}
 use Rattle.rw_model.specs.Draft.{Draft}
 use Rattle.rw_inputs.specs.declared.wrong.Wrong.{Wrong}
-use Rattle.rw_inputs.specs.EditRows.{at_row, batch_behind, batches_with, edits_of, batch_follows, four_fields, is_edit_header, more_batches, batches_opened, read_batch, read_batches, read_edit, with_edit, wrong_among}
+use Rattle.rw_inputs.specs.EditRows.{at_row, batch_behind, batches_with, edits_of, batch_follows, four_fields, is_edit_header, more_batches}
+use Rattle.rw_inputs.specs.EditRows.{batches_opened, read_batch, read_batches, read_edit, with_edit, wrong_among}
 use Rattle.rw_inputs.specs.Edits.{Batch}
 use Rattle.rw_inputs.specs.Number.{read_number}
 use Rattle.rw_inputs.specs.Records.{Fields, records_of}
@@ -37,7 +39,8 @@ length_opened batches number few small = by (nat_le number (length batches)) ref
   where
     by : (there : Bool) → nat_le number (length batches) ≡ there → length (if there then batches else batches ++ [] ∷ []) ≤ 64
     by true there = few
-    by false there = let more = length-append batches ([] ∷ []) in let least : length batches + 1 ≤ number = grind (arith, nat_tests, there) in omega (arith, more, least, small)
+    by false there = let more = length-append batches ([] ∷ []) in let least : length batches + 1 ≤ number =
+        grind (arith, nat_tests, there) in omega (arith, more, least, small)
 
 admitted : (found : Option Wrong) (batches more : List Batch) → unless_refused found batches ≡ Ok more → batches ≡ more
 admitted None batches more is = cc
@@ -50,7 +53,8 @@ few_with basin row batches more (Some fields) few is =
     let number = after (read_batch (length batches) fields.0) _ more is in
     let edit = after (read_edit basin fields.1 fields.2 fields.3) _ more number.2 in
     let same = admitted (wrong_among row batches number.0 edit.0) (with_edit batches number.0 edit.0) more edit.2 in
-    let many : length (with_edit batches number.0 edit.0) ≡ length (batches_opened batches number.0) = length-set (batches_opened batches number.0) _ _ in
+    let many : length (with_edit batches number.0 edit.0) ≡ length (batches_opened batches number.0) =
+    length-set (batches_opened batches number.0) _ _ in
     let most = length_opened batches number.0 few (at_most (length batches) number.0 (read_number fields.0) number.1) in
     subst (λ bs. length bs ≤ 64) same (omega (arith, many, most))
 

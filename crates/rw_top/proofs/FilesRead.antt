@@ -1,5 +1,6 @@
 -- Files that were read one after the other.
-use Rattle.rw_top.proofs.Common.{AreRead, Change, Command, Err, FileCause, FilesRead, Holds, IfSome, IsSome, IsSomeAnd, Refusal, ShelfView, sym, List, None, Option, Reaches, ReadsInputs, ReadsModel, ReadsPolicy, SaysAt, Some, option_map, policy_of, subst, ℕ, ◌≡◌}
+use Rattle.rw_top.proofs.Common.{AreRead, Change, Command, Err, FileCause, FilesRead, Holds, IfSome, IsSome, IsSomeAnd, Refusal, ShelfView, sym, List}
+use Rattle.rw_top.proofs.Common.{None, Option, Reaches, ReadsInputs, ReadsModel, ReadsPolicy, SaysAt, Some, option_map, policy_of, subst, ℕ, ◌≡◌}
 use Rattle.rw_inputs.specs.Edits.{Batch}
 use Rattle.rw_inputs.specs.Inputs.{Inputs as Given}
 use Rattle.rw_base.specs.declared.number.Cell.{Cell}
@@ -18,7 +19,8 @@ seen_policy : (command : Command) (holds : Holds) (basin : Draft) (found : Optio
 seen_policy command holds basin None says = says
 seen_policy command holds basin (Some policy) says = says.is
 
-pub policy_fits : (command : Command) (holds : Holds) (basin : Draft) (found : Option Held) → SaysAt command Policy found (IsReadAs command holds basin)
+pub policy_fits : (command : Command) (holds : Holds) (basin : Draft) (found : Option Held)
+    → SaysAt command Policy found (IsReadAs command holds basin)
     → IfSome found (IsFit basin)
 policy_fits command holds basin None says = tt
 policy_fits command holds basin (Some policy) says = says.fits
@@ -111,7 +113,9 @@ no_cell command shelf basin behind why model now same others lacks =
     let its : LacksCell command holds = record {
       basin = basin;
       model = model;
-      accepted = accepts_all command holds basin (option_map policy_of behind.policy) behind.inputs (option_map (λ batches. batches.items) behind.edits) model policy inputs edits;
+      accepted =
+          accepts_all command holds basin (option_map policy_of behind.policy) behind.inputs (option_map (λ batches. batches.items) behind.edits)
+          model policy inputs edits;
       seeks = lacks.1;
       none = lacks.2;
     } in

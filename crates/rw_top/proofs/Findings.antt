@@ -1,6 +1,10 @@
 -- What is found of a file is one thing, where the shelf tells what its path holds: the file is accepted, or refused with
 -- one status, or too long.
-use Rattle.rw_top.proofs.Common.{Accepts, AcceptsAll, AreRead, BadEdits, BadInputs, BadModel, BadPolicy, Command, Err, FILE_MAX, File, FilesRead, Holds, HoldsTooLong, IfSome, InputRefusal, IsFoundReason, IsSome, IsSomeAnd, IsTooLong, List, LongFile, ModelRefusal, ReadsFile, None, Ok, Option, Reaches, ReadsInputs, ReadsModel, ReadsPolicy, Reason, Refuses, RefusesInputs, RefusesModel, RefusesPolicy, SaysAt, Some, WasRead, ap, ap₂, arith, cases_lt, file_of, inl, inr, length, model_of, order, path_of, policy_status, reads_code, refl, status_by, subst, sym, ℕ, ◌<◌, ◌∙◌, ◌≡◌, ◌≤◌, ◌⊎◌}
+use Rattle.rw_top.proofs.Common.{Accepts, AcceptsAll, AreRead, BadEdits, BadInputs, BadModel, BadPolicy, Command, Err, FILE_MAX, File, FilesRead}
+use Rattle.rw_top.proofs.Common.{Holds, HoldsTooLong, IfSome, InputRefusal, IsFoundReason, IsSome, IsSomeAnd, IsTooLong, List, LongFile, ModelRefusal}
+use Rattle.rw_top.proofs.Common.{ReadsFile, None, Ok, Option, Reaches, ReadsInputs, ReadsModel, ReadsPolicy, Reason, Refuses, RefusesInputs}
+use Rattle.rw_top.proofs.Common.{RefusesModel, RefusesPolicy, SaysAt, Some, WasRead, ap, ap₂, arith, cases_lt, file_of, inl, inr, length, model_of}
+use Rattle.rw_top.proofs.Common.{order, path_of, policy_status, reads_code, refl, status_by, subst, sym, ℕ, ◌<◌, ◌∙◌, ◌≡◌, ◌≤◌, ◌⊎◌}
 use Rattle.rw_model.specs.Draft.{Draft}
 use Rattle.rw_inputs.specs.EditRows.{edits_of}
 use Rattle.rw_inputs.specs.Edits.{Batch}

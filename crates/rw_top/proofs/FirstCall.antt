@@ -1,5 +1,7 @@
 -- A call on one plain reservoir, by the law on the text of its run.
-use Rattle.rw_top.proofs.Common.{Call, Command, Fault, GrowsBy, IfOk, IsFirstText, IsRunText, IsSomeAnd, IsTextOf, List, None, Option, Promise, Reads, ReadsInputs, RunEnd, SaysAt, Settled, Some, WritesAll, [], ap, arith, false, model_of, refl, simulation_of, status_of_end, subst, sym, ℕ, ℤ, ◌↔◌, ◌∙◌, ◌∷◌, ◌≡◌, ◌≤◌}
+use Rattle.rw_top.proofs.Common.{Call, Command, Fault, GrowsBy, IfOk, IsFirstText, IsRunText, IsSomeAnd, IsTextOf, List, None, Option, Promise, Reads}
+use Rattle.rw_top.proofs.Common.{ReadsInputs, RunEnd, SaysAt, Settled, Some, WritesAll, [], ap, arith, false, model_of, refl, simulation_of}
+use Rattle.rw_top.proofs.Common.{status_of_end, subst, sym, ℕ, ℤ, ◌↔◌, ◌∙◌, ◌∷◌, ◌≡◌, ◌≤◌}
 use Rattle.rw_plain_reservoir.specs.FirstForm.{FirstModel, IsFirstForm, IsFirstFlows}
 use Rattle.rw_inputs.specs.Inputs.{Inputs as Given}
 use Rattle.rw_model.proofs.Common.{IsBasin, Draft}
@@ -35,10 +37,12 @@ its_text call model inflows outflows first end texts basin (Some inputs) says is
     let bytes = same_text command holds Inputs says.text first.read.text first.told_inputs says.read first.read.read in
     let reads : Reads first.basin first.read.text inputs =
     subst (λ t. Reads first.basin t inputs) bytes (subst (λ d. Reads d says.text inputs) same says.are) in
-    let here : IsRunText first.basin no_rules no_extras None 0 inputs end is.0 = subst (λ d. IsRunText d no_rules no_extras None 0 inputs end is.0) same is.2 in (
+    let here : IsRunText first.basin no_rules no_extras None 0 inputs end is.0 =
+    subst (λ d. IsRunText d no_rules no_extras None 0 inputs end is.0) same is.2 in (
       is.0,
       is.1,
-      of_values inputs first.inputs (same_values first.basin first.read.text inputs first.inputs reads first.read.are) first.basin no_rules no_extras None 0 end is.0 here,
+      of_values inputs first.inputs (same_values first.basin first.read.text inputs first.inputs reads first.read.are) first.basin no_rules no_extras
+          None 0 end is.0 here,
     )
 
 pub first_call : ((basin : Draft) (model : FirstModel) (inputs : Given) (inflows outflows : List ℤ)

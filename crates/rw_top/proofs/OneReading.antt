@@ -1,6 +1,7 @@
 -- What is read of a text is one thing.
 use Rattle.std.specs.Prelude.{ℤ, Option}
-use Rattle.rw_top.proofs.Common.{Bool, Declared, Err, InputRefusal, IsReading, List, Ok, Reads, Refuses, ap, false, policy_status, refl, sym, true, ℕ, ◌∙◌, ◌≡◌}
+use Rattle.rw_top.proofs.Common.{Bool, Declared, Err, InputRefusal, IsReading, List, Ok, Reads, Refuses, ap, false, policy_status, refl, sym, true, ℕ}
+use Rattle.rw_top.proofs.Common.{◌∙◌, ◌≡◌}
 use Rattle.rpl_parse.proofs.CutFacts.{one_reading_holds}
 use Rattle.rpl_types.specs.Judged.{rules_judged}
 use Rattle.rw_model.specs.Draft.{Draft}
@@ -8,7 +9,8 @@ use Rattle.rw_inputs.specs.Inputs.{Inputs, value_at}
 use Rattle.rpl_code.specs.declared.block.Block.{Block}
 use Rattle.rpl_tree.specs.Budget.{Budget}
 use Rattle.rpl_verify.specs.Budget.{ruling}
-use Rattle.rw_top.specs.Policy.{BadCode, Unread, Misfit, PolicyFile, Ruleset, Code, PolicyRefusal, BadRules, BadBlocks, RulesRefusal, BadGrammar, BadNode, IsCodeOf, IsPolicyFileOf, IsRulesetOf, RefusesCode, RefusesRules, RefusesText}
+use Rattle.rw_top.specs.Policy.{BadCode, Unread, Misfit, PolicyFile, Ruleset, Code, PolicyRefusal, BadRules, BadBlocks, RulesRefusal, BadGrammar}
+use Rattle.rw_top.specs.Policy.{BadNode, IsCodeOf, IsPolicyFileOf, IsRulesetOf, RefusesCode, RefusesRules, RefusesText}
 
 -- inputs that are refused aren't read
 pub refuses_clash : (basin : Draft) (text : List ℕ) (inputs : Inputs) (why : InputRefusal)

@@ -12,7 +12,8 @@ use Rattle.rw_top.proofs.OneText.{same_to}
 use Rattle.rw_top.specs.Policy.{Ruleset}
 use Rattle.rw_top.specs.RunText.{IsSampleOf, IsSampleText, policy_in_run}
 
-pub one_sample : ((basin : Draft) (policy : Policy) (inputs : List (Cell × ℤ)) (log other : Log) → IsRun basin policy inputs log → IsRun basin policy inputs other → log ≡ other)
+pub one_sample : ((basin : Draft) (policy : Policy) (inputs : List (Cell × ℤ)) (log other : Log) → IsRun basin policy inputs log
+    → IsRun basin policy inputs other → log ≡ other)
     → (seed : ℕ) (text other : List ℕ) → IsSampleOf seed text → IsSampleOf seed other → text ≡ other
 one_sample one_run seed text other a b =
     let basin = b.basin in
@@ -26,5 +27,6 @@ one_sample one_run seed text other a b =
     subst (λ rs. IsSampleText basin (Ruleset rs) a.inputs seed text) rules
     (subst (λ d. IsSampleText d (Ruleset a.rules) a.inputs seed text) same a.line) in
     let given = same_to a.inputs b.inputs values (length (all_slots basin.objects)) basin.control.stamps.count in
-    let log = one_run basin policy (givens basin b.inputs) line.log b.line.log (subst (λ xs. IsRun basin policy xs line.log) given line.run) b.line.run in
+    let log =
+    one_run basin policy (givens basin b.inputs) line.log b.line.log (subst (λ xs. IsRun basin policy xs line.log) given line.run) b.line.run in
     line.text_is ∙ ap (λ (l : Log). sample_line basin seed (outcome_by basin l)) log ∙ sym b.line.text_is

@@ -1,5 +1,6 @@
 -- A run has one end and one text.
-use Rattle.rw_top.proofs.Common.{IsRunText, List, None, RunEnd, [], ap, ap₂, length, refl, subst, suc, sym, section_text, zero, ℕ, ℤ, ◌++◌, ◌∙◌, ◌∷◌, ◌≡◌}
+use Rattle.rw_top.proofs.Common.{IsRunText, List, None, RunEnd, [], ap, ap₂, length, refl, subst, suc, sym, section_text, zero, ℕ, ℤ, ◌++◌, ◌∙◌, ◌∷◌}
+use Rattle.rw_top.proofs.Common.{◌≡◌}
 use Rattle.rw_base.specs.declared.number.Cell.{Cell}
 use Rattle.rw_model.proofs.Common.{Draft, all_slots}
 use Rattle.rw_inputs.specs.Inputs.{Inputs, value_at}
@@ -41,10 +42,13 @@ module _ (inputs others : Inputs) (same : (slot step : ℕ) → value_at inputs 
       record { log = is.log; run = subst (λ xs. IsRun basin policy xs is.log) given is.run; end_is = is.end_is; text_is = is.text_is }
 
 -- two texts of one basin and of inputs with the same values
-pub one_text : ((basin : Draft) (policy : Policy) (inputs : List (Cell × ℤ)) (log other : Log) → IsRun basin policy inputs log → IsRun basin policy inputs other → log ≡ other)
-    → (basin : Draft) (policy : Policy) (extras : Extras) (reran : Option (List StepNo)) (number : ℕ) (inputs others : Inputs) (end other : RunEnd) (text more : List ℕ)
+pub one_text : ((basin : Draft) (policy : Policy) (inputs : List (Cell × ℤ)) (log other : Log) → IsRun basin policy inputs log
+    → IsRun basin policy inputs other → log ≡ other)
+    → (basin : Draft) (policy : Policy) (extras : Extras) (reran : Option (List StepNo)) (number : ℕ) (inputs others : Inputs) (end other : RunEnd)
+    (text more : List ℕ)
     → ((slot step : ℕ) → value_at inputs slot step ≡ value_at others slot step)
-    → IsRunText basin policy extras reran number inputs end text → IsRunText basin policy extras reran number others other more → (end ≡ other) × (text ≡ more)
+    → IsRunText basin policy extras reran number inputs end text → IsRunText basin policy extras reran number others other more
+    → (end ≡ other) × (text ≡ more)
 one_text one_run basin policy extras reran number inputs others end other text more same left right =
     let given = same_to inputs others same (length (all_slots basin.objects)) basin.control.stamps.count in
     let log = one_run basin policy (givens basin others) left.log right.log (subst (λ xs. IsRun basin policy xs left.log) given left.run) right.run in
@@ -60,7 +64,8 @@ same_picked basin policy rule old (e ∷ es) (f ∷ fs) x y l m u v =
     let same : f ≡ e = same_Some _ _ (sym m.0 ∙ l.0) in
     same_picked basin policy rule (e ∷ old) es fs x y l.1 (subst (λ z. LeadsPicked basin policy rule (z ∷ old) fs y) same m.1) u v
 
-one_picked : (basin : Draft) (policy : Policy) (rule : Picking) (inputs : List (Cell × ℤ)) (one other : Log) → IsPickedRun basin policy rule inputs one
+one_picked : (basin : Draft) (policy : Policy) (rule : Picking) (inputs : List (Cell × ℤ)) (one other : Log)
+    → IsPickedRun basin policy rule inputs one
     → IsPickedRun basin policy rule inputs other → one ≡ other
 one_picked basin policy rule inputs one other r s =
     same_picked basin policy rule (placed [] inputs) r.events s.events one other r.leads s.leads
@@ -68,7 +73,8 @@ one_picked basin policy rule inputs one other r s =
     (none_follows basin policy other (picked rule other (waiting basin other)) (standing other) s.end)
 
 -- so the text is one in each order of dispatches
-pub one_simulated : ((basin : Draft) (policy : Policy) (inputs : List (Cell × ℤ)) (log other : Log) → IsRun basin policy inputs log → IsRun basin policy inputs other → log ≡ other)
+pub one_simulated : ((basin : Draft) (policy : Policy) (inputs : List (Cell × ℤ)) (log other : Log) → IsRun basin policy inputs log
+    → IsRun basin policy inputs other → log ≡ other)
     → (order : Order) (basin : Draft) (extras : Extras) (number : ℕ) (inputs others : Inputs) (end other : RunEnd) (text more : List ℕ)
     → ((slot step : ℕ) → value_at inputs slot step ≡ value_at others slot step)
     → IsSimulated order basin extras number inputs end text → IsSimulated order basin extras number others other more → (end ≡ other) × (text ≡ more)
@@ -84,7 +90,8 @@ one_simulated one_run Newest basin extras number inputs others end other text mo
 pub text_is_run : ((basin : Draft) (batch : ℕ) (log : Log) (run : Run) (reran : Option (List StepNo)) (flags trace : Bool)
     → IsRunOf basin log run → (IsTrue trace → IsSome run.trace)
     → whole_of basin batch (outcome_of run) reran flags trace ≡ whole_of basin batch (outcome_by basin log) reran flags trace)
-    → (basin : Draft) (policy : Policy) (extras : Extras) (reran : Option (List StepNo)) (number : ℕ) (inputs : Inputs) (run : Run) (text : List ℕ) → ComesTo basin policy inputs run
+    → (basin : Draft) (policy : Policy) (extras : Extras) (reran : Option (List StepNo)) (number : ℕ) (inputs : Inputs) (run : Run) (text : List ℕ)
+    → ComesTo basin policy inputs run
     → (IsTrue extras.trace → IsSome run.trace) → text ≡ whole_of basin number (outcome_of run) reran extras.flags extras.trace
     → IsRunText basin policy extras reran number inputs run.end text
 text_is_run texts basin policy extras reran number inputs run text comes kept is = record {

@@ -1,5 +1,7 @@
 -- A call that wrote its run, or was refused, keeps the promise.
-use Rattle.rw_top.proofs.Common.{AskForCommand, Call, Cause, Command, Fault, FilesRead, IsTextOf, Job, List, None, Promise, Refusal, RefusedCommand, RefusedWords, RunEnd, Settled, Some, WasRefused, WritesAll, Wrote, arith, inl, inr, status_of, status_of_end, ℕ, ◌∙◌, ◌≡◌, ◌≤◌}
+use Rattle.rw_top.proofs.Common.{AskForCommand, Call, Cause, Command, Fault, FilesRead, IsTextOf, Job, List, None, Promise, Refusal, RefusedCommand}
+use Rattle.rw_top.proofs.Common.{RefusedWords, RunEnd, Settled, Some, WasRefused, WritesAll, Wrote, arith, inl, inr, status_of, status_of_end, ℕ, ◌∙◌}
+use Rattle.rw_top.proofs.Common.{◌≡◌, ◌≤◌}
 use Rattle.rw_words.specs.declared.job.Job.TheVariants.{Simulate, Check, Compile, Run, Why, Sample}
 use Rattle.rw_top.specs.declared.refusal.Refusal.TheVariants.{Words, NoMemory}
 use Rattle.rw_top.specs.Promise.{UnreadWords}
@@ -13,7 +15,8 @@ at_most_1 : (end : RunEnd) → status_of_end end ≤ 1
 at_most_1 Settled = omega arith
 at_most_1 (Fault why) = omega arith
 
-status_at_most_1 : (job : Job) (extras : Extras) (files : FilesRead) (status : ℕ) (texts : List (List ℕ)) → IsTextOf job extras files status texts → status ≤ 1
+status_at_most_1 : (job : Job) (extras : Extras) (files : FilesRead) (status : ℕ) (texts : List (List ℕ)) → IsTextOf job extras files status texts
+    → status ≤ 1
 status_at_most_1 Simulate extras files status texts is = let most = at_most_1 is.0 in omega (arith, most, is.1)
 status_at_most_1 Check extras files status texts is = omega (arith, is.0)
 status_at_most_1 Compile extras files status texts is = omega (arith, is.0)

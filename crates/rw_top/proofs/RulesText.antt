@@ -34,7 +34,8 @@ types_of (Ok types) is = (types, refl)
 types_of (Err why) is = absurd cc
 
 -- a run by a policy, as one by another that has it too
-by_other : (basin : Draft) (one other : Policy) (extras : Extras) (reran : Option (List StepNo)) (number : ℕ) (inputs : Inputs) (end : RunEnd) (text : List ℕ)
+by_other : (basin : Draft) (one other : Policy) (extras : Extras) (reran : Option (List StepNo)) (number : ℕ) (inputs : Inputs) (end : RunEnd)
+    (text : List ℕ)
     → ((log : Log) → IsRun basin one (givens basin inputs) log → IsRun basin other (givens basin inputs) log)
     → IsRunText basin one extras reran number inputs end text → IsRunText basin other extras reran number inputs end text
 by_other basin one other extras reran number inputs end text has is =
@@ -46,8 +47,10 @@ none_alike basin blocks none =
     subst (λ bs. FireAlike (policy_of_code basin bs) no_rules) (sym none)
     (record { rules = refl; same = λ rule step values is. absurd (omega (arith, is.first, is.last)) })
 
-pub without_rules : ((basin : Draft) (one other : Policy) (inputs : List (Cell × ℤ)) (log : Log) → FireAlike one other → IsRun basin one inputs log → IsRun basin other inputs log)
-    → (basin : Draft) (blocks : List Block) (extras : Extras) (reran : Option (List StepNo)) (number : ℕ) (inputs : Inputs) (end : RunEnd) (text : List ℕ) → blocks ≡ []
+pub without_rules : ((basin : Draft) (one other : Policy) (inputs : List (Cell × ℤ)) (log : Log) → FireAlike one other → IsRun basin one inputs log
+    → IsRun basin other inputs log)
+    → (basin : Draft) (blocks : List Block) (extras : Extras) (reran : Option (List StepNo)) (number : ℕ) (inputs : Inputs) (end : RunEnd)
+    (text : List ℕ) → blocks ≡ []
     → IsRunText basin (policy_of_code basin blocks) extras reran number inputs end text → IsRunText basin no_rules extras reran number inputs end text
 without_rules same_runs basin blocks extras reran number inputs end text none is =
     by_other basin (policy_of_code basin blocks) no_rules extras reran number inputs end text
@@ -67,8 +70,10 @@ by_code basin code inputs run accepted firings comes = record {
 -- by a ruleset
 pub by_ruleset : (basin : Draft) (rules : List Declared) (blocks : List Block) (inputs : Inputs) (run : Run)
     → blocks ≡ translate rules → AreAccepted basin (translate rules) (code_budgets_of rules)
-    → ((log : Log) → IsRun basin (policy_of_code basin (translate rules)) (givens basin inputs) log → IsRun basin (policy_of_rules basin rules) (givens basin inputs) log)
-    → ((log : Log) → IsRun basin (policy_of_rules basin rules) (givens basin inputs) log → AreVerified basin (translate rules) (code_budgets_of rules) log)
+    → ((log : Log) → IsRun basin (policy_of_code basin (translate rules)) (givens basin inputs) log
+    → IsRun basin (policy_of_rules basin rules) (givens basin inputs) log)
+    → ((log : Log) → IsRun basin (policy_of_rules basin rules) (givens basin inputs) log
+    → AreVerified basin (translate rules) (code_budgets_of rules) log)
     → ComesTo basin (policy_of_code basin blocks) inputs run → ComesBy basin (Ruleset rules) inputs run
 by_ruleset basin rules blocks inputs run same accepted means firings comes =
     let its : ComesTo basin (policy_of_code basin (translate rules)) inputs run =
@@ -97,15 +102,18 @@ code_of_ruleset basin rules code same accepted means firings = record {
 -- what the law says of the text of a run, by its log
 abbrev pub TextsOfRuns : Type 0
 TextsOfRuns = (basin : Draft) (batch : ℕ) (log : Log) (run : Run) (reran : Option (List StepNo)) (flags trace : Bool) → IsRunOf basin log run
-    → (IsTrue trace → IsSome run.trace) → whole_of basin batch (outcome_of run) reran flags trace ≡ whole_of basin batch (outcome_by basin log) reran flags trace
+    → (IsTrue trace → IsSome run.trace) → whole_of basin batch (outcome_of run) reran flags trace
+    ≡ whole_of basin batch (outcome_by basin log) reran flags trace
 
 -- what a sheet tells is of its basin
 pub of_basin : (own basin : Draft) (number : ℕ) (run : Run) (reran : Option (List StepNo)) (extras : Extras) (text : List ℕ) → own ≡ basin
-    → text ≡ whole_of own number (outcome_of run) reran extras.flags extras.trace → text ≡ whole_of basin number (outcome_of run) reran extras.flags extras.trace
+    → text ≡ whole_of own number (outcome_of run) reran extras.flags extras.trace
+    → text ≡ whole_of basin number (outcome_of run) reran extras.flags extras.trace
 of_basin own basin number run reran extras text same is = is ∙ ap (λ b. whole_of b number (outcome_of run) reran extras.flags extras.trace) same
 
 -- the section of what the run comes to, with the timesteps that were run again
-pub section_by : TextsOfRuns → (basin : Draft) (policy : Rules) (extras : Extras) (reran : Option (List StepNo)) (number : ℕ) (given : GivenInputs) (run : Run) (text : List ℕ)
+pub section_by : TextsOfRuns → (basin : Draft) (policy : Rules) (extras : Extras) (reran : Option (List StepNo)) (number : ℕ) (given : GivenInputs)
+    (run : Run) (text : List ℕ)
     → (comes : ComesBy basin policy given.inputs run) → (IsTrue extras.trace → IsSome run.trace)
     → IsRerun basin (policy_in_run basin policy) extras.reuse given comes.log reran
     → text ≡ whole_of basin number (outcome_of run) reran extras.flags extras.trace → IsRulesText basin policy extras number given run.end text
@@ -122,5 +130,6 @@ section_by texts basin policy extras reran number given run text comes kept agai
 }
 
 -- none are told where timesteps aren't reused
-pub untold : (basin : Draft) (policy : Policy) (reuse : Bool) (given : GivenInputs) (log : Log) → reuse ≡ false → IsRerun basin policy reuse given log None
+pub untold : (basin : Draft) (policy : Policy) (reuse : Bool) (given : GivenInputs) (log : Log) → reuse ≡ false
+    → IsRerun basin policy reuse given log None
 untold basin policy reuse given log plain = subst (λ r. IsRerun basin policy r given log None) (sym plain) refl

@@ -1,5 +1,7 @@
 -- The files of the sample, and the line on its run.
-use Rattle.rw_top.proofs.Common.{Command, Declared, File, FilesRead, Holds, IsSomeAnd, Job, List, None, Ok, Option, Reads, ReadsInputs, ReadsModel, ReadsPolicy, Some, WasRead, ap, false, length, model_of, option_map, place_among, files_of, refl, reads_code, subst, sym, takes_code, ℕ, ◌∙◌, ◌∷◌, [], ◌≡◌, ◌≤◌}
+use Rattle.rw_top.proofs.Common.{Command, Declared, File, FilesRead, Holds, IsSomeAnd, Job, List, None, Ok, Option, Reads, ReadsInputs, ReadsModel}
+use Rattle.rw_top.proofs.Common.{ReadsPolicy, Some, WasRead, ap, false, length, model_of, option_map, place_among, files_of, refl, reads_code, subst}
+use Rattle.rw_top.proofs.Common.{sym, takes_code, ℕ, ◌∙◌, ◌∷◌, [], ◌≡◌, ◌≤◌}
 use Rattle.rw_base.proofs.Common.{Bool, IsSome, arith, ◌&&◌}
 use Rattle.rw_inputs.specs.Inputs.{Inputs}
 use Rattle.rw_model.proofs.Common.{Draft}
@@ -44,13 +46,15 @@ model_of_sample command holds basin seed job reads =
 pub ruleset_of_sample : (command : Command) (holds : Holds) (basin : Draft) (rules : List Declared) (seed : ℕ) → command.job ≡ Sample seed
     → ReadsPolicy command holds basin (Ruleset rules) → IsRulesetOf basin sample_rules rules
 ruleset_of_sample command holds basin rules seed job reads =
-    let text : reads.text ≡ sample_rules = text_made command holds PolicyFile reads.text seed (ap (source_by PolicyFile command.paths) job) reads.read in
+    let text : reads.text ≡ sample_rules =
+    text_made command holds PolicyFile reads.text seed (ap (source_by PolicyFile command.paths) job) reads.read in
     subst (λ t. IsRulesetOf basin t rules) text reads.is.1
 
 pub inputs_of_sample : (command : Command) (holds : Holds) (basin : Draft) (inputs : Inputs) (seed : ℕ) → command.job ≡ Sample seed
     → ReadsInputs command holds basin inputs → Reads basin (sample_inputs seed) inputs
 inputs_of_sample command holds basin inputs seed job reads =
-    let text : reads.text ≡ sample_inputs seed = text_made command holds InputsFile reads.text seed (ap (source_by InputsFile command.paths) job) reads.read in
+    let text : reads.text ≡ sample_inputs seed =
+    text_made command holds InputsFile reads.text seed (ap (source_by InputsFile command.paths) job) reads.read in
     subst (λ t. Reads basin t inputs) text reads.are
 
 -- the text of a policy is no longer than a file may be

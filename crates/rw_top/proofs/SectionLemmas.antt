@@ -1,10 +1,13 @@
 -- Sections that are written one behind another.
-use Rattle.rw_top.proofs.Common.{Change, Err, FilesRead, GrowsBy, GrowsBy-trans, IsSomeAnd, Job, List, MatchResult, None, Ok, Option, PrefixGrew, PrefixGrew-right, Refusal, Result, RunEnd, SinkView, Some, [], ap, change, inr, length, refl, status_of_end, subst, sym, ℕ, ◌++◌, ◌+◌, ◌∙◌, ◌∷◌, ◌≡◌, ◌≤◌}
+use Rattle.rw_top.proofs.Common.{Change, Err, FilesRead, GrowsBy, GrowsBy-trans, IsSomeAnd, Job, List, MatchResult, None, Ok, Option, PrefixGrew}
+use Rattle.rw_top.proofs.Common.{PrefixGrew-right, Refusal, Result, RunEnd, SinkView, Some, [], ap, change, inr, length, refl, status_of_end, subst}
+use Rattle.rw_top.proofs.Common.{sym, ℕ, ◌++◌, ◌+◌, ◌∙◌, ◌∷◌, ◌≡◌, ◌≤◌}
 use Rattle.rw_base.proofs.Common.{All, append-nil, append_assoc, arith}
 use Rattle.std.proofs.lemmas.List.Elements.{All-head, All-tail}
 use Rattle.rw_inputs.specs.Edits.{Batch, after_batch}
 use Rattle.rw_inputs.specs.Inputs.{Inputs, value_at}
-use Rattle.rw_top.specs.Sections.{AppendsAll, AppendsFirst, AppendsOne, AreFirstSections, AreSections, StopsAmong, StopsAtOne, GivenInputs, edited_given, first_given, joined_sections}
+use Rattle.rw_top.specs.Sections.{AppendsAll, AppendsFirst, AppendsOne, AreFirstSections, AreSections, StopsAmong, StopsAtOne, GivenInputs}
+use Rattle.rw_top.specs.Sections.{edited_given, first_given, joined_sections}
 use Rattle.rw_top.specs.Policy.{PolicyFile as Rules}
 use Rattle.rw_top.specs.RunText.{CountsSections, IsPlainText, IsRulesText}
 use Rattle.rw_top.specs.Written.{Appends, AppendsFront, CountsOfFiles, IsFrontOf, IsOne, OfBoth, Stops, batches_in}
@@ -93,20 +96,24 @@ module _ (IsSection : ℕ → GivenInputs → RunEnd → List ℕ → Type 0) wh
     stops_later why stops = absurd stops
 
     pub goes_on : (result : Result RunEnd Refusal)
-        → MatchResult result (AppendsAll IsSection (number + 1) (edited_given given edited) batches (change now after)) (StopsAmong IsSection (number + 1) (edited_given given edited) batches (change now after))
-        → MatchResult result (AppendsAll IsSection number given (batch ∷ batches) (change old after)) (StopsAmong IsSection number given (batch ∷ batches) (change old after))
+        → MatchResult result (AppendsAll IsSection (number + 1) (edited_given given edited) batches (change now after))
+        (StopsAmong IsSection (number + 1) (edited_given given edited) batches (change now after))
+        → MatchResult result (AppendsAll IsSection number given (batch ∷ batches) (change old after))
+        (StopsAmong IsSection number given (batch ∷ batches) (change old after))
     goes_on (Ok last) more = more_sections last more
     goes_on (Err why) stops = stops_later why stops
 
 -- ---- of a job
 
 -- one text that was made
-pub made_whole : (job : Job) (extras : Extras) (files : FilesRead) (out : Change SinkView) (status : ℕ) (text : List ℕ) → IsOne job extras files status text
+pub made_whole : (job : Job) (extras : Extras) (files : FilesRead) (out : Change SinkView) (status : ℕ) (text : List ℕ)
+    → IsOne job extras files status text
     → GrowsBy out.before.contents out.after.contents text → Appends job extras files out status
 made_whole job extras files out status text one grew =
     record { texts = text ∷ []; is = one.0; grew = grown out.before.contents out.after.contents text grew }
 
-pub made_front : (job : Job) (extras : Extras) (files : FilesRead) (out : Change SinkView) (status : ℕ) (text : List ℕ) → IsOne job extras files status text
+pub made_front : (job : Job) (extras : Extras) (files : FilesRead) (out : Change SinkView) (status : ℕ) (text : List ℕ)
+    → IsOne job extras files status text
     → PrefixGrew out.before.contents out.after.contents text → AppendsFront job extras files out
 made_front job extras files out status text one grew = record { done = []; text = text; is = one.1; grew = grew }
 
@@ -114,12 +121,18 @@ made_front job extras files out status text one grew = record { done = []; text 
 pub one_run : (extras : Extras) (files : FilesRead) (inputs : Inputs) (end : RunEnd) (status : ℕ) (text : List ℕ) → files.inputs ≡ Some inputs
     → status ≡ status_of_end end → IsPlainText files.basin extras 0 (first_given inputs) end text → IsOne Simulate extras files status text
 one_run extras files inputs end status text there same is = (
-  (end, same, subst (λ o. IsSomeAnd o (λ i. AreSections (IsPlainText files.basin extras) 0 (first_given i) [] end (text ∷ []))) (sym there) (text, refl, is)),
+  (
+    end,
+    same,
+    subst (λ o. IsSomeAnd o (λ i. AreSections (IsPlainText files.basin extras) 0 (first_given i) [] end (text ∷ []))) (sym there)
+        (text, refl, is),
+  ),
   subst (λ o. IsSomeAnd o (λ i. AreFirstSections (IsPlainText files.basin extras) 0 (first_given i) [] (text ∷ []))) (sym there) (end, is),
 )
 
 -- runs by rules
-module _ (files : FilesRead) (policy : Rules) (inputs : Inputs) (has_policy : files.policy ≡ Some policy) (has_inputs : files.inputs ≡ Some inputs) where
+module _ (files : FilesRead) (policy : Rules) (inputs : Inputs) (has_policy : files.policy ≡ Some policy)
+    (has_inputs : files.inputs ≡ Some inputs) where
   with_both : (P : Rules → Inputs → Type 0) → P policy inputs → OfBoth files P
   with_both P is =
       subst (λ o. IsSomeAnd o (λ p. IsSomeAnd files.inputs (P p))) (sym has_policy) (subst (λ o. IsSomeAnd o (P policy)) (sym has_inputs) is)
@@ -142,7 +155,8 @@ module _ (files : FilesRead) (policy : Rules) (inputs : Inputs) (has_policy : fi
 
     pub rules_stopped : (why : Refusal) → StopsAmong (IsRulesText files.basin policy extras) 0 (first_given inputs) (batches_in files) out why
         → Stops Run extras files out why
-    rules_stopped NoMemory stops = inr (record { runs = refl; texts = stops.texts; are = front stops.texts stops.are; fewer = stops.fewer; grew = stops.grew })
+    rules_stopped NoMemory stops =
+        inr (record { runs = refl; texts = stops.texts; are = front stops.texts stops.are; fewer = stops.fewer; grew = stops.grew })
     rules_stopped CannotWrite stops =
         (record { done = stops.done; text = stops.text; is = front (stops.done ++ stops.text ∷ []) stops.are; grew = stops.grew }, stops.rose)
     rules_stopped why stops = absurd stops

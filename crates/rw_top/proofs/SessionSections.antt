@@ -1,5 +1,6 @@
 -- The sections of a session's runs.
-use Rattle.rw_top.proofs.Common.{Change, IfOk, IsSome, List, Err, None, Ok, Option, Result, RunEnd, Refusal, SinkView, Some, [], change, false, if◌then◌else◌, length, nat_tests, refl, subst, sym, true, ℕ, ◌+◌, ◌==◌, ◌∷◌, ◌≡◌}
+use Rattle.rw_top.proofs.Common.{Change, IfOk, IsSome, List, Err, None, Ok, Option, Result, RunEnd, Refusal, SinkView, Some, [], change, false}
+use Rattle.rw_top.proofs.Common.{if◌then◌else◌, length, nat_tests, refl, subst, sym, true, ℕ, ◌+◌, ◌==◌, ◌∷◌, ◌≡◌}
 use Rattle.rw_base.proofs.Common.{Bool, IsTrue, arith, length-map}
 use Rattle.rw_base.specs.declared.number.StepNo.{StepNo}
 use Rattle.rw_engine.specs.Passing.{ComesTo}
@@ -43,11 +44,14 @@ values_from basin code given batch old new same applies = subst (λ i. value_at 
 
 module _ (basin : Draft) (policy : Rules) (code : Accepted) (means : IsCodeOf basin policy code) where
   -- a session that was started
-  pub first_next : (inputs : Inputs) (session : Session) → IsStarted basin code inputs session → IsNextSection basin policy 0 (first_given inputs) session
+  pub first_next : (inputs : Inputs) (session : Session) → IsStarted basin code inputs session
+      → IsNextSection basin policy 0 (first_given inputs) session
   first_next inputs session started = record {
     inputs_are = sym started.inputs_are;
     log = started.is.log;
-    run = means.runs inputs started.is.log (subst (λ i. IsRun basin (policy_in basin code) (givens basin i) started.is.log) started.inputs_are started.is.whole);
+    run =
+        means.runs inputs started.is.log (subst (λ i. IsRun basin (policy_in basin code) (givens basin i) started.is.log) started.inputs_are
+        started.is.whole);
     rerun = refl;
     count = (numbers_of_steps session.reran, started.opened_steps, length_numbers session.reran);
   }
@@ -71,7 +75,8 @@ module _ (basin : Draft) (policy : Rules) (code : Accepted) (means : IsCodeOf ba
   -- the section of its run
   pub next_section : TextsOfRuns → (extras : Extras) (number : ℕ) (given : GivenInputs) (session : Session) (run : Run)
       (reran : Option (List StepNo)) (text : List ℕ)
-      → extras.reuse ≡ true → ComesTo basin (policy_in basin code) session.inputs run → (IsTrue extras.trace → IsSome run.trace) → IsNextSection basin policy number given session
+      → extras.reuse ≡ true → ComesTo basin (policy_in basin code) session.inputs run → (IsTrue extras.trace → IsSome run.trace)
+      → IsNextSection basin policy number given session
       → reran ≡ told_of number session.reran → text ≡ whole_of basin number (outcome_of run) reran extras.flags extras.trace
       → IsRulesText basin policy extras number given run.end text
   next_section texts extras number given session run reran text reuses comes kept next told is =
@@ -107,10 +112,15 @@ module _ (basin : Draft) (policy : Rules) (extras : Extras) (number : ℕ) (give
       (one : AppendsOne (IsRulesText basin policy extras) number given (change old now) end)
       (values : value_at edited ≡ after_batch batch (value_at given.inputs)) (again before mid last : ℕ) (counted : mid ≡ before + again) where
     rest_counted : (result : Result RunEnd Refusal)
-        → IfOk result (λ end. (more : ℕ) × (last ≡ mid + more) × CountsAll (CountsRun basin (policy_in_run basin policy)) (edited_given given edited) rest (again + more))
-        → IfOk result (λ end. (more : ℕ) × (last ≡ before + more) × CountsAll (CountsRun basin (policy_in_run basin policy)) given (batch ∷ rest) (length session.reran + more))
-    rest_counted (Ok end) more =
-        (again + more.0, let all = more.1 in omega (arith, all, counted), (length session.reran, again + more.0, refl, counts, (edited, values, more.2)))
+        → IfOk result (λ end. (more : ℕ) × (last ≡ mid + more)
+        × CountsAll (CountsRun basin (policy_in_run basin policy)) (edited_given given edited) rest (again + more))
+        → IfOk result (λ end. (more : ℕ) × (last ≡ before + more)
+        × CountsAll (CountsRun basin (policy_in_run basin policy)) given (batch ∷ rest) (length session.reran + more))
+    rest_counted (Ok end) more = (
+      again + more.0,
+      let all = more.1 in omega (arith, all, counted),
+      (length session.reran, again + more.0, refl, counts, (edited, values, more.2)),
+    )
     rest_counted (Err why) more = tt
 
     pub writes_more : (result : Result RunEnd Refusal)
@@ -122,8 +132,11 @@ module _ (basin : Draft) (policy : Rules) (extras : Extras) (number : ℕ) (give
     }
 
 -- all of them
-pub all_counted : (basin : Draft) (policy : Rules) (inputs : Inputs) (batches : List Batch) (first before mid last : ℕ) (result : Result RunEnd Refusal) → mid ≡ before + first
-    → IfOk result (λ end. (rest : ℕ) × (last ≡ mid + rest) × CountsAll (CountsRun basin (policy_in_run basin policy)) (first_given inputs) batches (first + rest))
+pub all_counted : (basin : Draft) (policy : Rules) (inputs : Inputs) (batches : List Batch) (first before mid last : ℕ)
+    (result : Result RunEnd Refusal) → mid ≡ before + first
+    → IfOk result (λ end. (rest : ℕ) × (last ≡ mid + rest)
+    × CountsAll (CountsRun basin (policy_in_run basin policy)) (first_given inputs) batches (first + rest))
     → IfOk result (λ end. CountsSections basin policy inputs batches (change before last))
-all_counted basin policy inputs batches first before mid last (Ok end) counted all = (first + all.0, let rest = all.1 in omega (arith, rest, counted), all.2)
+all_counted basin policy inputs batches first before mid last (Ok end) counted all =
+    (first + all.0, let rest = all.1 in omega (arith, rest, counted), all.2)
 all_counted basin policy inputs batches first before mid last (Err why) counted all = tt

@@ -1,5 +1,10 @@
 -- What each status says of a call that keeps its promise.
-use Rattle.rw_top.proofs.Common.{AskOne, AskNothing, AskForCommand, BadEdits, BadInputs, BadModel, BadPolicy, AreRead, Call, Command, FailsToRead, Fault, File, FilesRead, FindsTooLong, GrowsBy, Holds, InputRefusal, IsRunText, IsSomeAnd, IsTextOf, Job, None, Option, ReadsInputs, ReadsPolicy, SaysAt, Some, List, LongFile, ModelRefusal, Promise, Reason, Refusal, RefusedCommand, RefusesInputs, RefusesModel, RefusesPolicy, Rose, RunEnd, Settled, WasFound, WasRefused, WritesFront, WroteCheck, WroteCode, WroteRun, [], ap, arith, inl, inr, reads_code, refl, status_by, status_of, status_of_end, takes_code, true, ℕ, ◌∙◌, ◌∷◌, ◌≡◌, ◌≢◌, ◌≤◌, ◌⊎◌}
+use Rattle.rw_top.proofs.Common.{AskOne, AskNothing, AskForCommand, BadEdits, BadInputs, BadModel, BadPolicy, AreRead, Call, Command, FailsToRead}
+use Rattle.rw_top.proofs.Common.{Fault, File, FilesRead, FindsTooLong, GrowsBy, Holds, InputRefusal, IsRunText, IsSomeAnd, IsTextOf, Job, None}
+use Rattle.rw_top.proofs.Common.{Option, ReadsInputs, ReadsPolicy, SaysAt, Some, List, LongFile, ModelRefusal, Promise, Reason, Refusal}
+use Rattle.rw_top.proofs.Common.{RefusedCommand, RefusesInputs, RefusesModel, RefusesPolicy, Rose, RunEnd, Settled, WasFound, WasRefused, WritesFront}
+use Rattle.rw_top.proofs.Common.{WroteCheck, WroteCode, WroteRun, [], ap, arith, inl, inr, reads_code, refl, status_by, status_of, status_of_end}
+use Rattle.rw_top.proofs.Common.{takes_code, true, ℕ, ◌∙◌, ◌∷◌, ◌≡◌, ◌≢◌, ◌≤◌, ◌⊎◌}
 use Rattle.rw_run.specs.Next.{no_rules}
 use Rattle.rw_run.specs.declared.fault.RunFault.{RunFault}
 use Rattle.rw_base.specs.declared.number.Cell.{Cell}
@@ -139,7 +144,8 @@ module _ (call : Call) (command : Command) (asked : AskForCommand call.words com
       let as_code : reads_code command its.text ≡ true = its.is.0 in
       absurd (one_kind _ as_code (ap (λ j. takes_code j && is_code its.text) job))
 
-  settled_by : (job : Job) → command.job ≡ job → IsTextOf job (extras_of command) files 0 texts → WroteRun call Settled ⊎ WroteRules call Settled ⊎ WroteWhy call Settled ⊎ WroteCheck call ⊎ WroteCode call ⊎ WroteSample call
+  settled_by : (job : Job) → command.job ≡ job → IsTextOf job (extras_of command) files 0 texts
+      → WroteRun call Settled ⊎ WroteRules call Settled ⊎ WroteWhy call Settled ⊎ WroteCheck call ⊎ WroteCode call ⊎ WroteSample call
   settled_by Simulate job is = inl (settles (WroteRun call) is.0 is.1 (wrote_run is.0 files.inputs read.inputs is.2))
   settled_by Check job is = inr (inr (inr (inl (wrote_check files.policy read.policy is.1))))
   settled_by Compile job is = inr (inr (inr (inr (inl (wrote_code job files.policy read.policy is.1)))))
@@ -154,7 +160,8 @@ module _ (call : Call) (command : Command) (asked : AskForCommand call.words com
   abbrev WroteFault : RunEnd → Type 0
   WroteFault end = WroteRun call end ⊎ WroteRules call end ⊎ WroteWhy call end
 
-  faulted_by : (job : Job) → IsTextOf job (extras_of command) files 1 texts → (why : RunFault) × (WroteRun call (Fault why) ⊎ WroteRules call (Fault why) ⊎ WroteWhy call (Fault why))
+  faulted_by : (job : Job) → IsTextOf job (extras_of command) files 1 texts
+      → (why : RunFault) × (WroteRun call (Fault why) ⊎ WroteRules call (Fault why) ⊎ WroteWhy call (Fault why))
   faulted_by Simulate is = faults WroteFault is.0 is.1 (inl (wrote_run is.0 files.inputs read.inputs is.2))
   faulted_by Run is = faults WroteFault is.0 is.1 (inr (inl (wrote_rules is.0 files.policy files.inputs read.policy read.inputs is.2)))
   faulted_by Why is =
@@ -163,13 +170,15 @@ module _ (call : Call) (command : Command) (asked : AskForCommand call.words com
   faulted_by Compile is = absurd (omega (arith, is.0))
   faulted_by (Sample seed) is = absurd (omega (arith, is.0))
 
-pub settled : (call : Call) → Promise call 0 → WroteRun call Settled ⊎ WroteRules call Settled ⊎ WroteWhy call Settled ⊎ WroteCheck call ⊎ WroteCode call ⊎ WroteSample call
+pub settled : (call : Call) → Promise call 0
+    → WroteRun call Settled ⊎ WroteRules call Settled ⊎ WroteWhy call Settled ⊎ WroteCheck call ⊎ WroteCode call ⊎ WroteSample call
 settled call promise =
     let wrote = promise.done (omega arith) in
     let appends = wrote.text.2 in
     settled_by call wrote.command wrote.asked wrote.text.0 wrote.text.1 appends.texts appends.grew wrote.command.job refl appends.is
 
-pub faulted : (call : Call) → Promise call 1 → (why : RunFault) × (WroteRun call (Fault why) ⊎ WroteRules call (Fault why) ⊎ WroteWhy call (Fault why))
+pub faulted : (call : Call) → Promise call 1
+    → (why : RunFault) × (WroteRun call (Fault why) ⊎ WroteRules call (Fault why) ⊎ WroteWhy call (Fault why))
 faulted call promise =
     let wrote = promise.done (omega arith) in
     let appends = wrote.text.2 in
@@ -277,13 +286,16 @@ module _ (call : Call) where
   long_file command reason is found = absurd (omega (arith, is))
 
   pub model : Promise call 6 → AskOne call.words (λ command. (why : ModelRefusal) × RefusesModel command call.shelf.before.holds why)
-  model promise = let there = reason_of_status 6 (omega arith) (omega arith) promise in (there.0, there.1, bad_model there.0 there.2.0 there.2.1 there.2.2)
+  model promise = let there =
+      reason_of_status 6 (omega arith) (omega arith) promise in (there.0, there.1, bad_model there.0 there.2.0 there.2.1 there.2.2)
 
   pub rules : Promise call 7 → AskOne call.words (λ command. (why : RulesRefusal) × RefusesPolicy command call.shelf.before.holds (BadRules why))
-  rules promise = let there = reason_of_status 7 (omega arith) (omega arith) promise in (there.0, there.1, bad_rules there.0 there.2.0 there.2.1 there.2.2)
+  rules promise = let there =
+      reason_of_status 7 (omega arith) (omega arith) promise in (there.0, there.1, bad_rules there.0 there.2.0 there.2.1 there.2.2)
 
   pub code : Promise call 9 → AskOne call.words (λ command. (why : BadCode) × RefusesPolicy command call.shelf.before.holds (BadBlocks why))
-  code promise = let there = reason_of_status 9 (omega arith) (omega arith) promise in (there.0, there.1, bad_code there.0 there.2.0 there.2.1 there.2.2)
+  code promise = let there =
+      reason_of_status 9 (omega arith) (omega arith) promise in (there.0, there.1, bad_code there.0 there.2.0 there.2.1 there.2.2)
 
   -- 8 is that of a row, or of a cell that isn't there
   abbrev RowOrCell : Command → Type 0
@@ -305,7 +317,8 @@ module _ (call : Call) where
   inputs promise = let refused = of_status 8 (omega arith) (omega arith) promise in row_or_cell refused.0 refused.1 refused.2
 
   pub too_long : Promise call 10 → AskOne call.words (λ command. (file : File) × FindsTooLong command call.shelf file)
-  too_long promise = let there = reason_of_status 10 (omega arith) (omega arith) promise in (there.0, there.1, long_file there.0 there.2.0 there.2.1 there.2.2)
+  too_long promise = let there =
+      reason_of_status 10 (omega arith) (omega arith) promise in (there.0, there.1, long_file there.0 there.2.0 there.2.1 there.2.2)
 
   pub sections : Promise call 5 → (call.out.after.contents ≡ call.out.before.contents)
       ⊎ AskOne call.words (λ command. WritesSections command call.shelf.before.holds call.out)

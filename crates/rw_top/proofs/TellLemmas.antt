@@ -1,5 +1,6 @@
 -- Parts of a line that are written one after another.
-use Rattle.rw_top.proofs.Common.{Bool, GrowsBy, GrowsBy-trans, List, MatchBool, PrefixGrew, PrefixGrew-left, PrefixGrew-right, Rose, SinkView, TellsLine, arith, change, false, inl, inr, length, subst, sym, take_all, true, ℕ, ◌++◌, ◌≤◌}
+use Rattle.rw_top.proofs.Common.{Bool, GrowsBy, GrowsBy-trans, List, MatchBool, PrefixGrew, PrefixGrew-left, PrefixGrew-right, Rose, SinkView}
+use Rattle.rw_top.proofs.Common.{TellsLine, arith, change, false, inl, inr, length, subst, sym, take_all, true, ℕ, ◌++◌, ◌≤◌}
 
 -- the first part was cut off
 pub tells_cut : (a b : SinkView) (xs ys : List ℕ) → PrefixGrew a.contents b.contents xs → Rose a.faults b.faults
@@ -11,7 +12,8 @@ pub tells_on : (a b c : SinkView) (xs ys : List ℕ) → a.faults ≤ b.faults �
     → TellsLine (change b c) ys → TellsLine (change a c) (xs ++ ys)
 tells_on a b c xs ys le h told = record {
   front = PrefixGrew-right a.contents b.contents c.contents xs ys h told.front;
-  whole = elim told.whole [ inl rose ↦ inl (omega (arith, le, rose)) | inr grown ↦ inr (GrowsBy-trans a.contents b.contents c.contents xs ys h grown) ];
+  whole =
+      elim told.whole [ inl rose ↦ inl (omega (arith, le, rose)) | inr grown ↦ inr (GrowsBy-trans a.contents b.contents c.contents xs ys h grown) ];
 }
 
 -- the last part

@@ -1,5 +1,6 @@
 -- The paths of a command, one for each name.
-use Rattle.rw_base.proofs.Common.{Bool, List, None, Option, Some, [], ap, append_assoc, codes, false, if◌then◌else◌, length, option_and_then, option_map, list_any, refl, same_Some, subst, suc, sym, true, ◌++◌, ◌∙◌, ◌∷◌, ◌≡◌}
+use Rattle.rw_base.proofs.Common.{Bool, List, None, Option, Some, [], ap, append_assoc, codes, false, if◌then◌else◌, length, option_and_then}
+use Rattle.rw_base.proofs.Common.{option_map, list_any, refl, same_Some, subst, suc, sym, true, ◌++◌, ◌∙◌, ◌∷◌, ◌≡◌}
 use Rattle.std.specs.Option.{option_map_or}
 use Rattle.clap.specs.Words.{Row, first_of}
 use Rattle.rw_words.specs.Command.{Command, command_in, command_named, asked_command, command_with, is_empty, paths_in, seed_in, taken_words}

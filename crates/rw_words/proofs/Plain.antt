@@ -1,10 +1,13 @@
 -- Words that ask for a command with no option.
-use Rattle.rw_base.proofs.Common.{Bool, List, None, Option, Some, [], ap, append-nil, append_assoc, arith, false, find, is_some, if◌then◌else◌, length, list_any, ne_eqb, option_and_then, option_map, refl, suc, sym, true, unwrap_or, ℕ, ◌++◌, ◌+◌, ◌==◌, ◌||◌, ◌∙◌, ◌∷◌, ◌≡◌, ◌≤◌}
+use Rattle.rw_base.proofs.Common.{Bool, List, None, Option, Some, [], ap, append-nil, append_assoc, arith, false, find, is_some, if◌then◌else◌}
+use Rattle.rw_base.proofs.Common.{length, list_any, ne_eqb, option_and_then, option_map, refl, suc, sym, true, unwrap_or, ℕ, ◌++◌, ◌+◌, ◌==◌, ◌||◌}
+use Rattle.rw_base.proofs.Common.{◌∙◌, ◌∷◌, ◌≡◌, ◌≤◌}
 use Rattle.std.specs.Prelude.{fold, ⊤}
 use Rattle.clap.specs.Faults.{check_fault, defaults_fault, entered_fault, fault_of, level_fault, settle_fault, step_fault, walk_fault}
 use Rattle.clap.specs.Kinds.{Kinds, or_else}
 use Rattle.clap.specs.Simple.{Shape, built, entered, label_of, names_of, new_shape, subcommand_of}
-use Rattle.clap.specs.Walk.{Held, Names, Row, Rule, Walk, answers_to, arg_by_index, finished, idle, nothing_held, settled, to_positional, value, walk, walk_from, walked}
+use Rattle.clap.specs.Walk.{Held, Names, Row, Rule, Walk, answers_to, arg_by_index, finished, idle, nothing_held, settled, to_positional, value, walk}
+use Rattle.clap.specs.Walk.{walk_from, walked}
 use Rattle.rw_words.specs.Command.{Command, command_in, command_named, asked_command, is_empty, taken_words}
 use Rattle.rw_words.specs.Job.{Text, job_name}
 use Rattle.rw_words.specs.Plain.{IsPath, PlainWords, of_cell, plain_command}
@@ -58,7 +61,8 @@ path_fault : (s : Shape) (held : Held) (position c : ℕ) (rest : Text) (more : 
     ≡ or_else (step_fault s position held value) (walk_fault s [] (placed s.rules held position (c ∷ rest)) more)
 unfolding walk_fault
 path_fault s held position c rest more no_option =
-    rw (no_option, no_option) (ap (λ (w : Walk). or_else (step_fault s position held value) (walk_fault s [] w more)) (path_walked s.rules held position c rest no_option))
+    rw (no_option, no_option) (ap (λ (w : Walk). or_else (step_fault s position held value) (walk_fault s [] w more))
+    (path_walked s.rules held position c rest no_option))
 
 no_more_fault : (s : Shape) (w : Walk) → walk_fault s [] w [] ≡ []
 unfolding walk_fault
@@ -210,7 +214,8 @@ asks job paths command same are fit last named =
     ap (λ (kinds : Kinds). or_else kinds (last_fault s false (walk s.rules [] nothing_held paths))) (none_wrong s nothing_held 1 paths are fit)
     ∙ ap (last_fault s false) ends ∙ last in
     let fault : fault_of program words ≡ [] =
-    ap (λ (w : Walk). level_fault top names nothing_held words (is_some (entered (built program) w.stopped)) (entered_fault (built program) w.stopped)) (top_walk job paths)
+    ap (λ (w : Walk). level_fault top names nothing_held words (is_some (entered (built program) w.stopped))
+    (entered_fault (built program) w.stopped)) (top_walk job paths)
     ∙ own job paths ∙ ap (λ (kinds : Kinds). or_else kinds []) below in
     let found : subcommand_of program words ≡ found_by job (end s nothing_held 1 paths) =
     ap (λ (w : Walk). entered (built program) w.stopped) (top_walk job paths) ∙ entered_is job paths ∙ ap (found_by job) ends in
@@ -244,7 +249,8 @@ sample_last seed p = refl
 
 -- what is found of a word that spells the seed
 sample_found : (seed : ℕ) (p : Text) → seed_of_text p ≡ Some seed
-    → option_and_then command_named (found_by (Sample seed) (end (shape_of_job (Sample seed)) nothing_held 1 (p ∷ []))) ≡ Some (plain_command (Sample seed) [])
+    → option_and_then command_named (found_by (Sample seed) (end (shape_of_job (Sample seed)) nothing_held 1 (p ∷ [])))
+    ≡ Some (plain_command (Sample seed) [])
 sample_found seed p is =
     let rows = finished (shape_of_job (Sample seed)).rules (end (shape_of_job (Sample seed)) nothing_held 1 (p ∷ [])).held in
     ap (λ (found : Option ℕ). option_and_then (command_in rows) (option_map (λ number. Sample number) found)) is
@@ -254,13 +260,23 @@ two p q first second = path_more p (q ∷ []) first (path_more q [] second tt)
 
 pub plain_words : PlainWords
 plain_words = record {
-  run = λ p q r first second third. asks Run (p ∷ q ∷ r ∷ []) (plain_command Run (p ∷ q ∷ r ∷ [])) refl (path_more p (q ∷ r ∷ []) first (two q r second third))
+  run =
+      λ p q r first second third. asks Run (p ∷ q ∷ r ∷ []) (plain_command Run (p ∷ q ∷ r ∷ [])) refl
+      (path_more p (q ∷ r ∷ []) first (two q r second third))
       (refl, refl, (refl, refl, (refl, refl, tt))) (run_last p q r) refl;
-  simulate = λ p q first second. asks Simulate (p ∷ q ∷ []) (plain_command Simulate (p ∷ q ∷ [])) refl (two p q first second) (refl, refl, (refl, refl, tt)) (simulate_last p q) refl;
-  check = λ p q first second. asks Check (p ∷ q ∷ []) (plain_command Check (p ∷ q ∷ [])) refl (two p q first second) (refl, refl, (refl, refl, tt)) (check_last p q) refl;
-  compile = λ p q first second. asks Compile (p ∷ q ∷ []) (plain_command Compile (p ∷ q ∷ [])) refl (two p q first second) (refl, refl, (refl, refl, tt)) (compile_last p q) refl;
+  simulate =
+      λ p q first second. asks Simulate (p ∷ q ∷ []) (plain_command Simulate (p ∷ q ∷ [])) refl (two p q first second) (refl, refl, (refl, refl, tt))
+      (simulate_last p q) refl;
+  check =
+      λ p q first second. asks Check (p ∷ q ∷ []) (plain_command Check (p ∷ q ∷ [])) refl (two p q first second) (refl, refl, (refl, refl, tt))
+      (check_last p q) refl;
+  compile =
+      λ p q first second. asks Compile (p ∷ q ∷ []) (plain_command Compile (p ∷ q ∷ [])) refl (two p q first second) (refl, refl, (refl, refl, tt))
+      (compile_last p q) refl;
   why = λ p q r s t first second third fourth fifth. asks Why (p ∷ q ∷ r ∷ s ∷ t ∷ []) (of_cell s t (plain_command Why (p ∷ q ∷ r ∷ []))) refl
       (path_more p (q ∷ r ∷ s ∷ t ∷ []) first (path_more q (r ∷ s ∷ t ∷ []) second (path_more r (s ∷ t ∷ []) third (two s t fourth fifth))))
       (refl, refl, (refl, refl, (refl, refl, (refl, refl, (refl, refl, tt))))) (why_last p q r s t) refl;
-  sample = λ p seed first is. asks (Sample seed) (p ∷ []) (plain_command (Sample seed) []) refl (path_more p [] first tt) (refl, refl, tt) (sample_last seed p) (sample_found seed p is);
+  sample =
+      λ p seed first is. asks (Sample seed) (p ∷ []) (plain_command (Sample seed) []) refl (path_more p [] first tt) (refl, refl, tt)
+      (sample_last seed p) (sample_found seed p is);
 }

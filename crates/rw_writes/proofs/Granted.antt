@@ -1,5 +1,6 @@
 -- What holds of all puts that are asked for holds of those that are written.
-use Rattle.rw_base.proofs.Common.{◌≡◌, ℕ, ◌+◌, ◌≤◌, Bool, true, false, nat_le, List, [], ◌∷◌, All, All-cons, All-filter, All-head, All-nil, All-tail, arith, cond, if◌then◌else◌, nat_tests, refl}
+use Rattle.rw_base.proofs.Common.{◌≡◌, ℕ, ◌+◌, ◌≤◌, Bool, true, false, nat_le, List, [], ◌∷◌, All, All-cons, All-filter, All-head, All-nil, All-tail}
+use Rattle.rw_base.proofs.Common.{arith, cond, if◌then◌else◌, nat_tests, refl}
 use Rattle.rw_model.proofs.Common.{Draft}
 use Rattle.rw_series.specs.declared.fire.RulePut.{RulePut}
 use Rattle.rw_run.proofs.Common.{Asked, Cells, end_in, is_written}
@@ -18,7 +19,8 @@ one_asked basin rule step put rest true first can passes writes =
     (record { cell = record { slot = can.slot; first = omega (arith, first); last = grind (arith, nat_tests, passes) }; within = can.within }) writes
 one_asked basin rule step put rest false first can passes writes = writes
 
-all_asked : (basin : Draft) (rule step : ℕ) (puts : List RulePut) → 1 ≤ step → All (CanAsk basin) puts → AreWrites basin (asked_of_rule basin rule step puts)
+all_asked : (basin : Draft) (rule step : ℕ) (puts : List RulePut) → 1 ≤ step → All (CanAsk basin) puts
+    → AreWrites basin (asked_of_rule basin rule step puts)
 all_asked basin rule step [] first can = All-nil (CanWrite basin)
 all_asked basin rule step (put ∷ puts) first can =
     one_asked basin rule step put (asked_of_rule basin rule step puts) (nat_le (step + put.ahead) basin.control.stamps.count) first
@@ -39,4 +41,5 @@ last_write basin P (put ∷ puts) all = by (is_put_again basin put puts) (last_w
     by false rest = All-cons P put (last_ones basin puts) (All-head P put puts all) rest
 
 pub all_written : (basin : Draft) (cells : Cells) (P : Asked → Type 0) (puts : List Asked) → All P puts → All P (written_puts basin cells puts)
-all_written basin cells P puts all = All-filter (λ (put : Asked). is_written (end_in cells put)) P (last_ones basin puts) (last_write basin P puts all)
+all_written basin cells P puts all =
+    All-filter (λ (put : Asked). is_written (end_in cells put)) P (last_ones basin puts) (last_write basin P puts all)

@@ -1,5 +1,6 @@
 -- Rules are marked put by put.
-use Rattle.rw_base.proofs.Common.{◌≡◌, ◌∙◌, ℕ, ◌+◌, ◌<◌, ◌||◌, Bool, false, List, [], ◌∷◌, ◌++◌, Some, ap, ap₂, get_or, length, list_any, list_any-append, refl, sym, take}
+use Rattle.rw_base.proofs.Common.{◌≡◌, ◌∙◌, ℕ, ◌+◌, ◌<◌, ◌||◌, Bool, false, List, [], ◌∷◌, ◌++◌, Some, ap, ap₂, get_or, length, list_any}
+use Rattle.rw_base.proofs.Common.{list_any-append, refl, sym, take}
 use Rattle.std.proofs.lemmas.Bool.{or_parts}
 use Rattle.std.proofs.lemmas.List.{take_more}
 use Rattle.rw_model.proofs.Common.{Draft}
@@ -11,7 +12,8 @@ use Rattle.rw_agenda.specs.Agenda.{Agenda, Entry, MarksThose, looked_by}
 use Rattle.rw_writes.specs.Writes.{MarksAll}
 
 -- what the first puts don't touch, and the next one doesn't, none of them touches
-untouched : (basin : Draft) (puts : List Asked) (put : Asked) (looks : List Look) → is_touched basin puts looks ≡ false → is_touched basin (put ∷ []) looks ≡ false
+untouched : (basin : Draft) (puts : List Asked) (put : Asked) (looks : List Look) → is_touched basin puts looks ≡ false
+    → is_touched basin (put ∷ []) looks ≡ false
     → is_touched basin (puts ++ put ∷ []) looks ≡ false
 untouched basin puts put [] h g = refl
 untouched basin puts put (look ∷ looks) h g =
@@ -21,15 +23,18 @@ untouched basin puts put (look ∷ looks) h g =
     ap₂ (λ x y. x || y) (list_any-append test puts (put ∷ []) ∙ ap₂ (λ x y. x || y) first.0 next.0) (untouched basin puts put looks first.1 next.1)
 
 still : (old new : Agenda) (rule : ℕ) (looks : List Look) → new.rules ≡ old.rules → looked_by new rule ≡ Some looks → looked_by old rule ≡ Some looks
-still old new rule looks same is = sym (ap (λ (entries : List Entry). looked_by (record { order = old.order; rules = entries; marks = old.marks }) rule) same) ∙ is
+still old new rule looks same is =
+    sym (ap (λ (entries : List Entry). looked_by (record { order = old.order; rules = entries; marks = old.marks }) rule) same) ∙ is
 
-pub marks_more : (basin : Draft) (start old new : Agenda) (writes : List Asked) (place : ℕ) (write : Asked) → place < length writes → write ≡ get_or writes place write
+pub marks_more : (basin : Draft) (start old new : Agenda) (writes : List Asked) (place : ℕ) (write : Asked) → place < length writes
+    → write ≡ get_or writes place write
     → MarksAll basin (take place writes) start old → new.rules ≡ old.rules → MarksThose basin write.cell old new
     → MarksAll basin (take (place + 1) writes) start new
 marks_more basin start old new writes place write near is before same marks rule looks unmarked saw =
     let one = marks write.content rule looks unmarked saw in
     let others = before rule looks one.0 (still old new rule looks same saw) in
-    let all : take (place + 1) writes ≡ take place writes ++ write ∷ [] = take_more writes place write near ∙ ap (λ w. take place writes ++ w ∷ []) (sym is) in (
+    let all : take (place + 1) writes ≡ take place writes ++ write ∷ [] =
+    take_more writes place write near ∙ ap (λ w. take place writes ++ w ∷ []) (sym is) in (
       others.0,
       ap (λ puts. is_touched basin puts looks) all ∙ untouched basin (take place writes) write looks others.1 one.1,
     )

@@ -25,8 +25,11 @@ act-returns-in_ok-inside-in-With-clause-found t c =
     let value = c.in_ok-value-in-With in
     let kind = tree_kind_seen value.value.kind in
     let found = c.in_ok-inside-in-With.ensures.found
-    ∙ ap (λ x. pass_acts functions ((x, kind) ∷ names_of c.pass-in-With.new.names) (acts_in c.deref-in-With-2.result.now)) c.deref-in-With.ensures.value
-    ∙ ap₂ (λ ns ss. pass_acts functions ((c.in-With.name.items, kind) ∷ names_of ns) (acts_in ss)) value.ensures.names c.deref-in-With-2.ensures.value in
+    ∙ ap (λ x. pass_acts functions ((x, kind) ∷ names_of c.pass-in-With.new.names) (acts_in c.deref-in-With-2.result.now))
+    c.deref-in-With.ensures.value
+    ∙ ap₂ (λ ns ss. pass_acts functions ((c.in-With.name.items, kind) ∷ names_of ns) (acts_in ss)) value.ensures.names
+    c.deref-in-With-2.ensures.value in
     c.bound.ensures ∙ ap (measured_binding (measured_seen value.value)) found
-    ∙ ap (λ (m : Measured). measured_binding m (pass_acts functions ((c.in-With.name.items, m.kind) ∷ names) (acts_in c.in-With.body.items))) value.ensures.found
+    ∙ ap (λ (m : Measured). measured_binding m (pass_acts functions ((c.in-With.name.items, m.kind) ∷ names) (acts_in c.in-With.body.items)))
+    value.ensures.found
     ∙ ap (pass_act functions names) (sym (act_of_with c.in-With.name c.in-With.value c.in-With.body) ∙ ap act_of (sym c.in-With.is))

@@ -6,4 +6,5 @@ use Rattle.rpl_budget.proofs.known.function_named.Given as goal
 
 abbrev pub invariant-loop-entry : goal.invariant-loop-entry
 invariant-loop-entry l =
-    last_function l.name (priced_or_none (option_map (λ f. f.now) l.found)) (map priced_seen (drop l.entry-index l.known)) ≡ priced_named (functions_of l.known) l.name
+    last_function l.name (priced_or_none (option_map (λ f. f.now) l.found)) (map priced_seen (drop l.entry-index l.known))
+    ≡ priced_named (functions_of l.known) l.name

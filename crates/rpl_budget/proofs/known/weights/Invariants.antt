@@ -5,6 +5,7 @@ use Rattle.rpl_budget.proofs.known.weights.Given as goal
 
 abbrev pub invariant-loop-kind : goal.invariant-loop-kind
 invariant-loop-kind l = record {
-  found : capped limits.words (l.sum + weights (tree_kinds_seen (drop l.kind-index l.kinds))) ≡ capped limits.words (weights (tree_kinds_seen l.kinds));
+  found : capped limits.words (l.sum + weights (tree_kinds_seen (drop l.kind-index l.kinds)))
+      ≡ capped limits.words (weights (tree_kinds_seen l.kinds));
   within : l.sum ≤ limits.words + 1;
 }

@@ -14,10 +14,13 @@ arguments-loop-k-preserved t c =
     let within : k < length c.args.args.now = omega (arith, c.loop-k-test.true, c.loop-k.invariant.within) in
     let value = measured_seen c.in_ok-value.value in
     let found = c.in_ok-value.ensures.found ∙ ap (λ ns. pass functions (names_of ns) (tree_of c.index-args-k.result)) c.loop-k.invariant.same in
-    let behind = c.loop-k.invariant.found ∙ ap (λ n. pass_arguments functions names (tree_kinds_seen (drop n c.args.takes.now)) (trees_in (drop n c.args.args.now))) next in
+    let behind =
+    c.loop-k.invariant.found ∙ ap (λ n. pass_arguments functions names (tree_kinds_seen (drop n c.args.takes.now))
+    (trees_in (drop n c.args.args.now))) next in
     record {
       found = c.argument-others.ensures ∙ ap (λ ks. argument (tree_kinds_seen ks) value c.loop-k.others) c.from_place.ensures
-          ∙ arguments_on functions names c.args.takes.now c.args.args.now k c.index-args-k.result value c.loop-k.others within c.index-args-k.is found behind;
+          ∙ arguments_on functions names c.args.takes.now c.args.args.now k c.index-args-k.result value c.loop-k.others within c.index-args-k.is
+          found behind;
       same = c.in_ok-value.ensures.names ∙ c.loop-k.invariant.same;
       within = omega (arith, within);
     }

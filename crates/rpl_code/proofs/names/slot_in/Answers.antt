@@ -7,4 +7,5 @@ returns-in_err-name_in-2 c =
     (λ bad. slot_unnamed c.args.word.now c.in-Some.object.now c.in-Some.slot.now c.in-Some.ensures.parts (c.in_err-name_in-2.ensures bad))
 
 pub returns : goal.returns
-returns c = slot_named c.args.word.now c.in-Some.object.now c.in-Some.slot.now _ _ c.in-Some.ensures.parts c.in_ok-name_in.ensures c.in_ok-name_in-2.ensures
+returns c =
+    slot_named c.args.word.now c.in-Some.object.now c.in-Some.slot.now _ _ c.in-Some.ensures.parts c.in_ok-name_in.ensures c.in_ok-name_in-2.ensures

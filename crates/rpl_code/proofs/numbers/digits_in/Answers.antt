@@ -11,4 +11,5 @@ returns-in_default-parse-clause-digits c = λ n small e.
 
 pub returns-else-spells-clause-digits : goal.returns-else-spells-clause-digits
 returns-else-spells-clause-digits c = λ n small e.
-    never_written n c.in-Ok-parse.number c.in-Ok.digits.now small (c.in-Ok.ensures.cases.0 ∙ e) c.in-Ok-parse.ensures.value.0 (sym c.if-spells.ensures)
+    never_written n c.in-Ok-parse.number c.in-Ok.digits.now small (c.in-Ok.ensures.cases.0 ∙ e) c.in-Ok-parse.ensures.value.0
+    (sym c.if-spells.ensures)

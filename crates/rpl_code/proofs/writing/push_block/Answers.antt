@@ -10,5 +10,6 @@ returns c =
     (string_bytes c.push_head.new.text) (string_bytes c.push_str.new.self) (string_bytes c.push_locals.new.text)
     (string_bytes c.push_str-2.new.self) (string_bytes c.push_instructions.new.text) (string_bytes c.push_str-3.new.self)
     c.in_ok-push_head.ensures c.in_ok-push_str.ensures.bytes c.in_ok-push_locals.ensures c.in_ok-push_str-2.ensures.bytes
-    (c.in_ok-push_instructions.ensures ∙ ap (λ lines. string_bytes c.push_str-2.new.self ++ lines_ended (map instruction_line lines)) c.as_slice.ensures)
+    (c.in_ok-push_instructions.ensures ∙ ap (λ lines. string_bytes c.push_str-2.new.self ++ lines_ended (map instruction_line lines))
+    c.as_slice.ensures)
     c.in_ok-push_str-3.ensures.bytes

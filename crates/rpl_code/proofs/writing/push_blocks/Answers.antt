@@ -6,4 +6,5 @@ pub loop-block-preserved : goal.loop-block-preserved
 loop-block-preserved c =
     let at = c.loop-block.block-index in
     let step : drop at c.args.blocks.now ≡ c.block-item.result ∷ drop (at + 1) c.args.blocks.now = grind (arith, common_steps, c.block-item.is) in
-    block_more c.args.blocks.now at c.block-item.result (string_bytes c.loop-block.text) (string_bytes c.push_block.new.text) _ step c.loop-block.invariant c.in_ok-push_block.ensures
+    block_more c.args.blocks.now at c.block-item.result (string_bytes c.loop-block.text) (string_bytes c.push_block.new.text) _ step
+    c.loop-block.invariant c.in_ok-push_block.ensures

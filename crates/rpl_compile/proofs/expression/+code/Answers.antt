@@ -10,7 +10,8 @@ code-returns-in-Call t c =
     let same = ap₂ call c.deref-in-Call.ensures.value (ap trees_in c.deref-in-Call-2.ensures.value)
     ∙ sym (tree_of_call c.in-Call.name c.in-Call.args) in
     rw c.in-Call.is
-    (subst (λ (x : Tree). WritesKind c.call.new.w c.call.result (compiled (callees_of c.args.known.now) (written_of c.args.w.now) x)) same c.call.ensures)
+    (subst (λ (x : Tree). WritesKind c.call.new.w c.call.result (compiled (callees_of c.args.known.now) (written_of c.args.w.now) x)) same
+    c.call.ensures)
 
 pub code-returns-in-If : goal.code-returns-in-If
 code-returns-in-If t c =

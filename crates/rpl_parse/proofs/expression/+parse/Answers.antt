@@ -8,32 +8,59 @@ use Rattle.rpl_parse.proofs.expression.+parse.Goals as goal
 
 pub more-returns-in_default : goal.more-returns-in_default
 more-returns-in_default t c =
-    let e = rw c.in_default.is at c.behind.ensures in
-    (sym c.loop-turn.invariant.same ∙ items_stops (read_tree c.args.depth) c.args.depth _ (many (map tree_of c.loop-turn.items.items) c.loop-turn.most (toks c.args.text.now c.loop-turn.rest.now)) (sym e), c.loop-turn.invariant.within)
+    let e = rw c.in_default.is at c.behind.ensures in (
+      sym c.loop-turn.invariant.same ∙ items_stops (read_tree c.args.depth) c.args.depth _
+          (many (map tree_of c.loop-turn.items.items) c.loop-turn.most (toks c.args.text.now c.loop-turn.rest.now)) (sym e),
+      c.loop-turn.invariant.within,
+    )
 
 pub more-loop-turn-preserved : goal.more-loop-turn-preserved
 more-loop-turn-preserved t c =
     let e = rw c.in-Some.is at c.behind.ensures in
-    let go = items_goes (read_tree c.args.depth) c.args.depth (length c.args.tokens.now) c.loop-turn._turn (many (map tree_of c.loop-turn.items.items) c.loop-turn.most (toks c.args.text.now c.loop-turn.rest.now)) (toks c.args.text.now c.in-Some.next.now) (got (tree_of c.in_ok-e.e) c.in_ok-e.deep (toks c.args.text.now c.in_ok-e.after.now)) c.loop-turn-test.true (sym e) c.in_ok-e.ensures.0 in
-    record { same = rw (c.in_ok-pushed.ensures.ok, map-append tree_of c.loop-turn.items.items (c.in_ok-e.e ∷ []), c.max_of-most.ensures) (sym go ∙ c.loop-turn.invariant.same); within = omega (arith, c.max_of-most.ensures, c.in_ok-e.ensures.1, c.loop-turn.invariant.within) }
+    let go =
+    items_goes (read_tree c.args.depth) c.args.depth (length c.args.tokens.now) c.loop-turn._turn
+    (many (map tree_of c.loop-turn.items.items) c.loop-turn.most (toks c.args.text.now c.loop-turn.rest.now))
+    (toks c.args.text.now c.in-Some.next.now) (got (tree_of c.in_ok-e.e) c.in_ok-e.deep (toks c.args.text.now c.in_ok-e.after.now))
+    c.loop-turn-test.true (sym e) c.in_ok-e.ensures.0 in
+    record {
+      same = rw (c.in_ok-pushed.ensures.ok, map-append tree_of c.loop-turn.items.items (c.in_ok-e.e ∷ []), c.max_of-most.ensures)
+          (sym go ∙ c.loop-turn.invariant.same);
+      within = omega (arith, c.max_of-most.ensures, c.in_ok-e.ensures.1, c.loop-turn.invariant.within);
+    }
 
 pub more-returns-in_err-e : goal.more-returns-in_err-e
 more-returns-in_err-e t c =
     let e = rw c.in-Some.is at c.behind.ensures in
     many_fault c.args.text.now c.args.depth c.from_residual.result _ c.in_err-e.field-0.0 c.from_residual.ensures.1
     (fails_on c.in_err-e.field-0.0 (read_tree c.args.depth 7 (toks c.args.text.now c.in-Some.next.now)) _
-    (λ none. sym c.loop-turn.invariant.same ∙ items_fails (read_tree c.args.depth) c.args.depth (length c.args.tokens.now) c.loop-turn._turn (many (map tree_of c.loop-turn.items.items) c.loop-turn.most (toks c.args.text.now c.loop-turn.rest.now)) (toks c.args.text.now c.in-Some.next.now) c.loop-turn-test.true (sym e) none)
+    (λ none. sym c.loop-turn.invariant.same ∙ items_fails (read_tree c.args.depth) c.args.depth (length c.args.tokens.now) c.loop-turn._turn
+    (many (map tree_of c.loop-turn.items.items) c.loop-turn.most (toks c.args.text.now c.loop-turn.rest.now))
+    (toks c.args.text.now c.in-Some.next.now) c.loop-turn-test.true (sym e) none)
     c.in_err-e.ensures)
 
 pub steps-loop-turn-preserved : goal.steps-loop-turn-preserved
 steps-loop-turn-preserved t c =
     let e = rw c.in-Some.is at c.behind.ensures in
-    let go = steps_goes (read_tree c.args.depth) c.args.depth c.args.depth c.loop-turn._turn (got (tree_of c.loop-turn.slot) c.loop-turn.deep (toks c.args.text.now c.loop-turn.rest.now)) (toks c.args.text.now c.in-Some.next.now) (got (tree_of c.in_ok-step.step) c.in_ok-step.step_deep (toks c.args.text.now c.in_ok-step.after.now)) c.loop-turn-test.true (sym e) (omega (arith, c.if-deep-depth.false)) c.in_ok-step.ensures.0 in
-    record { same = rw (c.in_ok-slot.ensures.ok, c.max_of-deep.ensures) (sym go ∙ c.loop-turn.invariant.same); within = omega (arith, c.max_of-deep.ensures, c.in_ok-step.ensures.1, c.if-deep-depth.false) }
+    let go =
+    steps_goes (read_tree c.args.depth) c.args.depth c.args.depth c.loop-turn._turn
+    (got (tree_of c.loop-turn.slot) c.loop-turn.deep (toks c.args.text.now c.loop-turn.rest.now)) (toks c.args.text.now c.in-Some.next.now)
+    (got (tree_of c.in_ok-step.step) c.in_ok-step.step_deep (toks c.args.text.now c.in_ok-step.after.now)) c.loop-turn-test.true (sym e)
+    (omega (arith, c.if-deep-depth.false)) c.in_ok-step.ensures.0 in
+    record {
+      same = rw (c.in_ok-slot.ensures.ok, c.max_of-deep.ensures) (sym go ∙ c.loop-turn.invariant.same);
+      within = omega (arith, c.max_of-deep.ensures, c.in_ok-step.ensures.1, c.if-deep-depth.false);
+    }
 
 pub chain-loop-turn-preserved : goal.chain-loop-turn-preserved
 chain-loop-turn-preserved t c =
     let e = rw c.in-Some.is at c.turn.ensures in
     let lt = rw c.turns-turn-end.ensures at c.loop-turn-test.true in
-    let go = chain_goes (read_tree c.args.depth) c.args.depth c.args.k (turns_of c.args.k c.args.depth) c.loop-turn._turn (got (tree_of c.loop-turn.left) c.loop-turn.deep (toks c.args.text.now c.loop-turn.rest.now)) _ (got (tree_of c.in_ok-right.right) c.in_ok-right.right_deep (toks c.args.text.now c.in_ok-right.after.now)) lt (sym e) (omega (arith, c.if-deep-depth.false)) c.in_ok-right.ensures.0 in
-    record { same = rw (c.in_ok-left.ensures.ok, c.max_of-deep.ensures) (sym go ∙ c.loop-turn.invariant.same); within = omega (arith, c.max_of-deep.ensures, c.in_ok-right.ensures.1, c.if-deep-depth.false) }
+    let go =
+    chain_goes (read_tree c.args.depth) c.args.depth c.args.k (turns_of c.args.k c.args.depth) c.loop-turn._turn
+    (got (tree_of c.loop-turn.left) c.loop-turn.deep (toks c.args.text.now c.loop-turn.rest.now)) _
+    (got (tree_of c.in_ok-right.right) c.in_ok-right.right_deep (toks c.args.text.now c.in_ok-right.after.now)) lt (sym e)
+    (omega (arith, c.if-deep-depth.false)) c.in_ok-right.ensures.0 in
+    record {
+      same = rw (c.in_ok-left.ensures.ok, c.max_of-deep.ensures) (sym go ∙ c.loop-turn.invariant.same);
+      within = omega (arith, c.max_of-deep.ensures, c.in_ok-right.ensures.1, c.if-deep-depth.false);
+    }

@@ -69,18 +69,21 @@ decreases-primary l = 1000 * l.depth + 5
 
 abbrev pub invariant-more-loop-turn : goal.invariant-more-loop-turn
 invariant-more-loop-turn l = record {
-  same : items (read_tree l.depth) l.depth (length l.tokens - l._turn) (many (map tree_of l.items.items) l.most (toks l.text l.rest)) ≡ items (read_tree l.depth) l.depth (length l.tokens) (many (map tree_of l.fn.first.items) l.fn.deep (toks l.text l.tokens));
+  same : items (read_tree l.depth) l.depth (length l.tokens - l._turn) (many (map tree_of l.items.items) l.most (toks l.text l.rest))
+      ≡ items (read_tree l.depth) l.depth (length l.tokens) (many (map tree_of l.fn.first.items) l.fn.deep (toks l.text l.tokens));
   within : l.most ≤ l.depth;
 }
 
 abbrev pub invariant-steps-loop-turn : goal.invariant-steps-loop-turn
 invariant-steps-loop-turn l = record {
-  same : steps (read_tree l.depth) l.depth (l.depth - l._turn) (got (tree_of l.slot) l.deep (toks l.text l.rest)) ≡ steps (read_tree l.depth) l.depth l.depth (got (tree_of l.fn.first) l.fn.first_deep (toks l.text l.tokens));
+  same : steps (read_tree l.depth) l.depth (l.depth - l._turn) (got (tree_of l.slot) l.deep (toks l.text l.rest))
+      ≡ steps (read_tree l.depth) l.depth l.depth (got (tree_of l.fn.first) l.fn.first_deep (toks l.text l.tokens));
   within : l.deep ≤ l.depth + 1;
 }
 
 abbrev pub invariant-chain-loop-turn : goal.invariant-chain-loop-turn
 invariant-chain-loop-turn l = record {
-  same : chain (read_tree l.depth) l.depth l.k (turns_of l.k l.depth - l._turn) (got (tree_of l.left) l.deep (toks l.text l.rest)) ≡ chain (read_tree l.depth) l.depth l.k (turns_of l.k l.depth) (got (tree_of l.fn.first) l.fn.first_deep (toks l.text l.tokens));
+  same : chain (read_tree l.depth) l.depth l.k (turns_of l.k l.depth - l._turn) (got (tree_of l.left) l.deep (toks l.text l.rest))
+      ≡ chain (read_tree l.depth) l.depth l.k (turns_of l.k l.depth) (got (tree_of l.fn.first) l.fn.first_deep (toks l.text l.tokens));
   within : l.deep ≤ l.depth + 1;
 }

@@ -3,4 +3,6 @@ use Rattle.rpl_parse.proofs.ScanFacts.{number_over}
 use Rattle.rpl_parse.proofs.front.number_of.Goals as goal
 
 pub returns-then-value-gt100000000000000000 : goal.returns-then-value-gt100000000000000000
-returns-then-value-gt100000000000000000 c = number_over c.loop-digit.digit-index c.args.digits.now c.loop-digit.value _ _ c.loop-digit-test.true (search (rules, arith)) c.loop-digit.invariant.same
+returns-then-value-gt100000000000000000 c =
+    number_over c.loop-digit.digit-index c.args.digits.now c.loop-digit.value _ _ c.loop-digit-test.true (search (rules, arith))
+    c.loop-digit.invariant.same

@@ -9,12 +9,16 @@ use Rattle.rpl_parse.proofs.ruleset.declarations.Goals as goal
 pub returns-then-is_full : goal.returns-then-is_full
 returns-then-is_full c =
     let l = c.loop-turn in
-    l.invariant.due (Err (too_many l.number)) (found_full c.args.text.now l.number l.rules l.functions (map declared_of l.found.items) c.size-n.result l.rest.now c.size-n.ensures.value (search (rules, arith)) (sym c.is_full.ensures ∙ c.if-is_full.true))
+    l.invariant.due (Err (too_many l.number))
+    (found_full c.args.text.now l.number l.rules l.functions (map declared_of l.found.items) c.size-n.result l.rest.now c.size-n.ensures.value
+    (search (rules, arith)) (sym c.is_full.ensures ∙ c.if-is_full.true))
 
 pub returns-in-Err-Bad : goal.returns-in-Err-Bad
 returns-in-Err-Bad c =
     let l = c.loop-turn in
-    l.invariant.due _ (found_bad c.args.text.now l.number l.rules l.functions (map declared_of l.found.items) c.size-n.result l.rest.now c.size-n.ensures.value (search (rules, arith)) _ (sym c.is_full.ensures ∙ c.if-is_full.false) (fails_bad _ _ c.in-Err-Bad.field-0-is c.in-Err-Bad.ensures))
+    l.invariant.due _ (found_bad c.args.text.now l.number l.rules l.functions (map declared_of l.found.items) c.size-n.result l.rest.now
+    c.size-n.ensures.value (search (rules, arith)) _ (sym c.is_full.ensures ∙ c.if-is_full.false)
+    (fails_bad _ _ c.in-Err-Bad.field-0-is c.in-Err-Bad.ensures))
 
 pub loop-turn-preserved : goal.loop-turn-preserved
 loop-turn-preserved c =
@@ -24,7 +28,8 @@ loop-turn-preserved c =
     let less = length-drop c.size-n.result l.rest.now in
     record {
       due = λ due h.
-          l.invariant.due due (found_later c.args.text.now l.number l.rules l.functions (map declared_of l.found.items) c.size-n.result l.rest.now c.size-n.ensures.value some
+          l.invariant.due due (found_later c.args.text.now l.number l.rules l.functions (map declared_of l.found.items) c.size-n.result l.rest.now
+          c.size-n.ensures.value some
           (declared_of c.in-Ok.one) due _ _ _ c.after-rest.result.now
           (sym c.is_full.ensures ∙ c.if-is_full.false) c.in-Ok.ensures
           (c.one_more_if-rules.ensures.value ∙ ap (λ b. one_more_if b l.rules) c.begins_rule.ensures)

@@ -21,6 +21,7 @@ decreases-withs l = 5 * l.depth + 3
 
 abbrev pub invariant-statements-loop-turn : goal.invariant-statements-loop-turn
 invariant-statements-loop-turn l = record {
-  same : more_acts (act_at l.limit) (length l.tokens - l._turn) (done (map act_of l.acts.items) l.most (toks l.text l.rest)) ≡ read_acts l.limit (toks l.text l.tokens);
+  same : more_acts (act_at l.limit) (length l.tokens - l._turn) (done (map act_of l.acts.items) l.most (toks l.text l.rest))
+      ≡ read_acts l.limit (toks l.text l.tokens);
   within : l.most ≤ l.limit;
 }

@@ -10,8 +10,13 @@ returns-clause-code c = λ basin code budgets inputs accepted.
 pub returns-clause-rules : goal.returns-clause-rules
 returns-clause-rules c = λ basin rules inputs typed few fewer.
     let alike = c.rules_keep_promises.ensures.alike basin rules typed few fewer in
-    let of_code = c.some_run.ensures.exists basin (policy_of_code basin (translate rules)) inputs (c.rules_keep_promises.ensures.promises basin rules typed few fewer) in
-    (of_code.0, c.same_runs.ensures.alike basin (policy_of_code basin (translate rules)) (policy_of_rules basin rules) inputs of_code.0 (alike_back alike) of_code.1)
+    let of_code =
+    c.some_run.ensures.exists basin (policy_of_code basin (translate rules)) inputs
+    (c.rules_keep_promises.ensures.promises basin rules typed few fewer) in (
+      of_code.0,
+      c.same_runs.ensures.alike basin (policy_of_code basin (translate rules)) (policy_of_rules basin rules) inputs of_code.0
+          (alike_back alike) of_code.1,
+    )
 
 pub returns-clause-same : goal.returns-clause-same
 returns-clause-same c = λ basin rules inputs log typed few fewer.

@@ -11,7 +11,8 @@ visit_statement-returns-in_err-statements-in-If t c =
     let same = ap (λ (ys : Acts). branch (tree_of c.in-If.condition) ys (acts_in c.in-If.no.items)) (ap acts_in c.deref.ensures.value)
     ∙ sym (act_of_branch c.in-If.condition c.in-If.yes c.in-If.no) in
     rw c.in-If.is
-    (subst (λ (x : Act). VisitsAct c.args.known.now c.args.progress.now c.statements.new.progress c.from_residual-in_err-statements-in-If.result x) same
+    (subst (λ (x : Act). VisitsAct c.args.known.now c.args.progress.now c.statements.new.progress
+    c.from_residual-in_err-statements-in-If.result x) same
     (search rules))
 
 pub visit_statement-returns-in_err-statements-in-If-2 : goal.visit_statement-returns-in_err-statements-in-If-2
@@ -19,7 +20,8 @@ visit_statement-returns-in_err-statements-in-If-2 t c =
     let same = ap₂ (branch (tree_of c.in-If.condition)) (ap acts_in c.deref.ensures.value) (ap acts_in c.deref-in-If.ensures.value)
     ∙ sym (act_of_branch c.in-If.condition c.in-If.yes c.in-If.no) in
     rw c.in-If.is
-    (subst (λ (x : Act). VisitsAct c.args.known.now c.args.progress.now c.statements-in-If.new.progress c.from_residual-in_err-statements-in-If-2.result x) same
+    (subst (λ (x : Act). VisitsAct c.args.known.now c.args.progress.now c.statements-in-If.new.progress
+    c.from_residual-in_err-statements-in-If-2.result x) same
     (search rules))
 
 pub visit_statement-returns-in_ok-statements-in-If-2 : goal.visit_statement-returns-in_ok-statements-in-If-2
@@ -36,7 +38,8 @@ visit_statement-returns-in_err-statements-in-With t c =
     (ap acts_in c.deref-in-With-2.ensures.value)
     ∙ sym (act_of_with c.in-With.name c.in-With.value c.in-With.body) in
     rw c.in-With.is
-    (subst (λ (x : Act). VisitsAct c.args.known.now c.args.progress.now c.statements-in-With.new.progress c.from_residual-in_err-statements-in-With.result x) same
+    (subst (λ (x : Act). VisitsAct c.args.known.now c.args.progress.now c.statements-in-With.new.progress
+    c.from_residual-in_err-statements-in-With.result x) same
     (search rules))
 
 pub visit_statement-returns-in_ok-statements-in-With : goal.visit_statement-returns-in_ok-statements-in-With

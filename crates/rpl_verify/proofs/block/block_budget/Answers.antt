@@ -21,12 +21,17 @@ returns-in-Some c =
     let inside = c.requires.earlier in
     let long : length (take place blocks) ≡ place = length-take-le place blocks (omega (arith, inside)) in
     let number : place + 1 ≡ suc (length (take place blocks)) = omega (arith, long) in
-    let same = same_noted c.args.basin.now blocks (take place blocks) budgets block (place + 1) c.deref.result.now c.as_slice-lines.result.now number (c.deref.ensures.value ∙ c.in_ok-locals.ensures) c.as_slice-lines.ensures in
-    let few : count_alike block.head (take place blocks) < 200 = let a = c.if-count_alike-ge-BLOCKS_MAX.false in let b = c.count_alike.ensures in omega (arith, a, b) in
+    let same =
+    same_noted c.args.basin.now blocks (take place blocks) budgets block (place + 1) c.deref.result.now c.as_slice-lines.result.now number
+    (c.deref.ensures.value ∙ c.in_ok-locals.ensures) c.as_slice-lines.ensures in
+    let few : count_alike block.head (take place blocks) < 200 = let a = c.if-count_alike-ge-BLOCKS_MAX.false in let b =
+    c.count_alike.ensures in omega (arith, a, b) in
     let noted = sym same ∙ c.in_ok-notes.ensures in
     let seen : numbers_seen c.in_ok-budget.budget ≡ budget_noted c.in_ok-notes.notes.items block.lines =
-    c.in_ok-budget.ensures ∙ ap (λ ns. budget_noted ns c.as_slice-lines.result.now) c.deref-2.ensures.value ∙ ap (budget_noted c.in_ok-notes.notes.items) c.as_slice-lines.ensures in
-    ruled_by c.args.basin.now blocks (take place blocks) budgets block c.in_ok-notes.notes.items (numbers_seen c.in_ok-budget.budget) (Err c.in-Some.kind) few noted seen c.in-Some.ensures
+    c.in_ok-budget.ensures ∙ ap (λ ns. budget_noted ns c.as_slice-lines.result.now) c.deref-2.ensures.value
+    ∙ ap (budget_noted c.in_ok-notes.notes.items) c.as_slice-lines.ensures in
+    ruled_by c.args.basin.now blocks (take place blocks) budgets block c.in_ok-notes.notes.items (numbers_seen c.in_ok-budget.budget)
+    (Err c.in-Some.kind) few noted seen c.in-Some.ensures
     ∙ ap (λ n. Err (record { misfit = c.in-Some.kind; place = n })) (ap length (sym c.as_slice-lines.ensures))
 
 pub returns : goal.returns
@@ -38,9 +43,14 @@ returns c =
     let inside = c.requires.earlier in
     let long : length (take place blocks) ≡ place = length-take-le place blocks (omega (arith, inside)) in
     let number : place + 1 ≡ suc (length (take place blocks)) = omega (arith, long) in
-    let same = same_noted c.args.basin.now blocks (take place blocks) budgets block (place + 1) c.deref.result.now c.as_slice-lines.result.now number (c.deref.ensures.value ∙ c.in_ok-locals.ensures) c.as_slice-lines.ensures in
-    let few : count_alike block.head (take place blocks) < 200 = let a = c.if-count_alike-ge-BLOCKS_MAX.false in let b = c.count_alike.ensures in omega (arith, a, b) in
+    let same =
+    same_noted c.args.basin.now blocks (take place blocks) budgets block (place + 1) c.deref.result.now c.as_slice-lines.result.now number
+    (c.deref.ensures.value ∙ c.in_ok-locals.ensures) c.as_slice-lines.ensures in
+    let few : count_alike block.head (take place blocks) < 200 = let a = c.if-count_alike-ge-BLOCKS_MAX.false in let b =
+    c.count_alike.ensures in omega (arith, a, b) in
     let noted = sym same ∙ c.in_ok-notes.ensures in
     let seen : numbers_seen c.in_ok-budget.budget ≡ budget_noted c.in_ok-notes.notes.items block.lines =
-    c.in_ok-budget.ensures ∙ ap (λ ns. budget_noted ns c.as_slice-lines.result.now) c.deref-2.ensures.value ∙ ap (budget_noted c.in_ok-notes.notes.items) c.as_slice-lines.ensures in
-    ruled_by c.args.basin.now blocks (take place blocks) budgets block c.in_ok-notes.notes.items (numbers_seen c.in_ok-budget.budget) (Ok (numbers_seen c.in_ok-budget.budget)) few noted seen c.in-None.ensures
+    c.in_ok-budget.ensures ∙ ap (λ ns. budget_noted ns c.as_slice-lines.result.now) c.deref-2.ensures.value
+    ∙ ap (budget_noted c.in_ok-notes.notes.items) c.as_slice-lines.ensures in
+    ruled_by c.args.basin.now blocks (take place blocks) budgets block c.in_ok-notes.notes.items (numbers_seen c.in_ok-budget.budget)
+    (Ok (numbers_seen c.in_ok-budget.budget)) few noted seen c.in-None.ensures

@@ -22,9 +22,13 @@ loop-place-preserved c =
     let i = c.index-lines-place.result in
     let budgets = map numbers_seen c.args.budgets.now in
     let scope = scope_in c.args.basin.now c.args.blocks.now c.args.number c.args.head.now c.args.locals.now (spots lines) in
-    let noted = c.in_ok-push.ensures.items ∙ ap (λ n. l.notes.items ++ n ∷ []) (c.place_note.ensures c.args.basin.now c.args.number c.args.head.now (spots lines)) in
-    left_on scope (noting scope budgets) lines l.place l.walk c.judge.new.walk l.notes.items c.push.new.self.items (note_of scope budgets l.walk.before i) i (drop (l.place + 1) lines) (drop l.place lines)
-    l.invariant (next_is lines l.place i c.loop-place-test.true c.index-lines-place.is) noted (λ cs. refl) c.in_ok-judge.ensures.0 c.in_ok-judge.ensures.1
+    let noted =
+    c.in_ok-push.ensures.items ∙ ap (λ n. l.notes.items ++ n ∷ [])
+    (c.place_note.ensures c.args.basin.now c.args.number c.args.head.now (spots lines)) in
+    left_on scope (noting scope budgets) lines l.place l.walk c.judge.new.walk l.notes.items c.push.new.self.items
+    (note_of scope budgets l.walk.before i) i (drop (l.place + 1) lines) (drop l.place lines)
+    l.invariant (next_is lines l.place i c.loop-place-test.true c.index-lines-place.is) noted (λ cs. refl) c.in_ok-judge.ensures.0
+    c.in_ok-judge.ensures.1
 
 pub returns : goal.returns
 returns c =
@@ -33,6 +37,7 @@ returns c =
     let budgets = map numbers_seen c.args.budgets.now in
     let scope = scope_in c.args.basin.now c.args.blocks.now c.args.number c.args.head.now c.args.locals.now (spots lines) in
     let t = c.loop-place-test.false in
-    let noted = c.in_ok-push-2.ensures.items ∙ ap (λ n. l.notes.items ++ n ∷ []) (c.end_note.ensures scope budgets c.words_of_all-local_words.ensures) in
+    let noted =
+    c.in_ok-push-2.ensures.items ∙ ap (λ n. l.notes.items ++ n ∷ []) (c.end_note.ensures scope budgets c.words_of_all-local_words.ensures) in
     left_ended scope (noting scope budgets) lines l.place l.walk l.notes.items c.push-2.new.self.items (drop l.place lines)
     l.invariant (drop_all l.place lines (omega (arith, t))) noted c.in_ok-judge_end.ensures

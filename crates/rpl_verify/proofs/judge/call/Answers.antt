@@ -16,10 +16,12 @@ pub returns-in-Some-eq2 : goal.returns-in-Some-eq2
 returns-in-Some-eq2 c =
     let known = function_named predefined_functions c.args.name.now in
     let row = counted known 2 (sym c.predefined_count.ensures ∙ c.in-Some-eq2.is ∙ ap Some c.in-Some-eq2.field-0-test) in
-    subst (λ r. Goes (taken_by r c.args.walk.now.before) c.args.walk.now c.pass-in-Some-eq2.new.walk c.pass-in-Some-eq2.result) (sym row) c.pass-in-Some-eq2.ensures
+    subst (λ r. Goes (taken_by r c.args.walk.now.before) c.args.walk.now c.pass-in-Some-eq2.new.walk c.pass-in-Some-eq2.result) (sym row)
+    c.pass-in-Some-eq2.ensures
 
 pub returns-in-Some-eq3 : goal.returns-in-Some-eq3
 returns-in-Some-eq3 c =
     let known = function_named predefined_functions c.args.name.now in
     let row = counted known 3 (sym c.predefined_count.ensures ∙ c.in-Some-eq3.is ∙ ap Some c.in-Some-eq3.field-0-test) in
-    subst (λ r. Goes (taken_by r c.args.walk.now.before) c.args.walk.now c.pass-in-Some-eq3.new.walk c.pass-in-Some-eq3.result) (sym row) c.pass-in-Some-eq3.ensures
+    subst (λ r. Goes (taken_by r c.args.walk.now.before) c.args.walk.now c.pass-in-Some-eq3.new.walk c.pass-in-Some-eq3.result) (sym row)
+    c.pass-in-Some-eq3.ensures

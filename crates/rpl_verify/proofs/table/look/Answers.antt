@@ -10,4 +10,5 @@ returns-then-to-place c =
 pub returns-else-to-place : goal.returns-else-to-place
 returns-else-to-place c =
     let t = c.if-to-place.false in
-    c.read-else-to-place.ensures ∙ sym (index-drop (suc c.args.place) c.args.most.now (c.args.to - suc c.args.place) (c.args.place + 1) (omega (arith, t)))
+    c.read-else-to-place.ensures ∙ sym (index-drop (suc c.args.place) c.args.most.now (c.args.to - suc c.args.place) (c.args.place + 1)
+    (omega (arith, t)))

@@ -24,13 +24,19 @@ loop-place-preserved c =
     let e : drop p lines ≡ i ∷ drop l.place lines = next_is lines p i lt c.index-lines-place.is ∙ ap (λ j. i ∷ drop j lines) (sym z) in
     let f : drop p notes ≡ n ∷ drop l.place notes = c.note_at-note.ensures ∙ ap (λ j. n ∷ drop j notes) (sym z) in
     let end : loop_end (suc p) (drop l.place lines) ≡ c.loop_end-end.result =
-    ap (λ j. loop_end j (drop l.place lines)) z2 ∙ sym (c.loop_end-end.ensures ∙ ap (λ xs. slice_index (reverse xs) 0) c.deref.ensures.value ∙ ap (λ xs. slice_index xs 0) v.3) in
-    let found : x ≡ most_from (stopping c.args.part) p (going_of i) (price_in c.args.part n) n.room (drop l.place lines) (λ to. slice_index (drop (suc p) l.most.items) (to - suc p)) =
+    ap (λ j. loop_end j (drop l.place lines)) z2
+    ∙ sym (c.loop_end-end.ensures ∙ ap (λ xs. slice_index (reverse xs) 0) c.deref.ensures.value ∙ ap (λ xs. slice_index xs 0) v.3) in
+    let found : x ≡ most_from (stopping c.args.part) p (going_of i) (price_in c.args.part n) n.room (drop l.place lines)
+    (λ to. slice_index (drop (suc p) l.most.items) (to - suc p)) =
     c.most_from-found.ensures (drop l.place lines) end
-    ∙ ap (λ xs. most_from (stopping c.args.part) p (going_of i) c.price_in-in-loop-place.result n.room (drop l.place lines) (λ to. slice_index (drop (suc p) xs) (to - suc p))) c.deref-in-loop-place.ensures.value
-    ∙ ap (λ price. most_from (stopping c.args.part) p (going_of i) price n.room (drop l.place lines) (λ to. slice_index (drop (suc p) l.most.items) (to - suc p))) c.price_in-in-loop-place.ensures in (
+    ∙ ap (λ xs. most_from (stopping c.args.part) p (going_of i) c.price_in-in-loop-place.result n.room (drop l.place lines)
+    (λ to. slice_index (drop (suc p) xs) (to - suc p))) c.deref-in-loop-place.ensures.value
+    ∙ ap (λ price. most_from (stopping c.args.part) p (going_of i) price n.room (drop l.place lines)
+    (λ to. slice_index (drop (suc p) l.most.items) (to - suc p))) c.price_in-in-loop-place.ensures in (
       omega (arith, t, lt),
       length-set l.most.items p x ∙ v.1,
-      noted_on c.args.part l.most.items (set l.most.items p x) p l.place n (drop l.place notes) (drop p notes) i (drop l.place lines) (drop p lines) x z v.2 f e ltm refl found,
-      c.in_ok-follow_back.ensures ∙ ap (ends_before (bracket i) p) (v.3 ∙ ap (λ j. loop_ends j (drop l.place lines)) (sym z2)) ∙ ap (loop_ends p) (sym e),
+      noted_on c.args.part l.most.items (set l.most.items p x) p l.place n (drop l.place notes) (drop p notes) i (drop l.place lines) (drop p lines) x
+          z v.2 f e ltm refl found,
+      c.in_ok-follow_back.ensures ∙ ap (ends_before (bracket i) p) (v.3 ∙ ap (λ j. loop_ends j (drop l.place lines)) (sym z2))
+          ∙ ap (loop_ends p) (sym e),
     )

@@ -8,4 +8,5 @@ returns-in-Err c =
     let e = c.height.ensures in
     let f = c.from.ensures in
     let z = c.if-count-eq0.false in
-    gather_fails (Unit {0}) (Unit {0}) c.args.count c.in-Some.kind c.args.walk.now c.take_run.new.walk c.in-Err.fault (omega (arith, z)) (omega (arith, h, e, f)) (sym c.in-Some.ensures) c.in-Err.ensures
+    gather_fails (Unit {0}) (Unit {0}) c.args.count c.in-Some.kind c.args.walk.now c.take_run.new.walk c.in-Err.fault (omega (arith, z))
+    (omega (arith, h, e, f)) (sym c.in-Some.ensures) c.in-Err.ensures

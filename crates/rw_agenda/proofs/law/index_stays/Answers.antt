@@ -4,7 +4,8 @@ use Rattle.rw_agenda.proofs.Indexed.{fired_indexed, same_looks}
 use Rattle.rw_agenda.proofs.law.index_stays.Goals as goal
 
 pub returns-clause-fired : goal.returns-clause-fired
-returns-clause-fired c = λ old new cells rule looks indexed known holds rules others. fired_indexed old new cells rule looks indexed known holds rules others
+returns-clause-fired c =
+    λ old new cells rule looks indexed known holds rules others. fired_indexed old new cells rule looks indexed known holds rules others
 
 pub returns-clause-changed : goal.returns-clause-changed
 returns-clause-changed c = λ basin old new cells put indexed rules marks.

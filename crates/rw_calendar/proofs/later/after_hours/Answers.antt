@@ -11,4 +11,5 @@ returns c =
     let start = civil_nanos-moment_at c.args.start c.requires in
     let later = hours_later_is (moment_at c.args.start) c.args.hours (IsMoment-moment_at c.args.start c.requires) in
     rw c.ok.ensures.value (reached c.checked_add.result _ (hours_later (moment_at c.args.start) c.args.hours) later.moment
-    (omega (arith, signed_arith, start, later.hours, c.from_hours.ensures, c.from.ensures)) c.checked_add.ensures.succeeds.0 (λ within. c.checked_add.ensures.succeeds.1) c.checked_add.ensures.value)
+    (omega (arith, signed_arith, start, later.hours, c.from_hours.ensures, c.from.ensures)) c.checked_add.ensures.succeeds.0
+    (λ within. c.checked_add.ensures.succeeds.1) c.checked_add.ensures.value)

@@ -14,9 +14,13 @@ returns c =
     let m : span_months c.months.result ≡ pos c.args.months = omega (arith, signed_arith, only.months, c.from.ensures) in
     let d : span_days c.months.result ≡ pos 0 = omega (arith, signed_arith, only.days) in
     let k : clock_nanos c.months.result ≡ pos 0 = omega (arith, signed_arith, only.clock) in
-    let added : datetime_add c.args.start c.months.result ≡ add_months c.args.start.date (pos c.args.months) *ℤ pos 86_400_000_000_000 +ℤ pos (time_nanos c.args.start.time) = rw (m, d, k) (omega (arith, signed_arith)) in
+    let added : datetime_add c.args.start c.months.result
+    ≡ add_months c.args.start.date (pos c.args.months) *ℤ pos 86_400_000_000_000 +ℤ pos (time_nanos c.args.start.time) =
+    rw (m, d, k) (omega (arith, signed_arith)) in
     let shifted = months_later_shifted c.args.start c.args.months c.requires.sharp c.requires.first c.requires.midnight in
-    let later = months_later_is (moment_at c.args.start) c.args.months (IsMoment-moment_at c.args.start c.requires.sharp) c.requires.first c.requires.midnight in
+    let later =
+    months_later_is (moment_at c.args.start) c.args.months (IsMoment-moment_at c.args.start c.requires.sharp) c.requires.first
+    c.requires.midnight in
     rw c.ok.ensures.value (reached c.checked_add.result _ (months_later (moment_at c.args.start) c.args.months) later.moment (added ∙ shifted.nanos)
     (λ ok. (c.checked_add.ensures.succeeds.0 ok).1)
     (λ within fits. c.checked_add.ensures.succeeds.1 (rw (m, shifted.year) (omega (arith, signed_arith, within)), fits))

@@ -23,18 +23,25 @@ loop-put-preserved c =
     let write = c.asked_by-write.ensures.asked in
     let added : c.if-branch.written ≡ c.loop-put.written ++ cond is (put ∷ []) [] = elim c.if-branch.branch [
       | then-branch w ↦ w.written-is ∙ w.push.ensures ∙ ap (λ test. c.loop-put.written ++ cond test (put ∷ []) []) (sym w.if-branch.true)
-      | else-branch w ↦ w.written-is ∙ sym (append-nil c.loop-put.written) ∙ ap (λ test. c.loop-put.written ++ cond test (put ∷ []) []) (sym w.if-branch.false)
+      | else-branch w ↦ w.written-is ∙ sym (append-nil c.loop-put.written)
+          ∙ ap (λ test. c.loop-put.written ++ cond test (put ∷ []) []) (sym w.if-branch.false)
     ] in
     let more : c.if-branch.writes ≡ c.loop-put.writes ++ cond is (c.asked_by-write.result ∷ []) [] = elim c.if-branch.branch [
-      | then-branch w ↦ w.writes-is ∙ w.push-then-branch.ensures ∙ ap (λ test. c.loop-put.writes ++ cond test (c.asked_by-write.result ∷ []) []) (sym w.if-branch.true)
-      | else-branch w ↦ w.writes-is ∙ sym (append-nil c.loop-put.writes) ∙ ap (λ test. c.loop-put.writes ++ cond test (c.asked_by-write.result ∷ []) []) (sym w.if-branch.false)
+      | then-branch w ↦ w.writes-is ∙ w.push-then-branch.ensures
+          ∙ ap (λ test. c.loop-put.writes ++ cond test (c.asked_by-write.result ∷ []) []) (sym w.if-branch.true)
+      | else-branch w ↦ w.writes-is ∙ sym (append-nil c.loop-put.writes)
+          ∙ ap (λ test. c.loop-put.writes ++ cond test (c.asked_by-write.result ∷ []) []) (sym w.if-branch.false)
     ] in
     record {
       judging = λ cells seen.
-          judging-more basin cells object step c.args.asked.now (drop place c.args.asked.now) (drop (place + 1) c.args.asked.now) c.loop-put.written put
-          c.known.result left (c.loop-put.invariant.judging cells seen) (held_in_view basin cells object step c.args.view.now put seen (search rules) ∙ sym c.known.ensures)
+          judging-more basin cells object step c.args.asked.now (drop place c.args.asked.now) (drop (place + 1) c.args.asked.now)
+          c.loop-put.written put
+          c.known.result left (c.loop-put.invariant.judging cells seen)
+          (held_in_view basin cells object step c.args.view.now put seen (search rules) ∙ sym c.known.ensures)
           c.if-branch.written is (subst (λ (asked : Asked). IsPassed c.known.result asked is) write c.in_ok-judge_one.ensures.passed) added;
-      noted = noted-more basin object step c.loop-put.written c.if-branch.written put place c.loop-put.writes c.if-branch.writes is c.loop-put.invariant.noted
+      noted =
+          noted-more basin object step c.loop-put.written c.if-branch.written put place c.loop-put.writes c.if-branch.writes is
+          c.loop-put.invariant.noted
           (search rules) added (more ∙ ap (λ (asked : Asked). c.loop-put.writes ++ cond is (asked ∷ []) []) write);
     }
 

@@ -10,12 +10,14 @@ loop-other-preserved c = λ seen has.
     c.owner_of.result c.reach.new.reached c.loop-other-test.true
     c.owner_of.ensures.owner
     (c.reach.ensures
-    (λ object. list_any (λ other. owner_of c.args.basin.now.objects other == object) (numbers_of (take c.loop-other.other-index c.group-group.result.now)) || seen object)
+    (λ object. list_any (λ other. owner_of c.args.basin.now.objects other == object)
+    (numbers_of (take c.loop-other.other-index c.group-group.result.now)) || seen object)
     (c.loop-other.invariant seen has))
 
 pub returns : goal.returns
 returns c = λ seen has.
-    others-all (option_map (λ (other : ObjectNo). other.0) c.args.but) c.args.basin.now c.args.slot.0 seen c.group-group.result.now c.loop-other.other-index
+    others-all (option_map (λ (other : ObjectNo). other.0) c.args.but) c.args.basin.now c.args.slot.0 seen c.group-group.result.now
+    c.loop-other.other-index
     c.loop-other.reached c.loop-other-test.false
     c.group-group.ensures.group
     (c.loop-other.invariant seen has)

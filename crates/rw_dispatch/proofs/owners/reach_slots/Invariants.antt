@@ -5,4 +5,5 @@ use Rattle.rw_dispatch.specs.Owners.{HasReached}
 use Rattle.rw_dispatch.proofs.owners.reach_slots.Given as goal
 
 abbrev pub invariant-loop-slot : goal.invariant-loop-slot
-invariant-loop-slot l = HasReached (option_map (λ (other : ObjectNo). other.0) l.but) (is_owner l.basin (numbers_of (take l.slot-index l.slots))) l.reached
+invariant-loop-slot l =
+    HasReached (option_map (λ (other : ObjectNo). other.0) l.but) (is_owner l.basin (numbers_of (take l.slot-index l.slots))) l.reached

@@ -61,9 +61,11 @@ returns-clause-leaves g c =
     let tells = c.answer-end.ensures.answer cells looked c.see-kind.ensures.seen in
     let event = answered basin cells looked object step c.solve-solved.result in
     let same = ap (answered basin cells looked object step) solved in
-    leaves_written basin looked object step (dispatched basin cells object step) (answer_of c.answer-end.result (asked_by_solution c.solve-solved.result) c.answer-end.new.written)
+    leaves_written basin looked object step (dispatched basin cells object step)
+    (answer_of c.answer-end.result (asked_by_solution c.solve-solved.result) c.answer-end.new.written)
     c.as_slice-writes.result.now (stage c.args.series.now c.args.queue.now) (stage c.make.new.series c.wake_written.new.self)
     (sym same ∙ tells.is)
-    (writes_of basin looked object step event c.answer-end.result (asked_by_solution c.solve-solved.result) c.answer-end.new.written c.as_slice-writes.result.now
+    (writes_of basin looked object step event c.answer-end.result (asked_by_solution c.solve-solved.result) c.answer-end.new.written
+    c.as_slice-writes.result.now
     tells c.answer-end.ensures.left (c.as_slice-writes.ensures ∙ c.answer-end.ensures.writes) ∙ ap written_by same)
     c.make.ensures.cells c.wake_written.ensures.woken

@@ -50,7 +50,8 @@ returns-clause-work g c =
     let can = puts-seen basin cells object step c.see-kind.result.now c.see-kind.new.view c.solve-work.result
     c.see-kind.ensures.kind c.see-kind.ensures.seen c.solve-work.ensures c.requires.turn.known c.see-kind.ensures.sound in
     record {
-      writes = writes_of basin looked object step (event c.solve-work.result) c.answer-end.result puts c.answer-end.new.written c.answer-end.new.writes
+      writes =
+          writes_of basin looked object step (event c.solve-work.result) c.answer-end.result puts c.answer-end.new.written c.answer-end.new.writes
           tells c.answer-end.ensures.left c.answer-end.ensures.writes ∙ ap (λ s. written_by (event s)) solved;
       can = can_all basin looked object step (event c.solve-work.result) c.answer-end.result puts c.answer-end.new.written c.answer-end.new.writes
           tells c.answer-end.ensures.left c.answer-end.ensures.writes c.requires.turn;

@@ -5,7 +5,8 @@ use Rattle.rw_dispatch.proofs.turn.see.Goals as goal
 pub returns-clause-seen : goal.returns-clause-seen
 returns-clause-seen c =
     let view : View = record { own = c.args.object; now = c.see_slots.new.now; past = c.past_value-view.result; bounds = c.see_slots.new.bounds } in
-    filled-view c.args.basin.now (held c.args.series.now) c.args.object.0 c.args.step.0 view refl c.see_slots.ensures.contents c.past_value-view.ensures
+    filled-view c.args.basin.now (held c.args.series.now) c.args.object.0 c.args.step.0 view refl c.see_slots.ensures.contents
+    c.past_value-view.ensures
     c.see_slots.ensures.bounds
 
 pub returns-clause-view : goal.returns-clause-view

@@ -24,7 +24,8 @@ loop-place-preserved c =
     content_there (held c.at_step-cells.result) (held c.args.series.now) 1 c.args.step.0 (slice_index_or c.row-numbers.result.now place None)
     c.at_step-cells.ensures in
     record {
-      contents = seen.content ∙ filled-more (content_in basin (held c.args.series.now) c.args.object.0 c.args.step.0) c.args.now.now place c.loop-place.now _
+      contents =
+          seen.content ∙ filled-more (content_in basin (held c.args.series.now) c.args.object.0 c.args.step.0) c.args.now.now place c.loop-place.now _
           (search rules) was.contents
           (same ∙ ap (content_at_slot (held c.args.series.now) c.args.step.0) number);
       bounds = seen.bounds ∙ filled-more (bounds_in_place basin c.args.object.0) c.args.bounds.now place c.loop-place.bounds _
@@ -50,7 +51,8 @@ loop-late-preserved c =
     content_there (held c.at_step-cells.result) (held c.args.series.now) 1 c.args.step.0 (slice_index_or c.row-numbers.result.now late None)
     c.at_step-cells.ensures in
     record {
-      contents = seen.content ∙ filled-more (content_in basin (held c.args.series.now) c.args.object.0 c.args.step.0) c.args.now.now late c.loop-late.now _
+      contents =
+          seen.content ∙ filled-more (content_in basin (held c.args.series.now) c.args.object.0 c.args.step.0) c.args.now.now late c.loop-late.now _
           (search rules) was.contents
           (same ∙ ap (content_at_slot (held c.args.series.now) c.args.step.0) number);
       bounds = seen.bounds ∙ filled-more (bounds_in_place basin c.args.object.0) c.args.bounds.now late c.loop-late.bounds _

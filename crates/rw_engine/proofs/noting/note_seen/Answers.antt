@@ -10,7 +10,8 @@ returns-in_err-note_looks c =
     let cells = held c.args.series.now in
     let looked = cells_looked c.args.looked.now in
     let want = c.in_err-note_looks.field-0.0 in
-    notes_stop cells [] looked (looked ++ cells_reached c.args.basin.now c.args.asked.now) c.args.noted.now c.args.noted.now c.note_looks.new.self want _
+    notes_stop cells [] looked (looked ++ cells_reached c.args.basin.now c.args.asked.now) c.args.noted.now c.args.noted.now
+    c.note_looks.new.self want _
     c.from_residual.result c.from_residual.ensures.1 (sym (with_none cells c.args.noted.now))
     (adds_all cells looked c.args.noted.now c.note_looks.new.self (Err want) c.in_err-note_looks.ensures)
 

@@ -37,6 +37,8 @@ loop-place-preserved c =
 pub returns-clause-cells : goal.returns-clause-cells
 returns-clause-cells c cell =
     let told_lines = lines_in c.args.lines.now in
-    let all : c.loop-place.place ≡ length told_lines = let end = c.len-place-end.ensures in omega (arith, c.loop-place-test.false, c.loop-place.auto.place-end, end) in
+    let all : c.loop-place.place ≡ length told_lines = let end =
+    c.len-place-end.ensures in omega (arith, c.loop-place-test.false, c.loop-place.auto.place-end, end) in
     c.loop-place.invariant.cells cell
-    ∙ ap (λ told. option_or (last_put c.args.basin.now (puts_in told) cell) (held c.args.series.now cell)) (ap (λ n. take n told_lines) all ∙ take_all (length told_lines) told_lines (omega arith))
+    ∙ ap (λ told. option_or (last_put c.args.basin.now (puts_in told) cell) (held c.args.series.now cell))
+    (ap (λ n. take n told_lines) all ∙ take_all (length told_lines) told_lines (omega arith))

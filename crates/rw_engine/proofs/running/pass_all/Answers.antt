@@ -11,14 +11,17 @@ loop-before-init g c = record {
   last = c.requires.begun;
   steps = omega arith;
   few = let none = c.requires.turns in omega (arith, none);
-  stands = λ inputs shows. stands_first c.args.setup.now.basin.now (policy_in c.args.setup.now.basin.now c.args.setup.now.policy.now) _ inputs c.args.engine shows c.requires.turns;
+  stands =
+      λ inputs shows. stands_first c.args.setup.now.basin.now (policy_in c.args.setup.now.basin.now c.args.setup.now.policy.now) _ inputs
+      c.args.engine shows c.requires.turns;
 }
 
 pub loop-before-preserved : goal.loop-before-preserved
 loop-before-preserved g c =
     let basin = c.args.setup.now.basin.now in
     let steps = ap (λ (k : RunControl). k.stamps.count) c.control.ensures in
-    let near : c.loop-before.before < basin.control.stamps.count = let test = c.loop-before-test.true in let value = c.count-before-end.ensures.value in omega arith in
+    let near : c.loop-before.before < basin.control.stamps.count = let test = c.loop-before-test.true in let value =
+    c.count-before-end.ensures.value in omega arith in
     let was = c.loop-before.invariant.steps in
     let more = c.in_ok-end.ensures.counted in
     record {
@@ -28,8 +31,10 @@ loop-before-preserved g c =
       last = rw c.in-Closed.is at c.in_ok-end.ensures.runs.closed_steps;
       steps = omega (arith, was, more);
       stands = λ inputs shows. let stands = c.loop-before.invariant.stands inputs shows in
-          stands_next basin (policy_in basin c.args.setup.now.policy.now) _ inputs c.loop-before.engine c.run_step_by.new.self c.loop-before.before stands
-          (rw c.in-Closed.is at c.in_ok-end.ensures.runs.passes stands.log stands.shows (before_step basin stands.log c.loop-before.before stands.rest near));
+          stands_next basin (policy_in basin c.args.setup.now.policy.now) _ inputs c.loop-before.engine c.run_step_by.new.self
+          c.loop-before.before stands
+          (rw c.in-Closed.is at c.in_ok-end.ensures.runs.passes stands.log stands.shows
+          (before_step basin stands.log c.loop-before.before stands.rest near));
     }
 
 pub returns-in_err-end : goal.returns-in_err-end
@@ -48,25 +53,33 @@ returns-in-Fault g c =
     let policy = c.args.setup.now.policy.now in
     let before = c.loop-before.before in
     let steps = ap (λ (k : RunControl). k.stamps.count) c.control.ensures in
-    let near : before < basin.control.stamps.count = let test = c.loop-before-test.true in let value = c.count-before-end.ensures.value in omega arith in
+    let near : before < basin.control.stamps.count = let test = c.loop-before-test.true in let value =
+    c.count-before-end.ensures.value in omega arith in
     let was = c.loop-before.invariant.steps in
     let more = c.in_ok-end.ensures.counted in
     let made = c.run_step_by.ensures.runs.made in record {
       comes = λ inputs shows.
           let stands = c.loop-before.invariant.stands inputs shows in
-          let passes = rw c.in-Fault.is at c.in_ok-end.ensures.runs.passes stands.log stands.shows (before_step basin stands.log before stands.rest near) in
-          comes_faulted basin (policy_in basin policy) _ inputs c.loop-before.engine c.run_step_by.new.self before (before + 1) c.in-Fault.field-0 c.finish.result stands passes
-          (few_turns basin (before + 1) c.run_step_by.new.self.turns made.valid (omega (arith, near)) (more_turns basin before _ _ c.in_ok-end.ensures.runs.few c.loop-before.invariant.few))
+          let passes =
+          rw c.in-Fault.is at c.in_ok-end.ensures.runs.passes stands.log stands.shows (before_step basin stands.log before stands.rest near) in
+          comes_faulted basin (policy_in basin policy) _ inputs c.loop-before.engine c.run_step_by.new.self before (before + 1) c.in-Fault.field-0
+          c.finish.result stands passes
+          (few_turns basin (before + 1) c.run_step_by.new.self.turns made.valid (omega (arith, near))
+          (more_turns basin before _ _ c.in_ok-end.ensures.runs.few c.loop-before.invariant.few))
           (c.finish.ensures.run basin policy (passes.last ∷ passes.before) made passes.shows);
       opened_steps = λ inputs shows.
           let stands = c.loop-before.invariant.stands inputs shows in
-          let passes = rw c.in-Fault.is at c.in_ok-end.ensures.runs.passes stands.log stands.shows (before_step basin stands.log before stands.rest near) in
+          let passes =
+          rw c.in-Fault.is at c.in_ok-end.ensures.runs.passes stands.log stands.shows (before_step basin stands.log before stands.rest near) in
           let is = c.finish.ensures.run basin policy (passes.last ∷ passes.before) made passes.shows in
           let last : c.run_step_by.new.self.closed ≡ c.loop-before.engine.closed = rw c.in-Fault.is at c.in_ok-end.ensures.runs.closed_steps in
           counted_fault _ _ before c.finish.result.end c.finish.result.closed c.in-Fault.field-0
-          (is.end ∙ ap (λ event. end_of (event ∷ passes.before)) passes.ends) (c.finish.ensures.same.0 ∙ last ∙ c.loop-before.invariant.last) was more;
+          (is.end ∙ ap (λ event. end_of (event ∷ passes.before)) passes.ends)
+          (c.finish.ensures.same.0 ∙ last ∙ c.loop-before.invariant.last) was more;
       closed_steps = c.finish.ensures.closed basin policy made;
-      kept = λ kept. subst (λ trace. IsSome trace) (sym c.finish.ensures.same.1) (c.run_step_by.ensures.runs.kept.trace ∙ c.loop-before.invariant.kept kept);
+      kept =
+          λ kept. subst (λ trace. IsSome trace) (sym c.finish.ensures.same.1)
+          (c.run_step_by.ensures.runs.kept.trace ∙ c.loop-before.invariant.kept kept);
       rises = omega (arith, was, more);
       few = omega (arith, near, was, more);
     }

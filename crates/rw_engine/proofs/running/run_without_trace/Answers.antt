@@ -10,7 +10,8 @@ pass_all-requires-clause-begun g c =
 
 pub returns-clause-run : goal.returns-clause-run
 returns-clause-run g c =
-    comes_run c.args.basin.now (policy_in c.args.basin.now c.args.policy.now) c.args.inputs.now c.pass_all.result (c.pass_all.ensures.comes c.args.inputs.now c.in_ok-engine.ensures.shows)
+    comes_run c.args.basin.now (policy_in c.args.basin.now c.args.policy.now) c.args.inputs.now c.pass_all.result
+    (c.pass_all.ensures.comes c.args.inputs.now c.in_ok-engine.ensures.shows)
 
 pub returns-clause-counted : goal.returns-clause-counted
 returns-clause-counted g c = record {

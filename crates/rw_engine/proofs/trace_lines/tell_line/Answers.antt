@@ -9,5 +9,7 @@ returns-in_err-push c =
 
 pub returns : goal.returns
 returns c =
-    told_both _ c.args.trace.now c.args.lines.now c.push-2.new.self c.push.new.self c.push-2.result c.push-2.ensures.pushed c.in_ok-push.ensures.pushed
-    (grows_told c.push-2.result c.args.trace.now c.push-2.new.self _ c.push-2.ensures.pushed c.push-2.ensures.unchanged) c.requires c.push-2.ensures.wants
+    told_both _ c.args.trace.now c.args.lines.now c.push-2.new.self c.push.new.self c.push-2.result c.push-2.ensures.pushed
+    c.in_ok-push.ensures.pushed
+    (grows_told c.push-2.result c.args.trace.now c.push-2.new.self _ c.push-2.ensures.pushed c.push-2.ensures.unchanged) c.requires
+    c.push-2.ensures.wants

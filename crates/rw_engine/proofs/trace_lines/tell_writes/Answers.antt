@@ -6,7 +6,8 @@ use Rattle.rw_engine.proofs.trace_lines.tell_writes.Goals as goal
 pub loop-write-preserved : goal.loop-write-preserved
 loop-write-preserved c =
     let writes = c.args.writes.now in
-    let more : map line_of (take c.loop-write.write-index writes) ++ c.line_of.result ∷ [] ≡ map line_of (take (c.loop-write.write-index + 1) writes) =
+    let more : map line_of (take c.loop-write.write-index writes) ++ c.line_of.result ∷ []
+    ≡ map line_of (take (c.loop-write.write-index + 1) writes) =
     ap (λ line. map line_of (take c.loop-write.write-index writes) ++ line ∷ []) (c.line_of.ensures ∙ ap line_of c.write-item.is)
     ∙ sym (map_more line_of writes c.loop-write.write-index c.write-item.result c.loop-write-test.true) in
     record {

@@ -10,7 +10,8 @@ returns-then-len-from-clause-cleared c =
 pub returns-clause-kept : goal.returns-clause-kept
 returns-clause-kept c =
     let more : c.args.steps < length c.args.given.now.items = search rules in
-    let places = has-places c.args.steps c.args.given.now.items c.args.values.now.items (omega (arith, more)) c.requires.kept.paired c.requires.kept.column in
+    let places =
+    has-places c.args.steps c.args.given.now.items c.args.values.now.items (omega (arith, more)) c.requires.kept.paired c.requires.kept.column in
     let values = with_items c.args.values.now c.keep.new.values in
     let given = with_items c.args.given.now c.keep.new.given in
     let size : length values.items ≡ c.args.steps + 1 = omega (arith, values.ok.0, c.args.values.now.ok.0, places.each_value) in

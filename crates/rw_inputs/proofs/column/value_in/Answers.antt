@@ -10,7 +10,8 @@ returns-then-values-place c =
 pub returns-then-is_given : goal.returns-then-is_given
 returns-then-is_given c =
     let near : c.args.step < length c.args.values.now = omega (arith, c.from-place.ensures, c.if-values-place.false) in
-    ap (λ value. Some value) (c.index-values-place.is ∙ ap (λ place. slice_index_or c.args.values.now place c.index-values-place.result) c.from-place.ensures)
+    ap (λ value. Some value) (c.index-values-place.is
+    ∙ ap (λ place. slice_index_or c.args.values.now place c.index-values-place.result) c.from-place.ensures)
     ∙ sym (is-given c.args.given.now c.args.values.now c.args.step c.index-values-place.result (sym c.is_given.ensures ∙ c.if-is_given.true) near)
 
 pub returns-else-is_given : goal.returns-else-is_given

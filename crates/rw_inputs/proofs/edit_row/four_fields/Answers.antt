@@ -6,7 +6,8 @@ use Rattle.rw_inputs.proofs.Rows.{four_from, four-by_place}
 use Rattle.rw_inputs.proofs.edit_row.four_fields.Goals as goal
 
 -- what the first fields show
-shown : (fields : Fields) (a b c d e : Option (List ℕ)) → a ≡ field_at fields 0 → b ≡ field_at fields 1 → c ≡ field_at fields 2 → d ≡ field_at fields 3
+shown : (fields : Fields) (a b c d e : Option (List ℕ)) → a ≡ field_at fields 0 → b ≡ field_at fields 1 → c ≡ field_at fields 2
+    → d ≡ field_at fields 3
     → e ≡ field_at fields 4 → four_from a b c d e ≡ four_fields fields
 shown fields a b c d e p q r s t = rw (p, q, r, s, t) (sym (four-by_place fields))
 
@@ -35,10 +36,12 @@ returns-in_default-get-3 c =
 
 pub returns-in-None : goal.returns-in-None
 returns-in-None c =
-    shown (fields_of c.args.row.now) (Some c.in-Some.first.now) (Some c.in-Some-get.second.now) (Some c.in-Some-get-2.third.now) (Some c.in-Some-get-3.fourth.now) None
+    shown (fields_of c.args.row.now) (Some c.in-Some.first.now) (Some c.in-Some-get.second.now) (Some c.in-Some-get-2.third.now)
+    (Some c.in-Some-get-3.fourth.now) None
     c.in-Some.ensures.value c.in-Some-get.ensures.value c.in-Some-get-2.ensures.value c.in-Some-get-3.ensures.value c.in-None.ensures.value
 
 pub returns-in-Some-get-4 : goal.returns-in-Some-get-4
 returns-in-Some-get-4 c =
-    shown (fields_of c.args.row.now) (Some c.in-Some.first.now) (Some c.in-Some-get.second.now) (Some c.in-Some-get-2.third.now) (Some c.in-Some-get-3.fourth.now) (Some c.in-Some-get-4.field-0.now)
+    shown (fields_of c.args.row.now) (Some c.in-Some.first.now) (Some c.in-Some-get.second.now) (Some c.in-Some-get-2.third.now)
+    (Some c.in-Some-get-3.fourth.now) (Some c.in-Some-get-4.field-0.now)
     c.in-Some.ensures.value c.in-Some-get.ensures.value c.in-Some-get-2.ensures.value c.in-Some-get-3.ensures.value c.in-Some-get-4.ensures.value

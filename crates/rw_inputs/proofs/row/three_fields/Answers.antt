@@ -18,7 +18,8 @@ returns-in_default c =
 pub returns-in_default-get : goal.returns-in_default-get
 returns-in_default-get c =
     let fields = fields_of c.args.row.now in
-    shown fields (Some c.in-Some.first.now) None (field_at fields 2) (field_at fields 3) c.in-Some.ensures.value c.in_default-get.ensures.value refl refl
+    shown fields (Some c.in-Some.first.now) None (field_at fields 2) (field_at fields 3) c.in-Some.ensures.value
+    c.in_default-get.ensures.value refl refl
 
 pub returns-in_default-get-2 : goal.returns-in_default-get-2
 returns-in_default-get-2 c =
@@ -33,5 +34,6 @@ returns-in-None c =
 
 pub returns-in-Some-get-3 : goal.returns-in-Some-get-3
 returns-in-Some-get-3 c =
-    shown (fields_of c.args.row.now) (Some c.in-Some.first.now) (Some c.in-Some-get.second.now) (Some c.in-Some-get-2.third.now) (Some c.in-Some-get-3.field-0.now)
+    shown (fields_of c.args.row.now) (Some c.in-Some.first.now) (Some c.in-Some-get.second.now) (Some c.in-Some-get-2.third.now)
+    (Some c.in-Some-get-3.field-0.now)
     c.in-Some.ensures.value c.in-Some-get.ensures.value c.in-Some-get-2.ensures.value c.in-Some-get-3.ensures.value

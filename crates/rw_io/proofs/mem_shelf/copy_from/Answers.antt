@@ -4,5 +4,6 @@ use Rattle.rw_io.proofs.mem_shelf.copy_from.Goals as goal
 
 pub returns-clause-copied : goal.returns-clause-copied
 returns-clause-copied c =
-    copied c.args.at c.min-count.result (length c.args.bytes.now - c.args.at) c.args.bytes.now c.copy_from_slice.new.self (drop c.min-count.result c.args.buf.now)
+    copied c.args.at c.min-count.result (length c.args.bytes.now - c.args.at) c.args.bytes.now c.copy_from_slice.new.self
+    (drop c.min-count.result c.args.buf.now)
     (c.copy_from_slice.ensures.after) (omega arith) (grind (arith, common_steps))

@@ -12,11 +12,17 @@ returns-clause-balance c = λ all.
     let differ : 2 ≡ 1 = ap unsigned_abs out in omega (arith, differ)
 
 pub returns-clause-priority : goal.returns-clause-priority
-returns-clause-priority c = λ all. let more : 2 ≤ 1 = all.0.puts 0 (by_rule 2 1 (pos 6)) (omega arith) (by_rule 1 1 (pos 5)).content refl in omega (arith, more)
+returns-clause-priority c = λ all. let more : 2 ≤ 1 =
+    all.0.puts 0 (by_rule 2 1 (pos 6)) (omega arith) (by_rule 1 1 (pos 5)).content refl in omega (arith, more)
 
 pub returns-clause-links : goal.returns-clause-links
 returns-clause-links c = λ all.
-    none-some (by_rule 1 1 (pos 5)).content (sym (all (cell_at 1 1) (cell_at 2 1) (record { slot = record { first = omega arith; last = omega arith }; first = omega arith; last = omega arith }) refl))
+    none-some (by_rule 1 1 (pos 5)).content (sym
+    (all (cell_at 1 1) (cell_at 2 1) (record {
+      slot = record { first = omega arith; last = omega arith };
+      first = omega arith;
+      last = omega arith;
+    }) refl))
 
 pub returns-clause-rules : goal.returns-clause-rules
 returns-clause-rules c = λ all. let fired = all 1 (record { first = omega arith; last = omega arith }) in none-some fired.firing fired.last

@@ -1,5 +1,6 @@
 -- The product fits 128 bits.
-use Rattle.rw_method.proofs.Common.{FitsSigned, IsWithin, arith, ints, neg_ℤ, of_z, pos, subst, sym, to_z, to_z-of_z, w128, ℕ, ℤ, ◌*ℤ◌, ◌≡◌, ◌≤ℤ◌, ◌≤◌}
+use Rattle.rw_method.proofs.Common.{FitsSigned, IsWithin, arith, ints, neg_ℤ, of_z, pos, subst, sym, to_z, to_z-of_z, w128, ℕ, ℤ, ◌*ℤ◌, ◌≡◌, ◌≤ℤ◌}
+use Rattle.rw_method.proofs.Common.{◌≤◌}
 use Rattle.rw_method.proofs.LeastInflow.{times_rises}
 use Rattle.rw_method.proofs.brought.times_share.Goals as goal
 

@@ -1,4 +1,5 @@
-use Rattle.rw_method.proofs.Common.{All, Balanced, Bool, FitsSigned, List, None, Put, Solves, View, answer, arith, false, is_bounded, put, refl, rules, solved_put, to_z-of_z, w128, ℕ, ℤ, ◌++◌, ◌∙◌, ◌≡◌}
+use Rattle.rw_method.proofs.Common.{All, Balanced, Bool, FitsSigned, List, None, Put, Solves, View, answer, arith, false, is_bounded, put, refl}
+use Rattle.rw_method.proofs.Common.{rules, solved_put, to_z-of_z, w128, ℕ, ℤ, ◌++◌, ◌∙◌, ◌≡◌}
 use Rattle.rw_method.specs.declared.solved.Solved.TheVariants.{OutOfRange}
 use Rattle.rw_method.proofs.puts.begin_puts.Goals as goal
 

@@ -22,4 +22,12 @@ returns-in-Err c =
     let whole : to_z w128 (of_z w128 c.from.result) ≡ c.args.release = ap (λ z. to_z w128 (of_z w128 z)) from ∙ to_z-of_z w128 c.args.release fits in
     let first = rw whole at c.in-Err.ensures.asks in
     let fit : Put → Bool = can_get (option_map (λ rating. rating.now) c.args.table) c.args.view.now in
-    record { asks = record { added = tt; fits = tt; refused = refused_at_once fit (put c.args.places.0 c.args.release c.args.number ∷ []) (put c.args.places.1 c.args.spill c.args.number ∷ []) c.in-Err.answer first.refused } }
+    record {
+      asks = record {
+        added = tt;
+        fits = tt;
+        refused =
+            refused_at_once fit (put c.args.places.0 c.args.release c.args.number ∷ []) (put c.args.places.1 c.args.spill c.args.number ∷ [])
+            c.in-Err.answer first.refused;
+      };
+    }

@@ -1,4 +1,5 @@
-use Rattle.rw_method.proofs.Common.{FitsSigned, IsWithin, List, Term, add-one, arith, brought_by, drop, drop-cons, get_or, ints, length, net_of, rules, to_z-of_z, w128, ℕ, ℤ, ◌+ℤ◌, ◌+◌, ◌<◌, ◌≡◌}
+use Rattle.rw_method.proofs.Common.{FitsSigned, IsWithin, List, Term, add-one, arith, brought_by, drop, drop-cons, get_or, ints, length, net_of}
+use Rattle.rw_method.proofs.Common.{rules, to_z-of_z, w128, ℕ, ℤ, ◌+ℤ◌, ◌+◌, ◌<◌, ◌≡◌}
 use Rattle.rw_method.proofs.settling.net_of.Goals as goal
 
 -- what is left, once the next term is counted

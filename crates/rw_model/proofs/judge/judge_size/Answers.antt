@@ -9,7 +9,9 @@ returns-then-slot_count-count_places-gt-SLOTS_MAX c = λ name.
     let own : c.count-owner.result + 1 ≡ length c.args.objects.now + 1 = omega (arith, c.count-owner.ensures.count) in
     let all = length-append c.args.objects.now (record { name = name; kind = c.args.kind.now } ∷ []) in
     let slots = length-all_slots-push c.args.objects.now (record { name = name; kind = c.args.kind.now }) (c.count-owner.result + 1) own in
-    let is = size-is (c.args.objects.now ++ record { name = name; kind = c.args.kind.now } ∷ []) false true (grind (arith, nat_tests, all, own, c.if-owner-gt-OBJECTS_MAX.false))
+    let is =
+    size-is (c.args.objects.now ++ record { name = name; kind = c.args.kind.now } ∷ []) false true
+    (grind (arith, nat_tests, all, own, c.if-owner-gt-OBJECTS_MAX.false))
     (grind (arith, nat_tests, slots, c.slot_count.ensures.count, c.count_places.ensures.count, c.if-slot_count-count_places-gt-SLOTS_MAX.true)) in
     (rw c.from-then-slot_count-count_places-gt-SLOTS_MAX.ensures is, rw is refl)
 
@@ -18,5 +20,6 @@ returns c = λ name.
     let own : c.count-owner.result + 1 ≡ length c.args.objects.now + 1 = omega (arith, c.count-owner.ensures.count) in
     let all = length-append c.args.objects.now (record { name = name; kind = c.args.kind.now } ∷ []) in
     let slots = length-all_slots-push c.args.objects.now (record { name = name; kind = c.args.kind.now }) (c.count-owner.result + 1) own in
-    size-is (c.args.objects.now ++ record { name = name; kind = c.args.kind.now } ∷ []) false false (grind (arith, nat_tests, all, own, c.if-owner-gt-OBJECTS_MAX.false))
+    size-is (c.args.objects.now ++ record { name = name; kind = c.args.kind.now } ∷ []) false false
+    (grind (arith, nat_tests, all, own, c.if-owner-gt-OBJECTS_MAX.false))
     (grind (arith, nat_tests, slots, c.slot_count.ensures.count, c.count_places.ensures.count, c.if-slot_count-count_places-gt-SLOTS_MAX.false))

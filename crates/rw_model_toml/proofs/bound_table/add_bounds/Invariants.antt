@@ -6,4 +6,5 @@ use Rattle.rw_model_toml.proofs.bound_table.add_bounds.Given as goal
 
 abbrev pub invariant-loop-place : goal.invariant-loop-place
 invariant-loop-place l =
-    in_turn bound_read (codes "bound") (l.place + 1) (items_view (drop l.place l.items)) l.builder ≡ in_turn bound_read (codes "bound") 1 (items_view l.items) l.fn.builder
+    in_turn bound_read (codes "bound") (l.place + 1) (items_view (drop l.place l.items)) l.builder
+    ≡ in_turn bound_read (codes "bound") 1 (items_view l.items) l.fn.builder

@@ -7,4 +7,5 @@ use Rattle.rw_model_toml.proofs.history.read_inflows.Given as goal
 
 abbrev pub invariant-loop-place : goal.invariant-loop-place
 invariant-loop-place l =
-    after l.inflows.items (list_read inflow_of l.path (l.place + 1) (items_view (drop l.place l.items))) ≡ list_read inflow_of l.path 1 (items_view l.items)
+    after l.inflows.items (list_read inflow_of l.path (l.place + 1) (items_view (drop l.place l.items)))
+    ≡ list_read inflow_of l.path 1 (items_view l.items)

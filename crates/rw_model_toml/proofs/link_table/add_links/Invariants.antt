@@ -6,4 +6,5 @@ use Rattle.rw_model_toml.proofs.link_table.add_links.Given as goal
 
 abbrev pub invariant-loop-place : goal.invariant-loop-place
 invariant-loop-place l =
-    in_turn link_read (codes "link") (l.place + 1) (items_view (drop l.place l.items)) l.builder ≡ in_turn link_read (codes "link") 1 (items_view l.items) l.fn.builder
+    in_turn link_read (codes "link") (l.place + 1) (items_view (drop l.place l.items)) l.builder
+    ≡ in_turn link_read (codes "link") 1 (items_view l.items) l.fn.builder

@@ -40,4 +40,5 @@ unfolding reservoir_of
 returns-in_err-only_listed c =
     gives-fault (λ kind. kind) c.from_residual-in_err-only_listed.result _ c.in_err-only_listed.field-0.0 c.from_residual-in_err-only_listed.ensures.1
     (goes-on _ _ _ _ c.in_ok-initial_storage.ensures.read (goes-on _ _ _ _ c.in_ok-rating.ensures (goes-on _ _ _ _ c.in_ok-options.ensures
-    (goes-on _ _ _ _ c.in_ok-evaporation.ensures (goes-on _ _ _ _ c.in_ok-max_release.ensures (stops _ _ c.in_err-only_listed.field-0.0 c.in_err-only_listed.ensures))))))
+    (goes-on _ _ _ _ c.in_ok-evaporation.ensures
+    (goes-on _ _ _ _ c.in_ok-max_release.ensures (stops _ _ c.in_err-only_listed.field-0.0 c.in_err-only_listed.ensures))))))

@@ -6,4 +6,5 @@ use Rattle.rw_model_toml.proofs.object_table.add_objects.Given as goal
 
 abbrev pub invariant-loop-place : goal.invariant-loop-place
 invariant-loop-place l =
-    in_turn object_read (codes "object") (l.place + 1) (items_view (drop l.place l.items)) l.builder ≡ in_turn object_read (codes "object") 1 (items_view l.items) l.fn.builder
+    in_turn object_read (codes "object") (l.place + 1) (items_view (drop l.place l.items)) l.builder
+    ≡ in_turn object_read (codes "object") 1 (items_view l.items) l.fn.builder

@@ -7,4 +7,5 @@ use Rattle.rw_model_toml.proofs.rating.read_rows.Given as goal
 
 abbrev pub invariant-loop-place : goal.invariant-loop-place
 invariant-loop-place l =
-    after l.rows.items (list_read row_read l.path (l.place + 1) (items_view (drop l.place l.items))) ≡ list_read row_read l.path 1 (items_view l.items)
+    after l.rows.items (list_read row_read l.path (l.place + 1) (items_view (drop l.place l.items)))
+    ≡ list_read row_read l.path 1 (items_view l.items)

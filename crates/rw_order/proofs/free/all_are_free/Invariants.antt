@@ -5,4 +5,5 @@ use Rattle.rw_order.proofs.free.all_are_free.Given as goal
 
 abbrev pub invariant-loop-before : goal.invariant-loop-before
 invariant-loop-before l =
-    list_all (λ (object : Object). is_free object.kind) (drop l.before l.basin.objects) ≡ list_all (λ (object : Object). is_free object.kind) l.basin.objects
+    list_all (λ (object : Object). is_free object.kind) (drop l.before l.basin.objects)
+    ≡ list_all (λ (object : Object). is_free object.kind) l.basin.objects

@@ -8,7 +8,8 @@ pub returns-then-is_joined : goal.returns-then-is_joined
 returns-then-is_joined c =
     let test : (ℕ → Bool) = λ slot. is_level c.args.basin.now.objects slot && has_other_level c.args.basin.now slot in
     let joined : test (c.loop-before.before + 1) ≡ true = sym c.is_joined.ensures ∙ c.if-is_joined.true in
-    let near : c.loop-before.before < length (all_slots c.args.basin.now.objects) = omega (arith, c.loop-before-test.true, c.slot_count-before-end.ensures.count) in
+    let near : c.loop-before.before < length (all_slots c.args.basin.now.objects) =
+    omega (arith, c.loop-before-test.true, c.slot_count-before-end.ensures.count) in
     sym (some_crossed test (length (all_slots c.args.basin.now.objects)) c.loop-before.before near joined)
 
 pub loop-before-preserved : goal.loop-before-preserved

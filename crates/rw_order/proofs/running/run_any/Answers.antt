@@ -13,7 +13,9 @@ returns-clause-free g c = λ free log any settled.
     let inputs = c.args.inputs.now in
     of_ok (ComesToPicked basin no_rules (g.P.Pick.rule c.args.pick.now) inputs) (SettlesAs basin log) c.run_counted.result (λ run comes.
     let other : IsAnyRun basin (givens basin inputs) comes.log = record { events = comes.whole.events; leads = comes.any; end = comes.whole.end } in
-    let orders = c.any_order.ensures basin (givens basin inputs) log comes.log c.is_valid.ensures free (c.inputs_are_inside.ensures basin inputs c.requires.inputs) any settled other in
+    let orders =
+    c.any_order.ensures basin (givens basin inputs) log comes.log c.is_valid.ensures free
+    (c.inputs_are_inside.ensures basin inputs c.requires.inputs) any settled other in
     record {
       end = comes.is.end ∙ orders.0;
       values = λ cell. ap (option_map (λ (content : Content). content.value)) (comes.is.cells cell) ∙ sym (orders.2 cell);

@@ -10,6 +10,8 @@ returns-in-None c tailwater head asked =
     let view = c.args.view.now in
     let out = rw asked at c.lets_out.ensures in
     let terms = three_same _ _ _ _ _ _ c.term.ensures out c.stores.ensures in
-    let put = rw (to_z-of_z w64 c.args.max_release c.ranges.max_release, to_z-of_z w64 c.args.head c.ranges.head) at (c.put_all.ensures tailwater c.args.rating.now) in
+    let put =
+    rw (to_z-of_z w64 c.args.max_release c.ranges.max_release, to_z-of_z w64 c.args.head c.ranges.head) at
+    (c.put_all.ensures tailwater c.args.rating.now) in
     answered_by of view c.args.head c.args.asked _ c.settle-balanced.result c.fault_of_level.result c.put_all.result head asked terms
     (c.settle-balanced.ensures ∙ ap₂ settled c.steady.ensures.flow terms) c.fault_of_level.ensures put c.in-None.ensures

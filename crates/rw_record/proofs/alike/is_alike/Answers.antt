@@ -5,7 +5,8 @@ use Rattle.rw_record.proofs.alike.is_alike.Goals as goal
 pub loop-one-preserved : goal.loop-one-preserved
 loop-one-preserved c =
     let same : held c.args.series.now c.one-item.result.cell ≡ c.one-item.result.content = search rules in
-    one_more (held c.args.series.now) c.args.looked.now c.loop-one.one-index c.one-item.result c.loop-one-test.true c.one-item.is same c.loop-one.invariant
+    one_more (held c.args.series.now) c.args.looked.now c.loop-one.one-index c.one-item.result c.loop-one-test.true c.one-item.is same
+    c.loop-one.invariant
 
 pub returns : goal.returns
 returns c =

@@ -10,7 +10,8 @@ loop-one-preserved c = record {
       let at = c.loop-one.one-index in
       let rest : drop at c.args.items.now ≡ c.one-item.result ∷ drop (at + 1) c.args.items.now =
       drop_more c.args.items.now at c.one-item.result c.loop-one-test.true ∙ ap (λ one. one ∷ drop (at + 1) c.args.items.now) (sym c.one-item.is) in
-      one_back c.args.basin.now before c.one-item.result (drop (at + 1) c.args.items.now) was c.loop-one.series c.put_one.new.series c.loop-one.invariant.made
+      one_back c.args.basin.now before c.one-item.result (drop (at + 1) c.args.items.now) was c.loop-one.series c.put_one.new.series
+      c.loop-one.invariant.made
       c.put_one.ensures.put c.put_one.ensures.passed
       (subst (CanTakeBack before (held c.loop-one.series)) rest (c.loop-one.invariant.back before was can));
 }

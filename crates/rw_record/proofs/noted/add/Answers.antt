@@ -11,4 +11,5 @@ returns-clause-marks c =
     let added : c.push.new.self.items ≡ noted_after cells items (c.args.cell ∷ []) = search rules in
     let many : length c.mark_if.new.marks.items ≡ c.args.slots * c.args.steps = search rules in
     subst (KeepsMarks c.args.slots c.args.steps c.mark_if.new.marks.items) (sym added)
-    (one_added c.args.slots c.args.steps c.args.marks.now.items c.mark_if.new.marks.items cells items c.args.cell c.requires fresh many c.mark_if.ensures.set)
+    (one_added c.args.slots c.args.steps c.args.marks.now.items c.mark_if.new.marks.items cells items c.args.cell c.requires fresh many
+    c.mark_if.ensures.set)

@@ -18,5 +18,6 @@ loop-place-preserved c =
     let rest = drop (place + 1) lines in
     ap (λ after. string_bytes c.push_told.new.text ++ puts_told basin cell after rest) c.open_after-step.ensures
     ∙ written text (string_bytes c.push_told.new.text) (put_told basin cell step line) (puts_told basin cell (open_after step line) rest) whole
-    (subst (λ (left : List TraceEvent). text ++ puts_told basin cell step left ≡ whole) (here lines place line c.line_at-line.ensures) c.loop-place.invariant)
+    (subst (λ (left : List TraceEvent). text ++ puts_told basin cell step left ≡ whole) (here lines place line c.line_at-line.ensures)
+    c.loop-place.invariant)
     c.in_ok-push_told.ensures

@@ -11,6 +11,8 @@ loop-before-preserved c =
     let same = c.requires in
     let count = c.slot_count-before-end.ensures.count in
     let values : (ℕ → Option ℤ) = λ slot. values_in (held c.args.series.now) slot c.args.step.0 in
-    alike_more c.args.values.now values c.loop-before.before c.from.result c.index-values-from.result c.from.ensures (omega (arith, test, same, count))
+    alike_more c.args.values.now values c.loop-before.before c.from.result c.index-values-from.result c.from.ensures
+    (omega (arith, test, same, count))
     c.index-values-from.is
-    (c.is_in.ensures c.if-not-is_in.false ∙ ap (λ content. option_map (λ (held : Content). held.value) content) (c.get.ensures ∙ c.at_step-cells.ensures _)) c.loop-before.invariant
+    (c.is_in.ensures c.if-not-is_in.false ∙ ap (λ content. option_map (λ (held : Content). held.value) content)
+    (c.get.ensures ∙ c.at_step-cells.ensures _)) c.loop-before.invariant

@@ -7,4 +7,5 @@ pub returns : goal.returns
 returns c =
     c.in_ok-push_stamped.ensures
     ∙ ap (λ stamp. string_bytes c.args.text.now ++ (decimal c.args.step ++ (codes "," ++ stamp)))
-    (c.as_str.ensures.value ∙ c.in_ok-stamp.ensures ∙ ap (λ (control : RunControl). stamp_text (end_of_step control.stamps c.args.step)) c.control.ensures)
+    (c.as_str.ensures.value ∙ c.in_ok-stamp.ensures
+    ∙ ap (λ (control : RunControl). stamp_text (end_of_step control.stamps c.args.step)) c.control.ensures)

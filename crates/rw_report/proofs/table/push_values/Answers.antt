@@ -10,4 +10,5 @@ loop-before-preserved c =
     next (λ slot. codes "," ++ value_words (values_in (held c.args.series.now) slot c.args.step.0)) c.loop-before.before
     (string_bytes c.args.text.now) (string_bytes c.loop-before.text) (string_bytes c.push_value.new.text) c.loop-before.invariant
     (c.in_ok-push_value.ensures
-    ∙ ap (λ content. string_bytes c.loop-before.text ++ (codes "," ++ value_words (option_map (λ (held : Content). held.value) content))) (c.get.ensures ∙ c.at_step-cells.ensures _))
+    ∙ ap (λ content. string_bytes c.loop-before.text ++ (codes "," ++ value_words (option_map (λ (held : Content). held.value) content)))
+    (c.get.ensures ∙ c.at_step-cells.ensures _))

@@ -5,14 +5,16 @@ use Rattle.rw_rerun.proofs.exchange.exchange.Goals as goal
 pub loop-change-preserved-in-Some-change : goal.loop-change-preserved-in-Some-change
 loop-change-preserved-in-Some-change c =
     let at : c.len-place.result ≡ length c.pop.new.self.items = search rules in
-    let on = exchange_on c.loop-change.kept.items _ c.loop-change.changes.items c.pop.new.self.items (Some c.in-Some-change.record) c.len-place.result at
+    let on =
+    exchange_on c.loop-change.kept.items _ c.loop-change.changes.items c.pop.new.self.items (Some c.in-Some-change.record) c.len-place.result at
     (c.in-Some.ensures.items ∙ ap (λ change. c.pop.new.self.items ++ change ∷ []) c.in-Some-change.is) c.loop-change.invariant.near
     c.loop-change.invariant.whole in record { near = on.0; whole = on.1 }
 
 pub loop-change-preserved-in-Some-change-2 : goal.loop-change-preserved-in-Some-change-2
 loop-change-preserved-in-Some-change-2 c =
     let at : c.len-place.result ≡ length c.pop.new.self.items = search rules in
-    let on = exchange_on c.loop-change.kept.items _ c.loop-change.changes.items c.pop.new.self.items (Some c.in-Some-change.record) c.len-place.result at
+    let on =
+    exchange_on c.loop-change.kept.items _ c.loop-change.changes.items c.pop.new.self.items (Some c.in-Some-change.record) c.len-place.result at
     (c.in-Some.ensures.items ∙ ap (λ change. c.pop.new.self.items ++ change ∷ []) c.in-Some-change.is) c.loop-change.invariant.near
     c.loop-change.invariant.whole in record { near = on.0; whole = on.1 }
 

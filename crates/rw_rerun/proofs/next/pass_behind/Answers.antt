@@ -32,6 +32,7 @@ returns g c =
     let basin = c.args.setup.now.basin.now in
     let policy = c.args.setup.now.policy.now in
     let framed : IsFramed (policy_in basin policy) =
-    (c.code_keeps_promises.ensures basin policy.blocks policy.budgets (c.answered_code_is_safe.ensures.accepted basin policy.blocks policy c.requires.fits)).framed in
+    (c.code_keeps_promises.ensures basin policy.blocks policy.budgets
+    (c.answered_code_is_safe.ensures.accepted basin policy.blocks policy c.requires.fits)).framed in
     passes_behind basin policy c.args.inputs.now c.args.cells.now c.args.kept.now c.args.behind c.args.spare _ c.args.steps.now _ _ framed
     c.in_ok-ready.ensures c.pass_others.ensures

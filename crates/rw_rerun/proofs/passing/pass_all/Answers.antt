@@ -27,8 +27,10 @@ returns g c =
       kept = c.in_ok-pass_rest.ensures.kept.trace ∙ c.in_ok-engine.ensures.kept;
       goes = λ earlier kept.
           c.in_ok-pass_rest.ensures.goes c.args.inputs.now earlier kept
-          (first_way basin (policy_in basin c.args.setup.now.policy.now) c.args.inputs.now earlier c.args.kept.now _ c.new-2.ensures.items c.new.ensures.items refl
-          c.in_ok-engine.ensures.shows (standing-placed [] inputs refl) (begun inputs) (λ step. (nothing_of step (placed [] inputs) (begun inputs step)).0)
+          (first_way basin (policy_in basin c.args.setup.now.policy.now) c.args.inputs.now earlier c.args.kept.now _ c.new-2.ensures.items
+          c.new.ensures.items refl
+          c.in_ok-engine.ensures.shows (standing-placed [] inputs refl) (begun inputs)
+          (λ step. (nothing_of step (placed [] inputs) (begun inputs step)).0)
           (placed_shown basin c.args.inputs.now c.requires.inputs));
       each = omega (arith, none, counted);
       rises = c.in_ok-pass_rest.ensures.rises;

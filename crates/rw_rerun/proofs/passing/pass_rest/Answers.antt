@@ -24,16 +24,19 @@ pub pass_step-requires-clause-can : goal.pass_step-requires-clause-can
 pass_step-requires-clause-can g c =
     let basin = c.args.setup.now.basin.now in
     let steps = ap (λ (k : RunControl). k.stamps.count) c.control.ensures in
-    let near : c.loop-before.before < basin.control.stamps.count = let test = c.loop-before-test.true in let value = c.count-before-end.ensures.value in omega arith in
+    let near : c.loop-before.before < basin.control.stamps.count = let test = c.loop-before-test.true in let value =
+    c.count-before-end.ensures.value in omega arith in
     replayed_here basin c.args.kept.now c.loop-before.before c.index-kept-from.result c.requires.can
-    (entry_there c.args.kept.now c.loop-before.before c.from.result basin.control.stamps.count c.index-kept-from.result c.from.ensures near c.requires.many
+    (entry_there c.args.kept.now c.loop-before.before c.from.result basin.control.stamps.count c.index-kept-from.result c.from.ensures near
+    c.requires.many
     c.index-kept-from.is)
 
 pub returns-in_err-pass_step : goal.returns-in_err-pass_step
 returns-in_err-pass_step g c =
     let basin = c.args.setup.now.basin.now in
     let steps = ap (λ (k : RunControl). k.stamps.count) c.control.ensures in
-    let near : c.loop-before.before < basin.control.stamps.count = let test = c.loop-before-test.true in let value = c.count-before-end.ensures.value in omega arith in
+    let near : c.loop-before.before < basin.control.stamps.count = let test = c.loop-before-test.true in let value =
+    c.count-before-end.ensures.value in omega arith in
     let were = c.loop-before.invariant.rises in
     let most = c.loop-before.invariant.few in
     let rises = c.pass_step.ensures.rises in
@@ -46,12 +49,15 @@ loop-before-preserved g c =
     let basin = c.args.setup.now.basin.now in
     let policy = c.args.setup.now.policy.now in
     let steps = ap (λ (k : RunControl). k.stamps.count) c.control.ensures in
-    let near : c.loop-before.before < basin.control.stamps.count = let test = c.loop-before-test.true in let value = c.count-before-end.ensures.value in omega arith in
+    let near : c.loop-before.before < basin.control.stamps.count = let test = c.loop-before-test.true in let value =
+    c.count-before-end.ensures.value in omega arith in
     let there : slice_get c.args.kept.now c.loop-before.before ≡ Some c.index-kept-from.result =
-    entry_there c.args.kept.now c.loop-before.before c.from.result basin.control.stamps.count c.index-kept-from.result c.from.ensures near c.requires.many
+    entry_there c.args.kept.now c.loop-before.before c.from.result basin.control.stamps.count c.index-kept-from.result c.from.ensures near
+    c.requires.many
     c.index-kept-from.is in
     let framed : IsFramed (policy_in basin policy) =
-    (c.code_keeps_promises.ensures basin policy.blocks policy.budgets (c.answered_code_is_safe.ensures.accepted basin policy.blocks policy c.requires.fits)).framed in
+    (c.code_keeps_promises.ensures basin policy.blocks policy.budgets
+    (c.answered_code_is_safe.ensures.accepted basin policy.blocks policy c.requires.fits)).framed in
     let was = c.loop-before.invariant.each in
     let most = c.loop-before.invariant.few in
     let were = c.loop-before.invariant.rises in
@@ -61,9 +67,12 @@ loop-before-preserved g c =
       made = c.in_ok-pass_step.ensures.made;
       way = λ inputs earlier kept way.
           passes_on basin policy inputs earlier c.args.kept.now c.loop-before.before c.index-kept-from.result c.loop-before.pass c.pass_step.new.pass
-          c.loop-before.steps c.pass_step.new.steps _ framed there kept c.in_ok-pass_step.ensures (c.loop-before.invariant.way inputs earlier kept way);
+          c.loop-before.steps c.pass_step.new.steps _ framed there kept c.in_ok-pass_step.ensures
+          (c.loop-before.invariant.way inputs earlier kept way);
       grows = grows_on c.args.pass.now c.loop-before.pass c.pass_step.new.pass c.loop-before.invariant.grows c.in_ok-pass_step.ensures.grows;
-      kept = keeps_more c.args.pass.now.engine c.loop-before.pass.engine c.pass_step.new.pass.engine c.loop-before.invariant.kept c.in_ok-pass_step.ensures.kept;
+      kept =
+          keeps_more c.args.pass.now.engine c.loop-before.pass.engine c.pass_step.new.pass.engine c.loop-before.invariant.kept
+          c.in_ok-pass_step.ensures.kept;
       each = omega (arith, was, more);
       rises = omega (arith, were, rises);
       few = omega (arith, most, few);

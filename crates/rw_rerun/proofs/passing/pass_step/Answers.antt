@@ -4,7 +4,8 @@ use Rattle.rw_rerun.proofs.passing.pass_step.Goals as goal
 
 pub returns-then-pass : goal.returns-then-pass
 returns-then-pass g c =
-    weaker c.args.setup.now.basin.now c.args.setup.now.policy.now c.args.step.0 _ _ c.args.pass.now _ _ _ _ (λ entry is. tt) (c.skip.ensures c.args.steps.now)
+    weaker c.args.setup.now.basin.now c.args.setup.now.policy.now c.args.step.0 _ _ c.args.pass.now _ _ _ _ (λ entry is. tt)
+    (c.skip.ensures c.args.steps.now)
 
 pub returns-then-alike : goal.returns-then-alike
 returns-then-alike g c =

@@ -12,7 +12,8 @@ loop-cell-preserved c =
       made = λ policy is. c.give.ensures.made policy (was.made policy is);
       can = c.give.ensures.can;
       holds = λ cell.
-          gives_on c.args.basin.now c.args.inputs.now c.args.cells.now c.loop-cell.cell-index (record { slot = record { 0 = 0 }; step = record { 0 = 0 } })
+          gives_on c.args.basin.now c.args.inputs.now c.args.cells.now c.loop-cell.cell-index
+          (record { slot = record { 0 = 0 }; step = record { 0 = 0 } })
           c.value.result c.loop-cell.engine.series c.give.new.self.series _ cell near c.value.ensures c.give.ensures.cells (was.holds cell);
       trace = c.give.ensures.trace ∙ was.trace;
       noted = c.give.ensures.noted ∙ was.noted;

@@ -9,7 +9,8 @@ returns-in-Some c =
     let some = c.requires.some in
     let near : c.args.spare.now.behind - 1 < length c.args.kept.now = omega (arith, few, some) in
     let there : slice_get c.args.kept.now (c.args.spare.now.behind - 1) ≡ Some c.index-kept-from.result =
-    entry_there c.args.kept.now (c.args.spare.now.behind - 1) c.from.result (length c.args.kept.now) c.index-kept-from.result c.from.ensures near refl c.index-kept-from.is in
+    entry_there c.args.kept.now (c.args.spare.now.behind - 1) c.from.result (length c.args.kept.now) c.index-kept-from.result c.from.ensures near refl
+    c.index-kept-from.is in
     goes_back c.args.basin.now c.args.kept.now c.args.spare.now _ c.in-Some.record some refl (there ∙ ap Some c.in-Some.is) c.take_back.ensures
 
 pub returns-in_default : goal.returns-in_default
@@ -18,5 +19,7 @@ returns-in_default c =
     let some = c.requires.some in
     let near : c.args.spare.now.behind - 1 < length c.args.kept.now = omega (arith, few, some) in
     let there : slice_get c.args.kept.now (c.args.spare.now.behind - 1) ≡ Some c.index-kept-from.result =
-    entry_there c.args.kept.now (c.args.spare.now.behind - 1) c.from.result (length c.args.kept.now) c.index-kept-from.result c.from.ensures near refl c.index-kept-from.is in
-    absurd (false≢true (subst IsSome c.in_default.is (c.requires.known (c.args.spare.now.behind - 1) c.index-kept-from.result (omega arith) (omega (arith, some)) there)))
+    entry_there c.args.kept.now (c.args.spare.now.behind - 1) c.from.result (length c.args.kept.now) c.index-kept-from.result c.from.ensures near refl
+    c.index-kept-from.is in
+    absurd (false≢true (subst IsSome c.in_default.is
+    (c.requires.known (c.args.spare.now.behind - 1) c.index-kept-from.result (omega arith) (omega (arith, some)) there)))

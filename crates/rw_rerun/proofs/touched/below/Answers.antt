@@ -40,7 +40,8 @@ loop-first-preserved c =
       few = omega (arith, near);
       below = c.loop-first.invariant.below;
       others = on_others c.args.looked.now c.args.cell middle c.index-looked-middle.result c.requires there
-          (λ below. false≢true (sym c.if-is_below.false ∙ c.is_below.ensures.1 (subst (λ (it : Held). IsBelow it.cell c.args.cell) c.index-looked-middle.is below)));
+          (λ below. false≢true (sym c.if-is_below.false
+          ∙ c.is_below.ensures.1 (subst (λ (it : Held). IsBelow it.cell c.args.cell) c.index-looked-middle.is below)));
     }
 
 pub returns : goal.returns

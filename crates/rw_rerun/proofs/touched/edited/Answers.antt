@@ -8,5 +8,6 @@ pub returns : goal.returns
 returns c =
     let named = cells_named c.args.basin.now in
     subst (AreEdited c.args.basin.now c.args.batch.now)
-    (sym (c.in_ok-add_edits.ensures ∙ ap (λ items. items ++ flat_map named c.edits.result.now) c.new-cells.ensures.items ∙ ap (flat_map named) c.edits.ensures))
+    (sym (c.in_ok-add_edits.ensures ∙ ap (λ items. items ++ flat_map named c.edits.result.now) c.new-cells.ensures.items
+    ∙ ap (flat_map named) c.edits.ensures))
     (are_edited c.args.basin.now c.args.batch.now c.requires.batch)

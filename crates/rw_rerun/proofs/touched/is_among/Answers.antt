@@ -10,7 +10,8 @@ returns-then-place-looked c =
     let near = c.if-place-looked.true in
     let one = c.index-looked-place.result in
     found_there c.args.looked.now c.args.cell c.below-place.result c.requires c.below-place.ensures one
-    (slice_get_read c.args.looked.now (length c.args.looked.now) c.below-place.result one refl (omega (arith, near)) c.index-looked-place.is) c.is_same.result
+    (slice_get_read c.args.looked.now (length c.args.looked.now) c.below-place.result one refl (omega (arith, near)) c.index-looked-place.is)
+    c.is_same.result
     (ap (λ (it : Held). is_same_cell c.args.cell it.cell) c.index-looked-place.is ∙ sym c.is_same.ensures)
 
 pub returns : goal.returns

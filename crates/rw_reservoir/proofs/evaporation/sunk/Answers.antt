@@ -8,4 +8,10 @@ returns c =
     let fits : FitsSigned w64 (c.args.elevation -ℤ c.args.rate) = omega (arith, ints, c.requires.low, c.requires.high, bounds.low, bounds.high) in
     let found : FitsSigned w64 c.max.result = search rules in
     to_z-of_z w64 c.max.result found
-    ∙ simp (c.get.ensures.value, to_z-of_z w64 c.args.elevation c.ranges.elevation, to_z-of_z w64 c.args.rate rate, to_z-of_z w64 _ fits, to_z-of_z w64 c.args.lowest c.ranges.lowest) at c.max.ensures.value
+    ∙ simp (
+      c.get.ensures.value,
+      to_z-of_z w64 c.args.elevation c.ranges.elevation,
+      to_z-of_z w64 c.args.rate rate,
+      to_z-of_z w64 _ fits,
+      to_z-of_z w64 c.args.lowest c.ranges.lowest,
+    ) at c.max.ensures.value

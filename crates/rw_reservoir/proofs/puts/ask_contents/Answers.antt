@@ -15,4 +15,5 @@ pub returns-in-Err-clause-asks : goal.returns-in-Err-clause-asks
 returns-in-Err-clause-asks c =
     let view = c.args.view.now in
     asks_at_once (can_get (option_map (λ rating. rating.now) c.args.table) view) (solved_put c.args.balanced)
-    (level_puts (option_map (λ rating. rating.now) c.args.table) (given view STORAGE) (given view POOL_ELEVATION) c.args.balanced) _ _ c.in-Err.answer c.in-Err.ensures.asks.refused
+    (level_puts (option_map (λ rating. rating.now) c.args.table) (given view STORAGE) (given view POOL_ELEVATION) c.args.balanced) _ _ c.in-Err.answer
+    c.in-Err.ensures.asks.refused

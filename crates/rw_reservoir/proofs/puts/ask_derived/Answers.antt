@@ -9,6 +9,7 @@ returns-in-Ok c = record { asks = asks_then _ _ _ _ _ _ _ c.in-Ok.ensures.asks.a
 
 pub returns-in-Err : goal.returns-in-Err
 returns-in-Err c = record {
-  asks = asks_at_once (can_get (option_map (λ rating. rating.now) c.args.table) c.args.view.now) (evaporation_put c.args.evaporation c.args.evaporated)
+  asks =
+      asks_at_once (can_get (option_map (λ rating. rating.now) c.args.table) c.args.view.now) (evaporation_put c.args.evaporation c.args.evaporated)
       (release_puts c.args.max_release c.args.outflow) _ _ c.in-Err.answer c.in-Err.ensures.asks.refused;
 }

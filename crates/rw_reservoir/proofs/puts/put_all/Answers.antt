@@ -23,7 +23,8 @@ returns-in-Ok-ask_derived c =
     let outflow = c.known_after-outflow.ensures in
     let derived = c.in-Ok-ask_derived.ensures.asks in
     let all = rw (c.in-Ok.ensures.asks.added, c.none-puts.ensures) at derived.added in
-    rw (← outflow) (sym (four_fit (can_get table view) (solved_put balanced) (level_puts table (given view STORAGE) (given view POOL_ELEVATION) balanced)
+    rw (← outflow) (sym (four_fit (can_get table view) (solved_put balanced)
+    (level_puts table (given view STORAGE) (given view POOL_ELEVATION) balanced)
     (evaporation_put c.args.evaporation c.args.evaporated) (release_puts c.args.max_release c.known_after-outflow.result)
     c.ask_derived.new.puts c.in-Ok.ensures.asks.fits derived.fits all))
 
@@ -33,6 +34,7 @@ returns-in-Err-ask_derived c =
     let view = c.args.view.now in
     let balanced = c.args.balanced in
     let outflow = c.known_after-outflow.ensures in
-    rw (← outflow) (sym (refused_behind (can_get table view) (solved_put balanced) (level_puts table (given view STORAGE) (given view POOL_ELEVATION) balanced)
+    rw (← outflow) (sym (refused_behind (can_get table view) (solved_put balanced)
+    (level_puts table (given view STORAGE) (given view POOL_ELEVATION) balanced)
     (evaporation_put c.args.evaporation c.args.evaporated) (release_puts c.args.max_release c.known_after-outflow.result)
     c.in-Err-ask_derived.answer c.in-Ok.ensures.asks.fits c.in-Err-ask_derived.ensures.asks.refused))

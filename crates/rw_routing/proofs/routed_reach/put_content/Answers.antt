@@ -10,7 +10,8 @@ returns-in-Err-add_put c =
     let ended = simp (to_z-of_z w128 _ fits) at c.in-Err-add_put.ensures.err in
     let accepted = simp (to_z-of_z w128 _ fits) at c.in-Err-add_put.ensures.fits in
     let misfit : is_bounded c.args.view.now (put 2 c.left-left.result c.known_after-outflow.result.number) ≡ false = grind (arith, accepted) in
-    let is : c.left-left.result ≡ content_before c.args.view.now +ℤ c.known_after-inflow.result.value -ℤ c.known_after-outflow.result.value = omega (arith, ints) in
+    let is : c.left-left.result ≡ content_before c.args.view.now +ℤ c.known_after-inflow.result.value -ℤ c.known_after-outflow.result.value =
+    omega (arith, ints) in
     rw (c.in-Ok.ensures.open refl (is_bounded c.args.view.now) _)
     rw (← c.known_after-inflow.ensures, ← c.known_after-outflow.ensures, ← is)
     (ended ∙ misfit_judged (is_bounded c.args.view.now) _ _ [] (c.in-Ok.ensures.fits refl) misfit)

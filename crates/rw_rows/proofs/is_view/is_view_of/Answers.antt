@@ -5,7 +5,8 @@ use Rattle.rw_rows.specs.IsView.{IsPlaced}
 use Rattle.rw_rows.proofs.is_view.is_view_of.Goals as goal
 
 -- one place more
-next_placed : (kind : Kind) (view : View) (n : ℕ) → ((k : ℕ) → k < n → IsPlaced kind view k) → IsPlaced kind view n → (k : ℕ) → k < n + 1 → IsPlaced kind view k
+next_placed : (kind : Kind) (view : View) (n : ℕ) → ((k : ℕ) → k < n → IsPlaced kind view k) → IsPlaced kind view n → (k : ℕ) → k < n + 1
+    → IsPlaced kind view k
 next_placed kind view n before here k lt = elim (cases_lt k n) [
   | inl less ↦ before k less
   | inr more ↦

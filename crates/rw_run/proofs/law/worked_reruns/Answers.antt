@@ -1,4 +1,6 @@
-use Rattle.rw_base.proofs.Common.{All-cons, All-nil, ◌<◌, ◌≡◌, ◌↔◌, ℕ, zero, suc, ◌==◌, Bool, true, false, false≢true, inl, inr, ◌⊎◌, [], ◌∷◌, Contains, Option, None, Some, IsSome, refl, sym, ap, subst, ◌∙◌, arith, if◌then◌else◌, nat_tests, none-some, same_Some}
+use Rattle.rw_base.proofs.Common.{All-cons, All-nil, ◌<◌, ◌≡◌, ◌↔◌, ℕ, zero, suc, ◌==◌, Bool, true, false, false≢true, inl, inr, ◌⊎◌, [], ◌∷◌}
+use Rattle.rw_base.proofs.Common.{Contains, Option, None, Some, IsSome, refl, sym, ap, subst, ◌∙◌, arith, if◌then◌else◌, nat_tests, none-some}
+use Rattle.rw_base.proofs.Common.{same_Some}
 use Rattle.rw_model.specs.Draft.{Draft}
 use Rattle.rw_model.specs.declared.content.Content.{Content}
 use Rattle.rw_model.specs.declared.control.AgendaOrder.TheVariants.{HighFirst}
@@ -12,7 +14,11 @@ use Rattle.rw_run.proofs.law.worked_reruns.Goals as goal
 
 pub returns-clause-earlier : goal.returns-clause-earlier
 returns-clause-earlier c =
-    record { events = raised_twice; leads = (refl, (refl, (refl, (refl, (refl, (refl, (refl, (refl, (refl, (refl, (refl, (refl, refl)))))))))))); end = omega arith }
+    record {
+      events = raised_twice;
+      leads = (refl, (refl, (refl, (refl, (refl, (refl, (refl, (refl, (refl, (refl, (refl, (refl, refl))))))))))));
+      end = omega arith;
+    }
 
 pub returns-clause-later : goal.returns-clause-later
 returns-clause-later c =
@@ -31,7 +37,8 @@ opens_two first second step = if 2 == step then Some second else if 1 == step th
 one_or_two : (first second : Log) (step : ℕ) → IsSome (opens_two first second step) → (step ≡ 1) ⊎ (step ≡ 2)
 one_or_two first second step some = by (2 == step) (1 == step) refl refl some
   where
-    by : (two one : Bool) → (2 == step) ≡ two → (1 == step) ≡ one → IsSome (if two then Some second else if one then Some first else None) → (step ≡ 1) ⊎ (step ≡ 2)
+    by : (two one : Bool) → (2 == step) ≡ two → (1 == step) ≡ one → IsSome (if two then Some second else if one then Some first else None)
+        → (step ≡ 1) ⊎ (step ≡ 2)
     by true one is_two is_one some = inr (grind (arith, nat_tests, is_two))
     by false true is_two is_one some = inl (grind (arith, nat_tests, is_one))
     by false false is_two is_one some = absurd (false≢true some)
@@ -123,7 +130,8 @@ both_days_again step = (
     there step (suc (suc k), less, same) = absurd (omega (arith, less))
 
 pub returns-clause-both : goal.returns-clause-both
-returns-clause-both c = record { rising = (All-cons (λ later. 1 < later) 2 [] (omega arith) (All-nil (λ later. 1 < later)), (All-nil _, tt)); those = both_days_again }
+returns-clause-both c =
+    record { rising = (All-cons (λ later. 1 < later) 2 [] (omega arith) (All-nil (λ later. 1 < later)), (All-nil _, tt)); those = both_days_again }
 
 -- ---- the first day wasn't closed, and the second not opened
 

@@ -8,7 +8,8 @@ use Rattle.rw_sample.proofs.counted.count_in.Goals as goal
 
 -- one line more is counted
 counts_on : (counted : Counted) (lines left : List TraceEvent) (line : TraceEvent) (count next whole : ℕ)
-    → count + lines_counted counted lines ≡ whole → lines ≡ line ∷ left → next ≡ count + one_if_told counted line → next + lines_counted counted left ≡ whole
+    → count + lines_counted counted lines ≡ whole → lines ≡ line ∷ left → next ≡ count + one_if_told counted line
+    → next + lines_counted counted left ≡ whole
 counts_on counted lines left line count next whole before is more =
     let split = ap (lines_counted counted) is in omega (arith, before, split, more)
 
@@ -28,7 +29,9 @@ loop-place-preserved c =
     let one = at_most_1 c.args.counted line in
     let few = c.loop-place.invariant.few in
     record {
-      whole = counts_on c.args.counted (drop place lines) (drop (place + 1) lines) line c.loop-place.count c.count_behind-count.result (lines_counted c.args.counted lines)
+      whole =
+          counts_on c.args.counted (drop place lines) (drop (place + 1) lines) line c.loop-place.count c.count_behind-count.result
+          (lines_counted c.args.counted lines)
           c.loop-place.invariant.whole (here lines place line c.line_at.ensures) more;
       few = omega (arith, more, one, few);
     }

@@ -22,6 +22,8 @@ loop-before-preserved c =
     let added = simp (to_z-of_z w128 _ more_fits) at c.plus-sum.ensures in
     rw (to_z-of_z w128 _ fits)
     record {
-      so_far = next_sum (stored_in c.args.basin.now (held c.args.series.now) c.args.step.0) c.loop-before.before _ _ _ c.loop-before.invariant.so_far c.stored.ensures.amount added;
+      so_far =
+          next_sum (stored_in c.args.basin.now (held c.args.series.now) c.args.step.0) c.loop-before.before _ _ _ c.loop-before.invariant.so_far
+          c.stored.ensures.amount added;
       bound = next_bound c.loop-before.before _ _ _ c.loop-before.invariant.bound c.stored.ensures.bound added;
     }

@@ -16,5 +16,6 @@ returns-clause-cells c s t =
     let whole : length (map content_of items) ≡ c.args.slots * c.args.steps = same ∙ search rules in
     let at = position_of c.args.slots c.args.slot c.args.step in
     rw c.position_of.ensures (
-    ap (λ cells. kept_at c.args.slots c.args.steps cells s t) (map-set content_of items at c.kept_of.result ∙ ap (slice_set (map content_of items) at) c.kept_of.ensures)
+    ap (λ cells. kept_at c.args.slots c.args.steps cells s t)
+    (map-set content_of items at c.kept_of.result ∙ ap (slice_set (map content_of items) at) c.kept_of.ensures)
     ∙ kept_at-set c.args.slots c.args.steps (map content_of items) c.args.slot c.args.step c.args.content whole c.requires.kept s t)

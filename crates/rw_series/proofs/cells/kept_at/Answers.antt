@@ -20,5 +20,6 @@ returns-then-is_kept c =
     c.content_of.ensures
     ∙ ap content_of c.index-cells-position_of.is
     ∙ sym (get_or-map content_of items c.position_of.result c.index-cells-position_of.result (content_of c.index-cells-position_of.result) near)
-    ∙ kept_at-at c.args.slots c.args.steps (map content_of items) c.args.slot c.args.step c.position_of.result (content_of c.index-cells-position_of.result)
+    ∙ kept_at-at c.args.slots c.args.steps (map content_of items) c.args.slot c.args.step c.position_of.result
+    (content_of c.index-cells-position_of.result)
     there c.position_of.ensures inside

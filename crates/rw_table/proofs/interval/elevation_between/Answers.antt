@@ -14,4 +14,5 @@ returns c =
     let rise : c.args.high.1 -ℤ c.args.low.1 ≡ pos c.distance-rise.result = omega (arith, ints) in
     let run : c.args.high.0 -ℤ c.args.low.0 ≡ pos c.distance-run.result = omega (arith, ints) in
     let reach = c.reach-climbed in
-    last_on_line c.args.low c.args.high c.args.s _ reach.result _ _ _ held rise run (omega (arith, ints)) reach.ensures.below reach.ensures.at_most (reach.ensures.greatest (reach.result + 1) (omega arith))
+    last_on_line c.args.low c.args.high c.args.s _ reach.result _ _ _ held rise run (omega (arith, ints)) reach.ensures.below reach.ensures.at_most
+    (reach.ensures.greatest (reach.result + 1) (omega arith))

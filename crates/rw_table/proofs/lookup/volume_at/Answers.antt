@@ -1,4 +1,5 @@
-use Rattle.rw_table.proofs.Common.{FitsSigned, Some, ap, arith, inl, inr, ints, length, of_z, pos, row_at, rules, sym, to_z-of_z, w64, ◌-◌, ◌<ℤ◌, ◌<◌, ◌∙◌, ◌≡◌}
+use Rattle.rw_table.proofs.Common.{FitsSigned, Some, ap, arith, inl, inr, ints, length, of_z, pos, row_at, rules, sym, to_z-of_z, w64, ◌-◌, ◌<ℤ◌, ◌<◌}
+use Rattle.rw_table.proofs.Common.{◌∙◌, ◌≡◌}
 use Rattle.rw_table.proofs.Comparison.{below_or_not}
 use Rattle.rw_table.proofs.Volume.{volume_before, volume_after, line_volume, volume_of_row}
 use Rattle.rw_table.proofs.lookup.volume_at.Goals as goal
@@ -33,7 +34,9 @@ returns c =
     let rows = c.args.rows.now in
     let e = c.args.e in
     let place = c.rows_up_to_elevation-place.result in
-    let from = rw (to_z-of_z w64 e c.ranges.e) at (c.rows_up_to_elevation-place.ensures.place.0 (place - 1) (pos 0, pos 0) (omega arith) (omega (arith, c.requires.some))) in
+    let from =
+    rw (to_z-of_z w64 e c.ranges.e) at (c.rows_up_to_elevation-place.ensures.place.0 (place - 1) (pos 0, pos 0) (omega arith)
+    (omega (arith, c.requires.some))) in
     let whole : place ≡ length rows = omega arith in
     let past : (row_at rows (place - 1)).0 <ℤ e = elim (below_or_not (row_at rows (place - 1)).0 e) [
       | inl past ↦ past

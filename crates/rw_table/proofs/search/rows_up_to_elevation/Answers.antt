@@ -7,4 +7,5 @@ returns-clause-place c =
     let rows = c.args.rows.now in
     let in_order = parted rows (λ row. row.0) c.args.e (elevations_rise rows c.requires) in
     parted_at rows (λ row. row.0) c.args.e _
-    (c.partition_point.ensures.partitioned (λ (row : Row). int_le row.0 c.args.e) (always_returns_same _ _ _ (λ a r f k. search (rules, of_calls))) in_order)
+    (c.partition_point.ensures.partitioned (λ (row : Row). int_le row.0 c.args.e)
+    (always_returns_same _ _ _ (λ a r f k. search (rules, of_calls))) in_order)

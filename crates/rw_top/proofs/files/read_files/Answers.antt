@@ -4,7 +4,8 @@ use Rattle.rw_top.proofs.files.read_files.Goals as goal
 
 pub returns-in-Ok-find_cell-clause-read : goal.returns-in-Ok-find_cell-clause-read
 returns-in-Ok-find_cell-clause-read g c =
-    all_read _ _ _ c.in-Ok.ensures.held c.in-Ok.basin c.in-Ok-read_others.behind c.in-Ok-find_cell.cell c.in-Ok.ensures.read c.in-Ok-read_others.ensures.read
+    all_read _ _ _ c.in-Ok.ensures.held c.in-Ok.basin c.in-Ok-read_others.behind c.in-Ok-find_cell.cell c.in-Ok.ensures.read
+    c.in-Ok-read_others.ensures.read
     c.in-Ok-find_cell.ensures.0
 
 pub returns-in-Ok-find_cell-clause-cell : goal.returns-in-Ok-find_cell-clause-cell
@@ -13,7 +14,8 @@ returns-in-Ok-find_cell-clause-cell g c =
 
 pub returns-in-Err-find_cell-clause-read : goal.returns-in-Err-find_cell-clause-read
 returns-in-Err-find_cell-clause-read g c =
-    no_cell _ _ c.in-Ok.basin c.in-Ok-read_others.behind c.in-Err-find_cell.refusal c.in-Ok.ensures.read _ c.in-Ok.ensures.held c.in-Ok-read_others.ensures.read
+    no_cell _ _ c.in-Ok.basin c.in-Ok-read_others.behind c.in-Err-find_cell.refusal c.in-Ok.ensures.read _ c.in-Ok.ensures.held
+    c.in-Ok-read_others.ensures.read
     c.in-Err-find_cell.ensures
 
 pub returns-in-Err-read_others-clause-read : goal.returns-in-Err-read_others-clause-read

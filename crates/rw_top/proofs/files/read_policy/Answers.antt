@@ -14,4 +14,5 @@ returns-in-Ok-clause-read g c =
 
 pub judge_for-requires : goal.judge_for-requires
 judge_for-requires g c =
-    rw c.deref.ensures.value (short_policy (command_said c.args.command.now) (g.S.Shelf.seen c.args.shelf.now).holds c.in-Ok.text.items c.in-Ok.ensures.read)
+    rw c.deref.ensures.value (short_policy (command_said c.args.command.now) (g.S.Shelf.seen c.args.shelf.now).holds c.in-Ok.text.items
+    c.in-Ok.ensures.read)

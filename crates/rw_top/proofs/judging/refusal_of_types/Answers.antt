@@ -6,4 +6,6 @@ use Rattle.rw_top.proofs.judging.refusal_of_types.Goals as goal
 
 pub returns-in-Refused : goal.returns-in-Refused
 returns-in-Refused c =
-    let why = type_refusal c.in-Refused.kind c.in-Refused.declaration c.in-Refused.node in inr (BadRules (BadNode why), refl, (refl, c.requires why (ap refusal_of c.in-Refused.is)))
+    let why =
+    type_refusal c.in-Refused.kind c.in-Refused.declaration c.in-Refused.node in
+    inr (BadRules (BadNode why), refl, (refl, c.requires why (ap refusal_of c.in-Refused.is)))

@@ -6,7 +6,8 @@ use Rattle.rw_top.proofs.perform.run.Goals as goal
 
 pub returns-in-Ok-clause-text : goal.returns-in-Ok-clause-text
 returns-in-Ok-clause-text g c =
-    rules_appended (files_seen c.args.files) (policy_of c.in-Some.policy) c.in-Some-inputs.inputs (ap (option_map policy_of) c.in-Some.is) c.in-Some-inputs.is
+    rules_appended (files_seen c.args.files) (policy_of c.in-Some.policy) c.in-Some-inputs.inputs (ap (option_map policy_of) c.in-Some.is)
+    c.in-Some-inputs.is
     c.args.extras _ c.in-Ok.end c.status_of_run.result c.status_of_run.ensures
     (subst
     (λ batches. AppendsAll (IsRulesText c.args.files.basin (policy_of c.in-Some.policy) c.args.extras) 0 (first_given c.in-Some-inputs.inputs) batches
@@ -15,7 +16,8 @@ returns-in-Ok-clause-text g c =
 
 pub returns-in-Ok-clause-counted : goal.returns-in-Ok-clause-counted
 returns-in-Ok-clause-counted g c = λ reuse.
-    rules_counted (files_seen c.args.files) (policy_of c.in-Some.policy) c.in-Some-inputs.inputs (ap (option_map policy_of) c.in-Some.is) c.in-Some-inputs.is _
+    rules_counted (files_seen c.args.files) (policy_of c.in-Some.policy) c.in-Some-inputs.inputs (ap (option_map policy_of) c.in-Some.is)
+    c.in-Some-inputs.is _
     (subst
     (λ batches. CountsSections c.args.files.basin (policy_of c.in-Some.policy) c.in-Some-inputs.inputs batches
     (change c.args.steps.now c.write_runs.new.steps))
@@ -23,7 +25,8 @@ returns-in-Ok-clause-counted g c = λ reuse.
 
 pub returns-clause-text : goal.returns-clause-text
 returns-clause-text g c =
-    rules_stopped (files_seen c.args.files) (policy_of c.in-Some.policy) c.in-Some-inputs.inputs (ap (option_map policy_of) c.in-Some.is) c.in-Some-inputs.is
+    rules_stopped (files_seen c.args.files) (policy_of c.in-Some.policy) c.in-Some-inputs.inputs (ap (option_map policy_of) c.in-Some.is)
+    c.in-Some-inputs.is
     c.args.extras _ c.in-Err.refusal
     (subst
     (λ batches. StopsAmong (IsRulesText c.args.files.basin (policy_of c.in-Some.policy) c.args.extras) 0 (first_given c.in-Some-inputs.inputs) batches

@@ -17,7 +17,8 @@ returns-in-Err g t c = λ policy given means next. record {
 
 pub returns-in-None : goal.returns-in-None
 returns-in-None g t c = λ policy given means next.
-    writes_last c.args.session.now.setup.basin.now policy c.args.extras c.args.number given c.args.session.now.state next c.args.batches.now _ _ c.in-Ok.end
+    writes_last c.args.session.now.setup.basin.now policy c.args.extras c.args.number given c.args.session.now.state next c.args.batches.now _ _
+    c.in-Ok.end
     c.in-None.ensures (c.in-Ok.ensures.out policy given means next)
 
 pub returns-in-Err-apply : goal.returns-in-Err-apply
@@ -32,13 +33,16 @@ returns-in-Err-apply g t c = λ policy given means next.
 
 pub apply-requires-clause-batch : goal.apply-requires-clause-batch
 apply-requires-clause-batch g t c =
-    first_of_all (IsBatch c.args.session.now.setup.basin.now) c.args.batches.now c.in-Some.batch.now c.in-Some.rest.now c.in-Some.ensures c.requires.batches
+    first_of_all (IsBatch c.args.session.now.setup.basin.now) c.args.batches.now c.in-Some.batch.now c.in-Some.rest.now c.in-Some.ensures
+    c.requires.batches
 
 pub write_from-requires : goal.write_from-requires
 write_from-requires g t c κs within =
     let shorter = ap length c.in-Some.ensures in
     let few = c.requires.few in
-    let batches = rest_of (IsBatch c.args.session.now.setup.basin.now) c.args.batches.now c.in-Some.batch.now c.in-Some.rest.now c.in-Some.ensures c.requires.batches in
+    let batches =
+    rest_of (IsBatch c.args.session.now.setup.basin.now) c.args.batches.now c.in-Some.batch.now c.in-Some.rest.now c.in-Some.ensures
+    c.requires.batches in
     let kept = c.in-Ok-apply.ensures.kept.0 in
     let same = next_told c.args.session.now.setup.basin.now c.args.session.now.state c.apply.new.self.state c.write_run.new.sheet.values
     c.in-Ok-apply.ensures.applied.before_same c.in-Ok.ensures.values in (
@@ -78,13 +82,16 @@ returns-in-Ok-apply g t c = λ policy given means next.
     let new = c.apply.new.self.state in
     let applies = c.in-Ok-apply.ensures.applied in
     let kept = c.in-Ok-apply.ensures.kept.0 in
-    let behind = later_next basin policy code means (c.args.number + 1) given c.in-Some.batch.now old new (later_number c.args.number) next.inputs_are c.requires.made applies in
+    let behind =
+    later_next basin policy code means (c.args.number + 1) given c.in-Some.batch.now old new (later_number c.args.number) next.inputs_are
+    c.requires.made applies in
     subst
     (λ batches. WritesFrom basin policy c.args.extras c.args.number given batches (length old.reran)
     (change (g.K.Sink.seen c.args.out.now) (g.K.Sink.seen c.write_from.new.out)) (change c.args.steps.now c.write_from.new.steps) c.write_from.result)
     (sym c.in-Some.ensures)
     (writes_more basin policy c.args.extras c.args.number given old next c.in-Some.batch.now c.in-Some.rest.now new.inputs
-    (g.K.Sink.seen c.args.out.now) (g.K.Sink.seen c.write_run.new.out) (g.K.Sink.seen c.write_from.new.out) c.in-Ok.end (c.in-Ok.ensures.out policy given means next)
+    (g.K.Sink.seen c.args.out.now) (g.K.Sink.seen c.write_run.new.out) (g.K.Sink.seen c.write_from.new.out) c.in-Ok.end
+    (c.in-Ok.ensures.out policy given means next)
     (values_from basin code given c.in-Some.batch.now old new next.inputs_are applies)
     (length new.reran) c.args.steps.now c.apply.new.steps c.write_from.new.steps c.in-Ok-apply.ensures.counted.each c.write_from.result
     (rw kept at (c.write_from.ensures policy (edited_given given new.inputs) (rw kept means) (rw kept behind))))

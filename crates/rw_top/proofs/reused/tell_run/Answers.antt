@@ -38,7 +38,8 @@ pub returns-clause-text : goal.returns-clause-text
 returns-clause-text g c = λ policy given means next.
     let basin = c.args.session.now.setup.basin.now in
     let code = c.args.session.now.setup.policy.now in
-    next_section basin policy code means c.texts_of_runs.ensures.whole c.args.extras c.args.number given c.args.session.now.state c.run-run.result.now _
+    next_section basin policy code means c.texts_of_runs.ensures.whole c.args.extras c.args.number given c.args.session.now.state
+    c.run-run.result.now _
     _ c.requires.reuse (c.run-run.ensures.run basin code c.requires.made)
     (λ asked. ap is_some (c.run-run.ensures.told basin code c.requires.made).1 ∙ c.requires.traced ∙ asked) next
     c.told-reran.ensures

@@ -33,7 +33,8 @@ returns-clause-counted g c = λ policy means.
     (length c.in-Ok.session.state.reran) (change (g.K.Sink.seen c.args.out.now) (g.K.Sink.seen c.write_from.new.out))
     (change c.start.new.steps c.write_from.new.steps) c.write_from.result =
     rw setup at (c.write_from.ensures policy (first_given c.args.inputs) (rw setup means) (rw setup next)) in
-    all_counted c.args.setup.now.basin.now policy c.args.inputs c.args.batches.now (length c.in-Ok.session.state.reran) c.args.steps.now c.start.new.steps
+    all_counted c.args.setup.now.basin.now policy c.args.inputs c.args.batches.now (length c.in-Ok.session.state.reran) c.args.steps.now
+    c.start.new.steps
     c.write_from.new.steps c.write_from.result c.in-Ok.ensures.counted.each writes.counted
 
 pub write_from-requires-clause-same : goal.write_from-requires-clause-same

@@ -16,5 +16,6 @@ returns-clause-text g c = λ before.
     let policy = policy_of c.args.policy.now in
     section_by c.texts_of_runs.ensures.whole basin policy c.args.extras None c.args.number (record { before = before; inputs = c.args.inputs.now })
     c.in_ok-run.run' _ c.in_ok-run.ensures.run c.in_ok-run.ensures.kept
-    (untold basin (policy_in_run basin policy) c.args.extras.reuse (record { before = before; inputs = c.args.inputs.now }) c.in_ok-run.ensures.run.log c.requires.plain)
+    (untold basin (policy_in_run basin policy) c.args.extras.reuse (record { before = before; inputs = c.args.inputs.now })
+    c.in_ok-run.ensures.run.log c.requires.plain)
     (of_basin c.args.sheet.now.basin basin c.args.number c.in_ok-run.run' None c.args.extras _ c.requires.sheet c.in_ok-tell.ensures.text)

@@ -8,19 +8,24 @@ use Rattle.rw_top.proofs.sections.+write_from.Goals as goal
 
 pub returns-in-Err : goal.returns-in-Err
 returns-in-Err g t c = λ before.
-    stops_here (IsRulesText c.args.setup.now.basin.now (policy_of c.args.policy.now) c.args.extras) c.args.number (record { before = before; inputs = c.args.inputs }) c.args.batches.now _ c.in-Err.refusal (c.in-Err.ensures.out before)
+    stops_here (IsRulesText c.args.setup.now.basin.now (policy_of c.args.policy.now) c.args.extras) c.args.number
+    (record { before = before; inputs = c.args.inputs }) c.args.batches.now _ c.in-Err.refusal (c.in-Err.ensures.out before)
 
 pub returns-in-None : goal.returns-in-None
 returns-in-None g t c = λ before.
     subst
-    (λ batches. AppendsAll (IsRulesText c.args.setup.now.basin.now (policy_of c.args.policy.now) c.args.extras) c.args.number (record { before = before; inputs = c.args.inputs }) batches (change (g.K.Sink.seen c.args.out.now) (g.K.Sink.seen c.write_section.new.out)) c.in-Ok.end)
+    (λ batches. AppendsAll (IsRulesText c.args.setup.now.basin.now (policy_of c.args.policy.now) c.args.extras) c.args.number
+    (record { before = before; inputs = c.args.inputs }) batches (change (g.K.Sink.seen c.args.out.now) (g.K.Sink.seen c.write_section.new.out))
+    c.in-Ok.end)
     (sym c.in-None.ensures)
-    (last_section (IsRulesText c.args.setup.now.basin.now (policy_of c.args.policy.now) c.args.extras) c.args.number (record { before = before; inputs = c.args.inputs }) _ c.in-Ok.end (c.in-Ok.ensures.out before))
+    (last_section (IsRulesText c.args.setup.now.basin.now (policy_of c.args.policy.now) c.args.extras) c.args.number
+    (record { before = before; inputs = c.args.inputs }) _ c.in-Ok.end (c.in-Ok.ensures.out before))
 
 pub returns-in-Err-changed : goal.returns-in-Err-changed
 returns-in-Err-changed g t c = λ before.
     let some = ap length c.in-Some.ensures in
-    stops_behind (IsRulesText c.args.setup.now.basin.now (policy_of c.args.policy.now) c.args.extras) c.args.number (record { before = before; inputs = c.args.inputs }) c.args.batches.now
+    stops_behind (IsRulesText c.args.setup.now.basin.now (policy_of c.args.policy.now) c.args.extras) c.args.number
+    (record { before = before; inputs = c.args.inputs }) c.args.batches.now
     (change (g.K.Sink.seen c.args.out.now) (g.K.Sink.seen c.write_section.new.out)) c.in-Ok.end
     (omega (arith, some)) (c.in-Ok.ensures.out before)
 
@@ -28,9 +33,26 @@ pub write_from-requires : goal.write_from-requires
 write_from-requires g t c κs within =
     let shorter = ap length c.in-Some.ensures in
     let few = c.requires.few in
-    let batches = rest_of (IsBatch c.args.setup.now.basin.now) c.args.batches.now c.in-Some.batch.now c.in-Some.rest.now c.in-Some.ensures c.requires.batches in (
+    let batches =
+    rest_of (IsBatch c.args.setup.now.basin.now) c.args.batches.now c.in-Some.batch.now c.in-Some.rest.now c.in-Some.ensures
+    c.requires.batches in (
       omega (arith, c.decreases, shorter),
-      (within.0, (within.1, (c.requires.order, (c.requires.fits, (c.in-Ok-changed.ensures.made, (batches, (omega (arith, few, shorter), (c.requires.plain, c.in-Ok.ensures.sheet ∙ c.requires.sheet)))))))),
+      (
+        within.0,
+        (
+          within.1,
+          (
+            c.requires.order,
+            (
+              c.requires.fits,
+              (
+                c.in-Ok-changed.ensures.made,
+                (batches, (omega (arith, few, shorter), (c.requires.plain, c.in-Ok.ensures.sheet ∙ c.requires.sheet))),
+              ),
+            ),
+          ),
+        ),
+      ),
     )
 
 pub changed-requires-clause-batch : goal.changed-requires-clause-batch
@@ -41,9 +63,13 @@ pub returns-in-Ok-changed : goal.returns-in-Ok-changed
 returns-in-Ok-changed g t c = λ before.
     subst
     (λ batches. MatchResult c.write_from.result
-    (AppendsAll (IsRulesText c.args.setup.now.basin.now (policy_of c.args.policy.now) c.args.extras) c.args.number (record { before = before; inputs = c.args.inputs }) batches (change (g.K.Sink.seen c.args.out.now) (g.K.Sink.seen c.write_from.new.out)))
-    (StopsAmong (IsRulesText c.args.setup.now.basin.now (policy_of c.args.policy.now) c.args.extras) c.args.number (record { before = before; inputs = c.args.inputs }) batches (change (g.K.Sink.seen c.args.out.now) (g.K.Sink.seen c.write_from.new.out))))
+    (AppendsAll (IsRulesText c.args.setup.now.basin.now (policy_of c.args.policy.now) c.args.extras) c.args.number
+    (record { before = before; inputs = c.args.inputs }) batches (change (g.K.Sink.seen c.args.out.now) (g.K.Sink.seen c.write_from.new.out)))
+    (StopsAmong (IsRulesText c.args.setup.now.basin.now (policy_of c.args.policy.now) c.args.extras) c.args.number
+    (record { before = before; inputs = c.args.inputs }) batches (change (g.K.Sink.seen c.args.out.now) (g.K.Sink.seen c.write_from.new.out))))
     (sym c.in-Some.ensures)
-    (goes_on (IsRulesText c.args.setup.now.basin.now (policy_of c.args.policy.now) c.args.extras) c.args.number (record { before = before; inputs = c.args.inputs }) c.in-Ok-changed.edited c.in-Some.batch.now c.in-Some.rest.now
-    (g.K.Sink.seen c.args.out.now) (g.K.Sink.seen c.write_section.new.out) (g.K.Sink.seen c.write_from.new.out) c.in-Ok.end (c.in-Ok.ensures.out before)
+    (goes_on (IsRulesText c.args.setup.now.basin.now (policy_of c.args.policy.now) c.args.extras) c.args.number
+    (record { before = before; inputs = c.args.inputs }) c.in-Ok-changed.edited c.in-Some.batch.now c.in-Some.rest.now
+    (g.K.Sink.seen c.args.out.now) (g.K.Sink.seen c.write_section.new.out) (g.K.Sink.seen c.write_from.new.out) c.in-Ok.end
+    (c.in-Ok.ensures.out before)
     c.in-Ok-changed.ensures.values c.write_from.result (c.write_from.ensures (Some c.args.inputs)))

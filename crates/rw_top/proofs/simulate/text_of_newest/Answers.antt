@@ -9,6 +9,7 @@ returns g c =
       log = comes.log;
       run = comes.whole;
       end_is = comes.is.end;
-      text_is = c.in_ok-text.ensures.text ∙ c.texts_of_runs.ensures.whole c.args.setup.now.basin.now 0 comes.log c.in_ok-run.run' None c.args.extras.flags
+      text_is =
+          c.in_ok-text.ensures.text ∙ c.texts_of_runs.ensures.whole c.args.setup.now.basin.now 0 comes.log c.in_ok-run.run' None c.args.extras.flags
           c.args.extras.trace comes.is (λ asked. c.in_ok-run.ensures.told);
     }

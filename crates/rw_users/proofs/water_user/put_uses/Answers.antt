@@ -21,7 +21,8 @@ returns-in-Err-add_put-2 c =
     let fit : is_bounded c.args.view.now (put 2 c.used_up-used.result c.known_after-diversion.result.number) ≡ true = grind (arith, first) in
     let ended = simp (to_z-of_z w128 _ back_fits) at c.in-Err-add_put-2.ensures.err in
     let accepted = simp (to_z-of_z w128 _ back_fits) at c.in-Err-add_put-2.ensures.fits in
-    let misfit : is_bounded c.args.view.now (put 3 c.flowing_back-back.result c.known_after-diversion.result.number) ≡ false = grind (arith, accepted) in
+    let misfit : is_bounded c.args.view.now (put 3 c.flowing_back-back.result c.known_after-diversion.result.number) ≡ false =
+    grind (arith, accepted) in
     rw (c.in-Ok.ensures.open refl (is_bounded c.args.view.now) _)
     rw (← c.known_after-diversion.ensures, ← c.flowing_back-back.ensures, ← c.used_up-used.ensures.amount)
     (ended ∙ second_misfit_judged (is_bounded c.args.view.now) _ _ _ _ (c.in-Ok.ensures.fits refl) fit misfit)

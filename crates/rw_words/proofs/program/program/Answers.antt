@@ -4,7 +4,9 @@ use Rattle.rw_words.proofs.program.program.Goals as goal
 
 pub returns : goal.returns
 returns c =
-    let one = c.in_ok-one.ensures.shape c.in_ok-run.ensures.1 ∙ ap₂ with_subcommand c.bare-bare.ensures.app (ap (λ (a : App). a.top) c.in_ok-run.ensures.0) in
+    let one =
+    c.in_ok-one.ensures.shape c.in_ok-run.ensures.1
+    ∙ ap₂ with_subcommand c.bare-bare.ensures.app (ap (λ (a : App). a.top) c.in_ok-run.ensures.0) in
     let two = c.in_ok-two.ensures.shape c.in_ok-simulate.ensures.1 ∙ ap₂ with_subcommand one (ap (λ (a : App). a.top) c.in_ok-simulate.ensures.0) in
     let three = c.in_ok-three.ensures.shape c.in_ok-check.ensures.1 ∙ ap₂ with_subcommand two (ap (λ (a : App). a.top) c.in_ok-check.ensures.0) in
     let four = c.in_ok-four.ensures.shape c.in_ok-compile.ensures.1 ∙ ap₂ with_subcommand three (ap (λ (a : App). a.top) c.in_ok-compile.ensures.0) in

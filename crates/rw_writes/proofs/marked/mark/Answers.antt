@@ -12,7 +12,9 @@ pub loop-write-preserved : goal.loop-write-preserved
 loop-write-preserved c = record {
   order = c.changed.ensures.order ∙ c.loop-write.invariant.order;
   rules = c.changed.ensures.rules ∙ c.loop-write.invariant.rules;
-  marked = marks_more c.args.basin.now c.args.agenda.now c.loop-write.agenda c.changed.new.self c.args.writes.now c.loop-write.write-index c.write-item.result
+  marked =
+      marks_more c.args.basin.now c.args.agenda.now c.loop-write.agenda c.changed.new.self c.args.writes.now c.loop-write.write-index
+      c.write-item.result
       c.loop-write-test.true c.write-item.is c.loop-write.invariant.marked c.changed.ensures.rules c.changed.ensures.marked;
 }
 

@@ -19,7 +19,8 @@ returns c =
     let rules = rules_of c.self.inside.rules in
     let found : declaration_of_rule rules c.args.rule.0 ≡ Some (c.in-Some.place + 1) = rw c.deref.ensures.value at (sym c.in-Some.ensures) in
     let within = rule_within rules c.args.rule.0 c.in-Some.place found in
-    let its = its_budget c.self.inside.costs.items rules c.self.invariant.1 c.in-Some.place c.index.result.now c.index.result.now within c.index.ensures in
+    let its =
+    its_budget c.self.inside.costs.items rules c.self.invariant.1 c.in-Some.place c.index.result.now c.index.result.now within c.index.ensures in
     let known : rule_budget rules c.args.rule.0 ≡ Some (budget_seen c.index.result.now) =
     budget_of_rule rules c.args.rule.0 c.in-Some.place (budget_seen c.index.result.now) found its in
     rw (sym c.self.view_is) known

@@ -12,5 +12,7 @@ returns-then-n-eq0 c =
 
 pub returns : goal.returns
 returns c =
-    let i = node_of c.self.inside.nodes.items c.self.inside.numbers c.args.self.now c.args.n c.index.result.now c.self.view_is c.self.invariant c.if-n-eq0.false c.requires c.index.ensures in
+    let i =
+    node_of c.self.inside.nodes.items c.self.inside.numbers c.args.self.now c.args.n c.index.result.now c.self.view_is c.self.invariant
+    c.if-n-eq0.false c.requires c.index.ensures in
     record { within = i.low; is = sym (ap rest_of i.made) }

@@ -24,15 +24,18 @@ invariant_of-self-2 c =
     let h : c.height-height.result ≡ length (at (lists ns) c.args.below) = rw c.self.view_is c.height-height.ensures in
     let w = inv.wide in
     let few : c.words.result ≡ capped limits.words (words_of_all (at (lists ns) c.args.below)) = rw c.self.view_is c.words.ensures in
-    let heavy : c.words_above-words.result ≡ capped limits.words (words_of_all (c.args.kind ∷ at (lists ns) c.args.below)) = let a = c.words_above-words.ensures in omega (arith, a, few) in
+    let heavy : c.words_above-words.result ≡ capped limits.words (words_of_all (c.args.kind ∷ at (lists ns) c.args.below)) = let a =
+    c.words_above-words.ensures in omega (arith, a, few) in
     let last : c.args.below ≡ length ns = omega (arith, newest, w) in
-    let new : IsNew ns n = record { low = omega (arith, last); high = omega (arith, h); flat = omega (arith, h, f, last); heavy = heavy; small = c.requires.small } in
+    let new : IsNew ns n =
+    record { low = omega (arith, last); high = omega (arith, h); flat = omega (arith, h, f, last); heavy = heavy; small = c.requires.small } in
     rw c.in_ok-push.ensures.items (kept_newest ns n m inv new last)
 
 pub returns-clause-grows : goal.returns-clause-grows
 returns-clause-grows c =
     let n : Node = record { kind = c.args.kind; below = c.args.below; height = c.height-height.result + 1; words = c.words_above-words.result } in
-    subst (λ ls. Grows ls (lists c.push.new.self.items)) c.self.view_is (subst (λ xs. Grows (lists c.self.inside.nodes.items) (lists xs)) (sym c.in_ok-push.ensures.items) (grows_push c.self.inside.nodes.items n))
+    subst (λ ls. Grows ls (lists c.push.new.self.items)) c.self.view_is
+    (subst (λ xs. Grows (lists c.self.inside.nodes.items) (lists xs)) (sym c.in_ok-push.ensures.items) (grows_push c.self.inside.nodes.items n))
 
 pub returns-clause-made : goal.returns-clause-made
 returns-clause-made c =
@@ -41,4 +44,5 @@ returns-clause-made c =
     let newest : length (lists ns) ≡ suc c.args.below = rw c.self.view_is c.requires.newest in
     let w = c.self.invariant.wide in
     subst (λ ls. IsPushed ls (lists c.push.new.self.items) c.args.kind c.args.below (c.args.below + 1)) c.self.view_is
-    (subst (λ xs. IsPushed (lists ns) (lists xs) c.args.kind c.args.below (c.args.below + 1)) (sym c.in_ok-push.ensures.items) (made_push ns n (c.args.below + 1) w (omega (arith, newest, w))))
+    (subst (λ xs. IsPushed (lists ns) (lists xs) c.args.kind c.args.below (c.args.below + 1)) (sym c.in_ok-push.ensures.items)
+    (made_push ns n (c.args.below + 1) w (omega (arith, newest, w))))

@@ -7,5 +7,7 @@ returns-then-n-eq0 c = let h = c.self.invariant.empty in rw (c.if-n-eq0.true, â†
 
 pub returns : goal.returns
 returns c =
-    let i = node_of c.self.inside.nodes.items c.self.inside.numbers c.args.self.now c.args.n c.index.result.now c.self.view_is c.self.invariant c.if-n-eq0.false c.requires c.index.ensures in
+    let i =
+    node_of c.self.inside.nodes.items c.self.inside.numbers c.args.self.now c.args.n c.index.result.now c.self.view_is c.self.invariant
+    c.if-n-eq0.false c.requires c.index.ensures in
     i.heavy

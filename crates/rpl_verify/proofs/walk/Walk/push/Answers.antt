@@ -6,7 +6,8 @@ pub returns : goal.returns
 returns c =
     let s = c.self.inside in
     let g = c.in_ok-kinds.ensures in
-    pushed s.stacks c.push.new.self s.kinds c.in_ok-kinds.kinds s.opens.items s.landings.items s.loop_words c.args.self.now c.args.kind c.self.view_is c.self.invariant g.grows g.made
+    pushed s.stacks c.push.new.self s.kinds c.in_ok-kinds.kinds s.opens.items s.landings.items s.loop_words c.args.self.now c.args.kind c.self.view_is
+    c.self.invariant g.grows g.made
 
 pub invariant_of-self : goal.invariant_of-self
 invariant_of-self c =
@@ -20,4 +21,5 @@ pub invariant_of-self-2 : goal.invariant_of-self-2
 invariant_of-self-2 c =
     let s = c.self.inside in
     let g = c.in_ok-kinds.ensures in
-    sound_grown s.stacks c.push.new.self s.kinds c.in_ok-kinds.kinds s.opens.items s.landings.items s.loop_words c.self.invariant g.grows g.made.within
+    sound_grown s.stacks c.push.new.self s.kinds c.in_ok-kinds.kinds s.opens.items s.landings.items s.loop_words c.self.invariant g.grows
+    g.made.within

@@ -5,13 +5,15 @@ use Rattle.rw_agenda.proofs.cell_index.CellIndex.watch.Goals as goal
 
 pub returns-clause-watching : goal.returns-clause-watching
 returns-clause-watching c =
-    let at : index_position c.self.inside.slots c.self.inside.steps c.args.cell ≡ Some c.in-Some.place = sym c.position_of.ensures.is ∙ c.in-Some.is in
+    let at : index_position c.self.inside.slots c.self.inside.steps c.args.cell ≡ Some c.in-Some.place =
+    sym c.position_of.ensures.is ∙ c.in-Some.is in
     let near : c.in-Some.place < length c.self.inside.newest.items = search rules in
     let saw : c.index-newest.result.now ≡ slice_index_or c.self.inside.newest.items c.in-Some.place 0 =
     get_or_read c.self.inside.newest.items c.in-Some.place c.index-newest.result.now near c.index-newest.ensures 0 in
     let many : c.len-2.result ≡ length c.push_watch.new.watches.items = search rules in
     watching_now c.self.inside.slots c.self.inside.steps c.self.inside.room c.self.inside.newest.items c.self.inside.watches.items c.self.inside.full
-    c.in-Some.place c.args.rule c.index-newest.result.now c.len-2.result c.push_watch.new.watches.items saw c.push_watch.ensures.added many near c.args.cell at
+    c.in-Some.place c.args.rule c.index-newest.result.now c.len-2.result c.push_watch.new.watches.items saw c.push_watch.ensures.added many near
+    c.args.cell at
 
 pub returns-clause-kept : goal.returns-clause-kept
 returns-clause-kept c other earlier watching =
@@ -19,6 +21,8 @@ returns-clause-kept c other earlier watching =
     let saw : c.index-newest.result.now ≡ slice_index_or c.self.inside.newest.items c.in-Some.place 0 =
     get_or_read c.self.inside.newest.items c.in-Some.place c.index-newest.result.now near c.index-newest.ensures 0 in
     let many : c.len-2.result ≡ length c.push_watch.new.watches.items = search rules in
-    watching_still c.self.inside.slots c.self.inside.steps c.self.inside.room c.self.inside.newest.items c.self.inside.watches.items c.self.inside.full
-    c.in-Some.place c.args.rule c.index-newest.result.now c.len-2.result c.push_watch.new.watches.items saw c.push_watch.ensures.added many near other earlier
+    watching_still c.self.inside.slots c.self.inside.steps c.self.inside.room c.self.inside.newest.items c.self.inside.watches.items
+    c.self.inside.full
+    c.in-Some.place c.args.rule c.index-newest.result.now c.len-2.result c.push_watch.new.watches.items saw c.push_watch.ensures.added many near
+    other earlier
     (subst (λ index. is_watching index other earlier ≡ true) (sym c.self.view_is) watching)

@@ -12,5 +12,7 @@ returns c =
     let month = two_digits end.month (omega (arith, dated.moment.month)) in
     let day = two_digits end.day (omega (arith, dated.moment.day, days_in_month_bounds (pos end.year) end.month)) in
     let hour = two_digits end.hour (omega (arith, dated.moment.hour)) in
-    let written = rw (c.laid_out.ensures, c.laid_out-2.ensures, c.laid_out-3.ensures, c.laid_out-4.ensures, year, month, day, hour) at c.in_ok-format.ensures.ok in
+    let written =
+    rw (c.laid_out.ensures, c.laid_out-2.ensures, c.laid_out-3.ensures, c.laid_out-4.ensures, year, month, day, hour) at
+    c.in_ok-format.ensures.ok in
     written ∙ ap stamp_text c.moment-year.ensures.moment

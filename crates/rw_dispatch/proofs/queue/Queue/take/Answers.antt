@@ -13,7 +13,8 @@ index_mut-requires c =
     let ok = c.self.inside.waits.ok.0 in omega (arith, first, last, ok)
 
 pub invariant_of-self-2 : goal.invariant_of-self-2
-invariant_of-self-2 c = taken _ _ _ _ _ _ _ c.in-Some.object.0 _ c.in-Some.ensures.items c.remove.ensures.capacity c.self.invariant c.in-Some.ensures.len
+invariant_of-self-2 c =
+    taken _ _ _ _ _ _ _ c.in-Some.object.0 _ c.in-Some.ensures.items c.remove.ensures.capacity c.self.invariant c.in-Some.ensures.len
 
 pub returns-clause-known : goal.returns-clause-known
 returns-clause-known c = rw (← c.self.view_is) (taken_known _ _ _ _ _ _ _ c.in-Some.ensures.items c.self.invariant)

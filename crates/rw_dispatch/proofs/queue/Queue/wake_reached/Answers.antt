@@ -7,7 +7,9 @@ use Rattle.rw_dispatch.proofs.queue.Queue.wake_reached.Goals as goal
 pub loop-place-init : goal.loop-place-init
 loop-place-init c = record {
   objects = refl;
-  waiting = λ slots has. none_before c.args.basin.now (option_map (λ (object : ObjectNo). object.0) c.args.but) c.args.self.now.waiting slots c.args.reached.now has c.lesser-place.result (search rules);
+  waiting =
+      λ slots has. none_before c.args.basin.now (option_map (λ (object : ObjectNo). object.0) c.args.but) c.args.self.now.waiting slots
+      c.args.reached.now has c.lesser-place.result (search rules);
 }
 
 pub loop-place-preserved : goal.loop-place-preserved
@@ -32,5 +34,6 @@ returns-clause-woken c = λ slots has.
     let count = c.object_count.ensures.count in
     let at : c.loop-place.place ≡ c.lesser-last.result = omega arith in
     none_behind c.args.basin.now (option_map (λ (object : ObjectNo). object.0) c.args.but) c.args.self.now.waiting slots c.args.reached.now has
-    c.loop-place.self.waiting c.loop-place.place (length c.args.basin.now.objects) c.lesser-last.result c.object_count.result at c.lesser-last.ensures.other
+    c.loop-place.self.waiting c.loop-place.place (length c.args.basin.now.objects) c.lesser-last.result c.object_count.result at
+    c.lesser-last.ensures.other
     (search rules) c.lesser-last.ensures.least (c.loop-place.invariant.waiting slots has)

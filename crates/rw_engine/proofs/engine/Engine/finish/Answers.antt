@@ -4,4 +4,5 @@ use Rattle.rw_engine.proofs.engine.Engine.finish.Goals as goal
 
 pub returns-clause-run : goal.returns-clause-run
 returns-clause-run c = λ basin policy log made shows.
-    c.finish.ensures.run basin policy log (subst (IsEngineOf basin policy) (sym c.self.view_is) made) (subst (λ engine. Shows basin engine log) (sym c.self.view_is) shows)
+    c.finish.ensures.run basin policy log (subst (IsEngineOf basin policy) (sym c.self.view_is) made)
+    (subst (λ engine. Shows basin engine log) (sym c.self.view_is) shows)

@@ -25,7 +25,9 @@ returns g c =
     let step = c.args.step.0 in
     record {
       keeps =
-          let told_on = only_told basin c.args.setup.now.policy.now old c.tell_line.new.trace c.tell_line.new.lines c.requires.within c.tell_line.ensures.grows c.tell_line.ensures.adds in
+          let told_on =
+          only_told basin c.args.setup.now.policy.now old c.tell_line.new.trace c.tell_line.new.lines c.requires.within c.tell_line.ensures.grows
+          c.tell_line.ensures.adds in
           let engine = told_on.within.made.engine in record {
             within = record {
               made = record {
@@ -58,7 +60,9 @@ returns g c =
           refl,
           record {
             cells = given.0.shows.cells;
-            trace = shown_more old.run.trace c.tell_line.new.trace (trace_of log) (lines (closed step)) c.in_ok-tell_line.ensures.said given.0.shows.trace;
+            trace =
+                shown_more old.run.trace c.tell_line.new.trace (trace_of log) (lines (closed step)) c.in_ok-tell_line.ensures.said
+                given.0.shows.trace;
             closed_steps = refl;
             end = refl;
           },

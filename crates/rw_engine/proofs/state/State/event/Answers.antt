@@ -21,7 +21,10 @@ ask-requires-clause-within g c =
         counts = within.made.counts;
         firings = within.made.firings;
       };
-      ready = others_hold (λ object. is_data c.args.setup.now.basin.now object ≡ false) (g.P.Pick.rule c.args.pick.now c.args.self.now.turns c.args.self.now.queue.waiting) c.in-Some.object.0 c.args.self.now.queue.waiting c.next_by.new.self.waiting c.in-Some.ensures.taken within.ready;
+      ready =
+          others_hold (λ object. is_data c.args.setup.now.basin.now object ≡ false)
+          (g.P.Pick.rule c.args.pick.now c.args.self.now.turns c.args.self.now.queue.waiting) c.in-Some.object.0 c.args.self.now.queue.waiting
+          c.next_by.new.self.waiting c.in-Some.ensures.taken within.ready;
       indexed = within.indexed;
     }
 
@@ -31,26 +34,33 @@ ask-requires-clause-turn g c =
     let known = c.in-Some.ensures.known in
     let object = c.in-Some.object.0 in record {
       known = record { first = known.0; last = subst (λ n. object ≤ n) within.made.engine.objects known.1 };
-      solves = own_holds (λ object. is_data c.args.setup.now.basin.now object ≡ false) (g.P.Pick.rule c.args.pick.now c.args.self.now.turns c.args.self.now.queue.waiting) object c.args.self.now.queue.waiting c.next_by.new.self.waiting c.in-Some.ensures.taken within.ready;
+      solves =
+          own_holds (λ object. is_data c.args.setup.now.basin.now object ≡ false)
+          (g.P.Pick.rule c.args.pick.now c.args.self.now.turns c.args.self.now.queue.waiting) object c.args.self.now.queue.waiting
+          c.next_by.new.self.waiting c.in-Some.ensures.taken within.ready;
       at = c.requires.step;
     }
 
 pub returns-in-Some-clause-does : goal.returns-in-Some-clause-does
 returns-in-Some-clause-does g c =
     let waits = c.args.self.now.queue.waiting in
-    does_on c.args.setup.now.basin.now c.args.setup.now.policy.now c.args.step.0 c.args.self.now c.ask.new.self c.next_by.new.self (picked_at (g.P.Pick.rule c.args.pick.now) c.args.self.now.turns waits) (Some c.in-Some.object.0) waits waits c.ask.result
-    (picked_is (g.P.Pick.rule c.args.pick.now) c.args.self.now.turns c.in-Some.object.0 waits c.next_by.new.self.waiting c.in-Some.ensures.taken) refl (c.ask.ensures (g.P.Pick.rule c.args.pick.now c.args.self.now.turns waits) waits c.in-Some.ensures.taken)
+    does_on c.args.setup.now.basin.now c.args.setup.now.policy.now c.args.step.0 c.args.self.now c.ask.new.self c.next_by.new.self
+    (picked_at (g.P.Pick.rule c.args.pick.now) c.args.self.now.turns waits) (Some c.in-Some.object.0) waits waits c.ask.result
+    (picked_is (g.P.Pick.rule c.args.pick.now) c.args.self.now.turns c.in-Some.object.0 waits c.next_by.new.self.waiting c.in-Some.ensures.taken) refl
+    (c.ask.ensures (g.P.Pick.rule c.args.pick.now c.args.self.now.turns waits) waits c.in-Some.ensures.taken)
 
 pub returns-in-None-clause-does : goal.returns-in-None-clause-does
 returns-in-None-clause-does g c =
     let none = c.in-None.ensures.taken in
     let waits = c.args.self.now.queue.waiting in
-    does_on c.args.setup.now.basin.now c.args.setup.now.policy.now c.args.step.0 c.args.self.now c.turn_to_rules.new.self c.next_by.new.self (picked_at (g.P.Pick.rule c.args.pick.now) c.args.self.now.turns waits) None
+    does_on c.args.setup.now.basin.now c.args.setup.now.policy.now c.args.step.0 c.args.self.now c.turn_to_rules.new.self c.next_by.new.self
+    (picked_at (g.P.Pick.rule c.args.pick.now) c.args.self.now.turns waits) None
     waits c.next_by.new.self.waiting c.turn_to_rules.result
     (none_picked (g.P.Pick.rule c.args.pick.now) c.args.self.now.turns waits none.0) (none.0 ∙ sym none.1) c.turn_to_rules.ensures
 
 pub returns-in-Some-clause-picks : goal.returns-in-Some-clause-picks
-returns-in-Some-clause-picks g c = λ some. picks_one _ c.in-Some.object.0 c.args.self.now.queue.waiting c.next_by.new.self.waiting c.in-Some.ensures.taken
+returns-in-Some-clause-picks g c =
+    λ some. picks_one _ c.in-Some.object.0 c.args.self.now.queue.waiting c.next_by.new.self.waiting c.in-Some.ensures.taken
 
 pub returns-in-None-clause-picks : goal.returns-in-None-clause-picks
 returns-in-None-clause-picks g c = λ some. absurd (let none = ap length c.in-None.ensures.taken.0 in omega (arith, some, none))

@@ -22,8 +22,13 @@ returns g c = λ chosen waits.
     let policy = c.args.setup.now.policy.now in
     let old = c.args.self.now in
     let why = c.args.why in record {
-      keeps = keeps_ended basin policy old (record old { run = record old.run { trace = c.tell_line.new.trace }; lines = c.tell_line.new.lines }) (Some why)
-          (only_told basin policy old c.tell_line.new.trace c.tell_line.new.lines c.requires.within c.tell_line.ensures.grows c.tell_line.ensures.adds);
+      keeps =
+          keeps_ended basin policy old (record old {
+            run = record old.run { trace = c.tell_line.new.trace };
+            lines = c.tell_line.new.lines;
+          }) (Some why)
+          (only_told basin policy old c.tell_line.new.trace c.tell_line.new.lines c.requires.within c.tell_line.ensures.grows
+          c.tell_line.ensures.adds);
       on_the_way = refl;
       goes = λ log given. record {
         event = fault why;
@@ -32,7 +37,8 @@ returns g c = λ chosen waits.
           refl,
           record {
             cells = given.0.shows.cells;
-            trace = shown_more old.run.trace c.tell_line.new.trace (trace_of log) (lines (fault why)) c.in_ok-tell_line.ensures.said given.0.shows.trace;
+            trace =
+                shown_more old.run.trace c.tell_line.new.trace (trace_of log) (lines (fault why)) c.in_ok-tell_line.ensures.said given.0.shows.trace;
             closed_steps = given.0.shows.closed_steps;
             end = refl;
           },

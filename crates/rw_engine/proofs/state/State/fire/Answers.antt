@@ -1,4 +1,5 @@
-use Rattle.rw_engine.proofs.Common.{Cell, HasCount, None, Some, [], ap, held, last_put, lines_of_rule, arith, option_or, refl, subst, sym, true, written_by, ◌++◌, ◌∙◌, ◌∷◌, ◌≤◌}
+use Rattle.rw_engine.proofs.Common.{Cell, HasCount, None, Some, [], ap, held, last_put, lines_of_rule, arith, option_or, refl, subst, sym, true}
+use Rattle.rw_engine.proofs.Common.{written_by, ◌++◌, ◌∙◌, ◌∷◌, ◌≤◌}
 use Rattle.rw_run.specs.Log.{Firing, fired}
 use Rattle.rw_run.specs.Next.{ended}
 use Rattle.rw_run.specs.Trace.{told}
@@ -37,7 +38,8 @@ returns-in_err-note_firing g c =
     wanted basin policy None c.args.step.0 old _ _ c.from_residual.result _ c.from_residual.ensures.1
     (keeps_noted basin policy old _ c.requires.within
     (stays_fired basin policy old _ c.args.rule.0 c.raise.ensures refl c.fire-fired.ensures.made refl refl)
-    (c.fire-fired.ensures.keeps.indexed c.requires.within.indexed) refl refl ([], sym (told_none _)) ([], sym (told_none _)) c.in_err-note_firing.ensures.1)
+    (c.fire-fired.ensures.keeps.indexed c.requires.within.indexed) refl refl ([], sym (told_none _)) ([], sym (told_none _))
+    c.in_err-note_firing.ensures.1)
     (record { closed_steps = refl; end = refl }) c.in_err-note_firing.ensures.0
 
 pub returns-in_err-note_firing_lines : goal.returns-in_err-note_firing_lines
@@ -45,7 +47,8 @@ returns-in_err-note_firing_lines g c =
     let basin = c.args.setup.now.basin.now in
     let policy = c.args.setup.now.policy.now in
     let old = c.args.self.now in
-    wanted basin policy None c.args.step.0 old _ _ c.from_residual-in_err-note_firing_lines.result _ c.from_residual-in_err-note_firing_lines.ensures.1
+    wanted basin policy None c.args.step.0 old _ _ c.from_residual-in_err-note_firing_lines.result _
+    c.from_residual-in_err-note_firing_lines.ensures.1
     (keeps_noted basin policy old _ c.requires.within
     (stays_fired basin policy old _ c.args.rule.0 c.raise.ensures refl c.fire-fired.ensures.made refl refl)
     (c.fire-fired.ensures.keeps.indexed c.requires.within.indexed) refl refl ([], sym (told_none _)) c.note_firing_lines.ensures.grows
@@ -77,7 +80,8 @@ returns g c =
     let tells = c.fire-fired.ensures.told in
     let fire = tells.fire in
     let event = ended basin cells rule step fire fire.end in
-    let known : HasCount old.firings rule = record { first = turn.first; last = subst (λ n. rule ≤ n) (sym (within.made.firings ∙ within.made.engine.rules.many)) turn.last } in
+    let known : HasCount old.firings rule =
+    record { first = turn.first; last = subst (λ n. rule ≤ n) (sym (within.made.firings ∙ within.made.engine.rules.many)) turn.last } in
     let asked = c.asked-asked.result.now in
     let looked = c.looked-looked.result.now in
     let reached = cells_looked looked ++ cells_reached basin asked in
@@ -85,15 +89,18 @@ returns g c =
     let reaches = firing_reached basin cells rule step fire fire.end looked asked
     (c.looked-looked.ensures ∙ ap (λ looks. unwrap_or looks []) tells.looked) (c.asked-asked.ensures ∙ tells.asked) in
     let on = c.write.ensures.keeps in
-    let firing : Firing = record { rule = rule; step = step; is_done = true; looked = []; asked = []; written = c.fire-fired.new.self.written; count = 0 } in
+    let firing : Firing =
+    record { rule = rule; step = step; is_done = true; looked = []; asked = []; written = c.fire-fired.new.self.written; count = 0 } in
     let made = c.write.ensures.leaves firing refl refl in
-    let said = ap (λ writes. lines_of_rule rule step c.fire-fired.result.end c.fire-fired.result.count writes) (c.written-writes.ensures ∙ tells.written)
+    let said =
+    ap (λ writes. lines_of_rule rule step c.fire-fired.result.end c.fire-fired.result.count writes) (c.written-writes.ensures ∙ tells.written)
     ∙ ap (λ count. lines_of_rule rule step c.fire-fired.result.end count (written_by event)) tells.count
     ∙ ap (λ so. lines_of_rule rule step so fire.count (written_by event)) tells.end in
     rw (c.end_by.ensures.state, c.end_by.ensures.end) (record {
       keeps = keeps_ended basin policy old _ c.in_ok-fault.fault
           (keeps_done basin policy old _ within
-          (stays_fired basin policy old _ rule c.raise.ensures refl (rules_on basin policy cells (held c.write.new.series) c.fire-fired.new.self c.write.new.self on c.fire-fired.ensures.made) refl refl)
+          (stays_fired basin policy old _ rule c.raise.ensures refl
+          (rules_on basin policy cells (held c.write.new.series) c.fire-fired.new.self c.write.new.self on c.fire-fired.ensures.made) refl refl)
           (fired firing) reached (on.indexed (c.fire-fired.ensures.keeps.indexed within.indexed))
           c.write.ensures.made made c.tell_firing.ensures.grows c.note_firing_lines.ensures.grows c.in_ok-note_firing.ensures
           (λ kept. subst (λ puts. (cell : Cell) → Contains (cells_reached basin puts) cell → Contains reached cell) (sym tells.written)
@@ -106,18 +113,22 @@ returns g c =
             follows = after_all basin (policy_in basin policy) cells step log _ (λ i cell. holds.shows.cells cell i) given.1
                 ∙ rule_fires basin (policy_in basin policy) cells step log rule (rw (← holds.firings rule turn.first) c.requires.below)
                 ∙ tells.event;
-            goes = fired_on basin policy old _ rule step log fire holds refl c.fire-fired.result.end tells.end c.in_ok-fault.fault c.in_ok-fault.ensures.fault (record {
-              cells = λ cell. made.cells cell ∙ ap (λ puts. option_or (last_put basin puts cell) (cells cell)) written;
-              trace = c.in_ok-fault.ensures.told ∙ ap (told old.run.trace) said;
-              closed_steps = refl;
-              counted = known;
-              firings = c.raise.ensures;
-              counts = refl;
-              queue = made.queue ∙ ap (λ puts. old.queue.waiting ++ woken basin None old.queue.waiting (slots_at step puts)) written;
-              looks = λ firing same looked. looks_on policy c.fire-fired.new.self c.write.new.self (fired firing ∷ log) on.rules
-                  (c.fire-fired.ensures.keeps.shows log firing same (tells.looked ∙ ap (λ looks. Some looks) (sym looked)) holds.looks);
-            });
-            notes = λ calm. ended_noted c.in_ok-fault.fault _ ∙ notes_same cells reached (reached_by basin event) old.noted _ c.in_ok-note_firing.ensures (λ kept. reaches calm);
+            goes =
+                fired_on basin policy old _ rule step log fire holds refl c.fire-fired.result.end tells.end c.in_ok-fault.fault
+                c.in_ok-fault.ensures.fault (record {
+                  cells = λ cell. made.cells cell ∙ ap (λ puts. option_or (last_put basin puts cell) (cells cell)) written;
+                  trace = c.in_ok-fault.ensures.told ∙ ap (told old.run.trace) said;
+                  closed_steps = refl;
+                  counted = known;
+                  firings = c.raise.ensures;
+                  counts = refl;
+                  queue = made.queue ∙ ap (λ puts. old.queue.waiting ++ woken basin None old.queue.waiting (slots_at step puts)) written;
+                  looks = λ firing same looked. looks_on policy c.fire-fired.new.self c.write.new.self (fired firing ∷ log) on.rules
+                      (c.fire-fired.ensures.keeps.shows log firing same (tells.looked ∙ ap (λ looks. Some looks) (sym looked)) holds.looks);
+                });
+            notes =
+                λ calm. ended_noted c.in_ok-fault.fault _
+                ∙ notes_same cells reached (reached_by basin event) old.noted _ c.in_ok-note_firing.ensures (λ kept. reaches calm);
             lines_are = ended_lines c.in_ok-fault.fault _ ∙ c.in_ok-note_firing_lines.ensures.told
                 ∙ ap (told old.lines) (said ∙ firing_lines basin cells rule step fire fire.end);
             asks = asks;

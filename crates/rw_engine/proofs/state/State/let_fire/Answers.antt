@@ -18,7 +18,8 @@ returns-then-control-count g c =
       on_the_way = does.on_the_way;
       goes = λ log given. does.goes log (
         given.0,
-        after_all basin (policy_in basin c.args.setup.now.policy.now) (held old.run.series) c.args.step.0 log _ (λ i cell. given.0.shows.cells cell i) given.1
+        after_all basin (policy_in basin c.args.setup.now.policy.now) (held old.run.series) c.args.step.0 log _
+            (λ i cell. given.0.shows.cells cell i) given.1
             ∙ rule_stops basin (policy_in basin c.args.setup.now.policy.now) (held old.run.series) c.args.step.0 log c.args.rule.0 _
             (c.get-count.ensures ∙ given.0.firings c.args.rule.0 c.requires.turn.first) (search rules),
       );

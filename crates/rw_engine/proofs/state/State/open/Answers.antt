@@ -10,7 +10,8 @@ pub tell_line-requires : goal.tell_line-requires
 tell_line-requires g c kept = c.requires.fresh.made.engine.notes.same ∙ c.requires.fresh.made.engine.notes.traced kept
 
 pub returns-in_err-tell_line-clause-wants : goal.returns-in_err-tell_line-clause-wants
-returns-in_err-tell_line-clause-wants g c = any_err c.from_residual.result (sym c.requires.fresh.made.engine.notes.same ∙ c.in_err-tell_line.ensures.wants)
+returns-in_err-tell_line-clause-wants g c =
+    any_err c.from_residual.result (sym c.requires.fresh.made.engine.notes.same ∙ c.in_err-tell_line.ensures.wants)
 
 pub returns-clause-made : goal.returns-clause-made
 returns-clause-made g c = record {
@@ -21,7 +22,9 @@ returns-clause-made g c = record {
     rules = c.begin_step-2.ensures.made c.args.setup.now.basin.now c.args.setup.now.policy.now c.requires.fresh.made.engine.rules;
     series = c.requires.fresh.made.engine.series;
     closed_steps = c.requires.fresh.made.engine.closed_steps;
-    notes = alike_told c.args.self.now.noted c.args.self.now.lines c.tell_line.new.lines c.args.self.now.run.trace c.tell_line.new.trace c.tell_line.ensures.adds c.tell_line.ensures.grows
+    notes =
+        alike_told c.args.self.now.noted c.args.self.now.lines c.tell_line.new.lines c.args.self.now.run.trace c.tell_line.new.trace
+        c.tell_line.ensures.adds c.tell_line.ensures.grows
         c.requires.fresh.made.engine.notes;
   };
   keeps = c.requires.fresh.made.keeps;
@@ -40,7 +43,9 @@ returns-in_err-tell_line-clause-made g c =
         rules = made.engine.rules;
         series = made.engine.series;
         closed_steps = made.engine.closed_steps;
-        notes = alike_told c.args.self.now.noted c.args.self.now.lines c.tell_line.new.lines c.args.self.now.run.trace c.tell_line.new.trace c.tell_line.ensures.adds c.tell_line.ensures.grows
+        notes =
+            alike_told c.args.self.now.noted c.args.self.now.lines c.tell_line.new.lines c.args.self.now.run.trace c.tell_line.new.trace
+            c.tell_line.ensures.adds c.tell_line.ensures.grows
             made.engine.notes;
       };
       keeps = made.keeps;
@@ -56,7 +61,10 @@ returns-clause-opened g c = record {
     indexed = c.begin_step-2.ensures.indexed _;
   };
   lines_are = c.in_ok-tell_line.ensures.noted;
-  holds = λ log shows before. opens_step c.args.setup.now.basin.now c.args.setup.now.policy.now c.args.self.now _ c.args.step.0 log shows refl c.begin_step.ensures.all
-      c.clear.ensures.zero c.clear-2.ensures.zero (c.begin_step-2.ensures.fresh c.args.setup.now.policy.now log c.args.step.0) c.in_ok-tell_line.ensures.said refl
+  holds =
+      λ log shows before. opens_step c.args.setup.now.basin.now c.args.setup.now.policy.now c.args.self.now _ c.args.step.0 log shows refl
+      c.begin_step.ensures.all
+      c.clear.ensures.zero c.clear-2.ensures.zero (c.begin_step-2.ensures.fresh c.args.setup.now.policy.now log c.args.step.0)
+      c.in_ok-tell_line.ensures.said refl
       (shows.end ∙ settled_at_rest log before.last before.rest);
 }

@@ -28,7 +28,9 @@ loop-ended-init g c =
         can = All-nil (λ (event : Event). AreWrites c.args.setup.now.basin.now (written_by event));
       };
       back = record {
-        revocable = revocable_first (held old.run.series) (held new.run.series) new.noted (rw tells.noted c.requires.fresh.cleared) (λ cell. ap (λ cells. cells cell) same);
+        revocable =
+            revocable_first (held old.run.series) (held new.run.series) new.noted (rw tells.noted c.requires.fresh.cleared)
+            (λ cell. ap (λ cells. cells cell) same);
         notes = ap is_some tells.noted;
         grows = tells.grows;
       };
@@ -39,34 +41,47 @@ loop-ended-init g c =
 pub returns-then-ended : goal.returns-then-ended
 returns-then-ended g c =
     let end = step_end c.event.new.self.run.end in
-    let back = goes_back_more c.args.setup.now.basin.now c.args.setup.now.policy.now c.args.self.now c.loop-ended.self c.event.new.self c.loop-ended.invariant.back c.event.ensures.does.keeps in
+    let back =
+    goes_back_more c.args.setup.now.basin.now c.args.setup.now.policy.now c.args.self.now c.loop-ended.self c.event.new.self
+    c.loop-ended.invariant.back c.event.ensures.does.keeps in
     rw c.step_end.ensures (record {
       made = c.event.ensures.does.keeps.within.made;
       back = back;
       still = tt;
       passes = λ log shows before.
-          ends_step c.args.setup.now.basin.now c.args.setup.now.policy.now _ c.args.self.now.turns log c.args.self.now c.loop-ended.self c.event.new.self c.args.step.0 end
-          (c.loop-ended.invariant.reached log shows before) (λ l holds. rw c.if-ended.true at c.in_ok-ended.ensures.does.goes l holds) c.event.ensures.picks shows before
+          ends_step c.args.setup.now.basin.now c.args.setup.now.policy.now _ c.args.self.now.turns log c.args.self.now c.loop-ended.self
+          c.event.new.self c.args.step.0 end
+          (c.loop-ended.invariant.reached log shows before) (λ l holds. rw c.if-ended.true at c.in_ok-ended.ensures.does.goes l holds)
+          c.event.ensures.picks shows before
           c.event.ensures.does.keeps.within.made.engine.notes;
-      closed_steps = (rw c.if-ended.true at c.in_ok-ended.ensures.does.on_the_way) ∙ ap (closed_by end c.args.step.0) c.loop-ended.invariant.still.closed_steps;
+      closed_steps =
+          (rw c.if-ended.true at c.in_ok-ended.ensures.does.on_the_way) ∙ ap (closed_by end c.args.step.0) c.loop-ended.invariant.still.closed_steps;
       few = few_last c.args.setup.now.basin.now c.loop-ended.self c.event.new.self _ c.in_ok-ended.ensures.does.few c.loop-ended.invariant.few;
       wants = tt;
     })
 
 pub returns-in_err-ended : goal.returns-in_err-ended
 returns-in_err-ended g c =
-    unpassed c.args.setup.now.basin.now c.args.setup.now.policy.now _ c.args.step.0 c.args.self.now c.event.new.self c.from_residual-in_err-ended.result _
+    unpassed c.args.setup.now.basin.now c.args.setup.now.policy.now _ c.args.step.0 c.args.self.now c.event.new.self
+    c.from_residual-in_err-ended.result _
     c.from_residual-in_err-ended.ensures.1 c.event.ensures.does.keeps.within.made
-    (goes_back_more c.args.setup.now.basin.now c.args.setup.now.policy.now c.args.self.now c.loop-ended.self c.event.new.self c.loop-ended.invariant.back c.event.ensures.does.keeps)
+    (goes_back_more c.args.setup.now.basin.now c.args.setup.now.policy.now c.args.self.now c.loop-ended.self c.event.new.self
+    c.loop-ended.invariant.back c.event.ensures.does.keeps)
     (still_more c.args.self.now c.loop-ended.self c.event.new.self c.loop-ended.invariant.still c.in_err-ended.ensures.does.on_the_way)
     (sym c.loop-ended.invariant.back.notes ∙ c.in_err-ended.ensures.does.wants)
 
 pub loop-ended-preserved : goal.loop-ended-preserved
 loop-ended-preserved g c = record {
   within = c.event.ensures.does.keeps.within;
-  reached = λ log shows before. reached_more c.args.setup.now.basin.now c.args.setup.now.policy.now _ c.args.self.now.turns log c.loop-ended.self c.event.new.self c.args.step.0 (c.loop-ended.invariant.reached log shows before)
+  reached =
+      λ log shows before. reached_more c.args.setup.now.basin.now c.args.setup.now.policy.now _ c.args.self.now.turns log c.loop-ended.self
+      c.event.new.self c.args.step.0 (c.loop-ended.invariant.reached log shows before)
       (λ l holds. rw c.if-ended.false at c.in_ok-ended.ensures.does.goes l holds) c.event.ensures.picks;
   few = few_more c.args.setup.now.basin.now c.loop-ended.self c.event.new.self _ c.in_ok-ended.ensures.does.few c.loop-ended.invariant.few;
-  back = goes_back_more c.args.setup.now.basin.now c.args.setup.now.policy.now c.args.self.now c.loop-ended.self c.event.new.self c.loop-ended.invariant.back c.event.ensures.does.keeps;
-  still = still_more c.args.self.now c.loop-ended.self c.event.new.self c.loop-ended.invariant.still (rw c.if-ended.false at c.in_ok-ended.ensures.does.on_the_way).0;
+  back =
+      goes_back_more c.args.setup.now.basin.now c.args.setup.now.policy.now c.args.self.now c.loop-ended.self c.event.new.self
+      c.loop-ended.invariant.back c.event.ensures.does.keeps;
+  still =
+      still_more c.args.self.now c.loop-ended.self c.event.new.self c.loop-ended.invariant.still
+      (rw c.if-ended.false at c.in_ok-ended.ensures.does.on_the_way).0;
 }

@@ -26,7 +26,9 @@ returns c = record {
   keeps_lines = c.retell.ensures.keeps_lines ∙ ap is_some c.truncate.ensures ∙ short_some c.args.self.now.lines 0;
   keeps_trace = c.retell.ensures.keeps_trace;
   unchanged = tt;
-  noted = c.in_ok-retell.ensures.noted ∙ ap (with_noted (held c.args.self.now.run.series) (cells_noted c.args.kept.now.looked)) (c.begin_step.ensures ∙ cleared_is c.args.self.now.noted);
+  noted =
+      c.in_ok-retell.ensures.noted ∙ ap (with_noted (held c.args.self.now.run.series) (cells_noted c.args.kept.now.looked))
+      (c.begin_step.ensures ∙ cleared_is c.args.self.now.noted);
   lines_are = c.in_ok-retell.ensures.lines;
   trace = c.in_ok-retell.ensures.told;
   ends = (refl, c.step.ensures);

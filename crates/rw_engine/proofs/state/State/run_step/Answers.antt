@@ -57,8 +57,11 @@ returns-in-Err-clause-made g c = record {
       bounded = λ cell content known is. c.requires.made.engine.series.bounded cell content known (sym (back g c cell) ∙ is);
     };
     closed_steps = c.pass.ensures.made.engine.closed_steps;
-    notes = alike_on c.pass.new.self.noted c.pass.new.self.noted c.pass.new.self.lines c.pass.new.self.lines c.pass.new.self.run.trace c.truncate-in-Err.new.self refl refl
-        (ap is_some (same g c) ∙ sym (grows_some c.args.self.now.run.trace c.pass.new.self.run.trace c.pass.ensures.back.grows)) c.pass.ensures.made.engine.notes;
+    notes =
+        alike_on c.pass.new.self.noted c.pass.new.self.noted c.pass.new.self.lines c.pass.new.self.lines c.pass.new.self.run.trace
+        c.truncate-in-Err.new.self refl refl
+        (ap is_some (same g c) ∙ sym (grows_some c.args.self.now.run.trace c.pass.new.self.run.trace c.pass.ensures.back.grows))
+        c.pass.ensures.made.engine.notes;
   };
   keeps = c.pass.ensures.made.keeps;
   counts = c.pass.ensures.made.counts;
@@ -68,7 +71,13 @@ returns-in-Err-clause-made g c = record {
 pub returns-in-Ok-clause-runs : goal.returns-in-Ok-clause-runs
 returns-in-Ok-clause-runs g c = record {
   made = c.pass.ensures.made.engine;
-  passes = λ log shows. c.in-Ok.ensures.passes log (record { cells = shows.cells; trace = shows.trace; closed_steps = shows.closed_steps; end = shows.end });
+  passes =
+      λ log shows. c.in-Ok.ensures.passes log (record {
+        cells = shows.cells;
+        trace = shows.trace;
+        closed_steps = shows.closed_steps;
+        end = shows.end;
+      });
   before = λ log shows. tt;
   kept = record {
     trace = grows_some c.args.self.now.run.trace c.pass.new.self.run.trace c.pass.ensures.back.grows;

@@ -31,9 +31,12 @@ module _ (c : goal.After-self-2-1) where
     notes = ap is_some c.begin_step.ensures ∙ cleared_some c.args.self.now.noted;
     keeps_lines = ap is_some c.truncate.ensures ∙ short_some c.args.self.now.lines 0;
     made = c.put_back.ensures.made;
-    back = λ before made can. c.put_back.ensures.back before made (subst (CanTakeBack before (held c.args.self.now.run.series)) (sym c.looked.ensures) can);
+    back =
+        λ before made can. c.put_back.ensures.back before made
+        (subst (CanTakeBack before (held c.args.self.now.run.series)) (sym c.looked.ensures) can);
     trace = c.truncate-2.ensures ∙ ap (λ count. option_map (take count) c.args.self.now.run.trace)
-        (c.saturating_sub-before.ensures ∙ ap₂ (λ all last. all - last) c.len.ensures (c.len-2.ensures ∙ ap (λ told. length (lines_in told)) c.lines.ensures));
+        (c.saturating_sub-before.ensures ∙ ap₂ (λ all last. all - last) c.len.ensures
+        (c.len-2.ensures ∙ ap (λ told. length (lines_in told)) c.lines.ensures));
     closed_steps = c.saturating_sub-self.ensures ∙ ap (λ step. step - 1) c.step.ensures;
     end = refl;
   }

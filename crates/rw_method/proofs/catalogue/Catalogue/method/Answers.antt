@@ -1,4 +1,5 @@
-use Rattle.rw_method.proofs.Common.{List, None, [], ap, arith, common_steps, first_wrong, get_or, length, map, rules, suc, sym, zero, ℕ, ◌+◌, ◌-◌, ◌<◌, ◌∙◌, ◌∷◌, ◌≡◌, ◌≤◌}
+use Rattle.rw_method.proofs.Common.{List, None, [], ap, arith, common_steps, first_wrong, get_or, length, map, rules, suc, sym, zero, ℕ, ◌+◌, ◌-◌}
+use Rattle.rw_method.proofs.Common.{◌<◌, ◌∙◌, ◌∷◌, ◌≡◌, ◌≤◌}
 use Rattle.rw_method.proofs.catalogue.Catalogue.method.Goals as goal
 
 -- where the first place is right, so are the others
@@ -6,7 +7,8 @@ first_right : (place code : ℕ) (codes : List ℕ) → first_wrong place (code 
 first_right place code codes h = grind (arith, common_steps, h)
 
 -- in order, each place has its own number
-in_order : {X : Type 0} (f : X → ℕ) (xs : List X) (place i : ℕ) (d : X) → first_wrong place (map f xs) ≡ None → i < length xs → f (get_or xs i d) ≡ place + i
+in_order : {X : Type 0} (f : X → ℕ) (xs : List X) (place i : ℕ) (d : X) → first_wrong place (map f xs) ≡ None → i < length xs
+    → f (get_or xs i d) ≡ place + i
 in_order f [] place i d h lt = absurd (omega (arith, lt))
 in_order f (x ∷ xs) place zero d h lt = (first_right place (f x) (map f xs) h).0 ∙ omega arith
 in_order f (x ∷ xs) place (suc i) d h lt = in_order f xs (place + 1) i d (first_right place (f x) (map f xs) h).1 (omega (arith, lt)) ∙ omega arith

@@ -9,7 +9,9 @@ use Rattle.rw_model.proofs.builder.BasinBuilder.begin.Goals as goal
 pub invariant_of-result : goal.invariant_of-result
 invariant_of-result c =
     let within : IsControl c.args.control = search rules in
-    subst (λ (os : List Object). IsDraft (record { control = c.args.control; objects = os; links = c.new-2.result; bounds = c.new-3.result })) (sym c.new.ensures)
-    (subst (λ (ls : List (List ℕ)). IsDraft (record { control = c.args.control; objects = []; links = ls; bounds = c.new-3.result })) (sym c.new-2.ensures)
+    subst (λ (os : List Object). IsDraft (record { control = c.args.control; objects = os; links = c.new-2.result; bounds = c.new-3.result }))
+    (sym c.new.ensures)
+    (subst (λ (ls : List (List ℕ)). IsDraft (record { control = c.args.control; objects = []; links = ls; bounds = c.new-3.result }))
+    (sym c.new-2.ensures)
     (subst (λ (bs : List Bound). IsDraft (record { control = c.args.control; objects = []; links = []; bounds = bs })) (sym c.new-3.ensures)
     (IsDraft-begin c.args.control within)))

@@ -19,4 +19,5 @@ invariant_of-self-2 c =
     (subst (λ links. KeepsPlaces links c.self.inside.places.items) c.self.view_is c.self.invariant) c.requires.free
     (λ k. c.mark.ensures.marked k
     ∙ ap (λ old. if is_among (k + 1) (numbers_of c.args.slots.now) then Some c.count-place.result else old) (c.in_ok-widen.ensures.same k)
-    ∙ ap (λ n. if is_among (k + 1) (numbers_of c.args.slots.now) then Some n else slice_index_or c.self.inside.places.items k None) c.count-place.ensures))
+    ∙ ap (λ n. if is_among (k + 1) (numbers_of c.args.slots.now) then Some n else slice_index_or c.self.inside.places.items k None)
+    c.count-place.ensures))

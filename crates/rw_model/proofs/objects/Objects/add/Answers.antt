@@ -10,10 +10,12 @@ use Rattle.rw_model.proofs.objects.Objects.add.Goals as goal
 -- the objects that the map has now
 pub returns-clause-ok : goal.returns-clause-ok
 returns-clause-ok c =
-    let added : c.insert.new.self.entries ≡ insert_entry (λ j k. bytes_eq (string_bytes j) (string_bytes k)) c.reserve-3.new.self.entries c.in_ok-name.name c.args.kind = c.in-Ok.ensures.entries in
+    let added : c.insert.new.self.entries ≡ insert_entry (λ j k. bytes_eq (string_bytes j) (string_bytes k)) c.reserve-3.new.self.entries
+    c.in_ok-name.name c.args.kind = c.in-Ok.ensures.entries in
     objects_of-insert c.args.self.now c.args.name.now c.in_ok-name.name c.args.kind c.self.inside.kinds.entries c.insert.new.self.entries
     c.self.view_is c.requires.fresh c.in_ok-name.ensures.ok
-    (added ∙ ap (λ es. insert_entry (λ j k. bytes_eq (string_bytes j) (string_bytes k)) es c.in_ok-name.name c.args.kind) c.in_ok-reserve-3.ensures.entries)
+    (added ∙ ap (λ es. insert_entry (λ j k. bytes_eq (string_bytes j) (string_bytes k)) es c.in_ok-name.name c.args.kind)
+    c.in_ok-reserve-3.ensures.entries)
 
 pub invariant_of-self-2 : goal.invariant_of-self-2
 invariant_of-self-2 c =

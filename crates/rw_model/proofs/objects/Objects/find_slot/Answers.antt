@@ -8,4 +8,5 @@ returns c =
     c.number_of_name.ensures
     ∙ first_from-all_slots c.args.self.now c.in-Some.o c.kind.result.now (is_named c.in-Some.o c.args.name.now) c.slots_before.result
     c.in-Some.ensures.within.0 (IsOfOwner-is_named c.in-Some.o c.args.name.now) c.kind.ensures.kind c.slots_before.ensures.before
-    ∙ ap (option_and_then (λ owner. first_from 1 (is_named owner c.args.name.now) (all_slots c.args.self.now))) (sym c.in-Some.is ∙ c.find.ensures.number)
+    ∙ ap (option_and_then (λ owner. first_from 1 (is_named owner c.args.name.now) (all_slots c.args.self.now)))
+    (sym c.in-Some.is ∙ c.find.ensures.number)

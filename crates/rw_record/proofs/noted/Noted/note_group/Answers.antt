@@ -12,7 +12,8 @@ returns-in_err-note c =
     let err : c.from_residual.result ≡ Err c.in_err-note.field-0.0 = search rules in
     let rest = map (λ slot. cell_at slot cell.step.0) (group_of basin.objects basin.links cell.slot.0) in
     subst (AddsNotes cells (cells_with basin cell) c.args.self.now c.note.new.self) (sym err)
-    (fails cells [] (cell ∷ []) c.args.self.now c.args.self.now c.note.new.self (none_yet cells c.args.self.now) rest c.in_err-note.field-0.0 c.in_err-note.ensures.noted)
+    (fails cells [] (cell ∷ []) c.args.self.now c.args.self.now c.note.new.self (none_yet cells c.args.self.now) rest c.in_err-note.field-0.0
+    c.in_err-note.ensures.noted)
 
 pub returns : goal.returns
 returns c =
@@ -20,6 +21,8 @@ returns c =
     let cell = c.args.cell in
     let cells = held c.args.series.now in
     let group : numbers_of c.group.result.now ≡ group_of basin.objects basin.links cell.slot.0 = c.group.ensures.group in
-    subst (λ slots. AddsNotes cells (cell ∷ map (λ slot. cell_at slot cell.step.0) slots) c.args.self.now c.note_slots.new.self c.note_slots.result) group
-    (then_all cells (cell ∷ []) (map (λ slot. cell_at slot cell.step.0) (numbers_of c.group.result.now)) c.args.self.now c.note.new.self c.note_slots.new.self
+    subst (λ slots. AddsNotes cells (cell ∷ map (λ slot. cell_at slot cell.step.0) slots) c.args.self.now c.note_slots.new.self
+    c.note_slots.result) group
+    (then_all cells (cell ∷ []) (map (λ slot. cell_at slot cell.step.0) (numbers_of c.group.result.now)) c.args.self.now c.note.new.self
+    c.note_slots.new.self
     c.note_slots.result c.in_ok-note.ensures.noted c.note_slots.ensures)

@@ -12,7 +12,9 @@ returns c =
       step_is = refl;
       few_cells = small.0;
       few_lines = small.1;
-      members = λ one. subst (λ cells. Contains c.in_ok-looked.looked.items one ↔ Contains cells one) c.as_slice-2.ensures.noted (c.in_ok-looked.ensures.members one);
+      members =
+          λ one. subst (λ cells. Contains c.in_ok-looked.looked.items one ↔ Contains cells one) c.as_slice-2.ensures.noted
+          (c.in_ok-looked.ensures.members one);
       rising = c.in_ok-looked.ensures.rising;
       lines_are = ap lines_in c.in_ok-lines.ensures;
     }

@@ -16,7 +16,8 @@ pub left-behind-requires-clause-rising : goal.left-behind-requires-clause-rising
 left-behind-requires-clause-rising g c =
     let basin = c.args.setup.now.basin.now in
     let lent : c.args.self.now.kept ≡ c.deref.result.now = sym (ap (λ (s : Session). s.kept) c.self.view_is) ∙ sym c.deref.ensures.value in
-    subst AreRisingIn lent (rising_from basin (policy_in basin c.args.setup.now.policy.now) c.requires.made.log 1 c.args.self.now.kept c.requires.made.kept)
+    subst AreRisingIn lent (rising_from basin (policy_in basin c.args.setup.now.policy.now) c.requires.made.log 1 c.args.self.now.kept
+    c.requires.made.kept)
 
 pub pass_next-requires-clause-left : goal.pass_next-requires-clause-left
 pass_next-requires-clause-left g c =
@@ -35,9 +36,11 @@ give_way-requires g c =
     let values : value_at inputs ≡ after_batch c.args.batch.now (value_at c.args.self.now.inputs) =
     c.in_ok-inputs.ensures.values ∙ ap (λ (s : Session). after_batch c.args.batch.now (value_at s.inputs)) c.self.view_is in
     let leaves : LeavesFirst basin c.args.batch.now c.deref-3.result.now c.args.self.now.inputs inputs c.args.self.now.kept behind =
-    leaves_first basin policy c.args.self.now c.args.batch.now inputs c.in_ok-cells.cells.items c.deref-3.result.now behind c.deref.result.now c.requires.made values
+    leaves_first basin policy c.args.self.now c.args.batch.now inputs c.in_ok-cells.cells.items c.deref-3.result.now behind c.deref.result.now
+    c.requires.made values
     c.in_ok-inputs.ensures.made c.in_ok-cells.ensures (sym c.deref-3.ensures.value) lent
-    (subst (λ (cells : List Cell). CountsUntouched basin cells c.deref.result.now behind) (c.deref-2.ensures.value ∙ sym c.deref-3.ensures.value) c.left-behind.ensures) in
+    (subst (λ (cells : List Cell). CountsUntouched basin cells c.deref.result.now behind) (c.deref-2.ensures.value ∙ sym c.deref-3.ensures.value)
+    c.left-behind.ensures) in
     subst (λ (cells : List Cell). IsNext basin policy c.pass_next.new.self inputs cells behind c.in_ok-pass.pass)
     (c.deref-3.ensures.value ∙ sym c.deref-4.ensures.value)
     (subst (λ (s : Session). IsNext basin policy s inputs c.deref-3.result.now behind c.in_ok-pass.pass) (sym c.in_ok-pass.ensures.same)
@@ -53,8 +56,10 @@ returns-clause-applied g c =
     let values : value_at inputs ≡ after_batch c.args.batch.now (value_at c.args.self.now.inputs) =
     c.in_ok-inputs.ensures.values ∙ ap (λ (s : Session). after_batch c.args.batch.now (value_at s.inputs)) c.self.view_is in
     let leaves : LeavesFirst basin c.args.batch.now c.deref-3.result.now c.args.self.now.inputs inputs c.args.self.now.kept behind =
-    leaves_first basin policy c.args.self.now c.args.batch.now inputs c.in_ok-cells.cells.items c.deref-3.result.now behind c.deref.result.now c.requires.made values
+    leaves_first basin policy c.args.self.now c.args.batch.now inputs c.in_ok-cells.cells.items c.deref-3.result.now behind c.deref.result.now
+    c.requires.made values
     c.in_ok-inputs.ensures.made c.in_ok-cells.ensures (sym c.deref-3.ensures.value) lent
-    (subst (λ (cells : List Cell). CountsUntouched basin cells c.deref.result.now behind) (c.deref-2.ensures.value ∙ sym c.deref-3.ensures.value) c.left-behind.ensures) in
+    (subst (λ (cells : List Cell). CountsUntouched basin cells c.deref.result.now behind) (c.deref-2.ensures.value ∙ sym c.deref-3.ensures.value)
+    c.left-behind.ensures) in
     applies_next basin policy c.args.self.now c.pass_next.new.self _ c.args.batch.now inputs c.deref-3.result.now behind c.in_ok-pass.pass _ _
     c.in_ok-pass.ensures.passes leaves c.in_ok-pass.ensures.same c.give_way.ensures.is c.give_way.ensures.same

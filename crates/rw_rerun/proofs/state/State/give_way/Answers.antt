@@ -23,7 +23,8 @@ spare_of-requires-clause-some g c = let many = c.requires.leaves.many in let few
 pub spare_of-requires-clause-stands : goal.spare_of-requires-clause-stands
 spare_of-requires-clause-stands g c =
     let lent : c.args.self.now.kept ≡ c.deref.result.now = sym (ap (λ (s : Session). s.kept) c.self.view_is) ∙ sym c.deref.ensures.value in
-    stands_there c.args.setup.now.basin.now c.args.setup.now.policy.now c.args.self.now c.args.inputs c.args.cells.now c.args.behind c.args.pass c.requires 0
+    stands_there c.args.setup.now.basin.now c.args.setup.now.policy.now c.args.self.now c.args.inputs c.args.cells.now c.args.behind c.args.pass
+    c.requires 0
     c.deref.result.now _ lent (sym (ap (λ (s : Session). s.engine) c.self.view_is) ∙ sym c.replace-was.ensures.value)
 
 pub exchange_for-self-inside-requires : goal.exchange_for-self-inside-requires
@@ -43,9 +44,11 @@ invariant_of-self g c =
       reran = c.args.pass.reran.items;
       same = c.exchange_for-self-inside.result;
     } in
-    spare_there c.args.setup.now.basin.now c.args.setup.now.policy.now c.args.self.now c.args.inputs c.args.cells.now c.args.behind c.args.pass c.requires
+    spare_there c.args.setup.now.basin.now c.args.setup.now.policy.now c.args.self.now c.args.inputs c.args.cells.now c.args.behind
+    c.args.pass c.requires
     c.exchange_for-self-inside.result
-    c.deref.result.now _ lent (sym (ap (λ (s : Session). s.engine) c.self.view_is) ∙ sym c.replace-was.ensures.value) c.spare_of.result _ c.spare_of.ensures
+    c.deref.result.now _ lent (sym (ap (λ (s : Session). s.engine) c.self.view_is) ∙ sym c.replace-was.ensures.value) c.spare_of.result _
+    c.spare_of.ensures
     (ap (λ (s : Session). session_behind s.basin s.policy c.args.inputs s.kept c.args.pass c.exchange_for-self-inside.result) (sym c.self.view_is)
     ∙ ap (with_both c.args.pass.engine) (sym c.exchange_for-self-inside.ensures.kept)
     ∙ ap (λ (engine : Engine). with_both engine c.exchange_for-self-inside.new.kept.items) (sym c.replace-was.ensures.after))
@@ -63,4 +66,5 @@ returns-clause-same g c = λ cell before.
     ∙ same_in basin policy c.args.self.now c.args.inputs cells c.args.behind c.args.pass c.requires framed cell step before
     (subst (λ (s : Session). ReachFrom cells s.kept c.args.behind step) c.self.view_is c.exchange_for-self-inside.ensures.before)
     (subst (λ kept. ReachFrom cells kept c.args.behind step)
-    (c.exchange_for-self-inside.ensures.kept ∙ ap (λ (s : Session). changed s.kept c.args.pass.changes.items) c.self.view_is) c.exchange_for-self-inside.ensures.after)
+    (c.exchange_for-self-inside.ensures.kept ∙ ap (λ (s : Session). changed s.kept c.args.pass.changes.items) c.self.view_is)
+    c.exchange_for-self-inside.ensures.after)

@@ -35,7 +35,9 @@ pass_behind-requires-clause-stands g c =
     c.take-found.ensures.value c.in_ok-spare.ensures in record {
       start = placed [] (givens basin c.args.self.now.inputs);
       end = made.log;
-      stands = subst (λ kept. StandsIn basin policy (placed [] (givens basin c.args.self.now.inputs)) made.log kept c.in_ok-spare.spare) lent stands.stands;
+      stands =
+          subst (λ kept. StandsIn basin policy (placed [] (givens basin c.args.self.now.inputs)) made.log kept c.in_ok-spare.spare) lent
+          stands.stands;
     }
 
 pub pass_behind-requires-clause-known : goal.pass_behind-requires-clause-known
@@ -70,5 +72,6 @@ returns-clause-passes g c =
     spare_ready basin policy c.args.self.now _ made c.self.inside.spare c.take-found.result c.in_ok-spare.spare c.is_kept-traced.result c.self.view_is
     (c.is_kept-traced.ensures ∙ ap is_some c.run.ensures.same.1) c.self.invariant
     c.take-found.ensures.value c.in_ok-spare.ensures in
-    passes_next basin policy c.args.self.now c.args.inputs.now c.args.cells.now c.args.behind c.deref.result.now c.in_ok-spare.spare c.args.steps.now _ _
+    passes_next basin policy c.args.self.now c.args.inputs.now c.args.cells.now c.args.behind c.deref.result.now c.in_ok-spare.spare
+    c.args.steps.now _ _
     made stands lent c.pass_behind.ensures

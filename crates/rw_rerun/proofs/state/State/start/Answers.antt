@@ -19,7 +19,8 @@ exchange-requires g c =
     let many : length c.in_ok-kept.kept.items ≡ basin.control.stamps.count =
     let all = ap length c.in_ok-kept.ensures in
     let each = length-replicate c.count.result nothing in
-    let steps = ap (λ (k : RunControl). k.stamps.count) c.control.ensures in let value = c.count.ensures.value in omega (arith, all, each, steps, value) in
+    let steps = ap (λ (k : RunControl). k.stamps.count) c.control.ensures in let value =
+    c.count.ensures.value in omega (arith, all, each, steps, value) in
     let none : AreKept basin policy [] 1 c.deref.result.now =
     subst (AreKept basin policy [] 1) (sym (c.deref.ensures.value ∙ c.in_ok-kept.ensures)) (none_kept basin policy 1 c.count.result) in
     (c.in_ok-pass.ensures.goes [] none).many ∙ sym many
@@ -32,13 +33,22 @@ returns-clause-started g c =
     let many : length c.in_ok-kept.kept.items ≡ basin.control.stamps.count =
     let all = ap length c.in_ok-kept.ensures in
     let each = length-replicate c.count.result nothing in
-    let steps = ap (λ (k : RunControl). k.stamps.count) c.control.ensures in let value = c.count.ensures.value in omega (arith, all, each, steps, value) in
+    let steps = ap (λ (k : RunControl). k.stamps.count) c.control.ensures in let value =
+    c.count.ensures.value in omega (arith, all, each, steps, value) in
     let none : AreKept basin policy [] 1 c.deref.result.now =
     subst (AreKept basin policy [] 1) (sym (c.deref.ensures.value ∙ c.in_ok-kept.ensures)) (none_kept basin policy 1 c.count.result) in
     let way : IsUnderWay basin policy c.args.inputs [] c.in_ok-kept.kept.items pass basin.control.stamps.count =
     subst (λ (ks : List (Option StepRecord)). IsUnderWay basin policy c.args.inputs [] ks pass basin.control.stamps.count) c.deref.ensures.value
     (c.in_ok-pass.ensures.goes [] none) in
     subst (λ (ks : List (Option StepRecord)). IsStarted basin c.args.setup.now.policy.now c.args.inputs
-    (record { basin = basin; policy = c.args.setup.now.policy.now; inputs = c.args.inputs; engine = pass.engine; kept = ks; reran = pass.reran.items; same = 0 }))
+    (record {
+      basin = basin;
+      policy = c.args.setup.now.policy.now;
+      inputs = c.args.inputs;
+      engine = pass.engine;
+      kept = ks;
+      reran = pass.reran.items;
+      same = 0;
+    }))
     (sym c.exchange.ensures)
     (starts basin c.args.setup.now.policy.now c.args.inputs c.in_ok-kept.kept.items pass c.requires.inputs c.in_ok-pass.ensures.made many way)

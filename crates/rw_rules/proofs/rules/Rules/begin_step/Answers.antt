@@ -6,4 +6,6 @@ pub returns-clause-fresh : goal.returns-clause-fresh
 returns-clause-fresh c = λ policy log step rule first last. fresh c.begin_step.new.self c.self.inside.agenda.rules rule c.begin_step.ensures.rules
 
 pub returns-clause-indexed : goal.returns-clause-indexed
-returns-clause-indexed c = λ cells rule looks unmarked saw. absurd (none-some looks (sym (fresh c.begin_step.new.self c.self.inside.agenda.rules rule c.begin_step.ensures.rules) ∙ saw))
+returns-clause-indexed c =
+    λ cells rule looks unmarked saw. absurd (none-some looks
+    (sym (fresh c.begin_step.new.self c.self.inside.agenda.rules rule c.begin_step.ensures.rules) ∙ saw))

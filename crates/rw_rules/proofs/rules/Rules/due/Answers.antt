@@ -5,7 +5,8 @@ use Rattle.rw_agenda.specs.Agenda.{first_due_in}
 use Rattle.rw_rules.proofs.Due.{due_listed, same_due}
 use Rattle.rw_rules.proofs.rules.Rules.due.Goals as goal
 
-by_agenda : (c : goal.After-next) → option_map (λ (rule : RuleNo). rule.0) c.next.result ≡ first_due_in c.args.self.now.agenda (held c.args.series.now)
+by_agenda : (c : goal.After-next) → option_map (λ (rule : RuleNo). rule.0) c.next.result
+    ≡ first_due_in c.args.self.now.agenda (held c.args.series.now)
 by_agenda c = search rules
 
 pub returns-clause-known : goal.returns-clause-known

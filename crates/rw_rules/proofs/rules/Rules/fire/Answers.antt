@@ -22,9 +22,14 @@ returns-clause-told g c = record {
 pub returns-clause-keeps : goal.returns-clause-keeps
 returns-clause-keeps g c = record {
   indexed = λ indexed.
-      c.index_stays.ensures.fired c.self.inside.agenda c.fired.new.self (held c.args.series.now) c.args.r.0 c.fire-fired.result.looked.now (search rules)
+      c.index_stays.ensures.fired c.self.inside.agenda c.fired.new.self (held c.args.series.now) c.args.r.0 c.fire-fired.result.looked.now
       (search rules)
-      (subst (λ looks. is_changed (held c.args.series.now) (Some looks) ≡ false) c.fire-fired.ensures.looked (just_seen (held c.args.series.now) (look_cells c.fire-fired.result.looked.now)))
+      (search rules)
+      (subst (λ looks. is_changed (held c.args.series.now) (Some looks) ≡ false) c.fire-fired.ensures.looked
+      (just_seen (held c.args.series.now) (look_cells c.fire-fired.result.looked.now)))
       c.fired.ensures.rules c.fired.ensures.marked;
-  shows = λ log firing same looked shows. shows_more c.args.policy.now c.args.self.now (record { agenda = c.fired.new.self; asked = c.fire-fired.new.writes.asked; written = c.fire-fired.new.writes.written }) c.args.r.0 c.fire-fired.result.looked.now log firing c.requires.turn.first (search rules) same looked shows;
+  shows =
+      λ log firing same looked shows. shows_more c.args.policy.now c.args.self.now
+      (record { agenda = c.fired.new.self; asked = c.fire-fired.new.writes.asked; written = c.fire-fired.new.writes.written }) c.args.r.0
+      c.fire-fired.result.looked.now log firing c.requires.turn.first (search rules) same looked shows;
 }

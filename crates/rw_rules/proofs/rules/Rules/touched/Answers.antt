@@ -10,6 +10,7 @@ returns c = λ before after cells. record {
   written = search rules;
   indexed = λ indexed.
       indexed_on c.args.basin.now c.self.inside.agenda c.mark.new.agenda before after c.args.writes.now
-      (c.index.ensures c.args.basin.now before c.args.writes.now (looked_by c.mark.new.agenda) (is_marked c.self.inside.agenda) (is_marked c.mark.new.agenda) c.mark.ensures.marked)
+      (c.index.ensures c.args.basin.now before c.args.writes.now (looked_by c.mark.new.agenda) (is_marked c.self.inside.agenda)
+      (is_marked c.mark.new.agenda) c.mark.ensures.marked)
       c.mark.ensures.rules cells (search rules);
 }

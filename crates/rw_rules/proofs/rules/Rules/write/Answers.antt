@@ -22,6 +22,7 @@ returns-clause-keeps c =
       written = search rules;
       indexed = λ indexed.
           indexed_on c.args.basin.now c.self.inside.agenda c.mark.new.agenda (held c.args.series.now) (held c.make.new.series) writes
-          (c.index.ensures c.args.basin.now (held c.args.series.now) writes (looked_by c.mark.new.agenda) (is_marked c.self.inside.agenda) (is_marked c.mark.new.agenda) c.mark.ensures.marked)
+          (c.index.ensures c.args.basin.now (held c.args.series.now) writes (looked_by c.mark.new.agenda) (is_marked c.self.inside.agenda)
+          (is_marked c.mark.new.agenda) c.mark.ensures.marked)
           c.mark.ensures.rules c.make.ensures.cells (search rules);
     }

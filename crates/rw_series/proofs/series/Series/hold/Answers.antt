@@ -10,7 +10,8 @@ pub keep_at-requires-clause-kept : goal.keep_at-requires-clause-kept
 keep_at-requires-clause-kept c =
     ap (λ column. is_kept c.self.inside.width c.self.inside.steps column c.args.c.step.0)
     (c.column_of-column.ensures ∙ ap (λ columns. column_of columns c.args.c.slot.0) c.as_slice.ensures.value)
-    ∙ subst (λ (series : Series). is_kept series.width series.steps (column_of series.columns c.args.c.slot.0) c.args.c.step.0 ≡ true) (sym c.self.view_is)
+    ∙ subst (λ (series : Series). is_kept series.width series.steps (column_of series.columns c.args.c.slot.0) c.args.c.step.0 ≡ true)
+    (sym c.self.view_is)
     (column_kept c.args.basin.now c.args.self.now c.args.c c.requires.made c.requires.cell)
 
 pub returns-clause-cells : goal.returns-clause-cells
@@ -20,7 +21,8 @@ returns-clause-cells c other =
     c.keep_at.ensures.cells (column_of before other.slot.0) other.step.0
     ∙ ap₂ (λ test old. if test then c.args.held else old)
     (ap (λ k. column_of before other.slot.0 == k && other.step.0 == c.args.c.step.0) column
-    ∙ subst (λ (series : Series). (column_of series.columns other.slot.0 == column_of series.columns c.args.c.slot.0 && other.step.0 == c.args.c.step.0) ≡ is_shared c.args.basin.now c.args.c other)
+    ∙ subst (λ (series : Series). (column_of series.columns other.slot.0 == column_of series.columns c.args.c.slot.0
+    && other.step.0 == c.args.c.step.0) ≡ is_shared c.args.basin.now c.args.c other)
     (sym c.self.view_is) (shared_test c.args.basin.now c.args.self.now c.args.c c.requires.made c.requires.cell other))
     (ap (λ (series : Series). held series other) c.self.view_is)
 
