@@ -16,7 +16,7 @@ use rw_base::NoMemory;
 
 /// What statements come to, one after the other, where these functions and names can be used. The names stay as they are.
 #[cycle(acts)]
-pub fn acts<'a>(
+pub(crate) fn acts<'a>(
     known: &[Known],
     names: &mut Scope<'a, TreeKind>,
     statements: &'a [Statement],

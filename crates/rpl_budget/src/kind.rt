@@ -11,7 +11,7 @@ use rw_base::NoMemory;
 
 /// The kind of an expression's value; a list has room for so many elements.
 #[derive(Clone, Copy)]
-pub enum TreeKind {
+pub(crate) enum TreeKind {
     Number,
     Truth,
     Date,
@@ -20,7 +20,7 @@ pub enum TreeKind {
     Slots(u64),
 }
 
-pub fn is_same_kind(a: TreeKind, b: TreeKind) -> bool
+pub(crate) fn is_same_kind(a: TreeKind, b: TreeKind) -> bool
     ensures { result ≡ Value.is_same_kind (tree_kind_seen a) (tree_kind_seen b) }
 {
     match (a, b) {
@@ -35,7 +35,7 @@ pub fn is_same_kind(a: TreeKind, b: TreeKind) -> bool
 }
 
 /// How many words a value takes.
-pub fn weight(kind: TreeKind) -> u128
+pub(crate) fn weight(kind: TreeKind) -> u128
     ensures is { result ≡ Value.weight (tree_kind_seen kind) }
     ensures bound { result ≤ 2 ^ 64 }
 {
@@ -46,7 +46,7 @@ pub fn weight(kind: TreeKind) -> u128
     }
 }
 
-pub fn room_of(kind: TreeKind) -> u64
+pub(crate) fn room_of(kind: TreeKind) -> u64
     ensures { result ≡ Value.room_of (tree_kind_seen kind) }
 {
     match kind {
@@ -56,7 +56,7 @@ pub fn room_of(kind: TreeKind) -> u64
     }
 }
 
-pub fn element_of(kind: TreeKind) -> TreeKind
+pub(crate) fn element_of(kind: TreeKind) -> TreeKind
     ensures { tree_kind_seen result ≡ Value.element_of (tree_kind_seen kind) }
 {
     match kind {
@@ -65,7 +65,7 @@ pub fn element_of(kind: TreeKind) -> TreeKind
     }
 }
 
-pub fn list_kind(m: u64, kind: TreeKind) -> TreeKind
+pub(crate) fn list_kind(m: u64, kind: TreeKind) -> TreeKind
     ensures { tree_kind_seen result ≡ Value.list_kind m (tree_kind_seen kind) }
 {
     match kind {
@@ -75,13 +75,13 @@ pub fn list_kind(m: u64, kind: TreeKind) -> TreeKind
 }
 
 /// Of two lists that with more room.
-pub fn join(a: TreeKind, b: TreeKind) -> TreeKind
+pub(crate) fn join(a: TreeKind, b: TreeKind) -> TreeKind
     ensures { tree_kind_seen result ≡ Kinds.join (tree_kind_seen a) (tree_kind_seen b) }
 {
     if room_of(a) < room_of(b) { b } else { a }
 }
 
-pub fn one_kind(word: OneWord) -> TreeKind
+pub(crate) fn one_kind(word: OneWord) -> TreeKind
     ensures { tree_kind_seen result ≡ Kinds.one_kind word }
 {
     match word {
@@ -110,7 +110,7 @@ fn longer(a: TreeKind, b: TreeKind) -> Result<TreeKind, NoMemory>
     Ok(list_kind(room, b))
 }
 
-pub fn two_kind(word: TwoWord, a: TreeKind, b: TreeKind) -> Result<TreeKind, NoMemory>
+pub(crate) fn two_kind(word: TwoWord, a: TreeKind, b: TreeKind) -> Result<TreeKind, NoMemory>
     ensures { IfOk result (λ kind. tree_kind_seen kind
         ≡ Kinds.two_kind word (tree_kind_seen a) (tree_kind_seen b)) }
 {
@@ -125,7 +125,7 @@ pub fn two_kind(word: TwoWord, a: TreeKind, b: TreeKind) -> Result<TreeKind, NoM
 }
 
 /// Of values of a type that is written.
-pub fn kind_of_type(written: &TypeText) -> TreeKind
+pub(crate) fn kind_of_type(written: &TypeText) -> TreeKind
     ensures { tree_kind_seen result ≡ Kinds.kind_of_type (type_of written.now) }
 {
     match written {

@@ -11,17 +11,17 @@ use crate::named::is_same_name;
 
 /// A function that can be called, and what a call comes to, its arguments apart.
 #[derive(Drop)]
-pub struct Known<'a> {
-    pub name: &'a [u8],
-    pub takes: Vec<TreeKind>,
-    pub result: TreeKind,
+pub(crate) struct Known<'a> {
+    pub(crate) name: &'a [u8],
+    pub(crate) takes: Vec<TreeKind>,
+    pub(crate) result: TreeKind,
     /// How many words its parameters take.
-    pub room: u64,
-    pub most: TreeCost,
+    pub(crate) room: u64,
+    pub(crate) most: TreeCost,
 }
 
 /// The words of values of these kinds.
-pub fn weights(kinds: &[TreeKind]) -> u64
+pub(crate) fn weights(kinds: &[TreeKind]) -> u64
     ensures { result ≡ capped limits.words (Value.weights (tree_kinds_seen kinds.now)) }
 {
     let mut sum = 0;
@@ -49,7 +49,7 @@ fn known_or<'a, 'b>(
 }
 
 /// The function of a name that was declared last.
-pub fn function_named<'a, 'b>(known: &'a [Known<'b>], name: &[u8]) -> Option<&'a Known<'b>>
+pub(crate) fn function_named<'a, 'b>(known: &'a [Known<'b>], name: &[u8]) -> Option<&'a Known<'b>>
     ensures { priced_or_none (option_map (λ f. f.now) result)
         ≡ Pass.priced_named (functions_of known.now) name.now }
 {
@@ -61,7 +61,7 @@ pub fn function_named<'a, 'b>(known: &'a [Known<'b>], name: &[u8]) -> Option<&'a
 }
 
 /// A call of a function whose arguments are there.
-pub fn called(f: &Known) -> Load
+pub(crate) fn called(f: &Known) -> Load
     ensures { result ≡ Pass.load_of_call (priced_seen f.now) }
 {
     let words = plus(f.room, f.most.words, WORDS);

@@ -8,35 +8,35 @@ use crate::kind::{TreeKind, is_same_kind, weight};
 
 /// What evaluating an expression, or executing statements, comes to at most.
 #[derive(Clone, Copy)]
-pub struct Load {
+pub(crate) struct Load {
     /// How much it counts.
-    pub count: u64,
+    pub(crate) count: u64,
     /// How often it looks.
-    pub looks: u64,
+    pub(crate) looks: u64,
     /// How often it puts.
-    pub puts: u64,
+    pub(crate) puts: u64,
     /// How many words of operands and open loops stand at a time.
-    pub height: u64,
+    pub(crate) height: u64,
     /// How many words its locals take.
-    pub locals: u64,
+    pub(crate) locals: u64,
 }
 
-pub const COUNT: u64 = 1_000_000;
+pub(crate) const COUNT: u64 = 1_000_000;
 
-pub const LOOKS: u64 = 20_000;
+const LOOKS: u64 = 20_000;
 
-pub const PUTS: u64 = 2_000;
+const PUTS: u64 = 2_000;
 
-pub const WORDS: u64 = 1_000_000;
+pub(crate) const WORDS: u64 = 1_000_000;
 
-pub fn stopped(n: u128, limit: u64) -> u64
+pub(crate) fn stopped(n: u128, limit: u64) -> u64
     requires { limit < 2 ^ 32 }
     ensures { result ≡ capped limit n }
 {
     n.min(u128::from(limit) + 1) as u64
 }
 
-pub fn plus(a: u64, b: u64, limit: u64) -> u64
+pub(crate) fn plus(a: u64, b: u64, limit: u64) -> u64
     requires { limit < 2 ^ 32 }
     ensures { result ≡ capped limit (a + b) }
 {
@@ -50,7 +50,7 @@ fn product(m: u64, n: u64, limit: u64) -> u64
     m.saturating_mul(n).min(limit + 1)
 }
 
-pub fn nothing() -> Load
+pub(crate) fn nothing() -> Load
     ensures { result ≡ Loads.no_load }
 {
     Load {
@@ -62,7 +62,7 @@ pub fn nothing() -> Load
     }
 }
 
-pub fn steps(n: u128) -> Load
+pub(crate) fn steps(n: u128) -> Load
     ensures { result ≡ Loads.steps n }
 {
     Load {
@@ -81,7 +81,7 @@ fn one_look() -> Load
     }
 }
 
-pub fn one_put() -> Load
+pub(crate) fn one_put() -> Load
     ensures { result ≡ Loads.one_put }
 {
     Load {
@@ -92,7 +92,7 @@ pub fn one_put() -> Load
 }
 
 /// Of a value that is made, or fetched from a local.
-pub fn fetched(kind: TreeKind) -> Load
+pub(crate) fn fetched(kind: TreeKind) -> Load
     ensures { result ≡ Loads.fetched (tree_kind_seen kind) }
 {
     let words = weight(kind);
@@ -104,7 +104,7 @@ pub fn fetched(kind: TreeKind) -> Load
 }
 
 /// Of a value that is kept in a local.
-pub fn kept(kind: TreeKind) -> Load
+pub(crate) fn kept(kind: TreeKind) -> Load
     ensures { result ≡ Loads.load_kept (tree_kind_seen kind) }
 {
     let words = weight(kind);
@@ -116,7 +116,7 @@ pub fn kept(kind: TreeKind) -> Load
 }
 
 /// Of a local that is there for a value of the kind.
-pub fn local(kind: TreeKind) -> Load
+pub(crate) fn local(kind: TreeKind) -> Load
     ensures { result ≡ Loads.local (tree_kind_seen kind) }
 {
     Load {
@@ -126,7 +126,7 @@ pub fn local(kind: TreeKind) -> Load
 }
 
 /// Of so many words that stand at once.
-pub fn standing(words: u128) -> Load
+pub(crate) fn standing(words: u128) -> Load
     ensures { result ≡ Loads.load_standing words }
 {
     Load {
@@ -136,7 +136,7 @@ pub fn standing(words: u128) -> Load
 }
 
 /// One, and behind it another.
-pub fn both(a: Load, b: Load) -> Load
+pub(crate) fn both(a: Load, b: Load) -> Load
     ensures { result ≡ Loads.load_both a b }
 {
     Load {
@@ -149,7 +149,7 @@ pub fn both(a: Load, b: Load) -> Load
 }
 
 /// One of the two.
-pub fn either(a: Load, b: Load) -> Load
+pub(crate) fn either(a: Load, b: Load) -> Load
     ensures { result ≡ Loads.either a b }
 {
     Load {
@@ -162,7 +162,7 @@ pub fn either(a: Load, b: Load) -> Load
 }
 
 /// So often.
-pub fn times(m: u64, a: Load) -> Load
+pub(crate) fn times(m: u64, a: Load) -> Load
     ensures { result ≡ Loads.load_times m a }
 {
     Load {
@@ -175,7 +175,7 @@ pub fn times(m: u64, a: Load) -> Load
 }
 
 /// Where so many words wait below it.
-pub fn above(words: u128, a: Load) -> Load
+pub(crate) fn above(words: u128, a: Load) -> Load
     ensures { result ≡ Loads.above words a }
 {
     Load {
@@ -185,7 +185,7 @@ pub fn above(words: u128, a: Load) -> Load
 }
 
 /// Its locals alone.
-pub fn locals_alone(a: Load) -> Load
+pub(crate) fn locals_alone(a: Load) -> Load
     ensures { result ≡ Loads.locals_alone a }
 {
     Load {
@@ -195,7 +195,7 @@ pub fn locals_alone(a: Load) -> Load
 }
 
 /// What nobody evaluates, as it stands in the code.
-pub fn unspent(a: Load) -> Load
+pub(crate) fn unspent(a: Load) -> Load
     ensures { result ≡ Loads.unspent a }
 {
     Load {
@@ -206,7 +206,7 @@ pub fn unspent(a: Load) -> Load
 }
 
 /// A value of a kind that is given the room of its place.
-pub fn fitted(place: TreeKind, kind: TreeKind, a: Load) -> Load
+pub(crate) fn fitted(place: TreeKind, kind: TreeKind, a: Load) -> Load
     ensures { result ≡ Loads.fitted (tree_kind_seen place) (tree_kind_seen kind) a }
 {
     let widening = if is_same_kind(place, kind) {
@@ -218,7 +218,7 @@ pub fn fitted(place: TreeKind, kind: TreeKind, a: Load) -> Load
 }
 
 /// A look at a slot at a date.
-pub fn looked(slot: Load, date: Load) -> Load
+pub(crate) fn looked(slot: Load, date: Load) -> Load
     ensures { result ≡ Loads.looked slot date }
 {
     both(slot, both(above(1, date), one_look()))

@@ -7,13 +7,13 @@ use rpl_scope::Scope;
 
 /// A variable or parameter, and the kind of its values.
 #[derive(Clone, Copy)]
-pub struct Named<'a> {
-    pub name: &'a [u8],
-    pub kind: TreeKind,
+pub(crate) struct Named<'a> {
+    pub(crate) name: &'a [u8],
+    pub(crate) kind: TreeKind,
 }
 
 /// Whether two names are the same.
-pub fn is_same_name(a: &[u8], b: &[u8]) -> bool
+pub(crate) fn is_same_name(a: &[u8], b: &[u8]) -> bool
     ensures { result ≡ bytes_eq a.now b.now }
 {
     a == b
@@ -21,7 +21,7 @@ pub fn is_same_name(a: &[u8], b: &[u8]) -> bool
 
 /// The kind of the innermost of a name, and that of a number where there is none.
 #[tactic(auto, using(crate::proofs::Found::kind_found))]
-pub fn kind_named<'a>(names: &Scope<'a, TreeKind>, name: &'a [u8]) -> TreeKind
+pub(crate) fn kind_named<'a>(names: &Scope<'a, TreeKind>, name: &'a [u8]) -> TreeKind
     ensures { tree_kind_seen result ≡ Kinds.kind_named (names_of names.now) name.entry.now }
 {
     names.find(name).unwrap_or(TreeKind::Number)

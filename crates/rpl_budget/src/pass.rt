@@ -19,7 +19,7 @@ use rw_base::NoMemory;
 /// What an expression comes to, where these functions and names can be used. The names stay as they are.
 #[cycle(pass)]
 #[tactic(auto, using(rpl_tree::proofs::Viewed::tree_of_list))]
-pub fn pass<'a>(
+pub(crate) fn pass<'a>(
     known: &[Known],
     names: &mut Scope<'a, TreeKind>,
     e: &'a Expr,

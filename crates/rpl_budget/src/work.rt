@@ -12,13 +12,13 @@ use rpl_tree::{Expr, OneWord, TwoWord};
 
 /// An expression's kind, and what it adds to the budgets.
 #[derive(Clone, Copy)]
-pub struct Work {
-    pub kind: TreeKind,
-    pub load: Load,
+pub(crate) struct Work {
+    pub(crate) kind: TreeKind,
+    pub(crate) load: Load,
 }
 
 /// A value of a kind that is made, or fetched from a local.
-pub fn made(kind: TreeKind) -> Work
+pub(crate) fn made(kind: TreeKind) -> Work
     ensures { measured_seen result ≡ Pass.made (tree_kind_seen kind) }
 {
     Work {
@@ -27,7 +27,7 @@ pub fn made(kind: TreeKind) -> Work
     }
 }
 
-pub fn leaf(kind: TreeKind) -> Work
+pub(crate) fn leaf(kind: TreeKind) -> Work
     ensures { measured_seen result ≡ Pass.measured_leaf (tree_kind_seen kind) }
 {
     Work {
@@ -37,7 +37,7 @@ pub fn leaf(kind: TreeKind) -> Work
 }
 
 /// An element and those behind it.
-pub fn element(value: Work, others: Work) -> Work
+pub(crate) fn element(value: Work, others: Work) -> Work
     ensures { measured_seen result
         ≡ Pass.measured_element (measured_seen value) (measured_seen others) }
 {
@@ -48,7 +48,7 @@ pub fn element(value: Work, others: Work) -> Work
 }
 
 /// A list of so many elements.
-pub fn listed(count: u64, all: Work) -> Work
+pub(crate) fn listed(count: u64, all: Work) -> Work
     ensures { measured_seen result ≡ Pass.measured_list count (measured_seen all) }
 {
     let words = u128::from(count) + 1;
@@ -69,7 +69,7 @@ fn one_of(kind: TreeKind, first: Work, second: Work) -> Load
 }
 
 /// An IF of a test and two values.
-pub fn chosen(test: Work, first: Work, second: Work) -> Work
+pub(crate) fn chosen(test: Work, first: Work, second: Work) -> Work
     ensures { measured_seen result
         ≡ Pass.measured_choice (measured_seen test) (measured_seen first) (measured_seen second) }
 {
@@ -81,7 +81,7 @@ pub fn chosen(test: Work, first: Work, second: Work) -> Work
 }
 
 /// A value under a name, and what is done with it.
-pub fn bound(value: Work, body: Load) -> Load
+pub(crate) fn bound(value: Work, body: Load) -> Load
     ensures { result ≡ Pass.measured_binding (measured_seen value) body }
 {
     both(value.load, both(kept(value.kind), body))
@@ -100,7 +100,7 @@ fn turns(all: TreeKind, total: TreeKind, body: Work) -> Load
 }
 
 /// A loop over a list, with an accumulator.
-pub fn turned(all: Work, first: Work, body: Work) -> Load
+pub(crate) fn turned(all: Work, first: Work, body: Work) -> Load
     ensures { result
         ≡ Pass.load_of_loop (measured_seen all) (measured_seen first) (measured_seen body) }
 {
@@ -112,7 +112,7 @@ pub fn turned(all: Work, first: Work, body: Work) -> Load
 }
 
 /// A list of what comes of each element of another.
-pub fn mapped(all: Work, body: Work) -> Load
+pub(crate) fn mapped(all: Work, body: Work) -> Load
     ensures { result ≡ Pass.mapped_over (measured_seen all) (measured_seen body) }
 {
     let room = room_of(all.kind);
@@ -135,7 +135,7 @@ fn known_load(e: &Expr, load: Load) -> Load
 }
 
 /// A word before an expression.
-pub fn one_load(word: OneWord, e: &Expr, load: Load) -> Load
+pub(crate) fn one_load(word: OneWord, e: &Expr, load: Load) -> Load
     ensures { result ≡ Pass.one_load word (tree_of e.now) load }
 {
     match word {
@@ -155,7 +155,7 @@ fn operation(word: TwoWord, kind: TreeKind) -> u128
 }
 
 /// A word between two expressions.
-pub fn two_load(word: TwoWord, left: Work, right: Load) -> Load
+pub(crate) fn two_load(word: TwoWord, left: Work, right: Load) -> Load
     ensures { result ≡ Pass.two_load word (measured_seen left) right }
 {
     match word {

@@ -17,7 +17,7 @@ use rw_base::NoMemory;
 /// The kind that an expression will have. The names stay as they are.
 #[cycle(ahead)]
 #[tactic(auto, using(rpl_tree::proofs::Viewed::tree_of_list, rpl_tree::proofs::Viewed::tree_of_call))]
-pub fn ahead<'a>(
+pub(crate) fn ahead<'a>(
     known: &[Known],
     names: &mut Scope<'a, Local>,
     e: &'a Expr,
@@ -58,7 +58,7 @@ pub fn ahead<'a>(
 }
 
 /// The kind of what a function answers.
-pub fn result_named(known: &[Known], name: &[u8]) -> ValueKind
+pub(crate) fn result_named(known: &[Known], name: &[u8]) -> ValueKind
     ensures { kind_seen result
         ≡ (Written.callee_named (callees_of known.now) name.now).head.result }
 {
@@ -108,7 +108,7 @@ fn first_ahead<'a>(
 /// The kind of a list of these.
 #[cycle(ahead)]
 #[tactic(auto, using(crate::proofs::Counted::count_is))]
-pub fn list_ahead<'a>(
+pub(crate) fn list_ahead<'a>(
     known: &[Known],
     names: &mut Scope<'a, Local>,
     items: &'a [Expr],

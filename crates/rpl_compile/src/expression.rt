@@ -25,7 +25,11 @@ use std::alloc::Global;
 /// The code of an expression, behind what is written. Its kind is answered.
 #[cycle(code)]
 #[tactic(auto, using(rpl_tree::proofs::Viewed::tree_of_list, rpl_tree::proofs::Viewed::tree_of_call))]
-pub fn code<'a>(known: &[Known], w: &mut Writing<'a>, e: &'a Expr) -> Result<ValueKind, NoMemory>
+pub(crate) fn code<'a>(
+    known: &[Known],
+    w: &mut Writing<'a>,
+    e: &'a Expr,
+) -> Result<ValueKind, NoMemory>
     ensures { WritesKind w.new result (compiled (callees_of known.now) (written_of w.old)
         (tree_of e.now)) }
 {

@@ -11,13 +11,13 @@ use rpl_code::ValueKind;
 use rpl_tree::{OneWord, TwoWord, TypeText};
 
 /// A number of 16 bits. Any other is none that is asked for.
-pub fn short(n: u64) -> u16
+pub(crate) fn short(n: u64) -> u16
     ensures { result ≡ Written.short n }
 {
     if n < 65_536 { n as u16 } else { 0 }
 }
 
-pub fn is_same_kind(a: ValueKind, b: ValueKind) -> bool
+pub(crate) fn is_same_kind(a: ValueKind, b: ValueKind) -> bool
     ensures { result ≡ Value.is_same_kind (kind_seen a) (kind_seen b) }
 {
     match (a, b) {
@@ -31,7 +31,7 @@ pub fn is_same_kind(a: ValueKind, b: ValueKind) -> bool
     }
 }
 
-pub fn room_of(kind: ValueKind) -> u16
+pub(crate) fn room_of(kind: ValueKind) -> u16
     ensures { result ≡ Value.room_of (kind_seen kind) }
 {
     match kind {
@@ -41,7 +41,7 @@ pub fn room_of(kind: ValueKind) -> u16
     }
 }
 
-pub fn element_of(kind: ValueKind) -> ValueKind
+pub(crate) fn element_of(kind: ValueKind) -> ValueKind
     ensures { kind_seen result ≡ Value.element_of (kind_seen kind) }
 {
     match kind {
@@ -50,7 +50,7 @@ pub fn element_of(kind: ValueKind) -> ValueKind
     }
 }
 
-pub fn list_kind(m: u16, kind: ValueKind) -> ValueKind
+pub(crate) fn list_kind(m: u16, kind: ValueKind) -> ValueKind
     ensures { kind_seen result ≡ Value.list_kind m (kind_seen kind) }
 {
     match kind {
@@ -60,20 +60,20 @@ pub fn list_kind(m: u16, kind: ValueKind) -> ValueKind
 }
 
 /// A list of numbers with the room of another.
-pub fn numbers_like(kind: ValueKind) -> ValueKind
+pub(crate) fn numbers_like(kind: ValueKind) -> ValueKind
     ensures { kind_seen result ≡ Value.numbers_kind (Value.room_of (kind_seen kind)) }
 {
     ValueKind::NList(room_of(kind))
 }
 
 /// Of two lists that with more room.
-pub fn join(a: ValueKind, b: ValueKind) -> ValueKind
+pub(crate) fn join(a: ValueKind, b: ValueKind) -> ValueKind
     ensures { kind_seen result ≡ Kinds.join (kind_seen a) (kind_seen b) }
 {
     if room_of(a) < room_of(b) { b } else { a }
 }
 
-pub fn one_kind(word: OneWord) -> ValueKind
+pub(crate) fn one_kind(word: OneWord) -> ValueKind
     ensures { kind_seen result ≡ Kinds.one_kind word }
 {
     match word {
@@ -91,7 +91,7 @@ fn difference_kind(a: ValueKind, b: ValueKind) -> ValueKind
     }
 }
 
-pub fn kind_of_two(word: TwoWord, a: ValueKind, b: ValueKind) -> ValueKind
+pub(crate) fn kind_of_two(word: TwoWord, a: ValueKind, b: ValueKind) -> ValueKind
     ensures { kind_seen result ≡ Written.kind_of_two word (kind_seen a) (kind_seen b) }
 {
     match word {
@@ -105,7 +105,7 @@ pub fn kind_of_two(word: TwoWord, a: ValueKind, b: ValueKind) -> ValueKind
 }
 
 /// Of values of a type that is written.
-pub fn written_kind(text: &TypeText) -> ValueKind
+pub(crate) fn written_kind(text: &TypeText) -> ValueKind
     ensures { kind_seen result ≡ Written.written_kind (type_of text.now) }
 {
     match text {

@@ -6,11 +6,11 @@ use rpl_code::ValueKind;
 
 /// A function that can be called, and the number of its block, but of a predefined one.
 #[derive(Drop)]
-pub struct Known<'a> {
-    pub name: &'a [u8],
-    pub takes: Vec<ValueKind>,
-    pub result: ValueKind,
-    pub block: Option<u32>,
+pub(crate) struct Known<'a> {
+    pub(crate) name: &'a [u8],
+    pub(crate) takes: Vec<ValueKind>,
+    pub(crate) result: ValueKind,
+    pub(crate) block: Option<u32>,
 }
 
 /// Whether two names are the same.
@@ -38,7 +38,7 @@ fn known_or<'a, 'b>(
 }
 
 /// The function of a name that was declared last.
-pub fn function_named<'a, 'b>(known: &'a [Known<'b>], name: &[u8]) -> Option<&'a Known<'b>>
+pub(crate) fn function_named<'a, 'b>(known: &'a [Known<'b>], name: &[u8]) -> Option<&'a Known<'b>>
     ensures { callee_or_none (option_map (λ f. f.now) result)
         ≡ Written.callee_named (callees_of known.now) name.now }
 {

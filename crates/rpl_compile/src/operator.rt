@@ -19,7 +19,7 @@ use std::str;
 
 #[tactic(auto, using(crate::proofs::Texts::spelt_text, crate::proofs::Texts::spelt_none))]
 /// A name. What is no text is none that is asked for.
-pub fn name_of(alloc: Global, word: &[u8]) -> Result<Name, NoMemory>
+pub(crate) fn name_of(alloc: Global, word: &[u8]) -> Result<Name, NoMemory>
     ensures { IfOk result (λ name. name ≡ Written.spelt_name word.now) }
 {
     match str::from_utf8(word) {
@@ -64,7 +64,7 @@ fn factor_named(word: &[u8]) -> i64
 }
 
 /// A number that is written, with the unit if there is one.
-pub fn number_of(number: i64, unit: &Option<Vec<u8>>) -> i64
+pub(crate) fn number_of(number: i64, unit: &Option<Vec<u8>>) -> i64
     ensures { result ≡ Written.number_in_units number (option_map (λ word. word.items) unit.now) }
 {
     match unit {
@@ -76,7 +76,7 @@ pub fn number_of(number: i64, unit: &Option<Vec<u8>>) -> i64
 // ---- words
 
 /// A word before an expression, but KNOWN.
-pub fn one_line(word: OneWord) -> Instruction
+pub(crate) fn one_line(word: OneWord) -> Instruction
     ensures { result ≡ Operations.one_line word }
 {
     match word {
@@ -90,7 +90,7 @@ pub fn one_line(word: OneWord) -> Instruction
     }
 }
 
-pub fn convert_line(word: ConvertWord, object: Name) -> Instruction
+pub(crate) fn convert_line(word: ConvertWord, object: Name) -> Instruction
     ensures { result ≡ Operations.convert_line word object }
 {
     match word {
@@ -155,7 +155,12 @@ fn opposite(w: &mut Writing, test: Instruction) -> Result<(), NoMemory>
 }
 
 /// A word between two expressions of these kinds, which are there. OR and AND are branches.
-pub fn two_lines(w: &mut Writing, word: TwoWord, a: ValueKind, b: ValueKind) -> Result<(), NoMemory>
+pub(crate) fn two_lines(
+    w: &mut Writing,
+    word: TwoWord,
+    a: ValueKind,
+    b: ValueKind,
+) -> Result<(), NoMemory>
     ensures { OnOk result (written_of w.new
         ≡ Written.written_with_two word (kind_seen a) (kind_seen b) (written_of w.old)) }
 {
@@ -177,7 +182,7 @@ pub fn two_lines(w: &mut Writing, word: TwoWord, a: ValueKind, b: ValueKind) -> 
 }
 
 /// How many timesteps ahead. More than a byte holds are none that are asked for.
-pub fn ahead_of(ahead: i64) -> u8
+pub(crate) fn ahead_of(ahead: i64) -> u8
     ensures { result ≡ Written.byte (unsigned_abs ahead) }
 {
     let steps = ahead.unsigned_abs();

@@ -223,7 +223,11 @@ fn written_blocks(alloc: Global, rules: &ParsedRules) -> Result<Vec<Block>, NoMe
 }
 
 /// The blocks of a ruleset for a basin. `NoMemory` tells nothing of the ruleset.
-pub fn blocks_of(alloc: Global, rules: &ParsedRules, basin: &Basin) -> Result<Vec<Block>, NoMemory>
+pub(crate) fn blocks_of(
+    alloc: Global,
+    rules: &ParsedRules,
+    basin: &Basin,
+) -> Result<Vec<Block>, NoMemory>
     requires kinded { AreKinded basin.now (rules_of rules.now) }
     requires rooms { AreRoomy (rules_of rules.now) }
     ensures { IfOk result (λ blocks. blocks.items ≡ translate (rules_of rules.now)) }

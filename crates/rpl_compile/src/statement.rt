@@ -19,7 +19,7 @@ use rw_base::NoMemory;
 
 /// The code of statements, behind what is written.
 #[cycle(statements)]
-pub fn statements<'a>(
+pub(crate) fn statements<'a>(
     known: &[Known],
     w: &mut Writing<'a>,
     body: &'a [Statement],

@@ -15,28 +15,28 @@ use std::alloc::Global;
 
 /// A name's local, and the kind of its values.
 #[derive(Clone, Copy)]
-pub struct Local {
-    pub kind: ValueKind,
-    pub number: u32,
+pub(crate) struct Local {
+    pub(crate) kind: ValueKind,
+    pub(crate) number: u32,
 }
 
 /// What is written of a block so far.
 #[derive(Drop)]
-pub struct Writing<'a> {
-    pub alloc: Global,
+pub(crate) struct Writing<'a> {
+    pub(crate) alloc: Global,
     /// The names that can be used.
-    pub names: Scope<'a, Local>,
+    pub(crate) names: Scope<'a, Local>,
     /// The kinds of the locals, parameters first.
-    pub locals: Vec<ValueKind>,
+    pub(crate) locals: Vec<ValueKind>,
     /// The kinds of the operands that are there, the last one last.
-    pub below: Vec<ValueKind>,
-    pub lines: Vec<Instruction>,
+    pub(crate) below: Vec<ValueKind>,
+    pub(crate) lines: Vec<Instruction>,
 }
 
 // ---- lines
 
 /// One line more.
-pub fn line(w: &mut Writing, instruction: Instruction) -> Result<(), NoMemory>
+pub(crate) fn line(w: &mut Writing, instruction: Instruction) -> Result<(), NoMemory>
     ensures { OnOk result (written_of w.new ≡ Written.with_line instruction (written_of w.old)) }
 {
     w.lines.push(instruction)?;
@@ -65,7 +65,7 @@ fn number(n: usize) -> Result<u32, NoMemory>
 // ---- operands
 
 /// An operand more.
-pub fn operand(w: &mut Writing, kind: ValueKind) -> Result<(), NoMemory>
+pub(crate) fn operand(w: &mut Writing, kind: ValueKind) -> Result<(), NoMemory>
     ensures { OnOk result (written_of w.new
         ≡ Written.with_operand (kind_seen kind) (written_of w.old)) }
 {
@@ -74,7 +74,7 @@ pub fn operand(w: &mut Writing, kind: ValueKind) -> Result<(), NoMemory>
 }
 
 /// The last operands are taken.
-pub fn drop_operands(w: &mut Writing, n: usize)
+pub(crate) fn drop_operands(w: &mut Writing, n: usize)
     ensures { written_of w.new ≡ Written.without_operands n (written_of w.old) }
 {
     let rest = w.below.len().saturating_sub(n);
@@ -82,7 +82,7 @@ pub fn drop_operands(w: &mut Writing, n: usize)
 }
 
 /// Gives a value of a kind the room of its place.
-pub fn give_room(w: &mut Writing, place: ValueKind, kind: ValueKind) -> Result<(), NoMemory>
+pub(crate) fn give_room(w: &mut Writing, place: ValueKind, kind: ValueKind) -> Result<(), NoMemory>
     ensures { OnOk result (written_of w.new ≡ Written.written_with_room (kind_seen place)
         (Written.written_step (kind_seen kind) (written_of w.old))) }
 {
@@ -96,7 +96,7 @@ pub fn give_room(w: &mut Writing, place: ValueKind, kind: ValueKind) -> Result<(
 // ---- names and locals
 
 /// A local more, whose number is answered. Its kind isn't known yet.
-pub fn reserve(w: &mut Writing) -> Result<u32, NoMemory>
+pub(crate) fn reserve(w: &mut Writing) -> Result<u32, NoMemory>
     ensures written { OnOk result (written_of w.new ≡ Written.with_local (written_of w.old)) }
     ensures number { IfOk result (λ local. local ≡ length (written_of w.old).locals) }
 {
@@ -106,7 +106,7 @@ pub fn reserve(w: &mut Writing) -> Result<u32, NoMemory>
 }
 
 /// Sets the kind of a local.
-pub fn fill(w: &mut Writing, local: u32, kind: ValueKind)
+pub(crate) fn fill(w: &mut Writing, local: u32, kind: ValueKind)
     ensures { written_of w.new ≡ Written.with_kind local (kind_seen kind) (written_of w.old) }
 {
     if let Some(kept) = w.locals.get_mut(local as usize) {
@@ -115,7 +115,11 @@ pub fn fill(w: &mut Writing, local: u32, kind: ValueKind)
 }
 
 /// A name for a local.
-pub fn add_name<'a>(w: &mut Writing<'a>, name: &'a [u8], local: Local) -> Result<(), NoMemory>
+pub(crate) fn add_name<'a>(
+    w: &mut Writing<'a>,
+    name: &'a [u8],
+    local: Local,
+) -> Result<(), NoMemory>
     ensures { OnOk result (written_of w.new
         ≡ Written.with_name (bound name.now (kind_seen local.kind) local.number)
         (written_of w.old)) }
@@ -124,7 +128,7 @@ pub fn add_name<'a>(w: &mut Writing<'a>, name: &'a [u8], local: Local) -> Result
 }
 
 /// Takes the name away that was added last.
-pub fn drop_name(w: &mut Writing)
+pub(crate) fn drop_name(w: &mut Writing)
     ensures { written_of w.new ≡ Written.without_name (written_of w.old) }
 {
     w.names.pop();
@@ -132,7 +136,7 @@ pub fn drop_name(w: &mut Writing)
 
 /// The local of a name. Where there is none, no name is asked for.
 #[tactic(auto, using(crate::proofs::Found::kind_found, crate::proofs::Found::number_found))]
-pub fn local_named<'a>(names: &Scope<'a, Local>, name: &'a [u8]) -> Local
+pub(crate) fn local_named<'a>(names: &Scope<'a, Local>, name: &'a [u8]) -> Local
     ensures kind { kind_seen result.kind ≡ kind_named (names_in
         (scope_seen names.now)) name.entry.now }
     ensures number { result.number ≡ local_named (scope_seen names.now) name.entry.now }
@@ -146,7 +150,7 @@ pub fn local_named<'a>(names: &Scope<'a, Local>, name: &'a [u8]) -> Local
 // ---- branches
 
 /// A branch to a place that isn't known yet. Its own place is answered.
-pub fn begin_branch(w: &mut Writing) -> Result<usize, NoMemory>
+pub(crate) fn begin_branch(w: &mut Writing) -> Result<usize, NoMemory>
     ensures written { OnOk result (written_of w.new ≡ Written.with_branch (written_of w.old)) }
     ensures place { IfOk result (λ place. place ≡ length (written_of w.old).lines) }
 {
@@ -165,7 +169,7 @@ fn target(w: &mut Writing) -> Result<(), NoMemory>
 }
 
 /// Behind the first part. The place of the jump at its end is answered.
-pub fn begin_second(w: &mut Writing, branch: usize) -> Result<usize, NoMemory>
+pub(crate) fn begin_second(w: &mut Writing, branch: usize) -> Result<usize, NoMemory>
     ensures written { OnOk result (written_of w.new
         ≡ Written.with_second branch (written_of w.old)) }
     ensures place { IfOk result (λ place. place ≡ length (written_of w.old).lines) }
@@ -179,7 +183,7 @@ pub fn begin_second(w: &mut Writing, branch: usize) -> Result<usize, NoMemory>
 }
 
 /// Behind the second part of an IF of statements.
-pub fn end_second(w: &mut Writing, jump: usize) -> Result<(), NoMemory>
+pub(crate) fn end_second(w: &mut Writing, jump: usize) -> Result<(), NoMemory>
     ensures { OnOk result (written_of w.new
         ≡ Written.with_end jump (written_of w.old).below (written_of w.old)) }
 {
@@ -189,7 +193,7 @@ pub fn end_second(w: &mut Writing, jump: usize) -> Result<(), NoMemory>
 }
 
 /// Behind the second part of an IF that has a value.
-pub fn end_value(w: &mut Writing, jump: usize, kind: ValueKind) -> Result<(), NoMemory>
+pub(crate) fn end_value(w: &mut Writing, jump: usize, kind: ValueKind) -> Result<(), NoMemory>
     ensures { OnOk result (written_of w.new
         ≡ Written.with_value_end jump (kind_seen kind) (written_of w.old)) }
 {

@@ -13,14 +13,14 @@ use rpl_tree::{ConvertWord, Expr, OneWord, SlotText, TwoWord};
 use std::alloc::Global;
 
 /// The greater of two depths.
-pub fn max_of(a: u8, b: u8) -> u8
+pub(crate) fn max_of(a: u8, b: u8) -> u8
     ensures { result ≡ max a b }
 {
     if a < b { b } else { a }
 }
 
 /// `value "unit"`.
-pub fn in_unit(alloc: Global, text: &[u8], value: i64, unit: Span) -> Result<Expr, Stop>
+pub(crate) fn in_unit(alloc: Global, text: &[u8], value: i64, unit: Span) -> Result<Expr, Stop>
     ensures ok { IfOk result (λ e. tree_of e ≡ literal value (Some (bytes_in text.now unit))) }
     ensures err { IfErr result (λ f. f ≡ Stop.NoMemory) }
 {
@@ -32,7 +32,7 @@ pub fn in_unit(alloc: Global, text: &[u8], value: i64, unit: Span) -> Result<Exp
 }
 
 /// A variable.
-pub fn variable(alloc: Global, text: &[u8], named: Span) -> Result<Expr, Stop>
+pub(crate) fn variable(alloc: Global, text: &[u8], named: Span) -> Result<Expr, Stop>
     ensures ok { IfOk result (λ e. tree_of e ≡ name (bytes_in text.now named)) }
     ensures err { IfErr result (λ f. f ≡ Stop.NoMemory) }
 {
@@ -41,7 +41,12 @@ pub fn variable(alloc: Global, text: &[u8], named: Span) -> Result<Expr, Stop>
 }
 
 /// `Object.Slot`.
-pub fn slot_text(alloc: Global, text: &[u8], object: Span, slot: Span) -> Result<SlotText, Stop>
+pub(crate) fn slot_text(
+    alloc: Global,
+    text: &[u8],
+    object: Span,
+    slot: Span,
+) -> Result<SlotText, Stop>
     ensures object { IfOk result (λ s. s.object.items ≡ bytes_in text.now object) }
     ensures slot { IfOk result (λ s. s.slot.items ≡ bytes_in text.now slot) }
     ensures err { IfErr result (λ f. f ≡ Stop.NoMemory) }
@@ -52,7 +57,12 @@ pub fn slot_text(alloc: Global, text: &[u8], object: Span, slot: Span) -> Result
 }
 
 /// `Object.Slot`, as an expression.
-pub fn slot_of(alloc: Global, text: &[u8], object: Span, slot_name: Span) -> Result<Expr, Stop>
+pub(crate) fn slot_of(
+    alloc: Global,
+    text: &[u8],
+    object: Span,
+    slot_name: Span,
+) -> Result<Expr, Stop>
     ensures ok { IfOk result (λ e. tree_of e ≡ slot (bytes_in text.now object)
         (bytes_in text.now slot_name)) }
     ensures err { IfErr result (λ f. f ≡ Stop.NoMemory) }
@@ -62,7 +72,12 @@ pub fn slot_of(alloc: Global, text: &[u8], object: Span, slot_name: Span) -> Res
 }
 
 /// `name(args)`.
-pub fn call_of(alloc: Global, text: &[u8], named: Span, args: Vec<Expr>) -> Result<Expr, Stop>
+pub(crate) fn call_of(
+    alloc: Global,
+    text: &[u8],
+    named: Span,
+    args: Vec<Expr>,
+) -> Result<Expr, Stop>
     ensures ok { IfOk result (λ e. tree_of e ≡ call (bytes_in text.now named) (trees_of
         (map tree_of args.items))) }
     ensures err { IfErr result (λ f. f ≡ Stop.NoMemory) }
@@ -73,14 +88,14 @@ pub fn call_of(alloc: Global, text: &[u8], named: Span, args: Vec<Expr>) -> Resu
 
 /// `{items}`.
 #[tactic(auto, using(crate::proofs::Viewed::tree_of_list))]
-pub fn list_of(items: Vec<Expr>) -> Expr
+pub(crate) fn list_of(items: Vec<Expr>) -> Expr
     ensures { tree_of result ≡ list (trees_of (map tree_of items.items)) }
 {
     Expr::List(items)
 }
 
 /// A word between two expressions, or before both.
-pub fn two(alloc: Global, word: TwoWord, left: Expr, right: Expr) -> Result<Expr, Stop>
+pub(crate) fn two(alloc: Global, word: TwoWord, left: Expr, right: Expr) -> Result<Expr, Stop>
     ensures ok { IfOk result (λ e. tree_of e ≡ two word (tree_of left) (tree_of right)) }
     ensures err { IfErr result (λ f. f ≡ Stop.NoMemory) }
 {
@@ -89,7 +104,7 @@ pub fn two(alloc: Global, word: TwoWord, left: Expr, right: Expr) -> Result<Expr
 }
 
 /// A word before an expression.
-pub fn one(alloc: Global, word: OneWord, arg: Expr) -> Result<Expr, Stop>
+pub(crate) fn one(alloc: Global, word: OneWord, arg: Expr) -> Result<Expr, Stop>
     ensures ok { IfOk result (λ e. tree_of e ≡ one word (tree_of arg)) }
     ensures err { IfErr result (λ f. f ≡ Stop.NoMemory) }
 {
@@ -98,7 +113,7 @@ pub fn one(alloc: Global, word: OneWord, arg: Expr) -> Result<Expr, Stop>
 }
 
 /// `(e)`.
-pub fn brackets(alloc: Global, e: Expr) -> Result<Expr, Stop>
+pub(crate) fn brackets(alloc: Global, e: Expr) -> Result<Expr, Stop>
     ensures ok { IfOk result (λ r. tree_of r ≡ brackets (tree_of e)) }
     ensures err { IfErr result (λ f. f ≡ Stop.NoMemory) }
 {
@@ -107,7 +122,7 @@ pub fn brackets(alloc: Global, e: Expr) -> Result<Expr, Stop>
 }
 
 /// `slot[step]`.
-pub fn at_step(alloc: Global, slot: Expr, step: Expr) -> Result<Expr, Stop>
+pub(crate) fn at_step(alloc: Global, slot: Expr, step: Expr) -> Result<Expr, Stop>
     ensures ok { IfOk result (λ e. tree_of e ≡ at (tree_of slot) (tree_of step)) }
     ensures err { IfErr result (λ f. f ≡ Stop.NoMemory) }
 {
@@ -116,7 +131,7 @@ pub fn at_step(alloc: Global, slot: Expr, step: Expr) -> Result<Expr, Stop>
 }
 
 /// `IF condition THEN yes ELSE no ENDIF`.
-pub fn choice(alloc: Global, condition: Expr, yes: Expr, no: Expr) -> Result<Expr, Stop>
+pub(crate) fn choice(alloc: Global, condition: Expr, yes: Expr, no: Expr) -> Result<Expr, Stop>
     ensures ok { IfOk result (λ e. tree_of e ≡ choice (tree_of condition) (tree_of yes)
         (tree_of «no»)) }
     ensures err { IfErr result (λ f. f ≡ Stop.NoMemory) }
@@ -126,7 +141,7 @@ pub fn choice(alloc: Global, condition: Expr, yes: Expr, no: Expr) -> Result<Exp
 }
 
 /// `LET name := value IN body ENDLET`.
-pub fn binding(
+pub(crate) fn binding(
     alloc: Global,
     text: &[u8],
     named: Span,
@@ -144,11 +159,11 @@ pub fn binding(
 
 /// The names of a FOR: of each element, and of the accumulator.
 #[derive(Clone, Copy)]
-pub struct LoopNames {
+pub(crate) struct LoopNames {
     /// The variable that stands for each element in turn.
-    pub name: Span,
+    pub(crate) name: Span,
     /// The accumulator.
-    pub total: Span,
+    pub(crate) total: Span,
 }
 
 fn loop_names(alloc: Global, text: &[u8], names: LoopNames) -> Result<(Vec<u8>, Vec<u8>), Stop>
@@ -162,7 +177,7 @@ fn loop_names(alloc: Global, text: &[u8], names: LoopNames) -> Result<(Vec<u8>, 
 }
 
 /// `FOR name IN list WITH total := first DO body ENDFOR`.
-pub fn for_each(
+pub(crate) fn for_each(
     alloc: Global,
     text: &[u8],
     names: LoopNames,
@@ -186,7 +201,7 @@ pub fn for_each(
 }
 
 /// `MAP name IN list DO body ENDMAP`.
-pub fn mapping(
+pub(crate) fn mapping(
     alloc: Global,
     text: &[u8],
     named: Span,
@@ -203,7 +218,7 @@ pub fn mapping(
 }
 
 /// A conversion by an object's table.
-pub fn conversion(
+pub(crate) fn conversion(
     alloc: Global,
     text: &[u8],
     word: ConvertWord,

@@ -3,7 +3,7 @@ ghost use Rattle.rpl_parse.specs.Scan.{is_of, is_digit, is_letter, is_blank, run
 
 /// What a byte may be part of.
 #[derive(Clone, Copy)]
-pub enum Class {
+pub(crate) enum Class {
     /// A number.
     Digit,
     /// A word, behind its first letter.
@@ -14,19 +14,19 @@ pub enum Class {
     Quoted,
 }
 
-pub fn is_digit(b: u8) -> bool
+pub(crate) fn is_digit(b: u8) -> bool
     ensures { result ≡ is_digit b }
 {
     48 <= b && b <= 57
 }
 
-pub fn is_letter(b: u8) -> bool
+pub(crate) fn is_letter(b: u8) -> bool
     ensures { result ≡ is_letter b }
 {
     (65 <= b && b <= 90) || (97 <= b && b <= 122) || b == 95
 }
 
-pub fn is_blank(b: u8) -> bool
+pub(crate) fn is_blank(b: u8) -> bool
     ensures { result ≡ is_blank b }
 {
     b == 32 || b == 9 || b == 13 || b == 10
@@ -44,7 +44,7 @@ fn is_of(class: Class, b: u8) -> bool
 }
 
 /// How many bytes at the front are of a class.
-pub fn run(class: Class, bytes: &[u8]) -> usize
+pub(crate) fn run(class: Class, bytes: &[u8]) -> usize
     ensures value { result ≡ run class bytes.now }
     ensures within { result ≤ length bytes.now }
 {
@@ -57,7 +57,7 @@ pub fn run(class: Class, bytes: &[u8]) -> usize
 }
 
 /// Whether that byte is at the front.
-pub fn head_is(byte: u8, bytes: &[u8]) -> bool
+pub(crate) fn head_is(byte: u8, bytes: &[u8]) -> bool
     ensures { result ≡ head_is byte bytes.now }
 {
     match bytes {

@@ -17,7 +17,7 @@ fn is_end(_text: &[u8], token: Token) -> bool
 }
 
 /// How many tokens the first declaration has.
-pub fn size(text: &[u8], tokens: &[TokenAt]) -> usize
+pub(crate) fn size(text: &[u8], tokens: &[TokenAt]) -> usize
     ensures value { result ≡ size (toks text.now tokens.now) }
     ensures within { result ≤ length tokens.now }
     ensures some { 0 < length tokens.now → 0 < result }
@@ -31,7 +31,7 @@ pub fn size(text: &[u8], tokens: &[TokenAt]) -> usize
 }
 
 /// Whether a declaration begins as a rule.
-pub fn begins_rule(_text: &[u8], tokens: &[TokenAt]) -> bool
+pub(crate) fn begins_rule(_text: &[u8], tokens: &[TokenAt]) -> bool
     ensures { result ≡ begins_rule (toks _text.now tokens.now) }
 {
     match tokens {
@@ -44,7 +44,7 @@ pub fn begins_rule(_text: &[u8], tokens: &[TokenAt]) -> bool
 }
 
 /// Whether a declaration begins as a function.
-pub fn begins_function(_text: &[u8], tokens: &[TokenAt]) -> bool
+pub(crate) fn begins_function(_text: &[u8], tokens: &[TokenAt]) -> bool
     ensures { result ≡ begins_function (toks _text.now tokens.now) }
 {
     match tokens {

@@ -16,7 +16,11 @@ use rpl_tree::{Declaration, Param, Statement};
 use std::alloc::Global;
 
 /// The declaration that all these tokens spell.
-pub fn declaration(alloc: Global, text: &[u8], tokens: &[TokenAt]) -> Result<Declaration, Stop>
+pub(crate) fn declaration(
+    alloc: Global,
+    text: &[u8],
+    tokens: &[TokenAt],
+) -> Result<Declaration, Stop>
     ensures { GivesDeclared result (read_declared (toks text.now tokens.now)) }
 {
     if let Some(rest) = behind(text, Mark::Rule, tokens) {

@@ -19,7 +19,7 @@ use std::alloc::Global;
 /// An expression of a level, at most so deep.
 #[cycle(parse)]
 #[tactic(auto, unfolding(crate::specs::Reading::read_tree))]
-pub fn expression<'a>(
+pub(crate) fn expression<'a>(
     alloc: Global,
     text: &[u8],
     tokens: &'a [TokenAt],

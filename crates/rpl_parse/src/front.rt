@@ -8,7 +8,7 @@ use crate::token::Mark;
 
 /// What stands at the front of some bytes, and of how many.
 #[derive(Clone, Copy)]
-pub enum Piece {
+pub(crate) enum Piece {
     /// What parts tokens.
     Gap(usize),
     /// A reserved word or a mark.
@@ -120,7 +120,7 @@ fn mark_front(b: u8, bytes: &[u8]) -> Piece
 }
 
 /// What stands at the front.
-pub fn front(bytes: &[u8]) -> Piece
+pub(crate) fn front(bytes: &[u8]) -> Piece
     ensures value { piece_seen bytes.now result ≡ front bytes.now }
     ensures within { fits_piece (length bytes.now) result }
 {

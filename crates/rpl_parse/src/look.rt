@@ -10,7 +10,7 @@ use rpl_tree::{OneWord, TwoWord};
 use std::alloc::Global;
 
 /// The tokens behind a mark.
-pub fn behind<'a>(_text: &[u8], mark: Mark, tokens: &'a [TokenAt]) -> Option<&'a [TokenAt]>
+pub(crate) fn behind<'a>(_text: &[u8], mark: Mark, tokens: &'a [TokenAt]) -> Option<&'a [TokenAt]>
     ensures { option_map (λ r. toks _text.now r.now) result ≡ behind mark
         (toks _text.now tokens.entry.now) }
 {
@@ -30,7 +30,7 @@ fn is_same(a: Mark, b: Mark) -> bool
 }
 
 /// The name at the front.
-pub fn behind_name<'a>(_text: &[u8], tokens: &'a [TokenAt]) -> Option<(Span, &'a [TokenAt])>
+pub(crate) fn behind_name<'a>(_text: &[u8], tokens: &'a [TokenAt]) -> Option<(Span, &'a [TokenAt])>
     ensures { option_map (λ r. record {
       called = bytes_in _text.now r.0;
       next = toks _text.now r.1.now;
@@ -46,7 +46,7 @@ pub fn behind_name<'a>(_text: &[u8], tokens: &'a [TokenAt]) -> Option<(Span, &'a
 }
 
 /// A name, and a mark behind it.
-pub fn name_before<'a>(
+pub(crate) fn name_before<'a>(
     text: &[u8],
     mark: Mark,
     tokens: &'a [TokenAt],
@@ -62,7 +62,11 @@ pub fn name_before<'a>(
 }
 
 /// An operator of a level.
-pub fn turn<'a>(_text: &[u8], k: u8, tokens: &'a [TokenAt]) -> Option<(TwoWord, &'a [TokenAt])>
+pub(crate) fn turn<'a>(
+    _text: &[u8],
+    k: u8,
+    tokens: &'a [TokenAt],
+) -> Option<(TwoWord, &'a [TokenAt])>
     ensures { option_map (λ r. record { op = r.0; more = toks _text.now r.1.now }) result ≡ turn k
         (toks _text.now tokens.entry.now) }
 {
@@ -117,14 +121,14 @@ fn looseness(word: TwoWord) -> u8
 }
 
 /// How many operators of a level an expression that is so deep may have.
-pub fn turns(k: u8, depth: u8) -> u8
+pub(crate) fn turns(k: u8, depth: u8) -> u8
     ensures { result ≡ turns_of k depth }
 {
     if k == 4 { 1 } else { depth }
 }
 
 /// The word that stands before an expression of a level.
-pub fn prefix(k: u8) -> Option<OneWord>
+pub(crate) fn prefix(k: u8) -> Option<OneWord>
     ensures { result ≡ prefix_of k }
 {
     if k == 1 {
@@ -137,7 +141,7 @@ pub fn prefix(k: u8) -> Option<OneWord>
 }
 
 /// The mark of a word.
-pub fn mark_of_one(word: OneWord) -> Mark
+pub(crate) fn mark_of_one(word: OneWord) -> Mark
     ensures { result ≡ mark_of_one word }
 {
     match word {
@@ -152,7 +156,7 @@ pub fn mark_of_one(word: OneWord) -> Mark
 }
 
 /// A copy of the bytes between two places.
-pub fn copied(alloc: Global, text: &[u8], span: Span) -> Result<Vec<u8>, Stop>
+pub(crate) fn copied(alloc: Global, text: &[u8], span: Span) -> Result<Vec<u8>, Stop>
     ensures ok { IfOk result (λ v. v.items ≡ bytes_in text.now span) }
     ensures err { IfErr result (λ f. f ≡ Stop.NoMemory) }
 {

@@ -5,7 +5,7 @@ use crate::stop::Stop;
 use std::alloc::Global;
 
 /// A box.
-pub fn boxed<T: Drop>(alloc: Global, value: T) -> Result<Box<T>, Stop>
+pub(crate) fn boxed<T: Drop>(alloc: Global, value: T) -> Result<Box<T>, Stop>
     ensures ok { IfOk result (λ b. b.value ≡ value) }
     ensures err { IfErr result (λ f. f ≡ Stop.NoMemory) }
 {
@@ -16,7 +16,7 @@ pub fn boxed<T: Drop>(alloc: Global, value: T) -> Result<Box<T>, Stop>
 }
 
 /// Two boxes.
-pub fn pair<T: Drop>(alloc: Global, one: T, other: T) -> Result<(Box<T>, Box<T>), Stop>
+pub(crate) fn pair<T: Drop>(alloc: Global, one: T, other: T) -> Result<(Box<T>, Box<T>), Stop>
     ensures one { IfOk result (λ both. both.0.value ≡ one) }
     ensures other { IfOk result (λ both. both.1.value ≡ other) }
     ensures err { IfErr result (λ f. f ≡ Stop.NoMemory) }
@@ -27,7 +27,7 @@ pub fn pair<T: Drop>(alloc: Global, one: T, other: T) -> Result<(Box<T>, Box<T>)
 }
 
 /// Three boxes.
-pub fn three<T: Drop>(
+pub(crate) fn three<T: Drop>(
     alloc: Global,
     one: T,
     other: T,
@@ -44,7 +44,7 @@ pub fn three<T: Drop>(
 }
 
 /// One item more.
-pub fn pushed<T: Drop>(items: &mut Vec<T>, one: T) -> Result<(), Stop>
+pub(crate) fn pushed<T: Drop>(items: &mut Vec<T>, one: T) -> Result<(), Stop>
     ensures ok { OnOk result (items.new.items ≡ items.old.items ++ one ∷ []) }
     ensures err { IfErr result (λ f. f ≡ Stop.NoMemory) }
 {

@@ -11,7 +11,7 @@ fn is_word(a: &[u8], b: &[u8]) -> bool
 }
 
 /// The mark of a reserved word.
-pub fn reserved(word: &[u8]) -> Option<Mark>
+pub(crate) fn reserved(word: &[u8]) -> Option<Mark>
     ensures { result ≡ reserved word.now }
 {
     if let Some(mark) = declaration_words(word) {

@@ -10,7 +10,7 @@ use std::alloc::Global;
 
 /// Why a text has no tokens.
 #[derive(Clone, Copy)]
-pub enum ScanStop {
+pub(crate) enum ScanStop {
     /// The line of the first bad token.
     BadToken(u32),
     /// Memory ran out.
@@ -64,7 +64,7 @@ fn found_at(text: &[u8], at: usize) -> Found
 }
 
 /// The tokens of a text, each the longest, or the line of the first place that has none.
-pub fn tokens_of(alloc: Global, text: &[u8]) -> Result<Vec<TokenAt>, ScanStop>
+pub(crate) fn tokens_of(alloc: Global, text: &[u8]) -> Result<Vec<TokenAt>, ScanStop>
     requires { length text.now ≤ 16_777_216 }
     ensures tokens { Scans text.now result (tokens text.now) }
     ensures few { IfOk result (λ ts. length ts.items ≤ length text.now) }

@@ -29,7 +29,7 @@ struct Target {
 /// Statements that are at most so deep.
 #[cycle(acts)]
 #[tactic(auto, unfolding(crate::specs::ReadingActs::more_acts))]
-pub fn statements<'a>(
+pub(crate) fn statements<'a>(
     alloc: Global,
     text: &[u8],
     tokens: &'a [TokenAt],
@@ -168,7 +168,7 @@ fn ahead<'a>(text: &[u8], tokens: &'a [TokenAt]) -> Option<(i64, &'a [TokenAt])>
 }
 
 /// The number at the front.
-pub fn behind_number<'a>(_text: &[u8], tokens: &'a [TokenAt]) -> Option<(i64, &'a [TokenAt])>
+pub(crate) fn behind_number<'a>(_text: &[u8], tokens: &'a [TokenAt]) -> Option<(i64, &'a [TokenAt])>
     ensures { option_map (λ r. record { value = r.0; next = toks _text.now r.1.now }) result
         ≡ behind_number (toks _text.now tokens.entry.now) }
 {
@@ -266,7 +266,7 @@ fn with_of(
 }
 
 /// An expression, and a mark behind it.
-pub fn value_to<'a>(
+pub(crate) fn value_to<'a>(
     alloc: Global,
     text: &[u8],
     mark: Mark,

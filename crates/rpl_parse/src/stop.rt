@@ -1,6 +1,6 @@
 /// Why nothing is read.
 #[derive(Clone, Copy)]
-pub enum Stop {
+pub(crate) enum Stop {
     /// The tokens aren't in the grammar.
     Bad,
     /// Memory ran out.

@@ -2,7 +2,7 @@
 
 /// A reserved word or a mark.
 #[derive(Clone, Copy, PartialEq, Eq)]
-pub enum Mark {
+pub(crate) enum Mark {
     /// `RULE`
     Rule,
     /// `ENDRULE`
@@ -129,16 +129,16 @@ pub enum Mark {
 
 /// Bytes of the text, from a place up to another.
 #[derive(Clone, Copy)]
-pub struct Span {
+pub(crate) struct Span {
     /// The place of the first byte.
-    pub start: u32,
+    pub(crate) start: u32,
     /// The place behind the last byte.
-    pub end: u32,
+    pub(crate) end: u32,
 }
 
 /// A token, which keeps the places of its bytes.
 #[derive(Clone, Copy)]
-pub enum Token {
+pub(crate) enum Token {
     /// A reserved word or a mark.
     Mark(Mark),
     /// Any other word.
@@ -151,9 +151,9 @@ pub enum Token {
 
 /// A token, and the line in which it begins.
 #[derive(Clone, Copy)]
-pub struct TokenAt {
+pub(crate) struct TokenAt {
     /// The token.
-    pub token: Token,
+    pub(crate) token: Token,
     /// The line, counted from 1.
-    pub line: u32,
+    pub(crate) line: u32,
 }

@@ -14,7 +14,7 @@ use rpl_tree::{Param, TypeText};
 use std::alloc::Global;
 
 /// The string at the front.
-pub fn behind_text<'a>(
+pub(crate) fn behind_text<'a>(
     alloc: Global,
     text: &[u8],
     tokens: &'a [TokenAt],
@@ -32,7 +32,7 @@ pub fn behind_text<'a>(
 }
 
 /// The type at the front.
-pub fn read_type<'a>(
+pub(crate) fn read_type<'a>(
     alloc: Global,
     text: &[u8],
     tokens: &'a [TokenAt],
@@ -112,7 +112,7 @@ fn parameter<'a>(
 }
 
 /// Parameters, behind the bracket that opens them and up to the one that closes them.
-pub fn parameters<'a>(
+pub(crate) fn parameters<'a>(
     alloc: Global,
     text: &[u8],
     tokens: &'a [TokenAt],

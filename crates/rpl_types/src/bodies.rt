@@ -18,7 +18,7 @@ use rpl_tree::{Expr, RplType, Statement};
 
 /// The type of a function's body, and those of its nodes.
 #[tactic(auto, using(crate::proofs::VisitingActs::body_given))]
-pub fn body_types<'a>(
+pub(crate) fn body_types<'a>(
     known: &Known,
     scope: Scope<'a, RplType>,
     body: &'a Expr,
@@ -37,7 +37,7 @@ pub fn body_types<'a>(
 
 /// The types of a rule's nodes.
 #[tactic(auto, using(crate::proofs::VisitingActs::acts_given))]
-pub fn acts_types(known: &Known, body: &[Statement]) -> Result<Vec<Option<RplType>>, Stop>
+pub(crate) fn acts_types(known: &Known, body: &[Statement]) -> Result<Vec<Option<RplType>>, Stop>
     ensures { Answers Stop.NoMemory stop_refusal (λ types. types.items) result
         (types_of_acts known.now.basin.now (callable_in known.now) [] 1 (acts_in body.now)) }
 {

@@ -16,14 +16,14 @@ use rw_base::Dim;
 
 /// A function that was declared: what calls name, the types of its parameters, and that of its result.
 #[derive(Drop)]
-pub struct Signature<'a> {
-    pub name: &'a [u8],
-    pub takes: Vec<RplType>,
-    pub result: RplType,
+pub(crate) struct Signature<'a> {
+    pub(crate) name: &'a [u8],
+    pub(crate) takes: Vec<RplType>,
+    pub(crate) result: RplType,
 }
 
 /// Whether two names are the same.
-pub fn is_same_name(a: &[u8], b: &[u8]) -> bool
+pub(crate) fn is_same_name(a: &[u8], b: &[u8]) -> bool
     ensures { result ≡ bytes_eq a.now b.now }
 {
     a == b
@@ -63,7 +63,7 @@ fn arguments_misfit(given: &[RplType], asked: &[RplType]) -> Option<TypeKind>
 }
 
 /// The type of a list of these items.
-pub fn list_type(items: &[RplType]) -> Result<RplType, TypeKind>
+pub(crate) fn list_type(items: &[RplType]) -> Result<RplType, TypeKind>
     ensures { result ≡ list_type items.now }
 {
     let [first, rest @ ..] = items else {
@@ -93,7 +93,7 @@ fn row_misfit(first: &RplType, rest: &[RplType]) -> Option<TypeKind>
 }
 
 /// How many arguments a predefined function takes, where there is one of the name.
-pub fn predefined_count(name: &[u8]) -> Option<usize>
+pub(crate) fn predefined_count(name: &[u8]) -> Option<usize>
     ensures { result ≡ predefined_count name.now }
 {
     if is_same_name(b"Min", name) {
@@ -168,7 +168,7 @@ fn predefined_type(name: &[u8], count: usize, args: &[RplType]) -> Result<RplTyp
 }
 
 /// The function of a name, if one was declared. There are at most 200.
-pub fn signature_named<'a, 'b>(
+pub(crate) fn signature_named<'a, 'b>(
     functions: &'a [Signature<'b>],
     name: &[u8],
 ) -> Option<&'a Signature<'b>>
@@ -215,7 +215,7 @@ fn unknown_type(later: &[Declaration], name: &[u8]) -> Result<RplType, TypeKind>
 }
 
 /// The type of a call of the name, where these functions are declared before, and those declarations aren't.
-pub fn call_type(
+pub(crate) fn call_type(
     earlier: &[Signature],
     later: &[Declaration],
     name: &[u8],

@@ -28,7 +28,7 @@ use rw_model::Basin;
 use std::alloc::Global;
 
 /// The types of the nodes of a declaration.
-pub type NodeTypes = Vec<Option<RplType>>;
+pub(crate) type NodeTypes = Vec<Option<RplType>>;
 
 /// The types, unless the declaration is refused as a whole.
 fn unless_as_whole(refusal: Option<TypeKind>, types: NodeTypes) -> Result<NodeTypes, Stop>
@@ -153,7 +153,7 @@ fn fault_at(number: usize, stop: Stop) -> TypeFault
 }
 
 /// The types of the nodes of all declarations, or the first refusal.
-pub fn types_of_all(
+pub(crate) fn types_of_all(
     alloc: Global,
     basin: &Basin,
     declarations: &[Declaration],

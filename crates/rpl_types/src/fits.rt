@@ -9,7 +9,7 @@ use rpl_tree::RplType;
 use rw_base::Dim;
 
 /// For how many items a list may have room.
-pub const LONGEST: u16 = 4096;
+pub(crate) const LONGEST: u16 = 4096;
 
 // Where a refusal stands in the order of those at one node.
 fn order(kind: TypeKind) -> u8
@@ -34,7 +34,7 @@ fn order(kind: TypeKind) -> u8
 }
 
 /// Of two refusals that may be due at a node, the one that stands first.
-pub fn sooner(a: Option<TypeKind>, b: Option<TypeKind>) -> Option<TypeKind>
+pub(crate) fn sooner(a: Option<TypeKind>, b: Option<TypeKind>) -> Option<TypeKind>
     ensures { result ≡ sooner a b }
 {
     let Some(first) = a else {
@@ -57,7 +57,7 @@ fn is_same_dim(a: Dim, b: Dim) -> bool
 }
 
 /// Why a dimension can't stand where another is asked for.
-pub fn unit_misfit(a: Dim, b: Dim) -> Option<TypeKind>
+pub(crate) fn unit_misfit(a: Dim, b: Dim) -> Option<TypeKind>
     ensures { result ≡ unit_misfit a b }
 {
     if is_same_dim(a, b) {
@@ -68,7 +68,7 @@ pub fn unit_misfit(a: Dim, b: Dim) -> Option<TypeKind>
 }
 
 /// Why a list of so many items can't stand where there may be so many.
-pub fn length_misfit(n: usize, most: usize) -> Option<TypeKind>
+pub(crate) fn length_misfit(n: usize, most: usize) -> Option<TypeKind>
     ensures { result ≡ length_misfit n most }
 {
     if n <= most {
@@ -79,7 +79,7 @@ pub fn length_misfit(n: usize, most: usize) -> Option<TypeKind>
 }
 
 /// Why a value of a type can't stand where another is asked for.
-pub fn misfit(given: &RplType, asked: &RplType) -> Option<TypeKind>
+pub(crate) fn misfit(given: &RplType, asked: &RplType) -> Option<TypeKind>
     ensures { result ≡ misfit given.now asked.now }
 {
     match (given, asked) {
@@ -104,7 +104,7 @@ fn list_misfit(n: u16, a: Dim, m: u16, b: Dim) -> Option<TypeKind>
 }
 
 /// The type of what is either the one or the other.
-pub fn joined(a: &RplType, b: &RplType) -> Result<RplType, TypeKind>
+pub(crate) fn joined(a: &RplType, b: &RplType) -> Result<RplType, TypeKind>
     ensures { result ≡ joined_type a.now b.now }
 {
     match (a, b) {

@@ -12,7 +12,7 @@ use rpl_tree::{OneWord, RplType, TwoWord};
 use rw_base::Dim;
 
 /// The dimension of a number that measures nothing.
-pub fn plain_number() -> Dim
+pub(crate) fn plain_number() -> Dim
     ensures { result ≡ plain_number }
 {
     Dim {
@@ -23,8 +23,8 @@ pub fn plain_number() -> Dim
     }
 }
 
-/// The dimension of a number of timesteps.
-pub fn timestep() -> Dim
+// The dimension of a number of timesteps.
+fn timestep() -> Dim
     ensures { result ≡ timestep }
 {
     Dim {
@@ -36,7 +36,7 @@ pub fn timestep() -> Dim
 }
 
 /// A number that measures nothing.
-pub fn plain() -> RplType
+pub(crate) fn plain() -> RplType
     ensures { result ≡ plain }
 {
     RplType::Numeric(plain_number())
@@ -71,7 +71,7 @@ fn is_datetime(t: &RplType) -> bool
 }
 
 /// The type, unless something is refused.
-pub fn unless_refused(refusal: Option<TypeKind>, found: RplType) -> Result<RplType, TypeKind>
+pub(crate) fn unless_refused(refusal: Option<TypeKind>, found: RplType) -> Result<RplType, TypeKind>
     ensures { result ≡ unless_refused refusal found }
 {
     match refusal {
@@ -81,7 +81,7 @@ pub fn unless_refused(refusal: Option<TypeKind>, found: RplType) -> Result<RplTy
 }
 
 /// The type of a list's items.
-pub fn element_type(list: &RplType) -> Result<RplType, TypeKind>
+pub(crate) fn element_type(list: &RplType) -> Result<RplType, TypeKind>
     ensures { result ≡ element_type list.now }
 {
     match list {
@@ -112,7 +112,7 @@ fn length_type(t: &RplType) -> Result<RplType, TypeKind>
 }
 
 /// The type of a word and what it stands before, which may be a look at a slot.
-pub fn one_type(word: OneWord, looks: bool, t: &RplType) -> Result<RplType, TypeKind>
+pub(crate) fn one_type(word: OneWord, looks: bool, t: &RplType) -> Result<RplType, TypeKind>
     ensures { result ≡ one_type word looks t.now }
 {
     match word {
@@ -182,7 +182,7 @@ fn divide_type(a: &RplType, b: &RplType) -> Result<RplType, TypeKind>
 }
 
 // A number of a dimension that a product has, if it has one.
-pub fn measured(dim: Option<Dim>) -> Result<RplType, TypeKind>
+pub(crate) fn measured(dim: Option<Dim>) -> Result<RplType, TypeKind>
     ensures { result ≡ measured_in dim }
 {
     match dim {
@@ -237,7 +237,7 @@ fn item_type(a: &RplType, b: &RplType) -> Result<RplType, TypeKind>
 }
 
 /// The type of a word between two parts.
-pub fn two_type(word: TwoWord, a: &RplType, b: &RplType) -> Result<RplType, TypeKind>
+pub(crate) fn two_type(word: TwoWord, a: &RplType, b: &RplType) -> Result<RplType, TypeKind>
     ensures { result ≡ two_type word a.now b.now }
 {
     match word {
@@ -264,7 +264,7 @@ fn both_boolean(a: &RplType, b: &RplType) -> bool
 }
 
 /// The type of the value of a slot at a date.
-pub fn look_type(slot: &RplType, date: &RplType) -> Result<RplType, TypeKind>
+pub(crate) fn look_type(slot: &RplType, date: &RplType) -> Result<RplType, TypeKind>
     ensures { result ≡ look_type slot.now date.now }
 {
     match (slot, date) {
@@ -276,7 +276,11 @@ pub fn look_type(slot: &RplType, date: &RplType) -> Result<RplType, TypeKind>
 // ---- several parts
 
 /// The type of one of two branches, by a condition.
-pub fn choice_type(condition: &RplType, yes: &RplType, no: &RplType) -> Result<RplType, TypeKind>
+pub(crate) fn choice_type(
+    condition: &RplType,
+    yes: &RplType,
+    no: &RplType,
+) -> Result<RplType, TypeKind>
     ensures { result ≡ choice_type condition.now yes.now no.now }
 {
     match condition {
@@ -286,7 +290,7 @@ pub fn choice_type(condition: &RplType, yes: &RplType, no: &RplType) -> Result<R
 }
 
 /// The type of a MAP over a list, by what stands in the place of an item.
-pub fn mapped_type(list: &RplType, item: &RplType) -> Result<RplType, TypeKind>
+pub(crate) fn mapped_type(list: &RplType, item: &RplType) -> Result<RplType, TypeKind>
     ensures { result ≡ mapped_type list.now item.now }
 {
     match (list, item) {
@@ -297,14 +301,14 @@ pub fn mapped_type(list: &RplType, item: &RplType) -> Result<RplType, TypeKind>
 }
 
 /// The type of a FOR, by its accumulator and what a turn answers.
-pub fn total_type(total: &RplType, body: &RplType) -> Result<RplType, TypeKind>
+pub(crate) fn total_type(total: &RplType, body: &RplType) -> Result<RplType, TypeKind>
     ensures { result ≡ total_type total.now body.now }
 {
     unless_refused(misfit(body, total), *total)
 }
 
 /// Why a type is no condition's.
-pub fn condition_misfit(t: &RplType) -> Option<TypeKind>
+pub(crate) fn condition_misfit(t: &RplType) -> Option<TypeKind>
     ensures { result ≡ condition_misfit t.now }
 {
     match t {

@@ -85,7 +85,7 @@ fn type_misfit(text: &TypeText) -> Option<TypeKind>
 }
 
 /// The type that is written, and a plain number where that is none.
-pub fn type_here(text: &TypeText) -> RplType
+pub(crate) fn type_here(text: &TypeText) -> RplType
     ensures { result ≡ type_here (type_of text.now) }
 {
     match written_type(text) {
@@ -150,7 +150,7 @@ fn is_duplicate(
 }
 
 /// What is wrong with a function before its body is judged.
-pub fn head_refusal(
+pub(crate) fn head_refusal(
     alloc: Global,
     earlier: &[Signature],
     name: &[u8],
@@ -169,7 +169,10 @@ pub fn head_refusal(
 }
 
 /// The parameters as variables, the first of them the innermost.
-pub fn param_scope<'a>(alloc: Global, params: &'a [Param]) -> Result<Scope<'a, RplType>, Stop>
+pub(crate) fn param_scope<'a>(
+    alloc: Global,
+    params: &'a [Param],
+) -> Result<Scope<'a, RplType>, Stop>
     ensures ok { IfOk result (λ scope. scope ≡ param_scope (map parameter_of params.entry.now)) }
     ensures err { IfErr result (λ stop. stop ≡ Stop.NoMemory) }
 {
@@ -185,7 +188,7 @@ pub fn param_scope<'a>(alloc: Global, params: &'a [Param]) -> Result<Scope<'a, R
 }
 
 /// The function as later declarations see it.
-pub fn signature<'a>(
+pub(crate) fn signature<'a>(
     alloc: Global,
     name: &'a [u8],
     params: &[Param],

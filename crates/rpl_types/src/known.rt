@@ -5,13 +5,13 @@ use std::alloc::Global;
 
 /// What a declaration is judged with.
 #[derive(Drop)]
-pub struct Known<'a, 'b> {
+pub(crate) struct Known<'a, 'b> {
     /// Where memory is taken from.
-    pub alloc: Global,
+    pub(crate) alloc: Global,
     /// The basin.
-    pub basin: &'a Basin,
+    pub(crate) basin: &'a Basin,
     /// The functions that are declared before.
-    pub earlier: &'a [Signature<'b>],
+    pub(crate) earlier: &'a [Signature<'b>],
     /// The declarations from this one on.
-    pub later: &'a [Declaration],
+    pub(crate) later: &'a [Declaration],
 }

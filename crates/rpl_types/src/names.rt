@@ -19,7 +19,7 @@ use std::str;
 
 /// The dimension and the factor of a unit.
 #[tactic(auto, using(crate::proofs::Texts::no_unit))]
-pub fn unit_named(word: &[u8]) -> Option<(Dim, i64)>
+pub(crate) fn unit_named(word: &[u8]) -> Option<(Dim, i64)>
     ensures { result ≡ unit_in units word.now }
 {
     match str::from_utf8(word) {
@@ -59,7 +59,7 @@ fn in_unit(number: i64, unit: Option<(Dim, i64)>) -> Result<RplType, TypeKind>
 }
 
 /// The type of a number that is written, with the unit if there is one.
-pub fn literal_type(number: i64, unit: &Option<Vec<u8>>) -> Result<RplType, TypeKind>
+pub(crate) fn literal_type(number: i64, unit: &Option<Vec<u8>>) -> Result<RplType, TypeKind>
     ensures { result ≡ literal_type number (option_map (λ word. word.items) unit.now) }
 {
     match unit {
@@ -70,7 +70,7 @@ pub fn literal_type(number: i64, unit: &Option<Vec<u8>>) -> Result<RplType, Type
 
 /// The number of the slot that is called so.
 #[tactic(auto, using(crate::proofs::Texts::no_slot, crate::proofs::Texts::no_owner))]
-pub fn slot_named(basin: &Basin, object: &[u8], slot: &[u8]) -> Option<SlotNo>
+pub(crate) fn slot_named(basin: &Basin, object: &[u8], slot: &[u8]) -> Option<SlotNo>
     ensures number { option_map (λ found. found.0) result
         ≡ slot_named basin.now.objects object.now slot.now }
     ensures known { ForSome result (λ found. IsSlot basin.now.objects found.0) }
@@ -86,7 +86,7 @@ pub fn slot_named(basin: &Basin, object: &[u8], slot: &[u8]) -> Option<SlotNo>
 }
 
 /// The type of a slot that is called so.
-pub fn slot_type(basin: &Basin, object: &[u8], slot: &[u8]) -> Result<RplType, TypeKind>
+pub(crate) fn slot_type(basin: &Basin, object: &[u8], slot: &[u8]) -> Result<RplType, TypeKind>
     ensures { result ≡ slot_type basin.now object.now slot.now }
 {
     match slot_named(basin, object, slot) {
@@ -180,7 +180,7 @@ fn table_type(word: ConvertWord, table: bool, t: &RplType) -> Result<RplType, Ty
 }
 
 /// The type of what is read off an object's table, at a value of that type.
-pub fn convert_type(
+pub(crate) fn convert_type(
     basin: &Basin,
     word: ConvertWord,
     object: &[u8],

@@ -13,15 +13,15 @@ use rw_base::NoMemory;
 
 /// What is known on the way over a declaration.
 #[derive(Drop)]
-pub struct Progress<'a> {
+pub(crate) struct Progress<'a> {
     /// The names that can be used, and their types.
-    pub scope: Scope<'a, RplType>,
+    pub(crate) scope: Scope<'a, RplType>,
     /// The types of the nodes so far: none of a statement, or of a node whose parts come yet.
-    pub types: Vec<Option<RplType>>,
+    pub(crate) types: Vec<Option<RplType>>,
 }
 
 /// Keeps a place for the next node, whose number is answered.
-pub fn reserve(progress: &mut Progress) -> Result<usize, Stop>
+pub(crate) fn reserve(progress: &mut Progress) -> Result<usize, Stop>
     ensures ok { OnOk result (progress_of progress.new ≡ node_reserved (progress_of progress.old)) }
     ensures node { IfOk result (λ node. node ≡ next_node (progress_of progress.old)) }
     ensures err { IfErr result (λ stop. stop ≡ Stop.NoMemory) }
@@ -33,7 +33,7 @@ pub fn reserve(progress: &mut Progress) -> Result<usize, Stop>
 }
 
 /// Sets the type of a node.
-pub fn fill(progress: &mut Progress, node: usize, found: &RplType)
+pub(crate) fn fill(progress: &mut Progress, node: usize, found: &RplType)
     ensures { node_filled node (progress_of progress.old) found.now
         ≡ visit found.now (progress_of progress.new) }
 {
@@ -43,7 +43,7 @@ pub fn fill(progress: &mut Progress, node: usize, found: &RplType)
 }
 
 /// Adds a name, which hides others of that name.
-pub fn add_variable<'a>(
+pub(crate) fn add_variable<'a>(
     progress: &mut Progress<'a>,
     name: &'a [u8],
     of_type: &RplType,
@@ -59,14 +59,14 @@ pub fn add_variable<'a>(
 }
 
 /// Takes the name away that was added last.
-pub fn drop_variable(progress: &mut Progress)
+pub(crate) fn drop_variable(progress: &mut Progress)
     ensures { progress_of progress.new ≡ without_variable (progress_of progress.old) }
 {
     progress.scope.pop();
 }
 
 /// The type of a name: that of the innermost variable of the name.
-pub fn name_type<'a>(progress: &Progress<'a>, name: &'a [u8]) -> Result<RplType, TypeKind>
+pub(crate) fn name_type<'a>(progress: &Progress<'a>, name: &'a [u8]) -> Result<RplType, TypeKind>
     ensures { result ≡ name_type (progress_of progress.now).scope name.entry.now }
 {
     match progress.scope.find(name) {

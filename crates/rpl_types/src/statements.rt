@@ -53,7 +53,7 @@ fn target_misfit(basin: &Basin, target: &SlotText, ahead: i64, t: &RplType) -> O
 
 /// The statements in a row.
 #[cycle(statements)]
-pub fn statements<'a>(
+pub(crate) fn statements<'a>(
     known: &Known,
     progress: &mut Progress<'a>,
     body: &'a [Statement],

@@ -3,7 +3,7 @@ use std::alloc::AllocFailed;
 
 /// Why no types are given of a declaration.
 #[derive(Clone, Copy, Drop)]
-pub enum Stop {
+pub(crate) enum Stop {
     /// Something is wrong at a node.
     Refused {
         /// What is wrong.

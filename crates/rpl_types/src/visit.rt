@@ -55,7 +55,11 @@ fn leaf(progress: &mut Progress, found: Result<RplType, TypeKind>) -> Result<Rpl
 /// The type of an expression, once those of all its nodes are set.
 #[cycle(visit)]
 #[tactic(auto, using(rpl_tree::proofs::Viewed::tree_of_list, rpl_tree::proofs::Viewed::tree_of_call))]
-pub fn visit<'a>(known: &Known, progress: &mut Progress<'a>, e: &'a Expr) -> Result<RplType, Stop>
+pub(crate) fn visit<'a>(
+    known: &Known,
+    progress: &mut Progress<'a>,
+    e: &'a Expr,
+) -> Result<RplType, Stop>
     ensures { Visits known.now progress.old progress.new result (tree_of e.now) }
 {
     match e {

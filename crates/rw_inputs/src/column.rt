@@ -10,7 +10,7 @@ use std::marker::Model;
 /// What is kept of a slot, seen as a value or none for each timestep. These count from 1, so the first place stays empty.
 /// As long as nothing is kept there are no places, and no memory is taken.
 #[derive(Drop)]
-pub struct Column {
+pub(crate) struct Column {
     values: Vec<Qty>,
     // Which of the values are kept.
     given: Vec<bool>,
@@ -180,7 +180,7 @@ fn clear(values: &mut Vec<Qty>, given: &mut Vec<bool>, steps: u16, first: u16, l
 
 impl Column {
     /// Nothing at any timestep.
-    pub fn none(alloc: Global) -> Column
+    pub(crate) fn none(alloc: Global) -> Column
         ensures { result ≡ [] }
     {
         Column {
@@ -190,21 +190,21 @@ impl Column {
     }
 
     /// Whether there is a place for each timestep.
-    pub fn has_places(&self) -> bool
+    pub(crate) fn has_places(&self) -> bool
         ensures { MatchBool result (self.now ≢ []) (self.now ≡ []) }
     {
         !self.given.is_empty()
     }
 
     /// What is kept at a timestep, nothing where there is no such timestep.
-    pub fn value(&self, step: u16) -> Option<Qty>
+    pub(crate) fn value(&self, step: u16) -> Option<Qty>
         ensures { result ≡ value_in_column self.now step }
     {
         value_in(self.values.as_slice(), self.given.as_slice(), step)
     }
 
     /// Takes what a row gives, if nothing is kept yet of its timesteps, of so many in all; `false` exactly where something is.
-    pub fn take(&mut self, steps: u16, row: &Given) -> Result<bool, NoMemory>
+    pub(crate) fn take(&mut self, steps: u16, row: &Given) -> Result<bool, NoMemory>
         requires column { IsColumn steps self.old }
         requires first { 1 ≤ row.now.first }
         requires order { row.now.first ≤ row.now.last }
@@ -236,7 +236,7 @@ impl Column {
     }
 
     /// Sets what an edit says at its timesteps, of so many in all.
-    pub fn set(&mut self, steps: u16, edit: &Edit) -> Result<(), NoMemory>
+    pub(crate) fn set(&mut self, steps: u16, edit: &Edit) -> Result<(), NoMemory>
         requires column { IsColumn steps self.old }
         requires first { 1 ≤ edit.now.first }
         requires order { edit.now.first ≤ edit.now.last }
@@ -269,7 +269,7 @@ impl Column {
     }
 
     /// The same column again.
-    pub fn copy(&self, alloc: Global) -> Result<Column, NoMemory>
+    pub(crate) fn copy(&self, alloc: Global) -> Result<Column, NoMemory>
         ensures { IfOk result (λ copy. copy ≡ self.now) }
     {
         Ok(Column {

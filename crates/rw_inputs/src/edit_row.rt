@@ -30,7 +30,7 @@ fn follows(last: u64, batch: u64) -> bool
 }
 
 /// The number of the last batch, or of the one behind it.
-pub fn read_batch(last: u64, text: &[u8]) -> Result<u64, Wrong>
+pub(crate) fn read_batch(last: u64, text: &[u8]) -> Result<u64, Wrong>
     requires { last ≤ BATCHES_MAX }
     ensures read { result ≡ read_batch last text.now }
     ensures first { IfOk result (λ batch. 1 ≤ batch) }
@@ -67,7 +67,12 @@ fn read_change(basin: &Basin, slot: u16, text: &[u8]) -> Result<Option<Qty>, Wro
 }
 
 /// A slot, timesteps, and a value or nothing.
-pub fn read_edit(basin: &Basin, slot: &[u8], span: &[u8], value: &[u8]) -> Result<Edit, Wrong>
+pub(crate) fn read_edit(
+    basin: &Basin,
+    slot: &[u8],
+    span: &[u8],
+    value: &[u8],
+) -> Result<Edit, Wrong>
     ensures read { result ≡ read_edit basin.now slot.now span.now value.now }
     ensures sound { IfOk result (IsEdit basin.now) }
 {
@@ -83,7 +88,7 @@ pub fn read_edit(basin: &Basin, slot: &[u8], span: &[u8], value: &[u8]) -> Resul
 }
 
 /// The fields of a record of four.
-pub fn four_fields(row: &ByteRecord) -> Option<(&[u8], &[u8], &[u8], &[u8])>
+pub(crate) fn four_fields(row: &ByteRecord) -> Option<(&[u8], &[u8], &[u8], &[u8])>
     ensures { option_map (λ fields. (fields.0.now, fields.1.now, fields.2.now, fields.3.now)) result
         ≡ four_fields (fields_of row.now) }
 {

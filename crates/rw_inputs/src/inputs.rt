@@ -29,7 +29,7 @@ impl Model for Inputs {
 }
 
 /// The least of the slots that carry one value with the slot.
-pub fn kept_slot(basin: &Basin, slot: u16) -> u16
+pub(crate) fn kept_slot(basin: &Basin, slot: u16) -> u16
     requires { IsSlot basin.now.objects slot }
     ensures least { result ≡ kept_slot basin.now slot }
     ensures known { IsSlot basin.now.objects result }

@@ -43,7 +43,7 @@ fn number_of(digits: &[u8]) -> u64
 }
 
 /// The number that a text of 1 to 18 digits spells.
-pub fn read_number(text: &[u8]) -> Option<u64>
+pub(crate) fn read_number(text: &[u8]) -> Option<u64>
     ensures number { result ≡ read_number text.now }
     ensures small { ForSome result (λ number. number < 10 ^ 18) }
 {
@@ -55,7 +55,7 @@ pub fn read_number(text: &[u8]) -> Option<u64>
 }
 
 /// The same, and behind a `-` the number below 0.
-pub fn read_signed(text: &[u8]) -> Option<i64>
+pub(crate) fn read_signed(text: &[u8]) -> Option<i64>
     ensures { result ≡ read_signed text.now }
 {
     if let [b'-', digits @ ..] = text {
@@ -72,7 +72,7 @@ pub fn read_signed(text: &[u8]) -> Option<i64>
 }
 
 /// The first place of the byte, counted from 0.
-pub fn position_of(byte: u8, text: &[u8]) -> Option<usize>
+pub(crate) fn position_of(byte: u8, text: &[u8]) -> Option<usize>
     ensures place { result ≡ byte_position byte text.now }
     ensures within { ForSome result (λ place. place < length text.now) }
 {

@@ -21,7 +21,7 @@ use rw_model::Basin;
 use std::alloc::Global;
 
 /// The fault of a text whose first row doesn't name the columns.
-pub fn no_header() -> InputFault
+pub(crate) fn no_header() -> InputFault
     ensures { result ≡ InputFault.Refused InputKind.Header 1 0 }
 {
     InputFault::Refused {

@@ -9,7 +9,7 @@ use std::marker::Model;
 
 /// The records of a text that are left to be read, seen as a list of lists of fields.
 #[derive(Drop)]
-pub struct Records<'a> {
+pub(crate) struct Records<'a> {
     reader: Reader<&'a [u8]>,
 }
 
@@ -27,7 +27,7 @@ impl<'a> Model for Records<'a> {
 impl<'a> Records<'a> {
     /// All records of a text, behind its byte order mark if it has one. They may have any numbers of fields, and the first
     /// one is like the others.
-    pub fn of(alloc: Global, text: &'a [u8]) -> Records<'a>
+    pub(crate) fn of(alloc: Global, text: &'a [u8]) -> Records<'a>
         ensures { result ≡ records_of text.now }
     {
         Records {
@@ -39,7 +39,7 @@ impl<'a> Records<'a> {
     }
 
     /// Reads the next record into `row`, and answers whether there was one.
-    pub fn read(&mut self, row: &mut ByteRecord) -> Result<bool, NoMemory>
+    pub(crate) fn read(&mut self, row: &mut ByteRecord) -> Result<bool, NoMemory>
         ensures next { result ≡ Ok true → self.old ≡ fields_of row.new ∷ self.new }
         ensures end { result ≡ Ok false → self.old ≡ [] }
     {

@@ -19,7 +19,7 @@ use rw_base::{Qty, SlotNo};
 use rw_model::Basin;
 
 /// What is wrong, with a part of a row.
-pub fn wrong(kind: InputKind, part: Part) -> Wrong
+pub(crate) fn wrong(kind: InputKind, part: Part) -> Wrong
     ensures { result ≡ record { kind = kind; part = part } }
 {
     Wrong { kind, part }
@@ -57,7 +57,7 @@ fn slot_of_text(basin: &Basin, text: &[u8]) -> Option<SlotNo>
 }
 
 /// A slot of the model that inputs can set.
-pub fn read_slot(basin: &Basin, text: &[u8]) -> Result<u16, Wrong>
+pub(crate) fn read_slot(basin: &Basin, text: &[u8]) -> Result<u16, Wrong>
     ensures read { result ≡ read_slot basin.now text.now }
     ensures known { IfOk result (IsSlot basin.now.objects) }
 {
@@ -91,7 +91,7 @@ fn span_in(text: &[u8]) -> Option<(u64, u64)>
 }
 
 /// A timestep of the run, or a range of timesteps of the run.
-pub fn read_span(basin: &Basin, text: &[u8]) -> Result<Span, Wrong>
+pub(crate) fn read_span(basin: &Basin, text: &[u8]) -> Result<Span, Wrong>
     ensures { result ≡ read_span basin.now text.now }
 {
     let Some((first, last)) = span_in(text) else {
@@ -122,7 +122,7 @@ fn within_bounds(bounds: (i64, i64), value: i64) -> Option<Qty>
 }
 
 /// A value that the slot can have.
-pub fn read_value(basin: &Basin, slot: u16, text: &[u8]) -> Result<Qty, Wrong>
+pub(crate) fn read_value(basin: &Basin, slot: u16, text: &[u8]) -> Result<Qty, Wrong>
     requires { IsSlot basin.now.objects slot }
     ensures read { result ≡ read_value basin.now slot text.now }
     ensures within { IfOk result
@@ -154,7 +154,7 @@ fn read_fields(basin: &Basin, slot: &[u8], span: &[u8], value: &[u8]) -> Result<
 }
 
 /// The fields of a record of three.
-pub fn three_fields(row: &ByteRecord) -> Option<(&[u8], &[u8], &[u8])>
+pub(crate) fn three_fields(row: &ByteRecord) -> Option<(&[u8], &[u8], &[u8])>
     ensures { option_map (λ fields. (fields.0.now, fields.1.now, fields.2.now)) result
         ≡ three_fields (fields_of row.now) }
 {
@@ -174,7 +174,7 @@ pub fn three_fields(row: &ByteRecord) -> Option<(&[u8], &[u8], &[u8])>
 }
 
 /// What a row gives: three fields, a slot, timesteps and a value.
-pub fn read_row(basin: &Basin, row: &ByteRecord) -> Result<Given, Wrong>
+pub(crate) fn read_row(basin: &Basin, row: &ByteRecord) -> Result<Given, Wrong>
     ensures read { result ≡ read_row basin.now (fields_of row.now) }
     ensures sound { IfOk result (IsGiven basin.now) }
 {

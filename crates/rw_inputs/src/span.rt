@@ -1,8 +1,8 @@
 /// Some timesteps, one after another.
 #[derive(Clone, Copy)]
-pub struct Span {
+pub(crate) struct Span {
     /// The first one.
-    pub first: u16,
+    pub(crate) first: u16,
     /// The last one.
-    pub last: u16,
+    pub(crate) last: u16,
 }

@@ -2,7 +2,7 @@ use crate::InputKind;
 
 /// A part of a row.
 #[derive(Clone, Copy)]
-pub enum Part {
+pub(crate) enum Part {
     /// The row as a whole.
     Row,
     /// The number of its batch.

@@ -60,7 +60,7 @@ fn past_content(initial_content: i64, place: u8) -> Option<i64>
 }
 
 /// The value of a kind's slot in a place at a timestep before the run.
-pub fn before_in(kind: &Kind, place: u8, step: i64) -> Option<i64>
+pub(crate) fn before_in(kind: &Kind, place: u8, step: i64) -> Option<i64>
     requires { IsKind kind.now }
     ensures value { result ≡ initial_of_kind kind.now place step }
     ensures quantity { ForSome result IsQuantity }

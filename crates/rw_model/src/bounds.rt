@@ -63,7 +63,7 @@ fn is_crossed(bounds: (i64, i64)) -> bool
 }
 
 /// Whether there is a slot that can have no value.
-pub fn has_crossed_bounds(objects: &Objects, links: &Links, given: &OwnBounds) -> bool
+pub(crate) fn has_crossed_bounds(objects: &Objects, links: &Links, given: &OwnBounds) -> bool
     requires { All (IsLink objects.now) links.now }
     ensures { result
         ≡ list_any (λ slot. is_crossed (bounds_in objects.now links.now given.now slot))
@@ -79,7 +79,7 @@ pub fn has_crossed_bounds(objects: &Objects, links: &Links, given: &OwnBounds) -
 }
 
 /// The values that each slot can have, in the order of the slots.
-pub fn all_bounds(
+pub(crate) fn all_bounds(
     alloc: Global,
     objects: &Objects,
     links: &Links,

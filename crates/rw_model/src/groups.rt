@@ -8,7 +8,7 @@ use rw_base::{NoMemory, SlotNo};
 use std::alloc::Global;
 
 /// The numbers of so many slots, rising.
-pub fn slots_up_to(alloc: Global, count: u16) -> Result<Vec<SlotNo>, NoMemory>
+pub(crate) fn slots_up_to(alloc: Global, count: u16) -> Result<Vec<SlotNo>, NoMemory>
     ensures { IfOk result (λ slots. numbers_of slots.items ≡ range_with_len 1 count) }
 {
     let mut slots = Vec::new(alloc);
@@ -52,7 +52,11 @@ fn join_link(groups: &mut Vec<Vec<SlotNo>>, links: &Links, before: u16) -> Resul
 }
 
 /// The slots of each link, rising, of a basin with so many slots.
-pub fn groups_of(alloc: Global, links: &Links, count: u16) -> Result<Vec<Vec<SlotNo>>, NoMemory>
+pub(crate) fn groups_of(
+    alloc: Global,
+    links: &Links,
+    count: u16,
+) -> Result<Vec<Vec<SlotNo>>, NoMemory>
     requires { count ≤ SLOTS_MAX }
     ensures { IfOk result (λ groups. KeepsGroups links.now count (links_of groups.items)) }
 {

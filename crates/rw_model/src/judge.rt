@@ -66,7 +66,7 @@ fn judge_size(objects: &Objects, kind: &Kind) -> Option<BuildFault>
 }
 
 /// What is wrong with an object that is to be added, if something is.
-pub fn judge_object(objects: &Objects, name: &str, kind: &Kind) -> Option<BuildFault>
+pub(crate) fn judge_object(objects: &Objects, name: &str, kind: &Kind) -> Option<BuildFault>
     ensures fault { Finds refusal_of result
         (object_refusal objects.now (record { name = name.now; kind = kind.now })) }
     ensures can_add { result ≡ None
@@ -90,7 +90,7 @@ fn is_within_widest(objects: &Objects, slot: u16, bounds: (i64, i64)) -> bool
 }
 
 /// What is wrong with bounds that a slot is to be given, if something is.
-pub fn judge_bound(
+pub(crate) fn judge_bound(
     objects: &Objects,
     given: &OwnBounds,
     slot: u16,
@@ -174,7 +174,7 @@ fn join_fault(objects: &Objects, links: &Links, before: &[SlotNo], slot: u16) ->
 }
 
 /// What is wrong with a link, if something is.
-pub fn judge_link(objects: &Objects, links: &Links, slots: &[SlotNo]) -> Option<BuildFault>
+pub(crate) fn judge_link(objects: &Objects, links: &Links, slots: &[SlotNo]) -> Option<BuildFault>
     ensures fault { Finds refusal_of result
         (link_refusal objects.now links.now (numbers_of slots.now)) }
     ensures known { result ≡ None → All (λ (slot : SlotNo). IsSlot objects.now slot.0) slots.now }

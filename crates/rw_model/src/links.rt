@@ -9,7 +9,7 @@ use std::marker::Model;
 
 /// The links between slots, in the order of the calls, seen as the numbers of their slots.
 #[derive(Drop)]
-pub struct Links {
+pub(crate) struct Links {
     alloc: Global,
     links: Vec<Vec<SlotNo>>,
     places: Vec<Option<usize>>,
@@ -66,7 +66,7 @@ fn append(links: &mut Vec<Vec<SlotNo>>, link: Vec<SlotNo>)
 
 impl Links {
     /// No slot is linked yet.
-    pub fn new(alloc: Global) -> Links
+    pub(crate) fn new(alloc: Global) -> Links
         ensures { result ≡ [] }
     {
         Links {
@@ -77,14 +77,14 @@ impl Links {
     }
 
     /// How many links there are.
-    pub fn count(&self) -> usize
+    pub(crate) fn count(&self) -> usize
         ensures { result ≡ length self.now }
     {
         self.links.len()
     }
 
     /// The place of the link that has the slot.
-    pub fn place(&self, slot: u16) -> Option<usize>
+    pub(crate) fn place(&self, slot: u16) -> Option<usize>
         requires { 1 ≤ slot }
         ensures place { result ≡ link_of self.now slot }
         ensures within { ForSome result (λ place. place + 1 ≤ length self.now) }
@@ -96,7 +96,7 @@ impl Links {
     }
 
     /// The slots of the link that has the slot, and none where none has it.
-    pub fn with(&self, slot: u16) -> &[SlotNo]
+    pub(crate) fn with(&self, slot: u16) -> &[SlotNo]
         requires { 1 ≤ slot }
         ensures { numbers_of result.now ≡ linked_with self.now slot }
     {
@@ -107,7 +107,7 @@ impl Links {
     }
 
     /// Adds a link. No slot of a basin of so many slots is in two.
-    pub fn add(&mut self, slots: &[SlotNo], count: u16) -> Result<(), NoMemory>
+    pub(crate) fn add(&mut self, slots: &[SlotNo], count: u16) -> Result<(), NoMemory>
         requires known { All (λ (slot : SlotNo). (1 ≤ slot.0) × (slot.0 ≤ count)) slots.now }
         requires free { All (λ (slot : SlotNo). link_of self.old slot.0 ≡ None) slots.now }
         ensures ok { OnOk result (self.new ≡ self.old ++ numbers_of slots.now ∷ []) }

@@ -15,16 +15,16 @@ use std::alloc::Global;
 
 /// What a basin keeps besides what it was told: its slots, the groups that links make of them, and what bounds leave each.
 #[derive(Drop)]
-pub struct Tables {
-    pub slots: Vec<SlotNo>,
-    pub groups: Vec<Vec<SlotNo>>,
-    pub bounds: Vec<(i64, i64)>,
-    pub numbers: Vec<Option<u16>>,
+pub(crate) struct Tables {
+    pub(crate) slots: Vec<SlotNo>,
+    pub(crate) groups: Vec<Vec<SlotNo>>,
+    pub(crate) bounds: Vec<(i64, i64)>,
+    pub(crate) numbers: Vec<Option<u16>>,
 }
 
 impl Tables {
     /// The tables of these objects, links and bounds.
-    pub fn of(
+    pub(crate) fn of(
         alloc: Global,
         objects: &Objects,
         links: &Links,

@@ -20,7 +20,7 @@ fn push_numbers(all: &mut Vec<Option<u16>>, objects: &Objects, before: u16) -> R
 }
 
 /// The slots in the places of all objects, twelve places for each object.
-pub fn all_numbers(alloc: Global, objects: &Objects) -> Result<Vec<Option<u16>>, NoMemory>
+pub(crate) fn all_numbers(alloc: Global, objects: &Objects) -> Result<Vec<Option<u16>>, NoMemory>
     ensures { IfOk result
         (λ numbers. numbers.items ≡ numbers_up_to objects.now (length objects.now * 12)) }
 {

@@ -16,7 +16,7 @@ use std::marker::Model;
 
 /// The objects of a basin, in the order of their numbers, with their slots.
 #[derive(Drop)]
-pub struct Objects {
+pub(crate) struct Objects {
     alloc: Global,
     kinds: IndexMap<String, Kind>,
     places: Vec<Place>,
@@ -40,7 +40,7 @@ impl Model for Objects {
 
 impl Objects {
     /// No object yet.
-    pub fn new(alloc: Global) -> Objects
+    pub(crate) fn new(alloc: Global) -> Objects
         ensures { result ≡ [] }
     {
         Objects {
@@ -52,7 +52,7 @@ impl Objects {
     }
 
     /// How many objects there are.
-    pub fn count(&self) -> u16
+    pub(crate) fn count(&self) -> u16
         ensures count { result ≡ length self.now }
         ensures few { result ≤ OBJECTS_MAX }
     {
@@ -60,7 +60,7 @@ impl Objects {
     }
 
     /// How many slots there are.
-    pub fn slot_count(&self) -> u16
+    pub(crate) fn slot_count(&self) -> u16
         ensures count { result ≡ length (all_slots self.now) }
         ensures few { result ≤ SLOTS_MAX }
     {
@@ -68,7 +68,7 @@ impl Objects {
     }
 
     /// The number of the object with this name.
-    pub fn find(&self, name: &str) -> Option<u16>
+    pub(crate) fn find(&self, name: &str) -> Option<u16>
         ensures number { result ≡ object_named self.now name.now }
         ensures within { IfSome result (λ o. (1 ≤ o) × (o ≤ length self.now)) }
     {
@@ -79,7 +79,7 @@ impl Objects {
     }
 
     /// Adds an object.
-    pub fn add(&mut self, name: &str, kind: Kind) -> Result<(), NoMemory>
+    pub(crate) fn add(&mut self, name: &str, kind: Kind) -> Result<(), NoMemory>
         requires fresh { object_named self.old name.now ≡ None }
         requires few { length self.old < OBJECTS_MAX }
         requires places { length (slots_of kind) ≤ 11 }
@@ -104,7 +104,7 @@ impl Objects {
     }
 
     /// What the object of this number is called.
-    pub fn name(&self, o: u16) -> &str
+    pub(crate) fn name(&self, o: u16) -> &str
         requires first { 1 ≤ o }
         requires last { o ≤ length self.now }
         ensures { option_map (λ object. object.name) (object_at self.now o) ≡ Some result.now }
@@ -116,7 +116,7 @@ impl Objects {
     }
 
     /// The kind of the object of this number.
-    pub fn kind(&self, o: u16) -> &Kind
+    pub(crate) fn kind(&self, o: u16) -> &Kind
         requires first { 1 ≤ o }
         requires last { o ≤ length self.now }
         ensures kind { option_map (λ object. object.kind) (object_at self.now o) ≡ Some result.now }
@@ -129,7 +129,7 @@ impl Objects {
     }
 
     /// Where the slot of this number stands.
-    pub fn place(&self, s: u16) -> Place
+    pub(crate) fn place(&self, s: u16) -> Place
         requires first { 1 ≤ s }
         requires last { s ≤ length (all_slots self.now) }
         ensures place { option_map place_of (slot_at self.now s) ≡ Some result }
@@ -143,7 +143,7 @@ impl Objects {
     }
 
     /// What the slot of this number is.
-    pub fn slot(&self, s: u16) -> Slot<'_>
+    pub(crate) fn slot(&self, s: u16) -> Slot<'_>
         requires first { 1 ≤ s }
         requires last { s ≤ length (all_slots self.now) }
         ensures { option_map (λ placed. placed.slot) (slot_at self.now s) ≡ Some result }
@@ -166,7 +166,7 @@ impl Objects {
     }
 
     /// The object that owns the slot of this number.
-    pub fn owner(&self, s: u16) -> u16
+    pub(crate) fn owner(&self, s: u16) -> u16
         requires { IsSlot self.now s }
         ensures owner { result ≡ owner_of self.now s }
         ensures first { 1 ≤ result }
@@ -176,7 +176,7 @@ impl Objects {
     }
 
     /// What the slot of this number measures.
-    pub fn dim(&self, s: u16) -> Dim
+    pub(crate) fn dim(&self, s: u16) -> Dim
         requires { IsSlot self.now s }
         ensures { result ≡ dim_of self.now s }
     {
@@ -184,7 +184,7 @@ impl Objects {
     }
 
     /// The number of an object's slot in a place.
-    pub fn slot_in_place(&self, o: u16, place: u8) -> Option<u16>
+    pub(crate) fn slot_in_place(&self, o: u16, place: u8) -> Option<u16>
         requires first { 1 ≤ o }
         requires last { o ≤ length self.now }
         ensures { result ≡ slot_in_place self.now o place }
@@ -193,7 +193,7 @@ impl Objects {
     }
 
     /// The number of the slot with this name, of the object with that name.
-    pub fn find_slot(&self, object: &str, name: &str) -> Option<u16>
+    pub(crate) fn find_slot(&self, object: &str, name: &str) -> Option<u16>
         ensures { result ≡ slot_named self.now object.now name.now }
     {
         let Some(o) = self.find(object) else {

@@ -8,7 +8,7 @@ use std::marker::Model;
 
 /// The bounds that slots were given, in the order of the calls.
 #[derive(Drop)]
-pub struct OwnBounds {
+pub(crate) struct OwnBounds {
     bounds: IndexMap<u16, (i64, i64)>,
 }
 
@@ -24,7 +24,7 @@ impl Model for OwnBounds {
 
 impl OwnBounds {
     /// No slot has bounds yet.
-    pub fn new(alloc: Global) -> OwnBounds
+    pub(crate) fn new(alloc: Global) -> OwnBounds
         ensures { result ≡ [] }
     {
         OwnBounds {
@@ -33,14 +33,14 @@ impl OwnBounds {
     }
 
     /// The bounds that the slot was given.
-    pub fn get(&self, slot: u16) -> Option<(i64, i64)>
+    pub(crate) fn get(&self, slot: u16) -> Option<(i64, i64)>
         ensures { result ≡ bound_of self.now slot }
     {
         self.bounds.get(&slot).copied()
     }
 
     /// Gives a slot bounds.
-    pub fn add(&mut self, slot: u16, bounds: (i64, i64)) -> Result<(), NoMemory>
+    pub(crate) fn add(&mut self, slot: u16, bounds: (i64, i64)) -> Result<(), NoMemory>
         requires { bound_of self.old slot ≡ None }
         ensures ok { OnOk result
             (self.new ≡ self.old ++ record { slot = slot; bounds = bounds } ∷ []) }

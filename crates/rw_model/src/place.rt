@@ -7,18 +7,18 @@ use crate::Kind;
 
 /// Where a slot stands: with which object, and in which place.
 #[derive(Clone, Copy, Drop)]
-pub struct Place {
+pub(crate) struct Place {
     /// The number of the object.
-    pub owner: u16,
+    pub(crate) owner: u16,
     /// The place with that object.
-    pub place: u8,
+    pub(crate) place: u8,
 }
 
 // The most places that a kind has.
 const PLACES_MAX: u8 = 11;
 
 // Appends the slots of an object.
-pub fn push_places(places: &mut Vec<Place>, owner: u16, kind: &Kind)
+pub(crate) fn push_places(places: &mut Vec<Place>, owner: u16, kind: &Kind)
     requires few { length (slots_of kind.now) ≤ 11 }
     requires room { vec_len places.old + 11 ≤ vec_capacity places.old }
     ensures { places.new.items
@@ -32,7 +32,7 @@ pub fn push_places(places: &mut Vec<Place>, owner: u16, kind: &Kind)
 }
 
 // The number of the slot in a place, of an object whose slots are numbered from `first` on.
-pub fn number_in_place(kind: &Kind, owner: u16, first: u16, place: u8) -> Option<u16>
+pub(crate) fn number_in_place(kind: &Kind, owner: u16, first: u16, place: u8) -> Option<u16>
     requires few { length (slots_of kind.now) ≤ 11 }
     requires small { first ≤ 4001 }
     ensures { result
@@ -51,7 +51,7 @@ pub fn number_in_place(kind: &Kind, owner: u16, first: u16, place: u8) -> Option
 }
 
 // The number of the slot with a name, of an object whose slots are numbered from `first` on.
-pub fn number_of_name(kind: &Kind, owner: u16, first: u16, name: &str) -> Option<u16>
+pub(crate) fn number_of_name(kind: &Kind, owner: u16, first: u16, name: &str) -> Option<u16>
     requires few { length (slots_of kind.now) ≤ 11 }
     requires small { first ≤ 4001 }
     ensures { result
@@ -70,7 +70,7 @@ pub fn number_of_name(kind: &Kind, owner: u16, first: u16, name: &str) -> Option
 }
 
 /// How many slots an object has.
-pub fn count_places(kind: &Kind, owner: u16) -> u16
+pub(crate) fn count_places(kind: &Kind, owner: u16) -> u16
     requires { length (slots_of kind.now) ≤ 11 }
     ensures count { result ≡ length (placed_from owner 0 (slots_of kind.now)) }
     ensures few { result ≤ 11 }

@@ -45,7 +45,7 @@ fn dim(volume: i8, length: i8, step: i8) -> Dim
 
 impl<'a> Slot<'a> {
     /// A flow, in m3/step.
-    pub fn flow(name: &'a str, role: Role) -> Slot<'a>
+    pub(crate) fn flow(name: &'a str, role: Role) -> Slot<'a>
         ensures { result ≡ flow name.now role }
     {
         Slot {
@@ -65,7 +65,7 @@ impl<'a> Slot<'a> {
     }
 
     /// A volume of water that is held, in m3.
-    pub fn volume(name: &'a str, role: Role) -> Slot<'a>
+    pub(crate) fn volume(name: &'a str, role: Role) -> Slot<'a>
         ensures { result ≡ of_range name.now volume role from_zero }
     {
         Slot::of_range(name, dim(1, 0, 0), role, (0, QUANTITY_MAX))
@@ -85,14 +85,14 @@ impl<'a> Slot<'a> {
     }
 
     /// An elevation, in mm.
-    pub fn elevation(name: &'a str) -> Slot<'a>
+    pub(crate) fn elevation(name: &'a str) -> Slot<'a>
         ensures { result ≡ of_range name.now length Role.Neither lengths }
     {
         Slot::of_range(name, dim(0, 1, 0), Role::Neither, (0, LENGTH_MAX))
     }
 
     /// A rate of evaporation, in mm/step.
-    pub fn rate(name: &'a str) -> Slot<'a>
+    pub(crate) fn rate(name: &'a str) -> Slot<'a>
         ensures { result ≡ of_range name.now rate_unit Role.Fixed lengths }
     {
         Slot::of_range(name, dim(0, 1, -1), Role::Fixed, (0, LENGTH_MAX))

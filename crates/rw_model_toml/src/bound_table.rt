@@ -64,7 +64,7 @@ fn add_bounds(alloc: Global, builder: &mut BasinBuilder, items: &[Value]) -> Res
 }
 
 /// Gives slots the bounds of the file, one after another.
-pub fn read_bounds(
+pub(crate) fn read_bounds(
     alloc: Global,
     builder: &mut BasinBuilder,
     table: &Table,

@@ -56,7 +56,7 @@ fn read_slots(alloc: Global, path: &str, items: &[Value]) -> Result<Vec<DataSlot
 
 /// What the table at the path says of a data object.
 #[tactic(auto, unfolding(crate::specs::Kinds::data_of))]
-pub fn read_data(alloc: Global, at: &str, table: &Table) -> Result<Kind, ModelFault>
+pub(crate) fn read_data(alloc: Global, at: &str, table: &Table) -> Result<Kind, ModelFault>
     ensures { Gives (λ kind. kind) result (data_of at.now (table_view table.now)) }
 {
     let items = required_items(alloc, at, "slots", table)?;

@@ -44,7 +44,7 @@ fn read_inflows(alloc: Global, path: &str, items: &[Value]) -> Result<Vec<i64>, 
 }
 
 /// The past inflows, one for each timestep of the lag.
-pub fn read_history(
+pub(crate) fn read_history(
     alloc: Global,
     at: &str,
     lag: u16,

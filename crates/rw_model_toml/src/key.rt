@@ -12,7 +12,7 @@ use std::alloc::Global;
 use toml::{Table, Value};
 
 /// What stands at a key.
-pub fn member<'a>(members: &'a Table, key: &str) -> Option<&'a Value>
+pub(crate) fn member<'a>(members: &'a Table, key: &str) -> Option<&'a Value>
     ensures { option_map (λ value. view value.now) result
         ≡ get_member key.now (table_view members.now) }
 {
@@ -20,7 +20,7 @@ pub fn member<'a>(members: &'a Table, key: &str) -> Option<&'a Value>
 }
 
 /// The text at a key that has to be there.
-pub fn required_text<'a>(
+pub(crate) fn required_text<'a>(
     alloc: Global,
     at: &str,
     key: &str,
@@ -37,7 +37,7 @@ pub fn required_text<'a>(
 }
 
 /// The text at a key, or the default.
-pub fn optional_text<'a>(
+pub(crate) fn optional_text<'a>(
     alloc: Global,
     at: &str,
     key: &str,
@@ -54,7 +54,12 @@ pub fn optional_text<'a>(
 }
 
 /// The truth value at a key, false where it isn't there.
-pub fn choice(alloc: Global, at: &str, key: &str, members: &Table) -> Result<bool, ModelFault>
+pub(crate) fn choice(
+    alloc: Global,
+    at: &str,
+    key: &str,
+    members: &Table,
+) -> Result<bool, ModelFault>
     ensures { Gives (λ b. b) result
         (optional false truth_of at.now key.now (table_view members.now)) }
 {
@@ -65,7 +70,7 @@ pub fn choice(alloc: Global, at: &str, key: &str, members: &Table) -> Result<boo
 }
 
 /// The items of the array at a key that has to be there.
-pub fn required_items<'a>(
+pub(crate) fn required_items<'a>(
     alloc: Global,
     at: &str,
     key: &str,
@@ -82,7 +87,7 @@ pub fn required_items<'a>(
 }
 
 /// The items of the array at a key, or none.
-pub fn optional_items<'a>(
+pub(crate) fn optional_items<'a>(
     alloc: Global,
     at: &str,
     key: &str,
@@ -98,7 +103,7 @@ pub fn optional_items<'a>(
 }
 
 /// The table at a key that has to be there.
-pub fn required_table<'a>(
+pub(crate) fn required_table<'a>(
     alloc: Global,
     at: &str,
     key: &str,
@@ -115,7 +120,7 @@ pub fn required_table<'a>(
 }
 
 /// The integer at a key that has to be there.
-pub fn required_integer(
+pub(crate) fn required_integer(
     alloc: Global,
     at: &str,
     key: &str,
@@ -131,7 +136,7 @@ pub fn required_integer(
 }
 
 /// The whole number from low to high at a key that has to be there.
-pub fn required_number(
+pub(crate) fn required_number(
     alloc: Global,
     at: &str,
     key: &str,
@@ -152,7 +157,7 @@ pub fn required_number(
 }
 
 /// The whole number from low to high at a key, or the default.
-pub fn optional_number(
+pub(crate) fn optional_number(
     alloc: Global,
     at: &str,
     key: &str,
@@ -171,7 +176,7 @@ pub fn optional_number(
 }
 
 /// The count from low to high at a key that has to be there.
-pub fn required_count(
+pub(crate) fn required_count(
     alloc: Global,
     at: &str,
     key: &str,
@@ -192,7 +197,7 @@ pub fn required_count(
 }
 
 /// The count from low to high at a key, or the default.
-pub fn optional_count(
+pub(crate) fn optional_count(
     alloc: Global,
     at: &str,
     key: &str,
@@ -215,7 +220,7 @@ pub fn optional_count(
 }
 
 /// The whole number from low to high at a key, if there is one.
-pub fn number_if_given(
+pub(crate) fn number_if_given(
     alloc: Global,
     at: &str,
     key: &str,

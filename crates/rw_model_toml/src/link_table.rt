@@ -97,7 +97,7 @@ fn add_links(alloc: Global, builder: &mut BasinBuilder, items: &[Value]) -> Resu
 }
 
 /// Links the slots that the file links, one link after another.
-pub fn read_links(
+pub(crate) fn read_links(
     alloc: Global,
     builder: &mut BasinBuilder,
     table: &Table,

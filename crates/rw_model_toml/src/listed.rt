@@ -21,7 +21,12 @@ fn is_listed(keys: &[&str], key: &str) -> bool
 }
 
 /// Refuses the first key of the table at a path that isn't listed.
-pub fn only_listed(alloc: Global, keys: &[&str], at: &str, table: &Table) -> Result<(), ModelFault>
+pub(crate) fn only_listed(
+    alloc: Global,
+    keys: &[&str],
+    at: &str,
+    table: &Table,
+) -> Result<(), ModelFault>
     ensures { Gives (λ u. u) result
         (only_listed (map (λ listed. listed.now) keys.now) at.now (table_view table.now)) }
 {

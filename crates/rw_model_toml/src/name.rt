@@ -10,7 +10,11 @@ use std::alloc::Global;
 use toml::Table;
 
 /// The name of an object or a slot, in the table at a path.
-pub fn read_name<'a>(alloc: Global, at: &str, table: &'a Table) -> Result<&'a str, ModelFault>
+pub(crate) fn read_name<'a>(
+    alloc: Global,
+    at: &str,
+    table: &'a Table,
+) -> Result<&'a str, ModelFault>
     ensures { Gives (λ name. name.now) result (name_of at.now (table_view table.now)) }
 {
     let text = required_text(alloc, at, "name", table)?;

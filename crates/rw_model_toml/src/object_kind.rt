@@ -169,7 +169,12 @@ fn read_canal(alloc: Global, at: &str, table: &Table) -> Result<Kind, ModelFault
 
 /// The kind that the word names, with the keys of the table at the path.
 #[tactic(auto, unfolding(crate::specs::Kinds::kind_read))]
-pub fn read_kind(alloc: Global, at: &str, word: &str, table: &Table) -> Result<Kind, ModelFault>
+pub(crate) fn read_kind(
+    alloc: Global,
+    at: &str,
+    word: &str,
+    table: &Table,
+) -> Result<Kind, ModelFault>
     ensures { Gives (λ kind. kind) result (kind_read at.now word.now (table_view table.now)) }
 {
     match word {

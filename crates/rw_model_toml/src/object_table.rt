@@ -61,7 +61,7 @@ fn add_objects(alloc: Global, builder: &mut BasinBuilder, items: &[Value]) -> Re
 }
 
 /// Adds the objects of the file, one after another.
-pub fn read_objects(
+pub(crate) fn read_objects(
     alloc: Global,
     builder: &mut BasinBuilder,
     table: &Table,

@@ -9,17 +9,17 @@ use toml::Table;
 
 /// Which slots a reach or a reservoir has besides.
 #[derive(Clone, Copy, Drop)]
-pub struct Options {
+pub(crate) struct Options {
     /// A local inflow.
-    pub local_inflow: bool,
+    pub(crate) local_inflow: bool,
     /// A diversion.
-    pub diversion: bool,
+    pub(crate) diversion: bool,
     /// A return flow.
-    pub return_flow: bool,
+    pub(crate) return_flow: bool,
 }
 
 /// Which of them the table says.
-pub fn read_options(alloc: Global, at: &str, table: &Table) -> Result<Options, ModelFault>
+pub(crate) fn read_options(alloc: Global, at: &str, table: &Table) -> Result<Options, ModelFault>
     ensures { Gives (λ options. options) result (options_of at.now (table_view table.now)) }
 {
     let local_inflow = choice(alloc, at, "local_inflow", table)?;

@@ -5,7 +5,7 @@ use rw_base::NoMemory;
 use std::alloc::Global;
 
 /// The path of a key of the table at a path.
-pub fn key_path(alloc: Global, at: &str, key: &str) -> Result<String, NoMemory>
+pub(crate) fn key_path(alloc: Global, at: &str, key: &str) -> Result<String, NoMemory>
     ensures { IfOk result (λ path. string_bytes path ≡ key_path at.now key.now) }
 {
     if at.is_empty() {
@@ -15,7 +15,7 @@ pub fn key_path(alloc: Global, at: &str, key: &str) -> Result<String, NoMemory>
 }
 
 /// The path of an element of the array at a path, counted from 1.
-pub fn element_path(alloc: Global, path: &str, number: usize) -> Result<String, NoMemory>
+pub(crate) fn element_path(alloc: Global, path: &str, number: usize) -> Result<String, NoMemory>
     ensures { IfOk result (λ text. string_bytes text ≡ element_path path.now number) }
 {
     Ok(format!(in alloc; "{path}[{number}]")?)

@@ -75,7 +75,7 @@ fn rating(alloc: Global, path: String, value: &Value) -> Result<Rating, ModelFau
 }
 
 /// The table of elevations and volumes, which has to be there.
-pub fn required_rating(alloc: Global, at: &str, table: &Table) -> Result<Rating, ModelFault>
+pub(crate) fn required_rating(alloc: Global, at: &str, table: &Table) -> Result<Rating, ModelFault>
     ensures { Gives (λ rating. rating) result
         (required rating_of at.now (codes "table") (table_view table.now)) }
 {
@@ -87,7 +87,11 @@ pub fn required_rating(alloc: Global, at: &str, table: &Table) -> Result<Rating,
 }
 
 /// The table of elevations and volumes, if there is one.
-pub fn rating_if_given(alloc: Global, at: &str, table: &Table) -> Result<Option<Rating>, ModelFault>
+pub(crate) fn rating_if_given(
+    alloc: Global,
+    at: &str,
+    table: &Table,
+) -> Result<Option<Rating>, ModelFault>
     ensures { Gives (λ rating. rating) result
         (optional None given_rating at.now (codes "table") (table_view table.now)) }
 {

@@ -19,19 +19,19 @@ use toml::Table;
 
 /// What the table `run` says.
 #[derive(Clone, Copy, Drop)]
-pub struct Run {
+pub(crate) struct Run {
     /// The start of the run, which may be no moment.
-    pub start: Start,
+    pub(crate) start: Start,
     /// How long each timestep is.
-    pub step_length: StepLength,
+    pub(crate) step_length: StepLength,
     /// How many timesteps there are.
-    pub steps: u16,
+    pub(crate) steps: u16,
     /// In which order rules are taken.
-    pub agenda: AgendaOrder,
+    pub(crate) agenda: AgendaOrder,
     /// How often one object may be solved at one timestep.
-    pub object_limit: u8,
+    pub(crate) object_limit: u8,
     /// How often one rule may be run at one timestep.
-    pub rule_limit: u8,
+    pub(crate) rule_limit: u8,
 }
 
 // The keys of the table.
@@ -77,7 +77,7 @@ fn read_agenda(alloc: Global, table: &Table) -> Result<AgendaOrder, ModelFault>
 
 /// What the table says.
 #[tactic(auto, unfolding(crate::specs::Run::run_of))]
-pub fn read_run(alloc: Global, table: &Table) -> Result<Run, ModelFault>
+pub(crate) fn read_run(alloc: Global, table: &Table) -> Result<Run, ModelFault>
     ensures read { Gives (λ run. run) result (run_of (table_view table.now)) }
     ensures length { IfOk result (λ run. IsStepLength run.step_length) }
     ensures steps { IfOk result (λ run. IsInRange 1 STEPS_MAX run.steps) }

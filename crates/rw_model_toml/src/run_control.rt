@@ -13,7 +13,7 @@ use rw_model::RunControl;
 use std::alloc::Global;
 
 /// How many timesteps ahead rules may put in a model of this format.
-pub fn ahead_in(format: u16) -> u8
+pub(crate) fn ahead_in(format: u16) -> u8
     ensures value { result ≡ ahead_in format }
     ensures in_range { (result ≡ 0) ⊎ (result ≡ 30) }
 {
@@ -21,7 +21,7 @@ pub fn ahead_in(format: u16) -> u8
 }
 
 /// How the run goes, with its stamps, where rules may put so many timesteps ahead.
-pub fn stamp_run(alloc: Global, ahead: u8, run: Run) -> Result<RunControl, ModelFault>
+pub(crate) fn stamp_run(alloc: Global, ahead: u8, run: Run) -> Result<RunControl, ModelFault>
     requires length { IsStepLength run.step_length }
     requires steps { IsInRange 1 STEPS_MAX run.steps }
     requires object_limit { IsInRange 16 100 run.object_limit }

@@ -5,7 +5,7 @@ use rw_base::SlotNo;
 use rw_model::BasinBuilder;
 
 /// The slot that a text `Object.Slot` names. No slot has the number 0, which is answered where it names none.
-pub fn slot_number(builder: &BasinBuilder, text: &str) -> SlotNo
+pub(crate) fn slot_number(builder: &BasinBuilder, text: &str) -> SlotNo
     ensures { result.0 ≡ slot_number builder.now.objects text.now }
 {
     let Some((object, slot)) = text.split_once('.') else {

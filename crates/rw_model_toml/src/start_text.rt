@@ -41,7 +41,7 @@ fn two_digits(text: &[u8], place: usize) -> u8
 }
 
 /// The start that the text names. `None` exactly where it has another form than `YYYY-MM-DDTHH:00`.
-pub fn start_in(text: &str) -> Option<Start>
+pub(crate) fn start_in(text: &str) -> Option<Start>
     ensures { result ≡ start_in text.now }
 {
     let bytes = text.as_bytes();

@@ -11,7 +11,7 @@ use rw_model::BuildFault;
 use std::alloc::Global;
 
 /// What a builder's fault at the path tells of the model.
-pub fn told(alloc: Global, path: &str, fault: BuildFault) -> ModelFault
+pub(crate) fn told(alloc: Global, path: &str, fault: BuildFault) -> ModelFault
     ensures { (given : Result Draft BuildRefusal)
         → IsWhyOf BuildFault.NoMemory refusal_of given fault
         → IsModelWhy (refused_as (bad_build path.now) given) result }

@@ -9,7 +9,7 @@ use std::alloc::Global;
 use toml::{Table, Value};
 
 /// The integer that the value at the path is.
-pub fn integer(path: String, value: &Value) -> Result<i64, ModelFault>
+pub(crate) fn integer(path: String, value: &Value) -> Result<i64, ModelFault>
     ensures { Gives (λ z. z) result (integer_of (string_bytes path) (view value.now)) }
 {
     match value {
@@ -19,7 +19,7 @@ pub fn integer(path: String, value: &Value) -> Result<i64, ModelFault>
 }
 
 /// The text that it is.
-pub fn text(path: String, value: &Value) -> Result<&str, ModelFault>
+pub(crate) fn text(path: String, value: &Value) -> Result<&str, ModelFault>
     ensures { Gives (λ text. text.now) result (text_of (string_bytes path) (view value.now)) }
 {
     match value {
@@ -29,7 +29,7 @@ pub fn text(path: String, value: &Value) -> Result<&str, ModelFault>
 }
 
 /// The truth value that it is.
-pub fn truth(path: String, value: &Value) -> Result<bool, ModelFault>
+pub(crate) fn truth(path: String, value: &Value) -> Result<bool, ModelFault>
     ensures { Gives (λ b. b) result (truth_of (string_bytes path) (view value.now)) }
 {
     match value {
@@ -39,7 +39,7 @@ pub fn truth(path: String, value: &Value) -> Result<bool, ModelFault>
 }
 
 /// The items of the array that it is.
-pub fn items(path: String, value: &Value) -> Result<&[Value], ModelFault>
+pub(crate) fn items(path: String, value: &Value) -> Result<&[Value], ModelFault>
     ensures { Gives (λ items. items_view items.now) result
         (items_of (string_bytes path) (view value.now)) }
 {
@@ -50,7 +50,11 @@ pub fn items(path: String, value: &Value) -> Result<&[Value], ModelFault>
 }
 
 /// The table that it is.
-pub fn table<'a>(alloc: Global, path: &str, value: &'a Value) -> Result<&'a Table, ModelFault>
+pub(crate) fn table<'a>(
+    alloc: Global,
+    path: &str,
+    value: &'a Value,
+) -> Result<&'a Table, ModelFault>
     ensures { Gives (λ table. table_view table.now) result (members_of path.now (view value.now)) }
 {
     match value {
@@ -60,7 +64,7 @@ pub fn table<'a>(alloc: Global, path: &str, value: &'a Value) -> Result<&'a Tabl
 }
 
 /// The whole number from low to high that it is.
-pub fn number(path: String, value: &Value, low: i64, high: i64) -> Result<i64, ModelFault>
+pub(crate) fn number(path: String, value: &Value, low: i64, high: i64) -> Result<i64, ModelFault>
     ensures read { Gives (λ z. z) result
         (number_read low high (string_bytes path) (view value.now)) }
     ensures least { IfOk result (λ z. low ≤ℤ z) }
@@ -78,7 +82,7 @@ pub fn number(path: String, value: &Value, low: i64, high: i64) -> Result<i64, M
 }
 
 /// The whole number from low to high that it is, where these are counts.
-pub fn count(path: String, value: &Value, low: u16, high: u16) -> Result<u16, ModelFault>
+pub(crate) fn count(path: String, value: &Value, low: u16, high: u16) -> Result<u16, ModelFault>
     ensures read { Gives (λ n. n) result
         (count_read low high (string_bytes path) (view value.now)) }
     ensures least { IfOk result (λ n. low ≤ n) }

@@ -6,7 +6,7 @@ use rw_calendar::StepLength;
 use rw_model::{AgendaOrder, Supply};
 
 /// The step length that the word stands for.
-pub fn step_length_in(word: &str) -> Option<StepLength>
+pub(crate) fn step_length_in(word: &str) -> Option<StepLength>
     ensures length { result ≡ step_length_in word.now }
     ensures known { IfSome result IsStepLength }
 {
@@ -21,7 +21,7 @@ pub fn step_length_in(word: &str) -> Option<StepLength>
 }
 
 /// The order of the agenda that the word stands for.
-pub fn agenda_in(word: &str) -> Option<AgendaOrder>
+pub(crate) fn agenda_in(word: &str) -> Option<AgendaOrder>
     ensures { result ≡ agenda_in word.now }
 {
     match word {
@@ -32,7 +32,7 @@ pub fn agenda_in(word: &str) -> Option<AgendaOrder>
 }
 
 /// The supply that the word stands for.
-pub fn supply_in(word: &str) -> Option<Supply>
+pub(crate) fn supply_in(word: &str) -> Option<Supply>
     ensures { result ≡ supply_in word.now }
 {
     match word {

@@ -9,7 +9,7 @@ use std::alloc::Global;
 
 /// How a line of a trace is kept: small, since a run has some lines for each of its cells, and one fault at most.
 #[derive(Drop)]
-pub enum Line {
+pub(crate) enum Line {
     Opened(StepNo),
     Idle(ObjectNo),
     Solve(ObjectNo),
@@ -30,7 +30,7 @@ pub enum Line {
 }
 
 /// The line of an event.
-pub fn line_of(alloc: Global, event: TraceEvent) -> Result<Line, NoMemory>
+pub(crate) fn line_of(alloc: Global, event: TraceEvent) -> Result<Line, NoMemory>
     ensures { IfOk result (λ line. line_event line ≡ event) }
 {
     Ok(match event {
@@ -55,7 +55,7 @@ pub fn line_of(alloc: Global, event: TraceEvent) -> Result<Line, NoMemory>
 }
 
 /// A copy of a line, with a box of its own where it has one.
-pub fn copy_of(alloc: Global, line: &Line) -> Result<Line, NoMemory>
+pub(crate) fn copy_of(alloc: Global, line: &Line) -> Result<Line, NoMemory>
     ensures { IfOk result (λ copy. line_event copy ≡ line_event line.now) }
 {
     Ok(match line {
@@ -86,7 +86,7 @@ pub fn copy_of(alloc: Global, line: &Line) -> Result<Line, NoMemory>
 }
 
 /// The event that a line tells.
-pub fn event_of(line: &Line) -> TraceEvent
+pub(crate) fn event_of(line: &Line) -> TraceEvent
     ensures { result ≡ line_event line.now }
 {
     match line {
@@ -120,7 +120,7 @@ pub fn event_of(line: &Line) -> TraceEvent
 
 /// What a line says to be written, if it says that.
 #[inline(always)]
-pub fn write_of(line: &Line) -> Option<Write>
+pub(crate) fn write_of(line: &Line) -> Option<Write>
     ensures { result ≡ write_of (line_event line.now) }
 {
     match line {

@@ -8,7 +8,7 @@ use rw_run::{Trace, TraceEvent};
 
 /// What is counted.
 #[derive(Clone, Copy)]
-pub enum Counted {
+pub(crate) enum Counted {
     Dispatches,
     Firings,
 }

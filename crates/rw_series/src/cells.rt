@@ -22,7 +22,13 @@ fn position_of(slots: u16, slot: u16, step: u16) -> usize
 }
 
 /// What is kept of a slot at a timestep, which is nothing where there is no such cell.
-pub fn kept_at(cells: &[Kept], slots: u16, steps: u16, slot: u16, step: u16) -> Option<Content>
+pub(crate) fn kept_at(
+    cells: &[Kept],
+    slots: u16,
+    steps: u16,
+    slot: u16,
+    step: u16,
+) -> Option<Content>
     requires { length cells.now ≡ slots * steps }
     ensures { result ≡ kept_at slots steps (map content_of cells.now) slot step }
 {
@@ -34,7 +40,7 @@ pub fn kept_at(cells: &[Kept], slots: u16, steps: u16, slot: u16, step: u16) -> 
 }
 
 /// Makes one cell hold the content.
-pub fn keep_at(
+pub(crate) fn keep_at(
     cells: &mut Vec<Kept>,
     slots: u16,
     steps: u16,

@@ -12,13 +12,13 @@ use std::alloc::Global;
 
 /// The columns of all slots, and how many there are.
 #[derive(Drop)]
-pub struct Columns {
-    pub columns: Vec<u16>,
-    pub width: u16,
+pub(crate) struct Columns {
+    pub(crate) columns: Vec<u16>,
+    pub(crate) width: u16,
 }
 
 /// The column of a slot, and 0 where there is no such slot.
-pub fn column_of(columns: &[u16], slot: u16) -> u16
+pub(crate) fn column_of(columns: &[u16], slot: u16) -> u16
     ensures { result ≡ column_of columns.now slot }
 {
     if 1 <= slot {
@@ -58,7 +58,7 @@ fn column_for(basin: &Basin, columns: &[u16], width: u16, before: u16) -> u16
 }
 
 /// The columns of the slots of a basin.
-pub fn columns_of(alloc: Global, basin: &Basin) -> Result<Columns, NoMemory>
+pub(crate) fn columns_of(alloc: Global, basin: &Basin) -> Result<Columns, NoMemory>
     ensures { IfOk result (λ made. AreColumns basin.now
         (length (all_slots basin.now.objects)) made.width made.columns.items) }
 {

@@ -6,17 +6,17 @@ use rw_model::{Content, Writer};
 
 /// What is kept of a cell. Where nobody wrote it, it is unknown, and the value doesn't count.
 #[derive(Clone, Copy)]
-pub struct Kept {
+pub(crate) struct Kept {
     /// The value.
-    pub value: Qty,
+    pub(crate) value: Qty,
     /// Its priority.
-    pub number: u16,
+    pub(crate) number: u16,
     /// Who wrote it.
-    pub writer: Option<Writer>,
+    writer: Option<Writer>,
 }
 
 /// What an unknown cell keeps.
-pub fn unknown() -> Kept
+pub(crate) fn unknown() -> Kept
     ensures { content_of result ≡ None }
 {
     match Qty::of(0) {
@@ -30,7 +30,7 @@ pub fn unknown() -> Kept
 }
 
 /// The content that is kept.
-pub fn content_of(kept: &Kept) -> Option<Content>
+pub(crate) fn content_of(kept: &Kept) -> Option<Content>
     ensures { result ≡ content_of kept.now }
 {
     match kept.writer {
@@ -44,7 +44,7 @@ pub fn content_of(kept: &Kept) -> Option<Content>
 }
 
 /// How a content is kept.
-pub fn kept_of(content: Option<Content>) -> Kept
+pub(crate) fn kept_of(content: Option<Content>) -> Kept
     ensures { content_of result ≡ content }
 {
     match content {

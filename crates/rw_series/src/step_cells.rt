@@ -73,7 +73,7 @@ fn row_of(cells: &[Kept], width: u16, step: u16) -> &[Kept]
 }
 
 /// The cells of one timestep. There are none where there is no such timestep.
-pub fn cells_at_step<'a>(
+pub(crate) fn cells_at_step<'a>(
     columns: &'a [u16],
     width: u16,
     steps: u16,

@@ -78,7 +78,7 @@ fn judge_rows(rows: &[(i64, i64)]) -> Option<TableFault>
 }
 
 /// The first fault of the rows, if they have one.
-pub fn judge(rows: &[(i64, i64)]) -> Option<TableFault>
+pub(crate) fn judge(rows: &[(i64, i64)]) -> Option<TableFault>
     ensures fault { Finds refusal_of result (table_refusal rows.now) }
     ensures table { result ≡ None → IsTable rows.now }
 {

@@ -30,7 +30,7 @@ fn distance(from: i64, to: i64) -> u64
 }
 
 /// The volume in m3 on the line from one row to the next, at an elevation of e mm between them.
-pub fn volume_between(low: (i64, i64), high: (i64, i64), e: i64) -> i64
+pub(crate) fn volume_between(low: (i64, i64), high: (i64, i64), e: i64) -> i64
     requires low { IsWithinBounds low }
     requires high { IsWithinBounds high }
     requires above { IsAbove high low }
@@ -46,7 +46,7 @@ pub fn volume_between(low: (i64, i64), high: (i64, i64), e: i64) -> i64
 }
 
 /// The last elevation in mm on the line from one row to the next whose volume is at most s m3.
-pub fn elevation_between(low: (i64, i64), high: (i64, i64), s: i64) -> i64
+pub(crate) fn elevation_between(low: (i64, i64), high: (i64, i64), s: i64) -> i64
     requires low { IsWithinBounds low }
     requires high { IsWithinBounds high }
     requires above { IsAbove high low }

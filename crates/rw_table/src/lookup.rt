@@ -6,7 +6,7 @@ use crate::interval::{elevation_between, volume_between};
 use crate::search::{rows_up_to_elevation, rows_up_to_volume};
 
 /// The volume in m3 at an elevation of e mm, in the rows of a table.
-pub fn volume_at(rows: &[(i64, i64)], e: i64) -> Option<i64>
+pub(crate) fn volume_at(rows: &[(i64, i64)], e: i64) -> Option<i64>
     requires { IsTable rows.now }
     ensures { result ≡ vol_of rows.now e }
 {
@@ -25,7 +25,7 @@ pub fn volume_at(rows: &[(i64, i64)], e: i64) -> Option<i64>
 }
 
 /// The greatest whole elevation in mm whose volume is at most s m3, in the rows of a table.
-pub fn elevation_at(rows: &[(i64, i64)], s: i64) -> Option<i64>
+pub(crate) fn elevation_at(rows: &[(i64, i64)], s: i64) -> Option<i64>
     requires { IsTable rows.now }
     ensures { result ≡ elev_of rows.now s }
 {

@@ -3,7 +3,7 @@ ghost use Rattle.std.specs.List.Sorted.{IsPartitionPoint};
 ghost use Rattle.rw_table.specs.Table.{Row, IsTable};
 
 /// How many rows of a table are at or below an elevation of e mm.
-pub fn rows_up_to_elevation(rows: &[(i64, i64)], e: i64) -> usize
+pub(crate) fn rows_up_to_elevation(rows: &[(i64, i64)], e: i64) -> usize
     requires { IsTable rows.now }
     ensures bound { result ≤ length rows.now }
     ensures place { IsPartitionPoint
@@ -13,7 +13,7 @@ pub fn rows_up_to_elevation(rows: &[(i64, i64)], e: i64) -> usize
 }
 
 /// How many rows of a table have at most a volume of s m3.
-pub fn rows_up_to_volume(rows: &[(i64, i64)], s: i64) -> usize
+pub(crate) fn rows_up_to_volume(rows: &[(i64, i64)], s: i64) -> usize
     requires { IsTable rows.now }
     ensures bound { result ≤ length rows.now }
     ensures place { IsPartitionPoint
