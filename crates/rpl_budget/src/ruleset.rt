@@ -158,7 +158,8 @@ fn predefined(alloc: Global) -> Result<Vec<Known<'static>>, NoMemory>
     Ok(known)
 }
 
-/// The budgets of each declaration of a ruleset, in order. `NoMemory` tells nothing of the ruleset.
+/// The budgets of each declaration of a ruleset, in order: `docs/LANGUAGE.md` says under "Limits, costs and budgets" what is
+/// counted, and up to where. `NoMemory` tells nothing of the ruleset.
 pub fn budgets(alloc: Global, rules: &ParsedRules) -> Result<Vec<TreeCost>, NoMemory>
     ensures of_rules { IfOk result (λ costs. map budget_seen costs.items
         ≡ budgets_of (rules_of rules.now)) }

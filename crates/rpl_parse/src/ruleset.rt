@@ -14,8 +14,9 @@ use crate::token::TokenAt;
 use rpl_tree::{Declaration, ParsedRules};
 use std::alloc::Global;
 
-/// The rules that a text spells, or why it is no ruleset. All tokens are judged first, and then the declarations in
-/// order, each for too many before its tokens: docs/LANGUAGE.md has the language.
+/// The rules that a text spells, or why it is no ruleset. All tokens are judged first, and then the declarations in order,
+/// each for too many before its tokens. `NoMemory` says nothing of the text. `docs/LANGUAGE.md` has the language, and its
+/// limits under "Limits, costs and budgets".
 pub fn parse(alloc: Global, text: &[u8]) -> Result<ParsedRules, ParseFault>
     requires { length text.now ≤ 16_777_216 }
     ensures reading { AnswersReading text.now result }

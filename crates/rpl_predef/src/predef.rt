@@ -17,8 +17,8 @@ pub struct Predef {
 }
 
 impl Predef {
-    /// Keeps `f` as the function of row `k`, which it has to compute. A row with fewer than three arguments is handed 0
-    /// for the others.
+    /// Keeps `f` as the function of row `k`, 1 to 7, which it has to compute. A row with fewer than three arguments is
+    /// handed 0 for the others. Units are no concern of it.
     pub fn of(k: u8, f: fn(Qty, Qty, Qty) -> Qty) -> Predef
         requires row { IsRow k }
         requires callable { IsAlwaysCallable f }
@@ -34,7 +34,7 @@ impl Predef {
 }
 
 impl Predef {
-    /// What the function answers, which is what its row says.
+    /// What the function answers, which is what its row says, in the unit that this has by those of the arguments.
     pub fn call(&self, a: Qty, b: Qty, c: Qty) -> Qty
         ensures { result ≡ predefined_of self.now.row a b c }
     {

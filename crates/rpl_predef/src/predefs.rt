@@ -65,7 +65,8 @@ impl Predefs {
         Ok(Predefs { rows })
     }
 
-    /// What row `k` of the table says of these arguments, by the function that was handed in for it. It takes no memory.
+    /// What row `k` of the table, 1 to 7, says of these arguments, by the function that was handed in for it, in the unit
+    /// that this has by theirs: `docs/LANGUAGE.md` has the functions under "Numbers". It takes no memory.
     pub fn call(&self, k: u8, a: Qty, b: Qty, c: Qty) -> Qty
         requires { IsRow k }
         ensures { result ≡ predefined_of k a b c }

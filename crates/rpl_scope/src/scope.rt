@@ -43,7 +43,7 @@ impl<'a, T: Copy> Scope<'a, T> {
         }
     }
 
-    /// What the innermost of a name stands for.
+    /// What the innermost of a name stands for. `None` exactly where there is no such name.
     pub fn find(&self, name: &'a [u8]) -> Option<T>
         ensures { result ≡ first_named self.now name.entry.now }
     {
@@ -53,7 +53,8 @@ impl<'a, T: Copy> Scope<'a, T> {
         }
     }
 
-    /// Another name, which is the innermost of all. After an error the names are those that were there.
+    /// Another name, which is the innermost of all. The one error is want of memory, after which the names are those that
+    /// were there.
     pub fn push(&mut self, name: &'a [u8], means: T) -> Result<(), NoMemory>
         ensures ok { OnOk result (self.new ≡ (name.entry.now, means) ∷ self.old) }
         ensures err { OnErr result (self.new ≡ self.old) }

@@ -14,7 +14,8 @@ use rw_model::Basin;
 use std::alloc::Global;
 
 /// Judges a ruleset with a basin: names, types, units and costs, declaration by declaration. docs/LANGUAGE.md says under
-/// "Refusals" what is wrong where, and in which order.
+/// "Refusals" what is wrong where, and in which order. `NoMemory` says nothing of the ruleset, which is dropped with either
+/// fault.
 pub fn check(alloc: Global, rules: ParsedRules, basin: &Basin) -> Result<Typed, TypeFault>
     requires ruleset { IsRuleset rules }
     ensures answers { Answers Fault.NoMemory refusal_of checked_of result

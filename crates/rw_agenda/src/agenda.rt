@@ -40,7 +40,8 @@ impl Model for Agenda {
 
 impl Agenda {
     /// The agenda of a policy for a basin, of which no rule has fired. `reads` tells at most how many looks a firing of each
-    /// rule has, that of rule 1 first. There are at most `RULES_MAX` rules. No other call takes memory.
+    /// rule has, that of rule 1 first. There are at most `RULES_MAX` rules. The one error is want of memory; no other call
+    /// takes any.
     pub fn for_rules(alloc: Global, basin: &Basin, reads: &[u32]) -> Result<Agenda, NoMemory>
         requires few { length reads.now ≤ RULES_MAX }
         ensures order { IfOk result (λ agenda. agenda.order ≡ basin.now.control.agenda) }
@@ -83,7 +84,7 @@ impl Agenda {
     }
 
     /// The first rule in the agenda's order that hasn't fired, or that looked at a cell which holds another value now.
-    /// `None` exactly where there is none.
+    /// `None` exactly where there is none. `docs/DEFINITIONS.md` says under "Runs" when a rule is due.
     pub fn next(&self, series: &Series) -> Option<RuleNo>
         requires index { IsIndexed self.now (held series.now) }
         ensures { option_map (λ rule. rule.0) result ≡ first_due_in self.now (held series.now) }

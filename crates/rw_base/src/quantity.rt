@@ -5,7 +5,7 @@ ghost use Rattle.rw_base.specs.Quotient.{floor_div};
 
 use std::marker::Model;
 
-/// The greatest quantity, Q. The least is -Q.
+/// The greatest quantity, Q = 10^17, in any unit. The least is -Q.
 pub const QUANTITY_MAX: i64 = 100_000_000_000_000_000;
 
 /// Why arithmetic on quantities has no quantity as its answer.
@@ -17,7 +17,8 @@ pub enum ArithFault {
     OutOfRange(i128),
 }
 
-/// A whole number from -Q to Q, in whatever unit its slot has: m3, mm, m3/step.
+/// A whole number from -Q to Q, in the base units of what it measures: m3, mm, m3/step, mm/step, kWh. `docs/DEFINITIONS.md`
+/// has it under "Numbers".
 #[derive(Clone, Copy, Debug, PartialEq, Eq, Drop)]
 pub struct Qty {
     value: i64,
@@ -119,7 +120,7 @@ fn floor_over(a: i64, b: i64, c: i64) -> Qty
 }
 
 impl Qty {
-    /// The quantity of that value. `None` exactly outside -Q to Q.
+    /// The quantity of a value, of whatever unit. `None` exactly outside -Q to Q.
     pub fn of(v: i64) -> Option<Qty>
         ensures { SomeIff result (IsQuantity v) v }
     {
@@ -130,7 +131,7 @@ impl Qty {
         }
     }
 
-    /// Its value, from -Q to Q.
+    /// Its value, from -Q to Q, in the unit that it has.
     pub fn get(self) -> i64
         ensures value { result ≡ self }
         ensures bounds { IsQuantity result }
@@ -138,29 +139,30 @@ impl Qty {
         self.value
     }
 
-    /// The sum. `OutOfRange` carries the exact sum, exactly where it is outside -Q to Q.
+    /// The sum, of two of one unit. `OutOfRange` carries the exact sum, exactly where it is outside -Q to Q.
     pub fn add(self, b: Qty) -> Result<Qty, ArithFault>
         ensures { AnswersExactly (self +ℤ b) result }
     {
         within(i128::from(self.value) + i128::from(b.value))
     }
 
-    /// The difference. `OutOfRange` carries the exact difference, exactly where it is outside -Q to Q.
+    /// The difference, of two of one unit. `OutOfRange` carries the exact difference, exactly where it is outside -Q to Q.
     pub fn sub(self, b: Qty) -> Result<Qty, ArithFault>
         ensures { AnswersExactly (self -ℤ b) result }
     {
         within(i128::from(self.value) - i128::from(b.value))
     }
 
-    /// The product. `OutOfRange` carries the exact product, exactly where it is outside -Q to Q.
+    /// The product, in the product of their units. `OutOfRange` carries the exact product, exactly where it is outside -Q to
+    /// Q.
     pub fn mul(self, b: Qty) -> Result<Qty, ArithFault>
         ensures { AnswersExactly (self *ℤ b) result }
     {
         within(i128::from(self.value) * i128::from(b.value))
     }
 
-    /// The floor of the exact quotient. `ZeroDivisor` exactly where b is 0. The quotient of two quantities is always
-    /// a quantity, so `OutOfRange` never comes.
+    /// The floor of the exact quotient, in the quotient of their units. `ZeroDivisor` exactly where b is 0. The quotient of
+    /// two quantities is always a quantity, so `OutOfRange` never comes.
     pub fn div(self, b: Qty) -> Result<Qty, ArithFault>
         ensures zero { (result ≡ Err ArithFault.ZeroDivisor) ↔ (b ≡ pos 0) }
         ensures floor { b ≢ pos 0 → AnswersExactly (floor_div self b) result }
@@ -174,7 +176,8 @@ impl Qty {
         })
     }
 
-    /// The floor of self * b / c, brought within -Q and Q, and 0 where c is 0. The product doesn't overflow.
+    /// The floor of self * b / c, in the unit that this has, brought within -Q and Q, and 0 where c is 0. The product
+    /// doesn't overflow.
     pub fn mul_div(self, b: Qty, c: Qty) -> Qty
         ensures { result ≡ mul_div self b c }
     {

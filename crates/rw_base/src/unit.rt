@@ -4,8 +4,9 @@ ghost use Rattle.rw_base.specs.Unit.{units, unit_in};
 
 use crate::Dim;
 
-/// The dimension of what is measured in a unit, and the unit's factor: how many of the base units m3, mm, timestep
-/// and kWh it is. A `dam3` is 1000 m3. `None` exactly where the table of units doesn't have the word.
+/// The dimension of what is measured in a unit, and the unit's factor, 1 to 10^6: how many of the base units m3, mm,
+/// timestep and kWh it is. A `dam3` is 1000 m3. `None` exactly where the table of units doesn't have the word;
+/// `docs/FORMATS.md` lists them under "Slots".
 pub fn unit_of(word: &str) -> Option<(Dim, i64)>
     ensures unit { result ≡ unit_in units word.now }
     ensures factor { IfSome result (λ unit. (pos 1 ≤ℤ unit.1) × (unit.1 ≤ℤ pos 1_000_000)) }

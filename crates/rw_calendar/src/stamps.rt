@@ -64,8 +64,9 @@ fn moments(
 }
 
 impl Stamps {
-    /// The stamps of so many steps of one length from a start on. The first fault that there is, in this order, is answered,
-    /// and want of memory only where there is no other.
+    /// The stamps of 1 to 4096 steps of one length, of 1, 6, 12 or 24 hours or a month, from a start on. The first fault
+    /// that there is, in this order, is answered: `BadStart`, `NotFirstOfMonth`, `BeyondYears`, and `NoMemory` only where
+    /// there is none of these. `docs/DEFINITIONS.md` has stamps under "Numbers".
     pub fn of(
         alloc: Global,
         start: Start,
@@ -123,7 +124,7 @@ impl Stamps {
         self.moments[usize::from(k)]
     }
 
-    /// The year in which step t begins, from 1 to 9999.
+    /// The year in which step t, from 1 to `count`, begins: 1 to 9999.
     pub fn year(&self, t: u16) -> i16
         requires first { 1 ≤ t }
         requires last { t ≤ self.now.count }
@@ -133,7 +134,7 @@ impl Stamps {
         self.moment(t - 1).year as i16
     }
 
-    /// The month in which step t begins, from 1 to 12.
+    /// The month in which step t, from 1 to `count`, begins: 1 to 12.
     pub fn month(&self, t: u16) -> u8
         requires first { 1 ≤ t }
         requires last { t ≤ self.now.count }
@@ -143,7 +144,7 @@ impl Stamps {
         self.moment(t - 1).month
     }
 
-    /// The day of the month on which step t begins, from 1 to 31.
+    /// The day of the month on which step t, from 1 to `count`, begins: 1 to 31.
     pub fn day(&self, t: u16) -> u8
         requires first { 1 ≤ t }
         requires last { t ≤ self.now.count }
@@ -153,7 +154,8 @@ impl Stamps {
         self.moment(t - 1).day
     }
 
-    /// The stamp of step t: the moment at which it ends, as `YYYY-MM-DDTHH:00`.
+    /// The stamp of step t, from 1 to `count`: the moment at which it ends, as `YYYY-MM-DDTHH:00`. The one error is want of
+    /// memory.
     pub fn text(&self, alloc: Global, t: u16) -> Result<String, NoMemory>
         requires first { 1 ≤ t }
         requires last { t ≤ self.now.count }

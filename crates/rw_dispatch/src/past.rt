@@ -27,9 +27,9 @@ fn past_of(basin: &Basin, object: ObjectNo) -> Option<(SlotNo, u16)>
     Some((slot, ago))
 }
 
-/// The cell of the earlier timestep at which a dispatch of an object looks: the storage of a reservoir at the timestep
-/// before, or the inflow of a reach as many timesteps ago as its lag. `None` exactly where it looks at none, or at one that
-/// is before the run.
+/// The cell of the earlier timestep at which a dispatch of an object looks: the storage of a reservoir or the content of a
+/// routed reach at the timestep before, or the inflow of a reach as many timesteps ago as its lag. Timesteps count from 1.
+/// `None` exactly where it looks at none, or at one that is before the run.
 pub fn past_cell(basin: &Basin, object: ObjectNo, step: StepNo) -> Option<Cell>
     requires object { IsObject basin.now.objects object.0 }
     requires first { 1 ≤ step.0 }

@@ -39,7 +39,7 @@ impl Model for Queue {
 }
 
 impl Queue {
-    /// A queue for a basin, in which no object waits. No other call takes memory.
+    /// A queue for a basin, in which no object waits. The one error is want of memory; no other call takes any.
     pub fn for_basin(alloc: Global, basin: &Basin) -> Result<Queue, NoMemory>
         ensures made { IfOk result (IsQueueOf basin.now) }
         ensures empty { IfOk result (λ queue. queue.waiting ≡ []) }

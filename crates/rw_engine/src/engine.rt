@@ -54,8 +54,9 @@ impl Model for Engine {
 }
 
 impl Engine {
-    /// The engine of a run whose inputs are placed, and no timestep opened. It shows the log of the inputs. It keeps a trace, and
-    /// notes at what each timestep looks, so that a record of it can be made.
+    /// The engine of a run whose inputs are placed, and no timestep opened. It shows the log of the inputs. It keeps a
+    /// trace, and notes at what each timestep looks, so that a record of it can be made. The one error is want of memory.
+    /// `docs/DEFINITIONS.md` says under "Runs" what a run is.
     pub fn for_run(
         alloc: Global,
         basin: &Basin,
@@ -74,7 +75,8 @@ impl Engine {
         Engine::for_reuse(alloc, basin, policy, inputs, true)
     }
 
-    /// The same, which keeps a trace where one is asked for, and notes timesteps in any case.
+    /// The same, which keeps a trace where one is asked for, and notes timesteps in any case. The one error is want of
+    /// memory.
     pub fn for_reuse(
         alloc: Global,
         basin: &Basin,
@@ -98,7 +100,8 @@ impl Engine {
         })
     }
 
-    /// The same without a trace: no line is kept, nothing is noted, and within a timestep no memory is taken.
+    /// The same without a trace: no line is kept, nothing is noted, and within a timestep no memory is taken. The one error
+    /// is want of memory.
     pub fn without_trace(
         alloc: Global,
         basin: &Basin,
@@ -213,7 +216,8 @@ impl Engine {
         self.state.take_back(basin, kept)
     }
 
-    /// Makes a cell, with those that share its value, hold an input, or nothing where none is given. It takes no memory.
+    /// Makes a cell, with those that share its value, hold an input, in the base units of the slot's dimension and within
+    /// its bounds, or nothing where none is given. It takes no memory.
     pub fn give(&mut self, basin: &Basin, cell: Cell, value: Option<Qty>)
         requires made { CanReplay basin.now self.old }
         requires cell { IsCell basin.now cell }

@@ -45,8 +45,9 @@ fn pass_all<L: Ledger, P: Pick>(
     Ok(engine.finish())
 }
 
-/// Runs all timesteps of a basin from its inputs, up to the last one or to a fault, and answers what the run comes to. Each
-/// opened timestep is counted.
+/// Runs all timesteps of a basin from its inputs, up to the last one or to a fault, and answers what the run comes to, as
+/// `docs/DEFINITIONS.md` says under "Runs". Each opened timestep is counted. A fault of the run is in the answer; the one
+/// error is want of memory.
 pub fn run_all<L: Ledger>(
     alloc: Global,
     basin: &Basin,
@@ -74,7 +75,7 @@ pub fn run_all<L: Ledger>(
     pass_all(engine, &setup, &Oldest, steps)
 }
 
-/// The same without a trace: what the run comes to but for its lines.
+/// The same without a trace: what the run comes to but for its lines. The one error is want of memory.
 pub fn run_without_trace<L: Ledger>(
     alloc: Global,
     basin: &Basin,
@@ -101,7 +102,8 @@ pub fn run_without_trace<L: Ledger>(
     pass_all(engine, &setup, &Oldest, steps)
 }
 
-/// Runs all timesteps as `run_all` does, but where it is picked which of the objects that wait is dispatched.
+/// Runs all timesteps as `run_all` does, but where it is picked which of the objects that wait is dispatched. The one error
+/// is want of memory.
 pub fn run_by<L: Ledger, P: Pick>(
     alloc: Global,
     basin: &Basin,

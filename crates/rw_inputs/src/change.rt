@@ -25,7 +25,8 @@ fn set_each(inputs: &mut Inputs, basin: &Basin, edits: &[Edit]) -> Result<(), No
 }
 
 /// The inputs after a batch of edits: where one of its edits names a cell, the value that it says or none, and elsewhere
-/// what was given. A removal of what isn't given changes nothing. The inputs themselves stay.
+/// what was given. A removal of what isn't given changes nothing. The inputs themselves stay. The one error is want of
+/// memory. `docs/FORMATS.md` has edits under "Edits".
 pub fn apply(
     alloc: Global,
     basin: &Basin,

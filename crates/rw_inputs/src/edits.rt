@@ -243,7 +243,7 @@ fn read_batches(
 /// first row with which something is wrong is refused, for the first thing that is wrong with it: `Ragged` where it hasn't
 /// four fields; `NotANumber`, `BatchOrder`, or `TooMany` past batch 64; then slot, timesteps and value as in `read_inputs`;
 /// `Twice` where an earlier row of its batch names one of its cells; `TooMany` from the 10,001st row on. `NoMemory` says
-/// nothing of the text.
+/// nothing of the text. `docs/FORMATS.md` has the rows under "Edits".
 pub fn read_edits(alloc: Global, basin: &Basin, text: &[u8]) -> Result<Vec<Batch>, InputFault>
     ensures answers { Answers InputFault.NoMemory refusal_of (λ batches. batches.items) result
         (edits_of basin.now text.now) }

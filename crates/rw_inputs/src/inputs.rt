@@ -80,8 +80,8 @@ impl Inputs {
         Ok(Inputs { columns })
     }
 
-    /// The value that is kept at a cell itself. `None` exactly where none is. Slots that carry one value have theirs at the
-    /// least of them.
+    /// The value that is kept at a cell itself, in the base units of its slot's dimension: m3, mm, m3/step, mm/step or kWh.
+    /// `None` exactly where none is. Slots that carry one value have theirs at the least of them.
     pub fn value(&self, c: Cell) -> Option<Qty>
         ensures { result ≡ value_at self.now c.slot.0 c.step.0 }
     {

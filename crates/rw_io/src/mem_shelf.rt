@@ -71,7 +71,8 @@ fn copy_from(bytes: &[u8], at: usize, buf: &mut [u8]) -> usize
 impl MemShelf {
     ghost use Rattle.rw_io.specs.MemShelf.{calls_of, failing_of, seen_of};
 
-    /// A shelf of these files by path, of which the calls with the given numbers are to fail.
+    /// A shelf of these files by path, of which the calls with the given numbers, counted from 1, are to fail. The one error
+    /// is want of memory, with which the files are dropped.
     pub fn of(
         alloc: Global,
         files: Vec<(String, Vec<u8>)>,

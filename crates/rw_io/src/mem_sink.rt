@@ -16,7 +16,7 @@ pub struct MemSink {
 impl MemSink {
     ghost use Rattle.rw_io.specs.MemSink.{calls_of, failing_of, seen_of};
 
-    /// An empty sink, of which the calls with the given numbers are to fail.
+    /// An empty sink, of which the calls with the given numbers, counted from 1, are to fail.
     pub fn of(alloc: Global, failing: Vec<u64>) -> MemSink
         ensures empty { (seen_of result).contents ≡ Some [] }
         ensures no_faults { (seen_of result).faults ≡ 0 }

@@ -39,7 +39,8 @@ fn keep(bytes: &mut Vec<u8>, piece: &[u8]) -> Result<(), ReadEnd>
     Ok(())
 }
 
-/// Reads the whole file of that path. After a refusal the file is left partly read.
+/// Reads the whole file of that path, of `FILE_MAX` bytes at most, in pieces of `PIECE_MAX` bytes. After a refusal the file
+/// is left partly read. `NoMemory` says nothing of the file.
 pub fn read_all<S: Shelf>(alloc: Global, shelf: &mut S, path: &str) -> Result<Vec<u8>, ReadEnd>
     // The whole file, where the shelf tells it, of at most `FILE_MAX` bytes.
     ensures whole { IfOk result

@@ -18,7 +18,8 @@ pub(crate) fn narrow(quantity: i128) -> i64
     quantity as i64
 }
 
-/// Adds a put that its slot can have, and that can be held where it is a storage; otherwise that is the answer.
+/// Adds a put to the slot in a place, of a value in the base units of its dimension and of a priority. `OutOfRange` where
+/// the slot can't have the value, or where it is a storage that the table doesn't have.
 #[inline(always)]
 pub fn ask(
     view: &View,
@@ -64,7 +65,7 @@ pub(crate) fn ask_found(
     }
 }
 
-/// Puts the term that was solved.
+/// Puts the term that was solved, if one was, in the base units of its slot's dimension. `OutOfRange` as of `ask`.
 #[inline(always)]
 pub fn ask_solved(
     view: &View,

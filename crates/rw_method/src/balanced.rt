@@ -9,7 +9,7 @@ pub enum Balanced {
     Solves {
         /// The place of its slot.
         place: u8,
-        /// The value.
+        /// The value, in the base units of its slot's dimension.
         value: i128,
         /// Its priority.
         number: u16,
@@ -18,7 +18,7 @@ pub enum Balanced {
     Conflicts {
         /// The place of the last term's slot.
         place: u8,
-        /// The value that is given there.
+        /// The value that is given there, in the base units of its slot's dimension.
         held: i128,
         /// The value that makes the balance true.
         solved: i128,

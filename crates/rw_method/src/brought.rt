@@ -23,7 +23,7 @@ fn parts_of(amount: i128, share: u16) -> i128
     times_share(amount, share).div_euclid(1000)
 }
 
-/// So many of a thousand parts of an amount, rounded down.
+/// So many of a thousand parts of an amount, rounded down, in the amount's own unit.
 pub fn per_mille(amount: i64, share: u16) -> i128
     ensures amount { result ≡ per_mille amount share }
     ensures bound { IsWithin 1 result }

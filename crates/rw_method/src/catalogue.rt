@@ -85,7 +85,8 @@ impl Catalogue {
         &self.methods[place]
     }
 
-    /// What a dispatch of an object answers: what the method of its kind does. It takes no memory.
+    /// What a dispatch of an object answers: what the method of its kind does. It takes no memory. `docs/DEFINITIONS.md` has
+    /// it under "How an object solves".
     pub fn solve(&self, kind: &Kind, view: &View) -> Solved
         requires order { AreInOrder (map (λ b. code b) self.now.methods.items) }
         requires balance { 1 ≤ code_of kind.now }

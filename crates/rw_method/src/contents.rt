@@ -96,7 +96,8 @@ fn contents_by(table: Option<&Rating>, basis: Basis) -> Option<Given>
     }
 }
 
-/// The contents as a term, which takes water and is put as the storage: what a storage or an elevation that is given gives.
+/// The contents in m3 as a term, which takes water and is put as the storage: what a storage in m3 or an elevation in mm
+/// that is given gives. `docs/DEFINITIONS.md` has it under "What a reservoir holds".
 #[inline(always)]
 pub fn stores(view: &View, table: Option<&Rating>) -> Term
     ensures { result ≡ stores (contents_by (option_map (λ rating. rating.now) table.entry)

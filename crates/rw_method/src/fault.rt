@@ -8,7 +8,7 @@ use crate::{Basis, Given, Solved, View};
 use rw_base::Qty;
 use rw_table::Rating;
 
-/// Where evaporation is chosen, the storage before has to have an elevation.
+/// What is wrong with the storage before, in m3: `OutOfRange` where evaporation is chosen and the table hasn't that storage.
 pub fn fault_of_past(evaporation: bool, table: Option<&Rating>, past: Option<Qty>) -> Option<Solved>
     ensures { result
         ≡ fault_of_past evaporation (option_map (λ rating. rating.now) table.entry) past }
@@ -87,7 +87,8 @@ fn disagreement(
     }
 }
 
-/// What is wrong with a storage and an elevation that are given: with the slot that gives the contents, or with both together.
+/// What is wrong with a storage in m3 and an elevation in mm that are given: with the slot that gives the contents,
+/// `OutOfRange`, or with both together, `Conflict`. `docs/DEFINITIONS.md` has it under "What a reservoir holds".
 #[inline(always)]
 pub fn fault_of_level(view: &View, table: Option<&Rating>) -> Option<Solved>
     ensures { result

@@ -1,7 +1,7 @@
 /// What a term of a balance is given as.
 #[derive(Clone, Copy, Debug, PartialEq, Eq)]
 pub struct Given {
-    /// Its value.
+    /// Its value, in the base units of its slot's dimension.
     pub value: i64,
     /// Its priority: a smaller number is stronger.
     pub number: u16,

@@ -58,7 +58,8 @@ fn ask_beside_given(
     ask_beside(view, table, puts, basis_of(storage, elevation))
 }
 
-/// Puts the elevation of a solved storage, or what stands beside given contents.
+/// Puts the elevation of a solved storage, in mm, or what stands beside given contents: an elevation in mm or a storage in
+/// m3. `OutOfRange` as of `ask`.
 #[inline(always)]
 pub fn ask_level(
     view: &View,

@@ -6,12 +6,12 @@ ghost use Rattle.rw_method.specs.Solve.{solve_of};
 use crate::{Solved, View};
 use rw_model::Kind;
 
-/// How the objects of one kind solve what they don't know.
+/// How the objects of one kind solve what they don't know, as `docs/DEFINITIONS.md` says under "How an object solves".
 pub trait Method: Drop {
     /// The number of the kind.
     ghost code: { Self → ℕ };
 
-    /// The number of the kind.
+    /// The number of the kind, as `Kind::code` has them.
     fn code(&self) -> u8
         ensures { result ≡ code self.now };
 

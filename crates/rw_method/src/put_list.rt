@@ -33,7 +33,7 @@ impl PutList {
         }
     }
 
-    /// Adds a put at the end.
+    /// Adds a put at the end. There is room for 8.
     pub fn push(&mut self, put: Put)
         requires { length self.old < 8 }
         ensures { self.new ≡ self.old ++ put ∷ [] }

@@ -45,7 +45,8 @@ fn quantity(value: i128) -> Qty
     }
 }
 
-/// Adds a put where its slot can have the value; otherwise that is the answer.
+/// Adds a put to the slot in a place, of a value in the base units of its dimension and of a priority. `OutOfRange` exactly
+/// where the slot can't have the value; then the puts stay as they were.
 #[inline(always)]
 pub fn add_put(
     view: &View,
@@ -72,8 +73,9 @@ pub fn add_put(
     Ok(())
 }
 
-/// The puts that an answer begins with: the solved term, if one is solved. Otherwise that is the answer: too little is
-/// known, the terms conflict, or the slot of the solved term can't have its value.
+/// The puts that an answer begins with: the solved term, if one is solved, in the base units of its slot's dimension. The
+/// error is the answer otherwise: `Idle` where too little is known, `Conflict` where the terms conflict, `OutOfRange` where
+/// the slot of the solved term can't have its value.
 #[inline(always)]
 pub fn begin_puts(view: &View, balanced: Balanced) -> Result<PutList, Solved>
     ensures ok { IfOk result (λ puts. puts ≡ solved_put balanced) }
@@ -112,7 +114,8 @@ pub fn begin_puts(view: &View, balanced: Balanced) -> Result<PutList, Solved>
     Ok(puts)
 }
 
-/// What is answered before puts are judged: too little is known, something is wrong with what is held, or the terms conflict.
+/// What is answered before puts are judged, if anything is: `Idle` where too little is known, else what is wrong with what
+/// is held, else the conflict of the terms, with its values in the base units of the slot.
 pub fn ended(balanced: Balanced, fault: Option<Solved>) -> Option<Solved>
     ensures { MatchOption result
         ((fit : Put → Bool) (puts : List Put)
@@ -138,7 +141,7 @@ pub fn ended(balanced: Balanced, fault: Option<Solved>) -> Option<Solved>
     }
 }
 
-/// What an object answers that puts the solved term and nothing else.
+/// What an object answers that puts the solved term and nothing else, in the base units of its slot's dimension.
 #[inline(always)]
 pub fn put_solved(view: &View, balanced: Balanced) -> Solved
     ensures { result ≡ answer (is_bounded view.entry.now) (solved_put balanced) balanced None }
@@ -164,7 +167,8 @@ fn held_by(content: Option<Content>) -> Given
     }
 }
 
-/// What a place holds once the balance is settled: what was just solved, or what is known, and 0 where nothing is.
+/// What a place holds once the balance is settled: what was just solved, or what is known, in the base units of its slot's
+/// dimension, and 0 where nothing is.
 pub fn known_after(view: &View, balanced: Balanced, place: u8) -> Given
     requires { AllFit (is_bounded view.now) (solved_put balanced) }
     ensures { result ≡ known_after view.entry.now balanced place }
@@ -192,7 +196,8 @@ fn given_by(put: Put) -> Given
     }
 }
 
-/// What a place holds after these puts: what one of them puts there, or what is known, and 0 where nothing is.
+/// What a place holds after these puts: what one of them puts there, or what is known, in the base units of its slot's
+/// dimension, and 0 where nothing is.
 pub fn held_after(view: &View, puts: &[Put], place: u8) -> Given
     ensures { result ≡ held_after_puts view.entry.now puts.now place }
 {

@@ -8,7 +8,7 @@ use crate::asking::ask;
 use crate::{Given, PutList, Solved, View};
 use rw_table::Rating;
 
-/// What is released of an outflow.
+/// What is released of an outflow, in m3/step: all of it up to the greatest release, `most`.
 pub fn released(outflow: i64, most: i64) -> i64
     ensures { result ≡ int_min outflow most }
 {
@@ -43,7 +43,8 @@ fn ask_parts(
     }
 }
 
-/// Puts the release and the spill of an outflow in these two places.
+/// Puts the release and the spill of an outflow, in m3/step, in these two places, where `most` is the greatest release.
+/// `OutOfRange` as of `ask`.
 pub fn ask_released(
     view: &View,
     table: Option<&Rating>,

@@ -157,11 +157,13 @@ fn settle_at(steady: i128, terms: &[Term], term: &Term) -> Balanced
     solves(steady, terms, term)
 }
 
-/// What the terms of a balance come to, beside what else is brought, in m3/step, where that is known.
+/// What the terms of a balance come to, at most three, beside what else is brought, in m3/step, where that is known: within
+/// 6 x 10^23.
 ///
-/// `Idle` where it isn't known, or where more than one term isn't given. A term that isn't given is solved from the
-/// others. Where all are given and the balance is false, the one of the greatest number is solved from the others, the
-/// last one in a tie; with number 0 the last one conflicts. A solved term has the greatest number of the others.
+/// `Idle` where it isn't known, or where more than one term isn't given. A term that isn't given is solved from the others.
+/// Where all are given and the balance is false, the one of the greatest number is solved from the others, the last one in a
+/// tie; with number 0 the last one conflicts. A solved term has the greatest number of the others. `docs/DEFINITIONS.md` has
+/// this under "The rules, in their order".
 #[inline(always)]
 pub fn settle(steady: Option<i128>, terms: &[Term]) -> Balanced
     requires few { length terms.now ≤ 3 }

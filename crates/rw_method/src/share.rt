@@ -21,7 +21,7 @@ impl Model for Seepage {
 }
 
 impl Seepage {
-    /// So many of a thousand parts.
+    /// So many of a thousand parts, 0 to 999.
     pub fn of(parts: u16) -> Seepage
         requires { parts ≤ 999 }
         ensures { result ≡ parts }
@@ -29,7 +29,7 @@ impl Seepage {
         Seepage { parts }
     }
 
-    /// How many of a thousand parts.
+    /// How many of a thousand parts, 0 to 999.
     pub fn get(self) -> u16
         ensures value { result ≡ self }
         ensures bound { result ≤ 999 }
@@ -57,7 +57,7 @@ impl Model for Release {
 }
 
 impl Release {
-    /// So many of a thousand parts.
+    /// So many of a thousand parts, 1 to 1000.
     pub fn of(parts: u16) -> Release
         requires some { 1 ≤ parts }
         requires most { parts ≤ 1000 }
@@ -66,7 +66,7 @@ impl Release {
         Release { parts }
     }
 
-    /// How many of a thousand parts.
+    /// How many of a thousand parts, 1 to 1000.
     pub fn get(self) -> u16
         ensures value { result ≡ self }
         ensures some { 1 ≤ result }

@@ -11,7 +11,7 @@ pub enum Solved {
     Conflict {
         /// The slot's place.
         place: u8,
-        /// The value that is there.
+        /// The value that is there, in the base units of the slot's dimension.
         held: i128,
         /// The value that the other slots give.
         solved: i128,
@@ -20,7 +20,7 @@ pub enum Solved {
     OutOfRange {
         /// The slot's place.
         place: u8,
-        /// The value.
+        /// The value, in the base units of the slot's dimension.
         value: i128,
     },
 }

@@ -13,14 +13,14 @@ pub struct View {
     pub own: ObjectNo,
     /// What stands in its slots at this timestep, by place. `None` where nothing does, and where it has no slot.
     pub now: [Option<Content>; 12],
-    /// Its storage or content at the timestep before, or a reach's inflow as many timesteps ago as its lag.
+    /// Its storage or content at the timestep before, in m3, or a reach's inflow as many timesteps ago as its lag, in m3/step.
     pub past: Option<Qty>,
-    /// The least and the greatest value of each slot, by place.
+    /// The least and the greatest value of each slot, by place, in the base units of its dimension.
     pub bounds: [(i64, i64); 12],
 }
 
 impl View {
-    /// What stands in a place, if it is known.
+    /// What stands in a place, its value in the base units of the slot's dimension, if it is known.
     pub fn known(&self, place: u8) -> Option<Content>
         ensures { result ≡ known self.entry.now place }
     {
@@ -30,7 +30,7 @@ impl View {
         }
     }
 
-    /// The value that stands in a place, if it is known.
+    /// The value that stands in a place, in the base units of the slot's dimension, if it is known.
     pub fn known_value(&self, place: u8) -> Option<i64>
         ensures { result ≡ known_value self.entry.now place }
     {
@@ -40,7 +40,8 @@ impl View {
         }
     }
 
-    /// What is given in a place: it is known there, and the object didn't write it itself.
+    /// What is given in a place, in the base units of the slot's dimension: it is known there, and the object didn't write
+    /// it itself.
     pub fn given(&self, place: u8) -> Option<Given>
         ensures { result ≡ given self.entry.now place }
     {

@@ -20,8 +20,9 @@ use crate::{Kind, Role, RunControl};
 use rw_base::{Dim, ObjectNo, Qty, SlotNo};
 use std::marker::Model;
 
-/// A valid basin, seen as what its builder was told. Objects are numbered from 1 in the order in which they were added,
-/// and slots from 1, object by object, in the order of their places. No call takes memory.
+/// A valid basin, seen as what its builder was told. Objects are numbered from 1 in the order in which they were added, and
+/// slots from 1, object by object, in the order of their places. All values are in the base units m3, mm, timestep and kWh.
+/// No call takes memory. `docs/DEFINITIONS.md` says under "Slots" when a basin is valid.
 #[derive(Drop)]
 pub struct Basin {
     pub(crate) control: RunControl,
@@ -64,7 +65,7 @@ impl Basin {
         self.objects.slot_count()
     }
 
-    /// How a run goes.
+    /// How a run goes: its timesteps, the order of its rules, and its limits.
     pub fn control(&self) -> &RunControl
         ensures { result.now ≡ self.now.control }
     {
@@ -90,7 +91,7 @@ impl Basin {
         self.objects.kind(o.0)
     }
 
-    /// The number of an object's kind.
+    /// The number of an object's kind, 0 to 9, as `Kind::code` has them.
     pub fn kind_code(&self, o: ObjectNo) -> u8
         requires { IsObject self.now.objects o.0 }
         ensures { option_map (λ object. code_of object.kind)
@@ -153,7 +154,7 @@ impl Basin {
         self.objects.slot(s.0).name()
     }
 
-    /// What a slot measures.
+    /// What a slot measures: the exponents of m3, mm, timestep and kWh.
     pub fn dim(&self, s: SlotNo) -> Dim
         requires { IsSlot self.now.objects s.0 }
         ensures { option_map (λ placed. placed.slot.dim)
@@ -162,7 +163,8 @@ impl Basin {
         self.objects.slot(s.0).dim()
     }
 
-    /// Whether inputs and rules can set a slot: all but those that a method derives.
+    /// Whether inputs and rules can set a slot: all but those that a method derives. `docs/DEFINITIONS.md` has the roles
+    /// under "Slots".
     pub fn settable(&self, s: SlotNo) -> bool
         requires { IsSlot self.now.objects s.0 }
         ensures { option_map (λ placed. is_settable placed.slot.role)
@@ -208,8 +210,9 @@ impl Basin {
         }
     }
 
-    /// The value of a slot at a timestep before the run, where step 0 is the last of them: the storage and the elevation
-    /// of a reservoir at step 0, and the inflows of a lagged reach at the steps of its history. `None` elsewhere.
+    /// The value of a slot at a timestep before the run, of which step 0 is the last one: Storage and Content at step 0, in
+    /// m3; PoolElevation at step 0, in mm; and the Inflow of a lagged reach at the steps of its history, in m3/step. `None`
+    /// elsewhere. `docs/DEFINITIONS.md` has it under "Slots".
     pub fn before(&self, s: SlotNo, step: i64) -> Option<Qty>
         requires { IsSlot self.now.objects s.0 }
         ensures { result ≡ before_of self.now.objects s.0 step }

@@ -45,7 +45,8 @@ impl Model for BasinBuilder {
 }
 
 impl BasinBuilder {
-    /// A basin with no object yet. `BadParameter` exactly where a limit is out of range, or rules may put neither 0 nor 30 ahead.
+    /// A basin with no object yet. `BadParameter` exactly where an object's limit isn't 16 to 100, a rule's not 1 to 100, or
+    /// rules may put neither 0 nor 30 timesteps ahead. No other fault comes.
     pub fn begin(alloc: Global, control: RunControl) -> Result<BasinBuilder, BuildFault>
         ensures begun { IfOk result
             (λ builder.
@@ -151,9 +152,10 @@ impl BasinBuilder {
 
     /// The basin of what was told.
     ///
-    /// `BadParameter` comes where there is no object, else `TooMany` with 1000000 where the slots have more values over
-    /// all timesteps, else `LinkBounds` where the bounds of linked slots leave them no value. `NoMemory` comes only where
-    /// none of these holds.
+    /// `BadParameter` comes where there is no object, else `TooMany` with 1000000 where the slots have more values over all
+    /// timesteps, else `LinkBounds` where the bounds of linked slots leave them no value. `NoMemory` comes only where none
+    /// of these holds. After each of them what was told is dropped. `docs/FORMATS.md` has all that is refused under "What is
+    /// wrong".
     pub fn finish(self) -> Result<Basin, BuildFault>
         ensures answers { Answers BuildFault.NoMemory refusal_of (λ basin. basin) result
             (finished self) }

@@ -2,7 +2,7 @@ ghost use Rattle.std.specs.Prelude.{◌≡◌};
 
 use std::marker::Model;
 
-/// The inflows of a lagged reach before the run, in m3/step, oldest first.
+/// The inflows of a lagged reach before the run, in m3/step, oldest first: the last one is that of timestep 0.
 #[derive(Debug, Drop)]
 pub struct History {
     inflows: Vec<i64>,
@@ -17,14 +17,14 @@ impl Model for History {
 }
 
 impl History {
-    /// The history of these inflows.
+    /// The history of these inflows, in m3/step, oldest first.
     pub fn of(inflows: Vec<i64>) -> History
         ensures { result ≡ inflows.items }
     {
         History { inflows }
     }
 
-    /// Its inflows.
+    /// Its inflows, in m3/step, oldest first.
     pub fn as_slice(&self) -> &[i64]
         ensures { result.now ≡ self.now }
     {

@@ -110,7 +110,8 @@ fn is_routed(initial_content: i64, release: u16) -> bool
     is_amount(initial_content) && 1 <= release && release <= 1000
 }
 
-/// Whether the kind's parameters are in range.
+/// Whether the kind's parameters are in range, in their base units; evaporation wants a table, and an initial storage is one
+/// that the table has. `docs/FORMATS.md` has the ranges under "`object`".
 pub fn is_kind(kind: &Kind) -> bool
     ensures kind { IsTrue result ↔ IsKind kind.now }
     ensures test { result ≡ is_kind kind.now }

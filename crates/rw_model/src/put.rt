@@ -24,7 +24,8 @@ fn is_same_object(held: Writer, new: Writer) -> bool
     }
 }
 
-/// What becomes of a put of a content to a cell, by what the cell holds.
+/// What becomes of a put of a content to a cell, by what the cell holds; both values are in the base units of one slot.
+/// `docs/DEFINITIONS.md` has the table under "Contents, and the put rules".
 pub fn put_end(held: Option<Content>, new: Content) -> PutEnd
     ensures { result ≡ end_of_put held new }
 {

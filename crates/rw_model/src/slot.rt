@@ -57,7 +57,7 @@ impl<'a> Slot<'a> {
         }
     }
 
-    /// A slot of a data object.
+    /// A slot of a data object, bound to -Q to Q in the base units of its dimension.
     pub fn data(name: &'a str, dim: Dim) -> Slot<'a>
         ensures { result ≡ of_range name.now dim Role.Neither all_quantities }
     {
@@ -71,7 +71,7 @@ impl<'a> Slot<'a> {
         Slot::of_range(name, dim(1, 0, 0), role, (0, QUANTITY_MAX))
     }
 
-    /// An amount of energy, in kWh.
+    /// An amount of energy, in kWh, bound to 0 to Q.
     pub fn energy(name: &'a str, role: Role) -> Slot<'a>
         ensures { result ≡ of_range name.now energy role from_zero }
     {
@@ -118,7 +118,7 @@ impl<'a> Slot<'a> {
         self.name
     }
 
-    /// What it measures.
+    /// What it measures: the exponents of m3, mm, timestep and kWh.
     pub fn dim(&self) -> Dim
         ensures { result ≡ self.now.dim }
     {
@@ -132,21 +132,21 @@ impl<'a> Slot<'a> {
         self.role
     }
 
-    /// The least and the greatest value that it can be bound to.
+    /// The least and the greatest value that it can be bound to, in the base units of its dimension.
     pub fn widest(&self) -> (i64, i64)
         ensures { result ≡ self.now.widest }
     {
         self.widest
     }
 
-    /// The least and the greatest value of one that has no bound of its own.
+    /// The least and the greatest value of one that has no bound of its own, in the base units of its dimension.
     pub fn usual(&self) -> (i64, i64)
         ensures { result ≡ self.now.usual }
     {
         self.usual
     }
 
-    /// Whether it can have these bounds: ordered, and within its widest.
+    /// Whether it can have these bounds, in the base units of its dimension: ordered, and within its widest.
     pub fn allows(&self, bounds: (i64, i64)) -> bool
         ensures { IsTrue result ↔ IsInside bounds self.now.widest }
     {

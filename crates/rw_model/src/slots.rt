@@ -166,7 +166,8 @@ fn of_routed_reach<'a>(place: u8) -> Option<Slot<'a>>
 }
 
 impl Kind {
-    /// Its slot in a place, counted from 0. `None` exactly where it has none there.
+    /// Its slot in a place, counted from 0. `None` exactly where it has none there. `docs/DEFINITIONS.md` has the table of
+    /// slots under "Slots".
     pub fn slot(&self, place: u8) -> Option<Slot<'_>>
         ensures { result ≡ slot_in self.now place }
     {

@@ -102,10 +102,11 @@ fn read_basin(alloc: Global, table: &Table) -> Result<Basin, ModelFault>
     finish(alloc, builder)
 }
 
-/// The basin that the bytes of a model's file say.
+/// The basin that the bytes of a model's file say, whose values are whole numbers of m3, mm, m3/step and kWh.
 ///
-/// A refusal is the first thing that is wrong, in the order in which the format judges, with the path of its key. Its
-/// inner fault is never a want of memory. `NoMemory` says nothing of the file.
+/// A refusal is the first thing that is wrong, in the order in which the format judges, with the path of its key. Its inner
+/// fault is never a want of memory. `NoMemory` says nothing of the file. `docs/FORMATS.md` has the keys and their ranges
+/// under "Model".
 pub fn read_model(alloc: Global, text: &[u8]) -> Result<Basin, ModelFault>
     ensures answers { Answers ModelFault.NoMemory refusal_of (λ basin. basin) result
         (model_of text.now) }

@@ -67,9 +67,10 @@ fn is_valid(basin: &Basin)
     let _count = basin.object_count();
 }
 
-/// Runs all timesteps of a basin from its inputs, without rules, where it is picked which of the objects that wait is dispatched, and
-/// answers what the run comes to: that of the log in which each dispatch is of the object in the place of the rule, one of
-/// those that wait. Where the order of dispatches is free in the basin and one order settles, this one does, with the same values.
+/// Runs all timesteps of a basin from its inputs, without rules, where it is picked which of the objects that wait is
+/// dispatched, and answers what the run comes to: that of the log in which each dispatch is of the object in the place of
+/// the rule, one of those that wait. Where the order of dispatches is free in the basin and one order settles, this one
+/// does, with the same values. The one error is want of memory. `docs/DEFINITIONS.md` has it under "Any order".
 pub fn run_any<P: Pick>(
     alloc: Global,
     basin: &Basin,

@@ -42,7 +42,7 @@ impl Model for Noted {
 }
 
 impl Noted {
-    /// No cell is noted. This takes room for a mark of each cell of the basin.
+    /// No cell is noted. This takes room for a mark of each cell of the basin; the one error is want of memory.
     pub fn for_basin(alloc: Global, basin: &Basin) -> Result<Noted, NoMemory>
         ensures { IfOk result (λ noted. noted ≡ Some []) }
     {
@@ -93,7 +93,7 @@ impl Noted {
         clear(&mut self.marks, self.slots, self.steps, &mut self.items);
     }
 
-    /// Notes a cell with what it holds, unless it is noted already.
+    /// Notes a cell with what it holds, unless it is noted already. After want of memory it isn't noted.
     pub fn note(&mut self, series: &Series, cell: Cell) -> Result<(), NoMemory>
         ensures noted { AddsNotes (held series.now) (cell ∷ []) self.old self.new result }
         ensures unchanged { IfErr result (λ _. self.new ≡ self.old) }
@@ -112,7 +112,7 @@ impl Noted {
         }
     }
 
-    /// Notes the cells of looks.
+    /// Notes the cells of looks. After want of memory some first ones of them are noted.
     pub fn note_looks(&mut self, series: &Series, looks: &[Look]) -> Result<(), NoMemory>
         ensures { AddsNotes (held series.now) (cells_looked looks.now) self.old self.new result }
     {
@@ -122,7 +122,7 @@ impl Noted {
         Ok(())
     }
 
-    /// Notes the cells of puts, each with all that share its value.
+    /// Notes the cells of puts, each with all that share its value. After want of memory some first ones of them are noted.
     pub fn note_reached(
         &mut self,
         basin: &Basin,

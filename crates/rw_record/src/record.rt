@@ -36,8 +36,9 @@ impl Model for StepRecord {
 }
 
 impl StepRecord {
-    /// The record of a timestep of which this is noted, and whose lines stand in the trace from this place on. `None` exactly
-    /// where it has too many cells or lines.
+    /// The record of a timestep of which this is noted, and whose lines stand in the trace from this place on. `None`
+    /// exactly where it has more than `MOST_KEPT` cells or lines. The one error is want of memory. `docs/DEFINITIONS.md`
+    /// says under "Reuse" what is kept.
     pub fn of(
         alloc: Global,
         step: StepNo,

@@ -208,7 +208,8 @@ fn push_holds(text: &mut String, content: Option<Content>) -> Result<(), NoMemor
 
 /// How a cell came to what it holds in the run of these inputs: a line `given` where they give its value, else a line for
 /// each put that was written to it or to a cell that shares its value with it, in order, with the timestep and who wrote it;
-/// and a last line on what it holds at the end. Of a trace that wasn't kept no put is told.
+/// and a last line on what it holds at the end. Values are in the base units of the slot's dimension. Of a trace that wasn't
+/// kept no put is told. The one error is want of memory. `docs/FORMATS.md` has the lines under "Why".
 pub fn why(
     alloc: Global,
     basin: &Basin,

@@ -198,7 +198,7 @@ impl<'a> Sheet<'a> {
         }
     }
 
-    /// What was told last. It takes no memory.
+    /// What was told last: the bytes of that section. It takes no memory.
     pub fn text(&self) -> &[u8]
         ensures { result.now ≡ self.now.text }
     {

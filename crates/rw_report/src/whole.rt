@@ -125,11 +125,12 @@ pub(crate) fn push_trace_if(
 }
 
 /// The text of the section of the batch of this number: a line on how its run ended; where timesteps are given that were run
-/// again, a line on them; a line of column names, and a line for each closed timestep with its number, the moment at which it
-/// ends and the values of all slots, in the base units of their dimensions and in the order of their numbers; with `flags` a
-/// table of who wrote each value and its priority; with `trace` what happened, line by line. What isn't asked for isn't made,
-/// and of a trace that wasn't kept no line is told. Every line ends in a line feed, and an unknown value is nothing. An object
-/// or a slot that a fault names and the basin doesn't have is written as nothing.
+/// again, a line on them; a line of column names, and a line for each closed timestep with its number, the moment at which
+/// it ends and the values of all slots, in the base units of their dimensions and in the order of their numbers; with
+/// `flags` a table of who wrote each value and its priority; with `trace` what happened, line by line. What isn't asked for
+/// isn't made, and of a trace that wasn't kept no line is told. Every line ends in a line feed, and an unknown value is
+/// nothing. An object or a slot that a fault names and the basin doesn't have is written as nothing. The one error is want
+/// of memory. `docs/FORMATS.md` has it under "Table" and "Reruns, flags and trace".
 pub fn section(
     alloc: Global,
     basin: &Basin,

@@ -30,8 +30,9 @@ pub struct Session<'a> {
 }
 
 impl<'a> Session<'a> {
-    /// Runs all timesteps of a basin from its inputs, up to the last one or to a fault. Each opened timestep is counted. The trace
-    /// is kept where it is asked for.
+    /// Runs all timesteps of a basin from its inputs, up to the last one or to a fault. Each opened timestep is counted. The
+    /// trace is kept where it is asked for. The one error is want of memory. `docs/DEFINITIONS.md` says under "Reuse" what
+    /// is taken over later.
     pub fn start<L: Ledger>(
         alloc: Global,
         basin: &'a Basin,

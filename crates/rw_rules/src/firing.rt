@@ -13,9 +13,10 @@ use rw_model::Basin;
 use rw_series::Series;
 use rw_writes::Writes;
 
-/// Lets a rule of verified code fire at a timestep of the run. What is told is the event that the definition makes of the firing,
-/// by what the cells hold; `writes` has what that event asks for and writes, and nothing of it is made yet. At what it looked is told with
-/// what the cells hold, at no more cells than the budget of its block allows. It takes no memory.
+/// Lets a rule of verified code fire at a timestep of the run, counted from 1. What is told is the event that the definition
+/// makes of the firing, by what the cells hold; `writes` has what that event asks for and writes, and nothing of it is made
+/// yet. At what it looked is told with what the cells hold, at no more cells than the budget of its block allows. It takes
+/// no memory.
 pub fn fire<'m>(
     machine: &'m mut Machine,
     writes: &mut Writes,

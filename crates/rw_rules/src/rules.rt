@@ -50,7 +50,7 @@ impl Model for Rules {
 }
 
 impl Rules {
-    /// The rules of verified code for a basin. No other call takes memory.
+    /// The rules of verified code for a basin. The one error is want of memory; no other call takes any.
     pub fn for_policy(alloc: Global, policy: &Verified, basin: &Basin) -> Result<Rules, NoMemory>
         requires { verified basin.now policy.now.blocks ≡ Ok policy.now }
         ensures { IfOk result (IsRulesOf basin.now policy.now) }
@@ -78,6 +78,7 @@ impl Rules {
     }
 
     /// The first rule that is due, in the order of the basin's agenda. `None` exactly where there is none.
+    /// `docs/DEFINITIONS.md` says under "Runs" when a rule is due.
     pub fn due(&self, series: &Series) -> Option<RuleNo>
         requires indexed { IsIndexed self.now.agenda (held series.now) }
         ensures known { IfSome result (λ rule. IsListed self.now.agenda rule.0) }
@@ -89,7 +90,7 @@ impl Rules {
         self.agenda.next(series)
     }
 
-    /// Lets a rule fire at a timestep. Nothing of what it writes is made yet.
+    /// Lets a rule fire at a timestep, counted from 1. Nothing of what it writes is made yet.
     pub fn fire(
         &mut self,
         policy: &Verified,

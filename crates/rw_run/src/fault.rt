@@ -40,7 +40,7 @@ pub enum RunFault {
         rule: RuleNo,
         /// The timestep.
         step: StepNo,
-        /// The value.
+        /// The value, in the base units of the slot's dimension, or of what was computed.
         value: i128,
     },
     /// An object was dispatched as often as it may be in a timestep, and would have been again.

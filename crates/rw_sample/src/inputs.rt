@@ -45,7 +45,8 @@ fn push_inflows(text: &mut String, seed: u64, count: u16) -> Result<(), NoMemory
     Ok(())
 }
 
-/// The text of the inputs that the seed gives: the inflow of D1 at each timestep, from 0 to 999 m3.
+/// The text of the inputs that the seed gives: the inflow of D1 at each timestep, from 0 to 999 m3/step. The one error is
+/// want of memory. `docs/FORMATS.md` has the sample under "Sample".
 #[tactic(auto, unfolding(crate::specs::Texts::sample_inputs))]
 pub fn sample_inputs(alloc: Global, seed: u64) -> Result<Vec<u8>, NoMemory>
     ensures text { IfOk result (λ text. text.items ≡ sample_inputs seed) }

@@ -40,7 +40,7 @@ fn push_line(
 
 /// The line on the run of the sample of a seed: how it ended, how many timesteps there are, how many dispatches and firings
 /// its trace tells, and the sum of the storages that are known at the last timestep, in m3. Of a trace that wasn't kept
-/// nothing is counted.
+/// nothing is counted. The one error is want of memory.
 pub fn sample_line(alloc: Global, basin: &Basin, seed: u64, run: &Run) -> Result<Vec<u8>, NoMemory>
     ensures text { IfOk result (λ text. text.items
         ≡ sample_line basin.now seed (outcome_of run.now)) }

@@ -27,7 +27,8 @@ fn push_rules(text: &mut String) -> Result<(), NoMemory>
     Ok(())
 }
 
-/// The text of the ruleset: a rule for each reservoir, by which it lets out what flows in, and 500 m3 a day at most.
+/// The text of the ruleset: a rule for each reservoir, by which it lets out what flows in, and 500 m3/step at most. The one
+/// error is want of memory.
 #[tactic(auto, unfolding(crate::specs::Texts::sample_rules))]
 pub fn sample_rules(alloc: Global) -> Result<Vec<u8>, NoMemory>
     ensures text { IfOk result (λ text. text.items ≡ sample_rules) }

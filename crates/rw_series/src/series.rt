@@ -58,7 +58,8 @@ fn is_written(end: &PutEnd) -> bool
 }
 
 impl Series {
-    /// A series for the slots and timesteps of a basin, in which every cell is unknown.
+    /// A series for the slots and timesteps of a basin, counted from 1, in which every cell is unknown. The one error is
+    /// want of memory.
     pub fn sized(alloc: Global, basin: &Basin) -> Result<Series, NoMemory>
         ensures made { IfOk result (IsSeriesOf basin.now) }
         ensures unknown { IfOk result (λ series. (cell : Cell) → held series cell ≡ None) }
@@ -77,7 +78,8 @@ impl Series {
         })
     }
 
-    /// What a cell holds. `None` exactly where it is unknown, or where the series has no such cell.
+    /// What a cell holds, its value in the base units of its slot's dimension. `None` exactly where it is unknown, or where
+    /// the series has no such cell.
     pub fn get(&self, c: Cell) -> Option<Content>
         ensures { result ≡ held self.now c }
     {
@@ -90,7 +92,7 @@ impl Series {
         )
     }
 
-    /// Its cells at one timestep. There are none where it has no such timestep.
+    /// Its cells at one timestep, counted from 1. There are none where it has no such timestep.
     pub fn at_step(&self, step: StepNo) -> StepCells<'_>
         ensures { (slot : Slot) → held result (record { slot = slot; step = record { 0 = 1 } })
             ≡ held self.now (record { slot = slot; step = step }) }
@@ -104,9 +106,10 @@ impl Series {
         )
     }
 
-    /// Puts a content to a cell. What becomes of that is as the put rules say of what the cell holds. Where it is
-    /// `Written`, the cell holds the content, and so does each cell of a slot that a link joins to its slot, at the same
-    /// timestep. Where it is `Kept` or `Denied`, nothing changes.
+    /// Puts a content to a cell, with its value in the base units of the slot's dimension. What becomes of that is as the
+    /// put rules say of what the cell holds (`docs/DEFINITIONS.md`, "Contents, and the put rules"). Where it is `Written`,
+    /// the cell holds the content, and so does each cell of a slot that a link joins to its slot, at the same timestep.
+    /// Where it is `Kept` or `Denied`, nothing changes.
     pub fn put(&mut self, basin: &Basin, c: Cell, new: Content) -> PutEnd
         requires made { IsSeriesOf basin.now self.old }
         requires cell { IsCell basin.now c }
@@ -122,8 +125,8 @@ impl Series {
         end
     }
 
-    /// Makes a cell hold a content, or be unknown, whatever it holds, and so each cell of a slot that a link joins to its
-    /// slot, at the same timestep.
+    /// Makes a cell hold a content, with its value in the base units of the slot's dimension, or be unknown, whatever it
+    /// holds, and so each cell of a slot that a link joins to its slot, at the same timestep.
     pub fn hold(&mut self, basin: &Basin, c: Cell, held: Option<Content>)
         requires made { IsSeriesOf basin.now self.old }
         requires cell { IsCell basin.now c }
@@ -142,7 +145,7 @@ impl Series {
         );
     }
 
-    /// The same series again.
+    /// The same series again. The one error is want of memory.
     pub fn copy(&self, alloc: Global) -> Result<Series, NoMemory>
         ensures { IfOk result (λ copy. copy ≡ self.now) }
     {

@@ -39,7 +39,8 @@ impl<'a> Model for StepCells<'a> {
 }
 
 impl<'a> StepCells<'a> {
-    /// What the cell of a slot holds. `None` exactly where it is unknown, or where there is no such cell.
+    /// What the cell of a slot holds, its value in the base units of the slot's dimension. `None` exactly where it is
+    /// unknown, or where there is no such cell.
     #[inline(always)]
     pub fn get(&self, slot: SlotNo) -> Option<Content>
         ensures { result ≡ held self.now (record { slot = slot; step = record { 0 = 1 } }) }

@@ -9,7 +9,8 @@ use crate::lookup::{elevation_at, volume_at};
 use std::alloc::Global;
 use std::marker::Model;
 
-/// A table of 2 to 200 rows, each an elevation in mm and the volume in m3 up to it, with both columns strictly rising.
+/// A table of 2 to 200 rows, each an elevation from 0 to 10^7 mm and the volume from 0 to 10^13 m3 up to it, with both
+/// columns strictly rising. `docs/DEFINITIONS.md` has it under "Numbers".
 #[derive(Debug, Drop)]
 pub struct Rating {
     rows: Vec<(i64, i64)>,
@@ -27,10 +28,10 @@ impl Model for Rating {
 }
 
 impl Rating {
-    /// The table of these rows, lowest first.
+    /// The table of these rows, lowest first, each an elevation in mm and a volume in m3.
     ///
-    /// A fault of the rows is answered as the first that is found: their number, and then, row by row from 1 on, the
-    /// row's bounds and that it is above the row before it. `NoMemory` comes only for rows that are a table.
+    /// A fault of the rows is answered as the first that is found: their number, and then, row by row from 1 on, the row's
+    /// bounds and that it is above the row before it. `NoMemory` comes only for rows that are a table.
     pub fn of(alloc: Global, rows: &[(i64, i64)]) -> Result<Rating, TableFault>
         ensures rows { IfOk result (λ rating. rating ≡ rows.now) }
         ensures table { OnOk result (IsTable rows.now) }
@@ -47,7 +48,8 @@ impl Rating {
         }
     }
 
-    /// The volume in m3 at an elevation of e mm, rounded down between two rows. `None` outside the table's elevations.
+    /// The volume in m3 at an elevation of e mm, on the line between the two rows around it, rounded down. `None` exactly
+    /// outside the table's elevations.
     pub fn vol(&self, e: i64) -> Option<i64>
         ensures volume { result ≡ vol_of self.now e }
         ensures table { IsTable self.now }
@@ -55,7 +57,7 @@ impl Rating {
         volume_at(&self.rows, e)
     }
 
-    /// The greatest whole elevation in mm whose volume is at most s m3. `None` outside the table's volumes.
+    /// The greatest whole elevation in mm whose volume is at most s m3. `None` exactly outside the table's volumes.
     pub fn elev(&self, s: i64) -> Option<i64>
         ensures elevation { result ≡ elev_of self.now s }
         ensures inside { ForSome result (IsElevationInside self.now) }

@@ -51,7 +51,8 @@ pub enum Refusal {
 impl Refusal {
     ghost use Rattle.rw_top.specs.Refusal.{refusal_after, status_of};
 
-    /// The status with which a program ends.
+    /// The status with which a program ends, 2 to 10: `docs/FORMATS.md` has them under "Statuses and lines on the error
+    /// stream".
     pub fn status(&self) -> u8
         ensures { result ≡ status_of self.now }
     {

@@ -187,7 +187,8 @@ fn command_named<'w>(
     command_in(alloc, found, job)
 }
 
-/// The command that the words ask for, if they ask for one.
+/// The command that the words ask for, and `None` where they ask for none: `docs/FORMATS.md` says under "Words" which do.
+/// The one error is want of memory, which says nothing of the words.
 pub fn read_words<'w>(alloc: Global, words: &'w [String]) -> Result<Option<Command<'w>>, NoMemory>
     ensures command { IfOk result (λ command. option_map command_seen command
         ≡ asked_command (texts_of words.entry.now)) }

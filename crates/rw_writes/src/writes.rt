@@ -36,7 +36,7 @@ impl Model for Writes {
 }
 
 impl Writes {
-    /// With room for the puts of any firing. No other call takes memory.
+    /// With room for the puts of any firing. The one error is want of memory; no other call takes any.
     pub fn with_room(alloc: Global) -> Result<Writes, NoMemory>
         ensures { IfOk result (λ writes. writes ≡ record { asked = []; written = [] }) }
     {
@@ -45,8 +45,8 @@ impl Writes {
         Ok(Writes { asked, written })
     }
 
-    /// Has those puts of a rule's firing at a timestep that are in the run, and those of them that are written, by what the cells
-    /// hold. A firing has at most `PUTS_MAX`.
+    /// Has those puts of a rule's firing at a timestep that are in the run, and those of them that are written, by what the
+    /// cells hold: `docs/DEFINITIONS.md` says under "Runs", at a firing, which these are. A firing has at most `PUTS_MAX`.
     pub fn judge(&mut self, basin: &Basin, series: &Series, r: RuleNo, t: StepNo, puts: &[RulePut])
         requires step { IsStep basin.now t.0 }
         requires can { All (CanAsk basin.now) puts.now }
