@@ -4,3 +4,4 @@ pub mod MomentsSoFar
 pub mod TextFacts
 pub mod TimestepFacts
 pub mod Refusals
+pub mod Answered

@@ -1,7 +1,8 @@
 -- The stamps of timesteps: where each step begins and ends, and how a moment is written.
 use Rattle.std.specs.Prelude.{◌≡◌, ℕ, zero, suc, ◌+◌, ◌-◌, ◌/◌, ◌%◌, ◌<◌, ◌≤◌, nat_lt, if◌then◌else◌, List, [], ◌∷◌, ◌++◌, length, slice_index_or, codes, Option, Some, None, Result}
 use Rattle.rw_calendar.specs.declared.limits.TheConstants.{STEPS_MAX}
-use Rattle.rw_base.specs.Answers.{unless_refused}
+use Rattle.std.specs.Result.{IsErrOf}
+use Rattle.rw_base.specs.Answers.{unless_refused, Answers}
 use Rattle.rw_calendar.specs.declared.fault.CalFault.{CalFault}
 use Rattle.rw_calendar.specs.declared.fault.CalFault.TheVariants.{BadStart, NotFirstOfMonth, BeyondYears, NoMemory}
 use Rattle.rw_calendar.specs.declared.start.Start.{Start}
@@ -71,6 +72,11 @@ stamps_refusal start length steps =
 -- their stamps
 abbrev pub stamps_of : Start → StepLength → ℕ → Result Timesteps CalRefusal
 stamps_of start length steps = unless_refused (stamps_refusal start length steps) (timesteps_of start length steps)
+
+-- what a call that stamps them answers: the stamps, or the fault that tells why there are none. Memory is wanting only where there are some
+pub record AnswersStamps (start : Start) (length : StepLength) (steps : ℕ) (result : Result Timesteps CalFault) : Type 0 where
+  pub answers : Answers NoMemory refusal_of (λ stamps. stamps) result (stamps_of start length steps)
+  pub no_memory : IsErrOf result NoMemory → CanBeStamped start length steps
 
 -- a moment so many step lengths after the start, of a year that dates are written with
 pub record IsMomentAfter (start : Moment) (step_length : StepLength) (k : ℕ) (m : Moment) : Type 0 where

@@ -1,14 +1,16 @@
 //! Laws: what the definitions of moments amount to. Each is a function that does nothing, and its contract is the law.
-ghost use Rattle.std.specs.Prelude.{◌≡◌, ◌≤◌, ◌↔◌, ℕ, ◌+◌, ◌*◌, pos, ◌+ℤ◌, None, Some};
+ghost use Rattle.std.specs.Prelude.{◌≡◌, ◌≤◌, ◌↔◌, ℕ, ◌+◌, ◌*◌, pos, ◌+ℤ◌, None, Some, Result, OnOk, IfOk, IsErrOf};
 ghost use Rattle.jiff.specs.Types.{DateTime};
 ghost use Rattle.jiff.specs.Words.{civil_nanos, epoch_day, add_months};
+ghost use Rattle.rw_calendar.specs.declared.fault.CalFault.{CalFault};
+ghost use Rattle.rw_calendar.specs.declared.fault.CalFault.TheVariants.{BadStart, NotFirstOfMonth, BeyondYears};
 ghost use Rattle.rw_calendar.specs.declared.step_length.StepLength.TheVariants.{Hours, Month};
 ghost use Rattle.rw_calendar.specs.Clock.{moment_at, IsOnTheHour, ShowsMoment};
 ghost use Rattle.rw_calendar.specs.declared.moment.Moment.{Moment};
 ghost use Rattle.rw_calendar.specs.Moment.{IsMoment, moment_on, next_month, next_day, next_hour, hours_later, months_later};
 ghost use Rattle.rw_calendar.specs.Start.{IsStart, moment_of};
 ghost use Rattle.rw_calendar.specs.StepLength.{CanBegin, moment_after};
-ghost use Rattle.rw_calendar.specs.Stamps.{AreTimesteps, CanBeStamped, EndsBeyondYears, bad_start, not_first_of_month, beyond_years, stamps_refusal, Timesteps, begin_of, end_of_step, timesteps_of};
+ghost use Rattle.rw_calendar.specs.Stamps.{AnswersStamps, AreTimesteps, CanBeStamped, EndsBeyondYears, bad_start, not_first_of_month, beyond_years, stamps_refusal, Timesteps, begin_of, end_of_step, timesteps_of};
 ghost use Rattle.rw_calendar.specs.declared.start.Start.{Start};
 ghost use Rattle.rw_calendar.specs.declared.step_length.StepLength.{StepLength};
 
@@ -53,6 +55,27 @@ pub fn refused_timesteps()
     ensures beyond { (start : Start) (length : StepLength) (steps : ℕ)
         → (stamps_refusal start length steps ≡ Some beyond_years)
         ↔ (IsStart start × CanBegin length (moment_of start)
+        × EndsBeyondYears (timesteps_of start length steps)) }
+{}
+
+/// What the clauses of `Stamps::of` come to: it answers these timesteps where it answers any, and only where they can be
+/// stamped, and each fault of the steps exactly where its words say.
+pub fn answered_timesteps()
+    ensures ok { (start : Start) (length : StepLength) (steps : ℕ)
+        (result : Result Timesteps CalFault) → AnswersStamps start length steps result
+        → IfOk result (λ stamps. stamps ≡ timesteps_of start length steps) }
+    ensures stamped { (start : Start) (length : StepLength) (steps : ℕ)
+        (result : Result Timesteps CalFault) → AnswersStamps start length steps result
+        → OnOk result (CanBeStamped start length steps) }
+    ensures bad_start { (start : Start) (length : StepLength) (steps : ℕ)
+        (result : Result Timesteps CalFault) → AnswersStamps start length steps result
+        → IsErrOf result BadStart ↔ (¬ IsStart start) }
+    ensures not_first { (start : Start) (length : StepLength) (steps : ℕ)
+        (result : Result Timesteps CalFault) → AnswersStamps start length steps result
+        → IsErrOf result NotFirstOfMonth ↔ (IsStart start × ¬ CanBegin length (moment_of start)) }
+    ensures beyond { (start : Start) (length : StepLength) (steps : ℕ)
+        (result : Result Timesteps CalFault) → AnswersStamps start length steps result
+        → IsErrOf result BeyondYears ↔ (IsStart start × CanBegin length (moment_of start)
         × EndsBeyondYears (timesteps_of start length steps)) }
 {}
 

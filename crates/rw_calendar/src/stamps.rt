@@ -1,12 +1,11 @@
 ghost use Rattle.rw_calendar.specs.declared.limits.TheConstants.{STEPS_MAX};
-ghost use Rattle.std.specs.Prelude.{◌≡◌, ◌↔◌, ◌+◌, ◌<◌, ◌≤◌, pos, unsigned_abs, OnOk, IfOk, IsErrOf, string_bytes};
+ghost use Rattle.std.specs.Prelude.{◌≡◌, ◌+◌, ◌≤◌, pos, unsigned_abs, IfOk, IsErrOf, string_bytes};
 ghost use Rattle.std.specs.Int.{IsInRange};
 ghost use Rattle.rw_base.specs.Answers.{Answers};
 ghost use Rattle.rw_calendar.specs.declared.fault.CalFault.TheVariants as CalFault;
 ghost use Rattle.rw_calendar.specs.Clock.{moment_at, IsOnTheHour};
-ghost use Rattle.rw_calendar.specs.Start.{IsStart, moment_of};
 ghost use Rattle.rw_calendar.specs.StepLength.{IsStepLength, CanBegin, moment_after};
-ghost use Rattle.rw_calendar.specs.Stamps.{AreTimesteps, Timesteps, EndsBeyondYears, CanBeStamped, IsMomentAfter, HasMoments, refusal_of, stamps_of, timesteps_of, begin_of, end_of_step, stamp_text};
+ghost use Rattle.rw_calendar.specs.Stamps.{AreTimesteps, Timesteps, CanBeStamped, IsMomentAfter, HasMoments, refusal_of, stamps_of, begin_of, end_of_step, stamp_text};
 
 use crate::later::{after, can_begin, first_moment, moment_shown};
 use crate::{CalFault, Moment, Start, StepLength};
@@ -73,18 +72,8 @@ impl Stamps {
         length: StepLength,
         steps: u16,
     ) -> Result<Stamps, CalFault>
-        requires some { 1 ≤ steps }
-        requires few { steps ≤ STEPS_MAX }
+        requires steps { IsInRange 1 STEPS_MAX steps }
         requires length { IsStepLength length }
-        ensures ok { IfOk result (λ stamps. stamps ≡ timesteps_of start length steps) }
-        ensures stamped { OnOk result (CanBeStamped start length steps) }
-
-        ensures bad_start { IsErrOf result CalFault.BadStart ↔ (¬ IsStart start) }
-        ensures not_first { IsErrOf result CalFault.NotFirstOfMonth
-            ↔ (IsStart start × ¬ CanBegin length (moment_of start)) }
-        ensures beyond { IsErrOf result CalFault.BeyondYears
-            ↔ (IsStart start × CanBegin length (moment_of start)
-            × EndsBeyondYears (timesteps_of start length steps)) }
         ensures answers { Answers CalFault.NoMemory refusal_of (λ stamps. stamps) result
             (stamps_of start length steps) }
         ensures no_memory { IsErrOf result CalFault.NoMemory → CanBeStamped start length steps }

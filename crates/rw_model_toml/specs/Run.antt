@@ -1,8 +1,10 @@
 -- What the table `run` says.
 use Rattle.std.specs.Prelude.{ℕ, List, [], ◌∷◌, Result, Ok, codes}
+use Rattle.std.specs.Int.{IsInRange}
 use Rattle.rw_calendar.specs.declared.limits.TheConstants.{STEPS_MAX}
 use Rattle.rw_calendar.specs.declared.start.Start.{Start}
 use Rattle.rw_calendar.specs.declared.step_length.StepLength.{StepLength}
+use Rattle.rw_calendar.specs.StepLength.{IsStepLength}
 use Rattle.rw_model.specs.declared.control.AgendaOrder.{AgendaOrder}
 use Rattle.toml.specs.Data.{Members}
 use Rattle.rw_model_toml.specs.declared.run.Run.{Run}
@@ -43,3 +45,10 @@ run_of table = do
     object_limit = object_limit;
     rule_limit = rule_limit;
   })
+
+-- steps of a length that there is, and counts in the ranges of their keys
+pub record IsRunInRange (run : Run) : Type 0 where
+  pub length : IsStepLength run.step_length
+  pub steps : IsInRange 1 STEPS_MAX run.steps
+  pub object_limit : IsInRange 16 100 run.object_limit
+  pub rule_limit : IsInRange 1 100 run.rule_limit

@@ -1,10 +1,8 @@
-ghost use Rattle.rw_calendar.specs.declared.limits.TheConstants.{STEPS_MAX};
-ghost use Rattle.std.specs.Prelude.{◌≤◌, IfOk};
-ghost use Rattle.std.specs.Int.{IsInRange};
+ghost use Rattle.std.specs.Prelude.{IfOk};
 ghost use Rattle.rw_calendar.specs.StepLength.{IsStepLength};
 ghost use Rattle.toml.specs.View.{table_view};
 ghost use Rattle.rw_model_toml.specs.Fault.{Gives};
-ghost use Rattle.rw_model_toml.specs.Run.{start_read, step_length_of, agenda_read, run_of};
+ghost use Rattle.rw_model_toml.specs.Run.{IsRunInRange, start_read, step_length_of, agenda_read, run_of};
 
 use crate::ModelFault;
 use crate::key::{optional_count, optional_text, required_count, required_text};
@@ -79,10 +77,7 @@ fn read_agenda(alloc: Global, table: &Table) -> Result<AgendaOrder, ModelFault>
 #[tactic(auto, unfolding(crate::specs::Run::run_of))]
 pub(crate) fn read_run(alloc: Global, table: &Table) -> Result<Run, ModelFault>
     ensures read { Gives (λ run. run) result (run_of (table_view table.now)) }
-    ensures length { IfOk result (λ run. IsStepLength run.step_length) }
-    ensures steps { IfOk result (λ run. IsInRange 1 STEPS_MAX run.steps) }
-    ensures object_limit { IfOk result (λ run. IsInRange 16 100 run.object_limit) }
-    ensures rule_limit { IfOk result (λ run. IsInRange 1 100 run.rule_limit) }
+    ensures in_range { IfOk result IsRunInRange }
 {
     let start = read_start(alloc, table)?;
     let step_length = read_step_length(alloc, table)?;

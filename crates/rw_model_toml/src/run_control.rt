@@ -1,9 +1,7 @@
-ghost use Rattle.rw_calendar.specs.declared.limits.TheConstants.{STEPS_MAX};
-ghost use Rattle.std.specs.Prelude.{◌≡◌, ◌⊎◌, ◌≤◌, IfOk};
-ghost use Rattle.std.specs.Int.{IsInRange};
-ghost use Rattle.rw_calendar.specs.StepLength.{IsStepLength};
+ghost use Rattle.std.specs.Prelude.{◌≡◌, ◌⊎◌, IfOk};
 ghost use Rattle.rw_model.specs.Draft.{IsControl};
 ghost use Rattle.rw_model_toml.specs.Fault.{Gives};
+ghost use Rattle.rw_model_toml.specs.Run.{IsRunInRange};
 ghost use Rattle.rw_model_toml.specs.Control.{ahead_in, control_of};
 
 use crate::ModelFault;
@@ -22,10 +20,7 @@ pub(crate) fn ahead_in(format: u16) -> u8
 
 /// How the run goes, with its stamps, where rules may put so many timesteps ahead.
 pub(crate) fn stamp_run(alloc: Global, ahead: u8, run: Run) -> Result<RunControl, ModelFault>
-    requires length { IsStepLength run.step_length }
-    requires steps { IsInRange 1 STEPS_MAX run.steps }
-    requires object_limit { IsInRange 16 100 run.object_limit }
-    requires rule_limit { IsInRange 1 100 run.rule_limit }
+    requires run { IsRunInRange run }
     requires ahead { (ahead ≡ 0) ⊎ (ahead ≡ 30) }
     ensures read { Gives (λ control. control) result (control_of ahead run) }
     ensures in_range { IfOk result IsControl }
