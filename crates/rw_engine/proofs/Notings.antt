@@ -96,27 +96,14 @@ ended_lines (Some why) state = refl
 
 -- ---- the cells of an object
 
-pub range_more : (a n : ℕ) → range_with_len a (suc n) ≡ range_with_len a n ++ (a + n) ∷ []
-range_more a zero = ap (λ k. k ∷ []) (omega arith)
-range_more a (suc n) = ap (λ xs. a ∷ xs) (range_more (a + 1) n ∙ ap (λ k. range_with_len (a + 1) n ++ k ∷ []) (omega arith))
+mapped : (h : Option ℕ → Option Cell) (g : ℕ → Option ℕ) (xs : List ℕ) → filter_map h (map g xs) ≡ filter_map (λ x. h (g x)) xs
+mapped h g [] = refl
+mapped h g (x ∷ xs) = ap (cons_option (h (g x))) (mapped h g xs)
 
-of_option : (cell : Option Cell) → cons_option cell [] ≡ if_cell cell
-of_option None = refl
-of_option (Some cell) = refl
-
-pub places_more : (f : ℕ → Option Cell) (n : ℕ) → filter_map f (range_with_len 0 n) ++ if_cell (f n) ≡ filter_map f (range_with_len 0 (n + 1))
-places_more f n =
-    ap (λ cells. filter_map f (range_with_len 0 n) ++ cells) (sym (of_option (f n)))
-    ∙ sym (filter_map-append f (range_with_len 0 n) (n ∷ []))
-    ∙ ap (filter_map f) (ap (λ k. range_with_len 0 n ++ k ∷ []) (omega arith) ∙ sym (range_more 0 n) ∙ ap (range_with_len 0) (sym (add-one n)))
-
-pub cell_of_slot : (slot : Option SlotNo) (number : Option ℕ) (step : ℕ) → option_map (λ (s : SlotNo). s.0) slot ≡ number
-    → option_map (λ (s : SlotNo). cell_at s.0 step) slot ≡ option_map (λ s. cell_at s step) number
-cell_of_slot slot number step is = by slot ∙ ap (option_map (λ s. cell_at s step)) is
-  where
-    by : (s : Option SlotNo) → option_map (λ (s : SlotNo). cell_at s.0 step) s ≡ option_map (λ s. cell_at s step) (option_map (λ (s : SlotNo). s.0) s)
-    by None = refl
-    by (Some s) = refl
+-- a row has the slots of an object by place
+pub row_is : (basin : Draft) (object step : ℕ)
+    → row_cells step (map (slot_in_place basin.objects object) places) ≡ filter_map (cell_in basin object step) places
+row_is basin object step = mapped (option_map (λ slot. cell_at slot step)) (slot_in_place basin.objects object) places
 
 -- the cells of looks at cells are those
 pub looked_at_cells : (cells : Cells) (at : List Cell) → cells_looked (looks_at cells at) ≡ at
