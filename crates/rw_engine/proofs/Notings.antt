@@ -1,13 +1,12 @@
 -- Noting at what an event looks, and what is known of that.
-use Rattle.rw_engine.proofs.Common.{RunFault, State, ended_by, Asked, Bool, Cell, Cells, Draft, Event, IsSome, List, None, Option, Some, [], add-one}
-use Rattle.rw_engine.proofs.Common.{ap, arith, cell_at, false, if◌then◌else◌, length, filter_map, filter_map-append, held_after, option_map}
-use Rattle.rw_engine.proofs.Common.{range_with_len, refl, subst, suc, sym, true, written_by, zero, ℕ, ℤ, ◌++◌, ◌+◌, ◌∙◌, ◌∷◌, ◌≡◌}
+use Rattle.rw_engine.proofs.Common.{RunFault, State, ended_by, Asked, Bool, Cell, Cells, Draft, Event, IsSome, List, None, Option, Some, []}
+use Rattle.rw_engine.proofs.Common.{ap, arith, cell_at, false, length, filter_map, held_after, option_map}
+use Rattle.rw_engine.proofs.Common.{refl, subst, sym, true, written_by, ℕ, ℤ, ◌++◌, ◌+◌, ◌∙◌, ◌∷◌, ◌≡◌}
 use Rattle.std.specs.Prelude.{Contains, Err, IfSome, IsErrAnd, Ok, Result, cond, is_some, ◌⊎◌}
-use Rattle.std.specs.List.{cons_option, filter}
+use Rattle.std.specs.List.{filter}
 use Rattle.std.proofs.lemmas.List.Elements.{Contains-append_cases, Contains-append_right}
 use Rattle.rw_base.proofs.Common.{inl, inr}
 use Rattle.rw_base.specs.declared.memory.NoMemory.{NoMemory}
-use Rattle.rw_base.specs.declared.number.SlotNo.{SlotNo}
 use Rattle.rw_dispatch.proofs.Asking.{looks_told}
 use Rattle.rw_method.specs.declared.solved.Solved.{Solved}
 use Rattle.rw_method.specs.declared.solved.Solved.TheVariants.{Idle, Puts, Conflict, OutOfRange}
@@ -15,7 +14,7 @@ use Rattle.rw_series.specs.Fire.{Fire}
 use Rattle.rw_series.specs.declared.fire.FireEnd.{FireEnd}
 use Rattle.rw_series.specs.declared.fire.FireEnd.TheVariants.{Done, Unknown, ZeroDivisor as DividesByZero, OutOfRange as EndsOutside}
 use Rattle.rw_series.specs.declared.look.Look.{Look}
-use Rattle.rw_run.specs.Dispatch.{answered, asked_for, denied_by, dispatch_of, dispatched, end_in, if_cell, is_written, judged, looked_cells}
+use Rattle.rw_run.specs.Dispatch.{answered, asked_for, denied_by, dispatch_of, dispatched, end_in, is_written, judged, looked_cells}
 use Rattle.rw_run.specs.Dispatch.{looks_at, looks_of, or_fault, solved_by}
 use Rattle.rw_run.specs.Next.{asked_of_rule, ended, is_put_again, last_ones}
 use Rattle.rw_run.specs.Frame.{IsFault, cells_looked}
@@ -93,17 +92,6 @@ ended_noted (Some why) state = refl
 pub ended_lines : (why : Option RunFault) (state : State) → (ended_by why state).lines ≡ state.lines
 ended_lines None state = refl
 ended_lines (Some why) state = refl
-
--- ---- the cells of an object
-
-mapped : (h : Option ℕ → Option Cell) (g : ℕ → Option ℕ) (xs : List ℕ) → filter_map h (map g xs) ≡ filter_map (λ x. h (g x)) xs
-mapped h g [] = refl
-mapped h g (x ∷ xs) = ap (cons_option (h (g x))) (mapped h g xs)
-
--- a row has the slots of an object by place
-pub row_is : (basin : Draft) (object step : ℕ)
-    → row_cells step (map (slot_in_place basin.objects object) places) ≡ filter_map (cell_in basin object step) places
-row_is basin object step = mapped (option_map (λ slot. cell_at slot step)) (slot_in_place basin.objects object) places
 
 -- the cells of looks at cells are those
 pub looked_at_cells : (cells : Cells) (at : List Cell) → cells_looked (looks_at cells at) ≡ at

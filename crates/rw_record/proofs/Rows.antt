@@ -2,10 +2,13 @@
 use Rattle.rw_record.proofs.Common.{Bool, Cell, Cells, Held, List, None, Option, Some, [], and_parts, ap, cell_at, false, if◌then◌else◌}
 use Rattle.rw_base.proofs.Common.{get_or}
 use Rattle.std.proofs.lemmas.List.Folds.{list_all-append}
-use Rattle.rw_record.proofs.Common.{drop, drop_more, is_noted, length, noted_after, option_map, refl, sym, take, take-append-drop, take_more, true}
+use Rattle.rw_record.proofs.Common.{Draft, drop, drop_more, is_noted, length, map, noted_after, option_map, refl, sym, take, take-append-drop}
+use Rattle.rw_record.proofs.Common.{take_more, true}
 use Rattle.rw_record.proofs.Common.{with_noted, ℕ, ◌&&◌, ◌+◌, ◌++◌, ◌<◌, ◌∙◌, ◌∷◌, ◌≡◌}
-use Rattle.std.specs.List.{list_all}
+use Rattle.std.specs.List.{cons_option, filter_map, list_all}
 use Rattle.std.proofs.lemmas.List.Elements.{filter_map-append}
+use Rattle.rw_model.specs.Objects.{slot_in_place}
+use Rattle.rw_run.specs.Dispatch.{cell_in, places}
 use Rattle.rw_record.specs.Noted.{row_cells}
 
 and_none : (a : Bool) → (a && false) ≡ false
@@ -53,3 +56,14 @@ module _ (p : Cell → Bool) (step : ℕ) (numbers : List (Option ℕ)) (at : �
       ∙ ap (λ rest. list_all p (row_cells step (take at numbers)) && rest)
       (list_all-append p (row_cells step one) (row_cells step (drop (at + 1) numbers)) ∙ rw now refl)
       ∙ and_none (list_all p (row_cells step (take at numbers)))
+
+-- ---- the cells of an object
+
+mapped : (h : Option ℕ → Option Cell) (g : ℕ → Option ℕ) (xs : List ℕ) → filter_map h (map g xs) ≡ filter_map (λ x. h (g x)) xs
+mapped h g [] = refl
+mapped h g (x ∷ xs) = ap (cons_option (h (g x))) (mapped h g xs)
+
+-- a row has the slots of an object by place
+pub row_is : (basin : Draft) (object step : ℕ)
+    → row_cells step (map (slot_in_place basin.objects object) places) ≡ filter_map (cell_in basin object step) places
+row_is basin object step = mapped (option_map (λ slot. cell_at slot step)) (slot_in_place basin.objects object) places

@@ -1,7 +1,8 @@
 use Rattle.rw_engine.proofs.Common.{ap, filter_map, held, places, subst, ◌∙◌, ◌≡◌}
 use Rattle.rw_run.specs.Dispatch.{cell_in}
 use Rattle.rw_record.specs.Noted.{AddsNotes, row_cells}
-use Rattle.rw_engine.proofs.Notings.{adds_all, row_is}
+use Rattle.rw_record.proofs.Rows.{row_is}
+use Rattle.rw_engine.proofs.Notings.{adds_all}
 use Rattle.rw_engine.proofs.noting.note_slots.Goals as goal
 
 pub returns : goal.returns
