@@ -1,13 +1,12 @@
 -- Noting at what an event looks, and what is known of that.
-use Rattle.rw_engine.proofs.Common.{RunFault, State, ended_by, Asked, Bool, Cell, Cells, Draft, Event, IsSome, List, None, Option, Some, [], add-one}
-use Rattle.rw_engine.proofs.Common.{ap, arith, cell_at, false, if◌then◌else◌, length, filter_map, filter_map-append, held_after, option_map}
-use Rattle.rw_engine.proofs.Common.{range_with_len, refl, subst, suc, sym, true, written_by, zero, ℕ, ℤ, ◌++◌, ◌+◌, ◌∙◌, ◌∷◌, ◌≡◌}
+use Rattle.rw_engine.proofs.Common.{RunFault, State, ended_by, Asked, Bool, Cell, Cells, Draft, Event, IsSome, List, None, Option, Some, []}
+use Rattle.rw_engine.proofs.Common.{ap, arith, cell_at, false, length, filter_map, held_after, option_map}
+use Rattle.rw_engine.proofs.Common.{refl, subst, sym, true, written_by, ℕ, ℤ, ◌++◌, ◌+◌, ◌∙◌, ◌∷◌, ◌≡◌}
 use Rattle.std.specs.Prelude.{Contains, Err, IfSome, IsErrAnd, Ok, Result, cond, is_some, ◌⊎◌}
-use Rattle.std.specs.List.{cons_option, filter}
+use Rattle.std.specs.List.{filter}
 use Rattle.std.proofs.lemmas.List.Elements.{Contains-append_cases, Contains-append_right}
 use Rattle.rw_base.proofs.Common.{inl, inr}
 use Rattle.rw_base.specs.declared.memory.NoMemory.{NoMemory}
-use Rattle.rw_base.specs.declared.number.SlotNo.{SlotNo}
 use Rattle.rw_dispatch.proofs.Asking.{looks_told}
 use Rattle.rw_method.specs.declared.solved.Solved.{Solved}
 use Rattle.rw_method.specs.declared.solved.Solved.TheVariants.{Idle, Puts, Conflict, OutOfRange}
@@ -15,7 +14,7 @@ use Rattle.rw_series.specs.Fire.{Fire}
 use Rattle.rw_series.specs.declared.fire.FireEnd.{FireEnd}
 use Rattle.rw_series.specs.declared.fire.FireEnd.TheVariants.{Done, Unknown, ZeroDivisor as DividesByZero, OutOfRange as EndsOutside}
 use Rattle.rw_series.specs.declared.look.Look.{Look}
-use Rattle.rw_run.specs.Dispatch.{answered, asked_for, denied_by, dispatch_of, dispatched, end_in, if_cell, is_written, judged, looked_cells}
+use Rattle.rw_run.specs.Dispatch.{answered, asked_for, denied_by, dispatch_of, dispatched, end_in, is_written, judged, looked_cells}
 use Rattle.rw_run.specs.Dispatch.{looks_at, looks_of, or_fault, solved_by}
 use Rattle.rw_run.specs.Next.{asked_of_rule, ended, is_put_again, last_ones}
 use Rattle.rw_run.specs.Frame.{IsFault, cells_looked}
@@ -93,30 +92,6 @@ ended_noted (Some why) state = refl
 pub ended_lines : (why : Option RunFault) (state : State) → (ended_by why state).lines ≡ state.lines
 ended_lines None state = refl
 ended_lines (Some why) state = refl
-
--- ---- the cells of an object
-
-pub range_more : (a n : ℕ) → range_with_len a (suc n) ≡ range_with_len a n ++ (a + n) ∷ []
-range_more a zero = ap (λ k. k ∷ []) (omega arith)
-range_more a (suc n) = ap (λ xs. a ∷ xs) (range_more (a + 1) n ∙ ap (λ k. range_with_len (a + 1) n ++ k ∷ []) (omega arith))
-
-of_option : (cell : Option Cell) → cons_option cell [] ≡ if_cell cell
-of_option None = refl
-of_option (Some cell) = refl
-
-pub places_more : (f : ℕ → Option Cell) (n : ℕ) → filter_map f (range_with_len 0 n) ++ if_cell (f n) ≡ filter_map f (range_with_len 0 (n + 1))
-places_more f n =
-    ap (λ cells. filter_map f (range_with_len 0 n) ++ cells) (sym (of_option (f n)))
-    ∙ sym (filter_map-append f (range_with_len 0 n) (n ∷ []))
-    ∙ ap (filter_map f) (ap (λ k. range_with_len 0 n ++ k ∷ []) (omega arith) ∙ sym (range_more 0 n) ∙ ap (range_with_len 0) (sym (add-one n)))
-
-pub cell_of_slot : (slot : Option SlotNo) (number : Option ℕ) (step : ℕ) → option_map (λ (s : SlotNo). s.0) slot ≡ number
-    → option_map (λ (s : SlotNo). cell_at s.0 step) slot ≡ option_map (λ s. cell_at s step) number
-cell_of_slot slot number step is = by slot ∙ ap (option_map (λ s. cell_at s step)) is
-  where
-    by : (s : Option SlotNo) → option_map (λ (s : SlotNo). cell_at s.0 step) s ≡ option_map (λ s. cell_at s step) (option_map (λ (s : SlotNo). s.0) s)
-    by None = refl
-    by (Some s) = refl
 
 -- the cells of looks at cells are those
 pub looked_at_cells : (cells : Cells) (at : List Cell) → cells_looked (looks_at cells at) ≡ at

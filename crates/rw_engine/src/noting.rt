@@ -1,16 +1,15 @@
 //! Noting at what an event looked, and what the puts reach that it asked for.
-ghost use Rattle.std.specs.Prelude.{◌≡◌, ◌++◌, IsSome, option_map};
+ghost use Rattle.std.specs.Prelude.{◌≡◌, ◌++◌, IsSome};
 ghost use Rattle.std.specs.List.{filter_map};
-ghost use Rattle.rw_base.specs.declared.number.SlotNo.{SlotNo as Slot};
 ghost use Rattle.rw_model.specs.Turn.{IsTurn};
 ghost use Rattle.rw_series.specs.Series.{held};
 ghost use Rattle.rw_dispatch.specs.Writes.{AreWrites};
-ghost use Rattle.rw_run.specs.Dispatch.{cell_at, cell_in, if_cell, looked_cells, places};
+ghost use Rattle.rw_run.specs.Dispatch.{cell_in, if_cell, looked_cells, places};
 ghost use Rattle.rw_run.specs.Frame.{cells_looked};
 ghost use Rattle.rw_run.specs.Step.{cells_reached};
 ghost use Rattle.rw_engine.specs.Noting.{NotesAll};
 
-use rw_base::{Cell, NoMemory, ObjectNo, SlotNo, StepNo};
+use rw_base::{Cell, NoMemory, ObjectNo, StepNo};
 use rw_dispatch::past_cell;
 use rw_model::Basin;
 use rw_record::Noted;
@@ -18,22 +17,13 @@ use rw_run::Write;
 use rw_series::{Look, Series};
 
 // Notes a cell, if there is one.
+#[inline(always)]
 fn note_cell(noted: &mut Noted, series: &Series, cell: Option<Cell>) -> Result<(), NoMemory>
     ensures { NotesAll (held series.now) (if_cell cell) noted.old noted.new result }
 {
     match cell {
         Some(cell) => noted.note(series, cell),
         None => Ok(()),
-    }
-}
-
-// The cell of a slot, if there is one.
-fn cell_of(slot: Option<SlotNo>, step: StepNo) -> Option<Cell>
-    ensures { result ≡ option_map (λ (slot : Slot). cell_at slot.0 step.0) slot }
-{
-    match slot {
-        Some(slot) => Some(Cell { slot, step }),
-        None => None,
     }
 }
 
@@ -49,11 +39,7 @@ fn note_slots(
     ensures { NotesAll (held series.now)
         (filter_map (cell_in basin.now object.0 step.0) places) noted.old noted.new result }
 {
-    for place in 0..12 {
-        let cell = cell_of(basin.slot_at(object, place), step);
-        note_cell(noted, series, cell)?;
-    }
-    Ok(())
+    noted.note_row(series, basin.row(object), step)
 }
 
 // Notes at what the dispatch of an object looked, and what the puts reach that it asked for.

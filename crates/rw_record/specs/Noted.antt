@@ -1,8 +1,9 @@
 -- Cells, each of them once, with what they held when they were noted.
-use Rattle.std.specs.Prelude.{◌≡◌, Bool, List, [], ◌∷◌, ◌++◌, map, Contains, Option, Some, None, IsSome, option_map, Result, Ok, Err, if◌then◌else◌}
-use Rattle.std.specs.List.{IsDistinct, list_any}
+use Rattle.std.specs.Prelude.{◌≡◌, ℕ, Bool, List, [], ◌∷◌, ◌++◌, map, Contains, Option, Some, None, IsSome, option_map, Result, Ok, Err, if◌then◌else◌}
+use Rattle.std.specs.List.{IsDistinct, filter_map, list_any}
 use Rattle.rw_base.specs.declared.number.Cell.{Cell}
 use Rattle.rw_base.specs.declared.memory.NoMemory.{NoMemory}
+use Rattle.rw_run.specs.Dispatch.{cell_at}
 use Rattle.rw_run.specs.Log.{Cells}
 use Rattle.rw_run.specs.Step.{is_same_cell}
 use Rattle.rw_run.specs.declared.held.Held.{Held}
@@ -27,6 +28,10 @@ abbrev pub noted_after : Cells → List Held → List Cell → List Held
 noted_after cells noted [] = noted
 noted_after cells noted (cell ∷ more) =
     noted_after cells (if is_noted noted cell then noted else noted ++ record { cell = cell; content = cells cell } ∷ []) more
+
+-- the cells that slots have at a timestep, by their numbers
+abbrev pub row_cells : ℕ → List (Option ℕ) → List Cell
+row_cells step numbers = filter_map (option_map (λ slot. cell_at slot step)) numbers
 
 -- ---- a list that may not be kept at all
 

@@ -1,5 +1,5 @@
 -- A closed timestep, as it is kept.
-use Rattle.std.specs.Prelude.{◌≡◌, ◌↔◌, ◌⊎◌, ℕ, ◌<◌, ◌≤◌, List, [], ◌∷◌, Contains, length, All}
+use Rattle.std.specs.Prelude.{◌≡◌, ◌↔◌, ◌⊎◌, ℕ, ◌<◌, ◌≤◌, List, [], ◌∷◌, Contains, length, max, min, All}
 use Rattle.rw_base.specs.declared.number.Cell.{Cell}
 use Rattle.rw_run.specs.Reuse.{most_kept}
 use Rattle.rw_run.specs.declared.held.Held.{Held}
@@ -19,6 +19,16 @@ IsBelow cell other = (cell.slot.0 < other.slot.0) ⊎ ((cell.slot.0 ≡ other.sl
 abbrev pub AreRisingCells : List Held → Type 0
 AreRisingCells [] = Unit {0}
 AreRisingCells (first ∷ rest) = All (λ (later : Held). IsBelow first.cell later.cell) rest × AreRisingCells rest
+
+-- the least timestep at which one of the cells is
+abbrev pub least_step : List Held → ℕ
+least_step [] = 65535
+least_step (one ∷ rest) = min one.cell.step.0 (least_step rest)
+
+-- the greatest one
+abbrev pub greatest_step : List Held → ℕ
+greatest_step [] = 0
+greatest_step (one ∷ rest) = max one.cell.step.0 (greatest_step rest)
 
 -- there are too many of these cells or lines to be kept
 abbrev pub IsLarge : List Held → List TraceEvent → Type 0

@@ -7,6 +7,7 @@ ghost use Rattle.rw_record.specs.Marks.{has_mark, is_cell_marked};
 use rw_base::Cell;
 
 /// Whether there is a mark for a cell, of so many slots and timesteps.
+#[inline(always)]
 pub(crate) fn has_mark(slots: u16, steps: u16, cell: Cell) -> bool
     ensures { result ≡ has_mark slots steps cell }
 {
@@ -14,6 +15,7 @@ pub(crate) fn has_mark(slots: u16, steps: u16, cell: Cell) -> bool
 }
 
 // The place of a mark, counted from 0.
+#[inline(always)]
 fn position(slots: u16, cell: Cell) -> usize
     requires slot { 1 ≤ cell.slot.0 }
     requires step { 1 ≤ cell.step.0 }
@@ -23,6 +25,7 @@ fn position(slots: u16, cell: Cell) -> usize
 }
 
 /// Whether a cell is marked.
+#[inline(always)]
 pub(crate) fn is_marked(marks: &[bool], slots: u16, steps: u16, cell: Cell) -> bool
     requires many { length marks.now ≡ slots * steps }
     requires there { IsTrue (has_mark slots steps cell) }
@@ -32,6 +35,7 @@ pub(crate) fn is_marked(marks: &[bool], slots: u16, steps: u16, cell: Cell) -> b
 }
 
 /// Marks a cell, or takes its mark away.
+#[inline(always)]
 pub(crate) fn set_mark(marks: &mut Vec<bool>, slots: u16, steps: u16, cell: Cell, mark: bool)
     requires many { vec_len marks.old ≡ slots * steps }
     requires there { IsTrue (has_mark slots steps cell) }

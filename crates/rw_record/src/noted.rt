@@ -1,4 +1,5 @@
 ghost use Rattle.std.specs.Prelude.{◌≡◌, ◌*◌, ◌∷◌, [], All, IfOk, IfErr, IsTrue, Some, None, if◌then◌else◌, is_some, map, option_map, vec_len};
+ghost use Rattle.std.specs.List.{list_all};
 ghost use Rattle.rw_base.specs.declared.number.Cell.{Cell};
 ghost use Rattle.rw_model.specs.Draft.{IsSlot};
 ghost use Rattle.rw_model.specs.Kept.{numbers_of};
@@ -8,7 +9,7 @@ ghost use Rattle.rw_run.specs.Frame.{cells_looked};
 ghost use Rattle.rw_run.specs.Step.{cells_reached, cells_with, is_same_cell};
 ghost use Rattle.rw_run.specs.declared.write.Write.{Write};
 ghost use Rattle.rw_record.specs.Marks.{KeepsMarks, has_mark, is_cell_marked};
-ghost use Rattle.rw_record.specs.Noted.{AddsNotes, AreOnce, is_noted, noted_after, noted_in};
+ghost use Rattle.rw_record.specs.Noted.{AddsNotes, AreOnce, is_noted, noted_after, noted_in, row_cells};
 
 use crate::marks::{has_mark, is_marked, set_mark};
 use rw_base::{Cell, NoMemory, SlotNo, StepNo};
@@ -94,6 +95,7 @@ impl Noted {
     }
 
     /// Notes a cell with what it holds, unless it is noted already. After want of memory it isn't noted.
+    #[inline(always)]
     pub fn note(&mut self, series: &Series, cell: Cell) -> Result<(), NoMemory>
         ensures noted { AddsNotes (held series.now) (cell ∷ []) self.old self.new result }
         ensures unchanged { IfErr result (λ _. self.new ≡ self.old) }
@@ -120,6 +122,56 @@ impl Noted {
             self.note(series, look.cell)?;
         }
         Ok(())
+    }
+
+    /// Notes the cells that slots have at a timestep, in the order in which their numbers stand. Where all of them are noted, as
+    /// those of an object that is dispatched again, that is told at once. After want of memory some first ones of them are noted.
+    pub fn note_row(
+        &mut self,
+        series: &Series,
+        numbers: &[Option<u16>],
+        step: StepNo,
+    ) -> Result<(), NoMemory>
+        ensures { AddsNotes (held series.now) (row_cells step.0 numbers.now) self.old self.new
+            result }
+    {
+        if are_noted(
+            self.marks.as_slice(),
+            self.slots,
+            self.steps,
+            self.items.as_slice(),
+            numbers,
+            step,
+        ) {
+            return Ok(());
+        }
+        for number in numbers {
+            self.note_number(series, *number, step)?;
+        }
+        Ok(())
+    }
+
+    // Notes the cell of a slot at a timestep, if there is a slot.
+    #[inline(always)]
+    fn note_number(
+        &mut self,
+        series: &Series,
+        number: Option<u16>,
+        step: StepNo,
+    ) -> Result<(), NoMemory>
+        ensures { AddsNotes (held series.now) (row_cells step.0 (number ∷ [])) self.old self.new
+            result }
+    {
+        match number {
+            Some(slot) => self.note(
+                series,
+                Cell {
+                    slot: SlotNo(slot),
+                    step,
+                },
+            ),
+            None => Ok(()),
+        }
     }
 
     /// Notes the cells of puts, each with all that share its value. After want of memory some first ones of them are noted.
@@ -173,6 +225,7 @@ fn is_same(cell: Cell, other: Cell) -> bool
 }
 
 // Whether a cell is one of these.
+#[cold]
 fn is_among(items: &[Held], cell: Cell) -> bool
     ensures { result ≡ is_noted items.now cell }
 {
@@ -185,6 +238,7 @@ fn is_among(items: &[Held], cell: Cell) -> bool
 }
 
 // Whether a cell is noted. A cell of the basin has a mark.
+#[inline(always)]
 fn is_noted(marks: &[bool], slots: u16, steps: u16, items: &[Held], cell: Cell) -> bool
     requires { KeepsMarks slots steps marks.now items.now }
     ensures { result ≡ is_noted items.now cell }
@@ -196,7 +250,56 @@ fn is_noted(marks: &[bool], slots: u16, steps: u16, items: &[Held], cell: Cell) 
     }
 }
 
+// Whether the cell of a slot at a timestep is noted, if there is a slot.
+#[inline(always)]
+fn is_number_noted(
+    marks: &[bool],
+    slots: u16,
+    steps: u16,
+    items: &[Held],
+    number: Option<u16>,
+    step: StepNo,
+) -> bool
+    requires { KeepsMarks slots steps marks.now items.now }
+    ensures { result ≡ list_all (is_noted items.now) (row_cells step.0 (number ∷ [])) }
+{
+    match number {
+        Some(slot) => is_noted(
+            marks,
+            slots,
+            steps,
+            items,
+            Cell {
+                slot: SlotNo(slot),
+                step,
+            },
+        ),
+        None => true,
+    }
+}
+
+// Whether the cells that slots have at a timestep are all noted.
+fn are_noted(
+    marks: &[bool],
+    slots: u16,
+    steps: u16,
+    items: &[Held],
+    numbers: &[Option<u16>],
+    step: StepNo,
+) -> bool
+    requires { KeepsMarks slots steps marks.now items.now }
+    ensures { result ≡ list_all (is_noted items.now) (row_cells step.0 numbers.now) }
+{
+    for number in numbers {
+        if !is_number_noted(marks, slots, steps, items, *number, step) {
+            return false;
+        }
+    }
+    true
+}
+
 // Adds a cell with what it holds, unless it is noted. After want of memory all is as it was.
+#[inline(always)]
 fn add(
     marks: &mut Vec<bool>,
     slots: u16,
@@ -232,6 +335,7 @@ fn clear(marks: &mut Vec<bool>, slots: u16, steps: u16, items: &mut Vec<Held>)
 }
 
 // Marks a cell, or takes its mark away, if there is a mark for it.
+#[inline(always)]
 fn mark_if(marks: &mut Vec<bool>, slots: u16, steps: u16, cell: Cell, mark: bool)
     requires { vec_len marks.old ≡ slots * steps }
     ensures many { vec_len marks.new ≡ slots * steps }

@@ -1,8 +1,8 @@
-ghost use Rattle.std.specs.Prelude.{◌≡◌, ◌↔◌, ◌||◌, nat_lt, IfOk, MatchOption, Contains, Some, drop, length};
+ghost use Rattle.std.specs.Prelude.{◌≡◌, ◌↔◌, ◌||◌, nat_lt, IfOk, MatchOption, Contains, Some, drop, length, max, min};
 ghost use Rattle.rw_run.specs.Trace.{lines_in};
 ghost use Rattle.rw_run.specs.declared.held.Held.{Held as WasHeld};
 ghost use Rattle.rw_record.specs.Noted.{AreOnce, noted_in};
-ghost use Rattle.rw_record.specs.Record.{AreRisingCells, IsLarge, IsRecordOf};
+ghost use Rattle.rw_record.specs.Record.{AreRisingCells, IsLarge, IsRecordOf, greatest_step, least_step};
 
 use crate::Noted;
 use rw_base::{Cell, NoMemory, StepNo};
@@ -18,6 +18,8 @@ pub const MOST_KEPT: usize = 6_000;
 #[derive(Drop)]
 pub struct StepRecord {
     step: StepNo,
+    first: StepNo,
+    last: StepNo,
     looked: Vec<Held>,
     lines: Trace,
 }
@@ -32,7 +34,9 @@ impl Model for StepRecord {
     ghost view = { λ r.
         record { step = r.step.0; looked = r.looked.items; lines = lines_in r.lines } };
 
-    ghost invariant = { λ r. r.lines ≡ Some (lines_in r.lines) };
+    ghost invariant = { λ r. (r.lines ≡ Some (lines_in r.lines))
+        × ((r.first.0 ≡ specs.least_step r.looked.items)
+        × (r.last.0 ≡ specs.greatest_step r.looked.items)) };
 }
 
 impl StepRecord {
@@ -57,6 +61,8 @@ impl StepRecord {
         let lines = lines_from(alloc, trace, from)?;
         Ok(Some(StepRecord {
             step,
+            first: StepNo(least_step(looked.as_slice())),
+            last: StepNo(greatest_step(looked.as_slice())),
             looked,
             lines,
         }))
@@ -74,6 +80,20 @@ impl StepRecord {
         ensures { result.now ≡ self.now.looked }
     {
         self.looked.as_slice()
+    }
+
+    /// The least timestep at which one of these cells is, and 65,535 where there is none.
+    pub fn first(&self) -> StepNo
+        ensures { result.0 ≡ least_step self.now.looked }
+    {
+        self.first
+    }
+
+    /// The greatest timestep at which one of these cells is, and 0 where there is none.
+    pub fn last(&self) -> StepNo
+        ensures { result.0 ≡ greatest_step self.now.looked }
+    {
+        self.last
     }
 
     /// Its lines.
@@ -102,6 +122,42 @@ fn rising(alloc: Global, cells: &[Held]) -> Result<Vec<Held>, NoMemory>
     let mut sorted = cells.to_vec(alloc)?;
     sorted.sort_unstable_by_key(|held| (held.cell.slot.0, held.cell.step.0));
     Ok(sorted)
+}
+
+// The least timestep at which one of the cells is.
+fn least_step(cells: &[Held]) -> u16
+    ensures { result ≡ least_step cells.now }
+{
+    let mut least = u16::MAX;
+    for one in cells {
+        least = lesser(least, one.cell.step.0);
+    }
+    least
+}
+
+// The greatest timestep at which one of the cells is.
+fn greatest_step(cells: &[Held]) -> u16
+    ensures { result ≡ greatest_step cells.now }
+{
+    let mut greatest = 0;
+    for one in cells {
+        greatest = greater(greatest, one.cell.step.0);
+    }
+    greatest
+}
+
+// The lesser of two numbers.
+fn lesser(one: u16, other: u16) -> u16
+    ensures { result ≡ min one other }
+{
+    if one < other { one } else { other }
+}
+
+// The greater of two numbers.
+fn greater(one: u16, other: u16) -> u16
+    ensures { result ≡ max one other }
+{
+    if one < other { other } else { one }
 }
 
 // The lines of a trace from a place on.

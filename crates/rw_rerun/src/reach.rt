@@ -1,9 +1,9 @@
 // From which timestep on cells are reached.
 ghost use Rattle.std.specs.Prelude.{◌≤◌};
-ghost use Rattle.rw_rerun.specs.Touched.{AreFrom, AreKeptOf, HoldFrom, IsFrom, ReachFrom};
+ghost use Rattle.rw_rerun.specs.Touched.{AreFrom, AreKeptOf, IsFrom, ReachFrom};
 
 use rw_base::Cell;
-use rw_engine::{Held, StepRecord};
+use rw_engine::StepRecord;
 
 /// The lesser of two timesteps.
 #[inline(always)]
@@ -24,24 +24,13 @@ fn least_named(cells: &[Cell]) -> u16
     least
 }
 
-// The least timestep at which a record holds a cell.
-fn least_held(looked: &[Held]) -> u16
-    ensures { HoldFrom result looked.now }
-{
-    let mut least = u16::MAX;
-    for one in looked {
-        least = lesser(least, one.cell.step.0);
-    }
-    least
-}
-
-// So of a timestep as it is kept, which is 0 where it isn't.
+// The least timestep at which a timestep holds a cell as it is kept, which is 0 where it isn't.
 fn least_in(entry: &Option<StepRecord>) -> u16
     ensures { IsFrom result entry.now }
 {
     match entry {
         None => 0,
-        Some(kept) => least_held(kept.looked()),
+        Some(kept) => kept.first().0,
     }
 }
 

@@ -130,23 +130,27 @@ fn is_one_among(looked: &[Held], slots: &[SlotNo], step: StepNo) -> bool
     false
 }
 
-// Whether a cell that shares its value with this one is one of these.
-fn is_reached(basin: &Basin, looked: &[Held], cell: Cell) -> bool
-    requires rising { AreRisingCells looked.now }
+// Whether a record holds a cell that shares its value with this one.
+fn is_reached(basin: &Basin, kept: &StepRecord, cell: Cell) -> bool
+    requires rising { AreRisingCells kept.now.looked }
     requires slot { IsSlot basin.now.objects cell.slot.0 }
-    ensures { result ≡ is_reached basin.now looked.now cell }
+    ensures { result ≡ is_reached basin.now kept.now.looked cell }
 {
-    is_one_among(looked, basin.group(cell.slot), cell.step)
+    // Most records hold no cell at its timestep.
+    if cell.step < kept.first() || kept.last() < cell.step {
+        return false;
+    }
+    is_one_among(kept.looked(), basin.group(cell.slot), cell.step)
 }
 
-// Whether one of these cells is reached.
-fn is_touched(basin: &Basin, looked: &[Held], cells: &[Cell]) -> bool
-    requires rising { AreRisingCells looked.now }
+// Whether it holds one of these cells, or one that shares its value with one of them.
+fn is_touched(basin: &Basin, kept: &StepRecord, cells: &[Cell]) -> bool
+    requires rising { AreRisingCells kept.now.looked }
     requires known { All (λ (cell : Cell). IsSlot basin.now.objects cell.slot.0) cells.now }
-    ensures { result ≡ list_any (is_reached basin.now looked.now) cells.now }
+    ensures { result ≡ list_any (is_reached basin.now kept.now.looked) cells.now }
 {
     for cell in cells {
-        if is_reached(basin, looked, *cell) {
+        if is_reached(basin, kept, *cell) {
             return true;
         }
     }
@@ -161,7 +165,7 @@ fn is_untouched(basin: &Basin, entry: &Option<StepRecord>, cells: &[Cell]) -> bo
 {
     match entry {
         None => false,
-        Some(kept) => !is_touched(basin, kept.looked(), cells),
+        Some(kept) => !is_touched(basin, kept, cells),
     }
 }
 
