@@ -1,4 +1,4 @@
-ghost use Rattle.std.specs.Prelude.{◌≡◌, ◌↔◌, ◌||◌, nat_lt, IfOk, MatchOption, Contains, Some, drop, length, max, min};
+ghost use Rattle.std.specs.Prelude.{◌≡◌, ◌↔◌, ◌||◌, nat_lt, IfOk, MatchOption, Contains, Some, drop, length};
 ghost use Rattle.rw_run.specs.Trace.{lines_in};
 ghost use Rattle.rw_run.specs.declared.held.Held.{Held as WasHeld};
 ghost use Rattle.rw_record.specs.Noted.{AreOnce, noted_in};
@@ -130,7 +130,7 @@ fn least_step(cells: &[Held]) -> u16
 {
     let mut least = u16::MAX;
     for one in cells {
-        least = lesser(least, one.cell.step.0);
+        least = least.min(one.cell.step.0);
     }
     least
 }
@@ -141,23 +141,9 @@ fn greatest_step(cells: &[Held]) -> u16
 {
     let mut greatest = 0;
     for one in cells {
-        greatest = greater(greatest, one.cell.step.0);
+        greatest = greatest.max(one.cell.step.0);
     }
     greatest
-}
-
-// The lesser of two numbers.
-fn lesser(one: u16, other: u16) -> u16
-    ensures { result ≡ min one other }
-{
-    if one < other { one } else { other }
-}
-
-// The greater of two numbers.
-fn greater(one: u16, other: u16) -> u16
-    ensures { result ≡ max one other }
-{
-    if one < other { other } else { one }
 }
 
 // The lines of a trace from a place on.
