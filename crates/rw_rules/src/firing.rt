@@ -23,20 +23,20 @@ pub fn fire<'m>(
     predefs: &Predefs,
     basin: &Basin,
     series: &Series,
-    r: RuleNo,
-    t: StepNo,
+    rule: RuleNo,
+    step: StepNo,
 ) -> Fired<'m>
-    requires turn { IsRuleTurn basin.now policy.now r.0 t.0 }
-    ensures event { firing_event basin.now policy.now (held series.now) r.0 t.0
-        ≡ Some (event_of_fired basin.now (held series.now) r.0 t.0 result) }
+    requires turn { IsRuleTurn basin.now policy.now rule.0 step.0 }
+    ensures event { firing_event basin.now policy.now (held series.now) rule.0 step.0
+        ≡ Some (event_of_fired basin.now (held series.now) rule.0 step.0 result) }
     ensures looked { looks_at (held series.now) (look_cells result.looked.now) ≡ result.looked.now }
-    ensures few { length result.looked.now ≤ most_looks policy.now r.0 }
-    ensures puts { HasPuts basin.now (event_of_fired basin.now (held series.now) r.0 t.0 result)
-        writes.new }
+    ensures few { length result.looked.now ≤ most_looks policy.now rule.0 }
+    ensures puts { HasPuts basin.now
+        (event_of_fired basin.now (held series.now) rule.0 step.0 result) writes.new }
 {
     accepted_code();
     answered_code_is_safe();
-    let fired = machine.fire(policy, predefs, basin, series, r, t);
-    writes.judge(basin, series, r, t, fired.puts);
+    let fired = machine.fire(policy, predefs, basin, series, rule, step);
+    writes.judge(basin, series, rule, step, fired.puts);
     fired
 }

@@ -47,16 +47,23 @@ impl Writes {
 
     /// Has those puts of a rule's firing at a timestep that are in the run, and those of them that are written, by what the cells
     /// hold. A firing has at most `PUTS_MAX`.
-    pub fn judge(&mut self, basin: &Basin, series: &Series, r: RuleNo, t: StepNo, puts: &[RulePut])
-        requires step { IsStep basin.now t.0 }
+    pub fn judge(
+        &mut self,
+        basin: &Basin,
+        series: &Series,
+        rule: RuleNo,
+        step: StepNo,
+        puts: &[RulePut],
+    )
+        requires step { IsStep basin.now step.0 }
         requires can { All (CanAsk basin.now) puts.now }
         requires few { length puts.now ≤ PUTS_MAX }
-        ensures asked { self.new.asked ≡ asked_of_rule basin.now r.0 t.0 puts.now }
+        ensures asked { self.new.asked ≡ asked_of_rule basin.now rule.0 step.0 puts.now }
         ensures written { self.new.written
-            ≡ writes_of basin.now (held series.now) r.0 t.0 puts.now }
+            ≡ writes_of basin.now (held series.now) rule.0 step.0 puts.now }
         ensures can { AreWrites basin.now self.new.asked × AreWrites basin.now self.new.written }
     {
-        ask_all(&mut self.asked, basin, r, t, puts);
+        ask_all(&mut self.asked, basin, rule, step, puts);
         keep_written(&mut self.written, basin, series, self.asked.as_slice());
     }
 
