@@ -93,23 +93,23 @@ impl Agenda {
     }
 
     /// At what a rule looked when it last fired, nothing if it hasn't.
-    pub fn looked(&self, r: RuleNo) -> &[Look]
-        requires { IsListed self.now r.0 }
-        ensures { result.now ≡ unwrap_or (looked_by self.now r.0) [] }
+    pub fn looked(&self, rule: RuleNo) -> &[Look]
+        requires { IsListed self.now rule.0 }
+        ensures { result.now ≡ unwrap_or (looked_by self.now rule.0) [] }
     {
-        self.rules[usize::from(r.0) - 1].looks()
+        self.rules[usize::from(rule.0) - 1].looks()
     }
 
     /// A rule fired, and looked at these cells, at no more than there is room for. What it looked at before is forgotten, and
     /// of no other rule anything changes.
-    pub fn fired(&mut self, r: RuleNo, looked: &[Look])
-        requires known { IsListed self.old r.0 }
-        requires few { length looked.now ≤ look_room self.old r.0 }
+    pub fn fired(&mut self, rule: RuleNo, looked: &[Look])
+        requires known { IsListed self.old rule.0 }
+        requires few { length looked.now ≤ look_room self.old rule.0 }
         ensures order { self.new.order ≡ self.old.order }
-        ensures rules { self.new.rules ≡ after_firing self.old r.0 looked.now }
-        ensures marked { KeepsOtherMarks r.0 self.old self.new }
+        ensures rules { self.new.rules ≡ after_firing self.old rule.0 looked.now }
+        ensures marked { KeepsOtherMarks rule.0 self.old self.new }
     {
-        let place = r.0 - 1;
+        let place = rule.0 - 1;
         let last = &self.rules[usize::from(place)];
         self.index
             .watch_all(place, last.looks(), last.most(), looked);

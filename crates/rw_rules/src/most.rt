@@ -11,16 +11,16 @@ use rw_model::Basin;
 use std::alloc::Global;
 
 // How often a rule looks at most.
-fn reads_of(policy: &Verified, basin: &Basin, r: RuleNo) -> u32
+fn reads_of(policy: &Verified, basin: &Basin, rule: RuleNo) -> u32
     requires fits { verified basin.now policy.now.blocks ≡ Ok policy.now }
-    requires exists { r.0 ≤ count_alike RuleHead policy.now.blocks }
-    requires counted { 1 ≤ r.0 }
-    ensures { result ≡ most_looks policy.now r.0 }
+    requires exists { rule.0 ≤ count_alike RuleHead policy.now.blocks }
+    requires counted { 1 ≤ rule.0 }
+    ensures { result ≡ most_looks policy.now rule.0 }
 {
     accepted_code();
     answered_code_is_safe();
     let _objects = basin.object_count();
-    policy.budget(policy.rule_block(r)).reads as u32
+    policy.budget(policy.rule_block(rule)).reads as u32
 }
 
 /// How often each rule of verified code looks at most, of rule 1 first: each at most 20,000 times. The one error is want of

@@ -97,15 +97,15 @@ impl Rules {
         predefs: &Predefs,
         basin: &Basin,
         series: &Series,
-        r: RuleNo,
-        t: StepNo,
+        rule: RuleNo,
+        step: StepNo,
     ) -> RuleFired
-        requires turn { IsRuleTurn basin.now policy.now r.0 t.0 }
+        requires turn { IsRuleTurn basin.now policy.now rule.0 step.0 }
         requires made { IsRulesOf basin.now policy.now self.old }
         ensures made { IsRulesOf basin.now policy.now self.new }
-        ensures told { Told basin.now policy.now (held series.now) r.0 t.0 result self.new }
+        ensures told { Told basin.now policy.now (held series.now) rule.0 step.0 result self.new }
         ensures can { AreWrites basin.now self.new.written }
-        ensures keeps { FiredOn policy.now (held series.now) r.0 self.old self.new }
+        ensures keeps { FiredOn policy.now (held series.now) rule.0 self.old self.new }
     {
         index_stays();
         let fired = fire(
@@ -115,10 +115,10 @@ impl Rules {
             predefs,
             basin,
             series,
-            r,
-            t,
+            rule,
+            step,
         );
-        self.agenda.fired(r, fired.looked);
+        self.agenda.fired(rule, fired.looked);
         RuleFired {
             end: fired.end,
             count: fired.count,
@@ -127,19 +127,20 @@ impl Rules {
 
     /// Writes the puts of the last firing, wakes the objects that they reach, and marks the rules: as the event of that firing leaves
     /// them at its timestep.
-    pub fn write(&mut self, basin: &Basin, series: &mut Series, queue: &mut Queue, t: StepNo)
+    pub fn write(&mut self, basin: &Basin, series: &mut Series, queue: &mut Queue, step: StepNo)
         requires can { AreWrites basin.now self.old.written }
         requires made { IsStageOf basin.now (stage series.old queue.old) }
         ensures made { IsStageOf basin.now (stage series.new queue.new) }
         ensures keeps { WrittenOn (held series.old) (held series.new) self.old self.new }
-        ensures leaves { (firing : Firing) → firing.written ≡ self.old.written → firing.step ≡ t.0
+        ensures leaves { (firing : Firing) → firing.written ≡ self.old.written
+            → firing.step ≡ step.0
             → Leaves basin.now (fired firing) (stage series.old queue.old)
             (stage series.new queue.new) }
     {
         index();
         let writes = self.writes.written();
         make(basin, series, writes);
-        queue.wake_written(basin, t, writes, None);
+        queue.wake_written(basin, step, writes, None);
         mark(basin, &mut self.agenda, writes);
     }
 
@@ -155,11 +156,11 @@ impl Rules {
     }
 
     /// At what a rule looked when it last fired, nothing if it hasn't.
-    pub fn looked(&self, r: RuleNo) -> &[Look]
-        requires { IsListed self.now.agenda r.0 }
-        ensures { result.now ≡ unwrap_or (looked_by self.now.agenda r.0) [] }
+    pub fn looked(&self, rule: RuleNo) -> &[Look]
+        requires { IsListed self.now.agenda rule.0 }
+        ensures { result.now ≡ unwrap_or (looked_by self.now.agenda rule.0) [] }
     {
-        self.agenda.looked(r)
+        self.agenda.looked(rule)
     }
 
     /// What the last firing asks for in the run's timesteps, written or not.

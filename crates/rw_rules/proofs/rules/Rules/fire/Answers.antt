@@ -12,7 +12,7 @@ returns-clause-told g c = record {
   event = c.fire-fired.ensures.event;
   end = refl;
   count = refl;
-  looked = looked_after c.self.inside.agenda c.fired.new.self c.args.r.0 c.fire-fired.result.looked.now (search rules) c.fired.ensures.rules
+  looked = looked_after c.self.inside.agenda c.fired.new.self c.args.rule.0 c.fire-fired.result.looked.now (search rules) c.fired.ensures.rules
       ∙ ap (λ looks. Some looks) (sym c.fire-fired.ensures.looked);
   asked = c.fire-fired.ensures.puts.asked;
   can_ask = c.fire-fired.ensures.puts.can_ask;
@@ -22,7 +22,7 @@ returns-clause-told g c = record {
 pub returns-clause-keeps : goal.returns-clause-keeps
 returns-clause-keeps g c = record {
   indexed = λ indexed.
-      c.index_stays.ensures.fired c.self.inside.agenda c.fired.new.self (held c.args.series.now) c.args.r.0 c.fire-fired.result.looked.now
+      c.index_stays.ensures.fired c.self.inside.agenda c.fired.new.self (held c.args.series.now) c.args.rule.0 c.fire-fired.result.looked.now
       (search rules)
       (search rules)
       (subst (λ looks. is_changed (held c.args.series.now) (Some looks) ≡ false) c.fire-fired.ensures.looked
@@ -30,6 +30,6 @@ returns-clause-keeps g c = record {
       c.fired.ensures.rules c.fired.ensures.marked;
   shows =
       λ log firing same looked shows. shows_more c.args.policy.now c.args.self.now
-      (record { agenda = c.fired.new.self; asked = c.fire-fired.new.writes.asked; written = c.fire-fired.new.writes.written }) c.args.r.0
+      (record { agenda = c.fired.new.self; asked = c.fire-fired.new.writes.asked; written = c.fire-fired.new.writes.written }) c.args.rule.0
       c.fire-fired.result.looked.now log firing c.requires.turn.first (search rules) same looked shows;
 }
