@@ -17,6 +17,5 @@ mod Moved
 mod Plain
 mod Price
 mod Ranges
-mod Silent
 mod Stepping
 mod Straight

@@ -13,8 +13,8 @@ use Rattle.rw_run.specs.Policy.{CanAsk}
 use Rattle.rpl_code.specs.declared.block.Block.{Block}
 use Rattle.rpl_code.specs.declared.instruction.Instruction.{Instruction}
 use Rattle.rpl_code.specs.declared.instruction.Instruction.TheVariants as I
-use Rattle.rpl_tree.proofs.Common.{Answer, Outcome, Trail, Value, World, a_date, a_number, a_slot, a_truth, bounds_at, can_set, ended, fire_of, gives}
-use Rattle.rpl_tree.proofs.Common.{goes_on, is_stuck, is_within, numbers, put_of, slots, stuck, value, with_elements, within_or_end, ◌>>=◌}
+use Rattle.rpl_tree.proofs.Common.{Answer, Outcome, Trail, Value, World, a_number, a_truth, bounds_at, can_set, ended, fire_of, gives, goes_on}
+use Rattle.rpl_tree.proofs.Common.{is_stuck, is_within, put_of, stuck, value, with_elements, within_or_end, ◌>>=◌}
 use Rattle.rpl_tree.specs.World.{can_put_ahead, is_settable_slot, put_ahead}
 use Rattle.rpl_tree.proofs.PutsAhead.{is_near}
 use Rattle.rpl_tree.specs.Operators.{elements_of}
@@ -27,7 +27,7 @@ use Rattle.rpl_verify.specs.Machine.{step_in, stored, turned, with_made, yielded
 use Rattle.rpl_verify.specs.Operations.{kind_of, kinds_of, operation}
 use Rattle.rpl_verify.specs.Places.{Loop, is_same_loop, mapping, visiting}
 use Rattle.rpl_verify.specs.Table.{operand_count, operands_behind}
-use Rattle.rpl_policy.proofs.QuietOperations.{Quiet, operation_quiet}
+use Rattle.rpl_verify.proofs.QuietOperations.{puts_nothing}
 
 -- ---- a put
 
@@ -63,8 +63,8 @@ module _ (basin : Draft) where
   abbrev pub Asks : {A : Type 0} → Outcome A → Type 0
   Asks r = All (CanAsk basin) r.trail.puts
 
-  nothing : {A : Type 0} (r : Outcome A) → Quiet r → Asks r
-  nothing r quiet = subst (λ (puts : List RulePut). All (CanAsk basin) puts) (sym quiet) (All-nil (CanAsk basin))
+  nothing : {A : Type 0} (r : Outcome A) → r.trail.puts ≡ [] → Asks r
+  nothing r none = subst (λ (puts : List RulePut). All (CanAsk basin) puts) (sym none) (All-nil (CanAsk basin))
 
   on : {A B : Type 0} (a : Answer A) (t : Trail) (f : A → Outcome B) → All (CanAsk basin) t.puts → ((x : A) → Asks (f x)) → Asks (goes_on a t f)
   on (value x) t f asks later = All-append (CanAsk basin) t.puts (f x).trail.puts asks (later x)
@@ -88,8 +88,7 @@ module _ (basin : Draft) where
       by true true false can near within = All-nil (CanAsk basin)
       by true false w can near within = All-nil (CanAsk basin)
       by false n w can near within = All-nil (CanAsk basin)
-  put_asks (Some s) ahead _ = All-nil (CanAsk basin)
-  put_asks None ahead v = All-nil (CanAsk basin)
+  put_asks _ ahead _ = All-nil (CanAsk basin)
 
   module _ (values : Cell → Option ℤ) (now : ℕ) (code : List Block) where
     abbrev w : World
@@ -111,12 +110,7 @@ module _ (basin : Draft) where
     branched_asks : (x : Block) (to : ℕ) (vs : List Value) (f : Frame) → Asks (branched x to vs f)
     branched_asks x to (a_truth true ∷ vs) f = All-nil (CanAsk basin)
     branched_asks x to (a_truth false ∷ vs) f = jumped_asks _ to vs f
-    branched_asks x to (a_number z ∷ vs) f = All-nil (CanAsk basin)
-    branched_asks x to (a_date d ∷ vs) f = All-nil (CanAsk basin)
-    branched_asks x to (a_slot s ∷ vs) f = All-nil (CanAsk basin)
-    branched_asks x to (numbers m zs ∷ vs) f = All-nil (CanAsk basin)
-    branched_asks x to (slots m ss ∷ vs) f = All-nil (CanAsk basin)
-    branched_asks x to [] f = All-nil (CanAsk basin)
+    branched_asks x to _ f = All-nil (CanAsk basin)
 
     met_asks : (b : Bool) (f : Frame) → Asks (if b then gives (onward f.operands f) 1 else is_stuck)
     met_asks b f = by_test b (gives (onward f.operands f) 1) is_stuck (All-nil (CanAsk basin)) (All-nil (CanAsk basin))
@@ -141,12 +135,7 @@ module _ (basin : Draft) where
     yielded_asks (a_number z ∷ vs) f =
         in_loop_asks mapping f.loops (λ r others. gives (turned (suc f.place) (with_made z r) r.left others (at_place f.place vs f)) 1)
         (λ r rs. All-nil (CanAsk basin))
-    yielded_asks (a_truth b ∷ vs) f = All-nil (CanAsk basin)
-    yielded_asks (a_date d ∷ vs) f = All-nil (CanAsk basin)
-    yielded_asks (a_slot s ∷ vs) f = All-nil (CanAsk basin)
-    yielded_asks (numbers m zs ∷ vs) f = All-nil (CanAsk basin)
-    yielded_asks (slots m ss ∷ vs) f = All-nil (CanAsk basin)
-    yielded_asks [] f = All-nil (CanAsk basin)
+    yielded_asks _ f = All-nil (CanAsk basin)
 
     did_put : (slot : Option ℕ) (ahead : ℕ) (vs : List Value) (f : Frame) → Asks (put_by_frame basin slot ahead vs f)
     did_put slot ahead [] f = All-nil (CanAsk basin)
@@ -157,7 +146,7 @@ module _ (basin : Draft) where
     operated_asks x i f =
         let n : ℕ = operand_count (row_in code w x i) in
         bind (operation w i (reverse (take n f.operands))) (λ v. gives (onward (v ∷ drop n f.operands) f) 0)
-        (nothing (operation w i (reverse (take n f.operands))) (operation_quiet w i (reverse (take n f.operands)))) (λ v. All-nil (CanAsk basin))
+        (nothing (operation w i (reverse (take n f.operands))) (puts_nothing w i (reverse (take n f.operands)))) (λ v. All-nil (CanAsk basin))
 
     act_asks : (x : Block) (i : Instruction) (f : Frame) → Asks (act code w x i f)
     act_asks x (I.Load n) f = loaded_asks (slice_get f.locals n) f

@@ -1,5 +1,4 @@
 pub mod FramedCode
-mod QuietOperations
 pub mod Asking
 mod CodePolicy
 mod RulesetPolicy

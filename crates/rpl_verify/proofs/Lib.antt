@@ -12,6 +12,7 @@ pub mod Loops
 pub mod Judged
 pub mod Operated
 pub mod Operating
+pub mod QuietOperations
 pub mod KindFacts
 pub mod Rulings
 pub mod Endless
