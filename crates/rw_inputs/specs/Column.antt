@@ -33,6 +33,12 @@ pub record IsKeptColumn (steps : ℕ) (given : List Bool) (values : List ℤ) : 
   pub paired : IsPaired given values
   pub column : IsColumn steps (given_values given values)
 
+-- timesteps from one to another, of so many in all
+pub record IsSpanIn (steps from to : ℕ) : Type 0 where
+  pub first : 1 ≤ from
+  pub order : from ≤ to
+  pub last : to ≤ steps
+
 -- nothing is kept from one timestep to another
 abbrev pub IsFree : Column → ℕ → ℕ → Type 0
 IsFree column first last = (step : ℕ) → first ≤ step → step ≤ last → value_in_column column step ≡ None
@@ -52,3 +58,8 @@ IsSet value first last old new =
 -- the value is kept there
 abbrev pub HasMore : ℤ → ℕ → ℕ → Column → Column → Type 0
 HasMore value first last old new = IsSet (Some value) first last old new
+
+-- nothing was kept there, and the value is now
+pub record TakesValue (value : ℤ) (first last : ℕ) (old new : Column) : Type 0 where
+  pub free : IsFree old first last
+  pub more : HasMore value first last old new

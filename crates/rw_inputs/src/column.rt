@@ -1,5 +1,5 @@
 ghost use Rattle.std.specs.Prelude.{◌≡◌, ◌≢◌, ◌⊎◌, ℕ, ◌+◌, ◌≤◌, ◌<◌, [], true, false, Ok, Some, None, IfOk, OnOk, OnErr, MatchBool, if◌then◌else◌, length, slice_index_or};
-ghost use Rattle.rw_inputs.specs.Column.{HasMore, HasPlaces, IsColumn, IsFree, IsKeptColumn, IsPaired, IsSet, IsTakenWithin, given_values, value_in_column};
+ghost use Rattle.rw_inputs.specs.Column.{HasPlaces, IsColumn, IsFree, IsKeptColumn, IsPaired, IsSet, IsSpanIn, IsTakenWithin, TakesValue, given_values, value_in_column};
 
 use crate::edit::Edit;
 use crate::given::Given;
@@ -132,9 +132,7 @@ fn give(
     value: Qty,
 ) -> Result<(), NoMemory>
     requires kept { IsKeptColumn steps given.old.items values.old.items }
-    requires first { 1 ≤ first }
-    requires order { first ≤ last }
-    requires last { last ≤ steps }
+    requires span { IsSpanIn steps first last }
     ensures kept { IsKeptColumn steps given.new.items values.new.items }
     ensures given { OnOk result (IsSet (Some value) first last
         (given_values given.old.items values.old.items)
@@ -157,9 +155,7 @@ fn give(
 // Keeps nothing from one timestep to another, of so many in all.
 fn clear(values: &mut Vec<Qty>, given: &mut Vec<bool>, steps: u16, first: u16, last: u16)
     requires kept { IsKeptColumn steps given.old.items values.old.items }
-    requires first { 1 ≤ first }
-    requires order { first ≤ last }
-    requires last { last ≤ steps }
+    requires span { IsSpanIn steps first last }
     ensures kept { IsKeptColumn steps given.new.items values.new.items }
     ensures cleared { IsSet None first last (given_values given.old.items values.old.items)
         (given_values given.new.items values.new.items) }
@@ -206,13 +202,10 @@ impl Column {
     /// Takes what a row gives, if nothing is kept yet of its timesteps, of so many in all; `false` exactly where something is.
     pub(crate) fn take(&mut self, steps: u16, row: &Given) -> Result<bool, NoMemory>
         requires column { IsColumn steps self.old }
-        requires first { 1 ≤ row.now.first }
-        requires order { row.now.first ≤ row.now.last }
-        requires last { row.now.last ≤ steps }
+        requires span { IsSpanIn steps row.now.first row.now.last }
         ensures column { IsColumn steps self.new }
-        ensures free { result ≡ Ok true → IsFree self.old row.now.first row.now.last }
         ensures taken { result ≡ Ok true
-            → HasMore row.now.value row.now.first row.now.last self.old self.new }
+            → TakesValue row.now.value row.now.first row.now.last self.old self.new }
         ensures twice { result ≡ Ok false → IsTakenWithin self.old row.now.first row.now.last }
         ensures unchanged { (result ≡ Ok true) ⊎ (self.new ≡ self.old) }
     {
@@ -238,9 +231,7 @@ impl Column {
     /// Sets what an edit says at its timesteps, of so many in all.
     pub(crate) fn set(&mut self, steps: u16, edit: &Edit) -> Result<(), NoMemory>
         requires column { IsColumn steps self.old }
-        requires first { 1 ≤ edit.now.first }
-        requires order { edit.now.first ≤ edit.now.last }
-        requires last { edit.now.last ≤ steps }
+        requires span { IsSpanIn steps edit.now.first edit.now.last }
         ensures column { IsColumn steps self.new }
         ensures set { OnOk result (IsSet edit.now.value edit.now.first edit.now.last
             self.old self.new) }

@@ -30,13 +30,13 @@ returns-clause-unchanged c =
 pub returns-clause-made : goal.returns-clause-made
 returns-clause-made c =
     elim (returns-clause-unchanged c) [
-      | inl taken ↦ (facts c).made (c.take.ensures.taken taken)
+      | inl taken ↦ (facts c).made (c.take.ensures.taken taken).more
       | inr same ↦ subst (IsInputsOf c.args.basin.now) (sym same) c.requires.made
     ]
 
 pub returns-clause-taken : goal.returns-clause-taken
 returns-clause-taken c is rows kept =
-    (facts c).takes (c.take.ensures.free is) (c.take.ensures.taken is) rows (subst (Keeps c.args.basin.now rows) (sym c.self.view_is) kept)
+    (facts c).takes (c.take.ensures.taken is).free (c.take.ensures.taken is).more rows (subst (Keeps c.args.basin.now rows) (sym c.self.view_is) kept)
 
 pub returns-clause-twice : goal.returns-clause-twice
 returns-clause-twice c is rows kept = (facts c).twice (c.take.ensures.twice is) rows (subst (Keeps c.args.basin.now rows) (sym c.self.view_is) kept)
