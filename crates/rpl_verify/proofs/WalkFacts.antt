@@ -7,10 +7,11 @@ use Rattle.rpl_code.specs.declared.instruction.Instruction.{Instruction}
 use Rattle.rpl_verify.specs.declared.walk.OpenLoop.{OpenLoop}
 use Rattle.rpl_verify.specs.declared.walk.Landing.{Landing}
 use Rattle.rpl_verify.specs.Kinds.{are_same_kinds, top_of}
-use Rattle.rpl_verify.specs.Places.{Loop, Opener, Spot, bracket, declared_by, is_same_loop, openers_behind, spots, spots_from, start_of}
+use Rattle.rpl_verify.specs.declared.list_loop.Loop.{Loop as ListLoop}
+use Rattle.rpl_verify.specs.Places.{Loop, Opener, Spot, bracket, declared_by, is_same_loop, loop_of, openers_behind, spots, spots_from, start_of}
 use Rattle.rpl_verify.specs.Fits.{Open, before, behind_loop, if_fits, shut}
 use Rattle.rpl_verify.specs.Budget.{words_of_loops}
-use Rattle.rpl_verify.specs.Walked.{Walked, declares, loop_of, with_kinds}
+use Rattle.rpl_verify.specs.Walked.{Walked, declares, with_kinds}
 use Rattle.rpl_verify.specs.Stacks.{at, Grows, IsPushed}
 use Rattle.rpl_verify.specs.Walks.{open_of, opens_of, kinds_at, spot_of, spots_of, walked, IsBelowIt, IsSoundWalk, IsRooted, IsDeclared}
 use Rattle.rpl_verify.proofs.KindFacts.{and_true, same_kinds_true}
@@ -95,15 +96,15 @@ opens_push : (ls : List (List ValueKind)) (os : List OpenLoop) (o : OpenLoop) �
 opens_push ls os o = ap reverse (map-append (open_of ls) os (o ∷ [])) ∙ reverse-append (map (open_of ls) os) (open_of ls o ∷ [])
 
 -- the last loop that was begun ends
-pub closes : (ls : List (List ValueKind)) (n : ℕ) (os os2 : List OpenLoop) (o : OpenLoop) (xs : List Landing) (w : Walked) (maps : Bool)
-    → walked ls n os xs ≡ w → os ≡ os2 ++ o ∷ [] → (is_same_loop (loop_of maps) (loop_of o.maps) && are_same_kinds (at ls o.under) (at ls n)) ≡ true
-    → (shut (loop_of maps) w.before.kinds w.before.loops ≡ Ok (before (behind_loop (loop_of maps) o.room (at ls n)) (opens_of ls os2)))
+pub closes : (ls : List (List ValueKind)) (n : ℕ) (os os2 : List OpenLoop) (o : OpenLoop) (xs : List Landing) (w : Walked) (sort : ListLoop)
+    → walked ls n os xs ≡ w → os ≡ os2 ++ o ∷ [] → (is_same_loop (loop_of sort) (loop_of o.sort) && are_same_kinds (at ls o.under) (at ls n)) ≡ true
+    → (shut (loop_of sort) w.before.kinds w.before.loops ≡ Ok (before (behind_loop (loop_of sort) o.room (at ls n)) (opens_of ls os2)))
     × (spots_of ls xs ≡ w.spots)
-closes ls n os os2 o xs w maps v e t =
-    let both = and_true (is_same_loop (loop_of maps) (loop_of o.maps)) (are_same_kinds (at ls o.under) (at ls n)) t in
+closes ls n os os2 o xs w sort v e t =
+    let both = and_true (is_same_loop (loop_of sort) (loop_of o.sort)) (are_same_kinds (at ls o.under) (at ls n)) t in
     let a : opens_of ls os ≡ open_of ls o ∷ opens_of ls os2 = ap (opens_of ls) e ∙ opens_push ls os2 o in (
-      ap (λ (w : Walked). shut (loop_of maps) w.before.kinds w.before.loops) (sym v) ∙ ap (shut (loop_of maps) (at ls n)) a
-          ∙ shut_is (loop_of maps) (at ls n) (open_of ls o) (opens_of ls os2) both.0 both.1,
+      ap (λ (w : Walked). shut (loop_of sort) w.before.kinds w.before.loops) (sym v) ∙ ap (shut (loop_of sort) (at ls n)) a
+          ∙ shut_is (loop_of sort) (at ls n) (open_of ls o) (opens_of ls os2) both.0 both.1,
       ap (λ (w : Walked). w.spots) v,
     )
 

@@ -5,7 +5,7 @@ use Rattle.rpl_verify.specs.declared.verify_kind.VerifyKind.{VerifyKind}
 use Rattle.rpl_verify.specs.declared.place_fault.PlaceFault.{PlaceFault}
 use Rattle.rpl_verify.specs.declared.place_fault.PlaceFault.TheVariants.{Misfit, NoMemory}
 use Rattle.rpl_verify.specs.Kinds.{are_same_kinds}
-use Rattle.rpl_verify.specs.Places.{Loop, visiting, mapping, Spot, rest_of}
+use Rattle.rpl_verify.specs.Places.{Loop, Spot, rest_of}
 use Rattle.rpl_verify.specs.Fits.{Before, Open, before, behind_loop, declared_at, shut}
 
 -- what is before the place, and what jumps have to know of each place
@@ -28,10 +28,6 @@ abbrev pub with_loop : ℕ → Loop → ℕ → Walked → Walked
 with_loop place loop room w =
     let o : Open = record { start = place; loop = loop; room = room; under = w.before.kinds } in
     at_before w (before w.before.kinds (o ∷ w.before.loops))
-
-abbrev pub loop_of : Bool → Loop
-loop_of true = mapping
-loop_of false = visiting
 
 abbrev pub declares : List Spot → ℕ → Option (List ValueKind)
 declares spots place = declared_at (slice_get spots place)

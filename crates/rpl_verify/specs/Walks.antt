@@ -4,14 +4,14 @@ use Rattle.rpl_code.specs.declared.kind.ValueKind.{ValueKind}
 use Rattle.rpl_verify.specs.declared.walk.OpenLoop.{OpenLoop}
 use Rattle.rpl_verify.specs.declared.walk.Landing.{Landing}
 use Rattle.rpl_verify.specs.declared.walk.Beginning.{Beginning}
-use Rattle.rpl_verify.specs.Places.{Opener, Spot}
+use Rattle.rpl_verify.specs.Places.{Opener, Spot, loop_of}
 use Rattle.rpl_verify.specs.Fits.{Open, before}
 use Rattle.rpl_verify.specs.Budget.{words_of_loops}
-use Rattle.rpl_verify.specs.Walked.{Walked, loop_of}
+use Rattle.rpl_verify.specs.Walked.{Walked}
 use Rattle.rpl_verify.specs.Stacks.{at}
 
 abbrev pub open_of : List (List ValueKind) → OpenLoop → Open
-open_of ls o = record { start = o.start; loop = loop_of o.maps; room = o.room; under = at ls o.under }
+open_of ls o = record { start = o.start; loop = loop_of o.sort; room = o.room; under = at ls o.under }
 
 -- the loops that are open, the innermost first
 abbrev pub opens_of : List (List ValueKind) → List OpenLoop → List Open
@@ -59,7 +59,7 @@ IsDeclared ls (Some n) declared = (n < length ls) × (declared ≡ Some (at ls n
 -- ---- the first pass
 
 abbrev pub opener_of : Beginning → Opener
-opener_of b = record { start = b.start; loop = loop_of b.maps }
+opener_of b = record { start = b.start; loop = loop_of b.sort }
 
 -- the loops that are open, the innermost first
 abbrev pub openers_of : List Beginning → List Opener

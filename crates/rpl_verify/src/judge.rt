@@ -15,6 +15,7 @@ ghost use Rattle.rpl_verify.specs.Answered.{EndsAt, GoesAt};
 use crate::VerifyKind;
 use crate::block_fault::{BlockFault, placed_at};
 use crate::kinds::is_same_kind;
+use crate::list_loop::Loop;
 use crate::names::{block_numbered, name_misfit, predefined_count};
 use crate::place_fault::PlaceFault;
 use crate::takes::{append, close, gather, measure, open, pass, pick, take, widen};
@@ -130,7 +131,7 @@ fn visit(walk: &mut Walk, place: u32, locals: &[ValueKind], n: u32) -> Result<()
     ensures { Goes (opened_over place visiting (slice_get locals.now n) walk.old.before)
         walk.old walk.new result }
 {
-    open(walk, place, false, locals.get(n as usize).copied())
+    open(walk, place, Loop::Visiting, locals.get(n as usize).copied())
 }
 
 // A loop over a list begins that makes a number for each element.
@@ -138,7 +139,7 @@ fn map(walk: &mut Walk, place: u32, locals: &[ValueKind], n: u32) -> Result<(), 
     ensures { Goes (opened_over place mapping (slice_get locals.now n) walk.old.before)
         walk.old walk.new result }
 {
-    open(walk, place, true, locals.get(n as usize).copied())
+    open(walk, place, Loop::Mapping, locals.get(n as usize).copied())
 }
 
 // An instruction whose names are there.
@@ -196,9 +197,9 @@ fn act(
         Instruction::Branch(to) => branch(walk, place, *to),
         Instruction::Target(_) => carry(walk, place),
         Instruction::Foreach(n) => visit(walk, place, locals, *n),
-        Instruction::Next => close(walk, &[], false),
+        Instruction::Next => close(walk, &[], Loop::Visiting),
         Instruction::Map(n) => map(walk, place, locals, *n),
-        Instruction::Yield => close(walk, &[ValueKind::N], true),
+        Instruction::Yield => close(walk, &[ValueKind::N], Loop::Mapping),
         Instruction::Put { .. } => take(walk, &[ValueKind::N]),
     }
 }

@@ -10,6 +10,7 @@ mod budget;
 mod judge;
 mod kinds;
 pub mod law;
+mod list_loop;
 mod names;
 mod notes;
 mod place_fault;
@@ -25,6 +26,7 @@ mod verify_kind;
 mod walk;
 
 pub use budget::Budget;
+pub use list_loop::Loop;
 pub use resolved::Resolved;
 pub use verified::{Verified, verify};
 pub use verify_fault::VerifyFault;

@@ -2,15 +2,17 @@
 ghost use Rattle.std.specs.Prelude.{◌≡◌, ◌≤◌, [], ◌∷◌, length, reverse};
 ghost use Rattle.rpl_code.specs.declared.kind.ValueKind.TheVariants as K;
 ghost use Rattle.rpl_verify.specs.Kinds.{list_value_kind};
+ghost use Rattle.rpl_verify.specs.Places.{loop_of};
 ghost use Rattle.rpl_verify.specs.Table.{takes, goes_by, appended, listed, of_list, element_picked, widened_list};
 ghost use Rattle.rpl_verify.specs.Fits.{shut};
-ghost use Rattle.rpl_verify.specs.Walked.{Goes, loop_of};
+ghost use Rattle.rpl_verify.specs.Walked.{Goes};
 ghost use Rattle.rpl_verify.specs.Steps.{TakesOne, TakesTwo, closed_behind, gathered_into, opened_over, run_taken, taken_by};
 
 use crate::VerifyKind;
 use crate::kinds::{
     appended, element_of, is_kind, is_same_kind, list_kind, picked, room_of, widened,
 };
+use crate::list_loop::Loop;
 use crate::place_fault::PlaceFault;
 use crate::walk::Walk;
 use rpl_code::ValueKind;
@@ -193,10 +195,10 @@ pub(crate) fn measure(walk: &mut Walk) -> Result<(), PlaceFault>
 pub(crate) fn open(
     walk: &mut Walk,
     place: u32,
-    maps: bool,
+    sort: Loop,
     local: Option<ValueKind>,
 ) -> Result<(), PlaceFault>
-    ensures { Goes (opened_over place (loop_of maps) local walk.old.before)
+    ensures { Goes (opened_over place (loop_of sort) local walk.old.before)
         walk.old walk.new result }
 {
     let list = take_one(walk)?;
@@ -206,29 +208,30 @@ pub(crate) fn open(
             if !is_kind(local, Some(element)) {
                 return Err(PlaceFault::Misfit(VerifyKind::WrongShape));
             }
-            walk.open(place, maps, room_of(list))?;
+            walk.open(place, sort, room_of(list))?;
             Ok(())
         }
     }
 }
 
 // Ends the innermost loop, and leaves the list that a mapping makes.
-fn end_loop(walk: &mut Walk, maps: bool) -> Result<(), PlaceFault>
-    ensures { Goes (shut (loop_of maps) walk.old.before.kinds walk.old.before.loops)
+fn end_loop(walk: &mut Walk, sort: Loop) -> Result<(), PlaceFault>
+    ensures { Goes (shut (loop_of sort) walk.old.before.kinds walk.old.before.loops)
         walk.old walk.new result }
 {
-    let room = walk.close(maps)?;
-    if maps {
-        walk.push(ValueKind::NList(room))?;
+    let room = walk.close(sort)?;
+    match sort {
+        Loop::Visiting => {}
+        Loop::Mapping => walk.push(ValueKind::NList(room))?,
     }
     Ok(())
 }
 
 /// Takes operands of these kinds, the last one first, and ends the innermost loop.
-pub(crate) fn close(walk: &mut Walk, needs: &[ValueKind], maps: bool) -> Result<(), PlaceFault>
-    ensures { Goes (closed_behind (takes (reverse needs.now) []) (loop_of maps) walk.old.before)
+pub(crate) fn close(walk: &mut Walk, needs: &[ValueKind], sort: Loop) -> Result<(), PlaceFault>
+    ensures { Goes (closed_behind (takes (reverse needs.now) []) (loop_of sort) walk.old.before)
         walk.old walk.new result }
 {
     take(walk, needs)?;
-    end_loop(walk, maps)
+    end_loop(walk, sort)
 }

@@ -2,15 +2,16 @@
 ghost use Rattle.std.specs.Prelude.{◌≡◌, ◌<◌, ◌+◌, ◌^◌, ◌&&◌, ℕ, [], ◌∷◌, length, map, reverse, IfOk, is_some, slice_get};
 ghost use Rattle.rpl_tree.specs.Budget.{capped, limits};
 ghost use Rattle.rpl_verify.specs.Kinds.{are_same_kinds, top_of, words_of_all};
-ghost use Rattle.rpl_verify.specs.Places.{Opener, bracket, closed, declared_by, is_same_loop, openers_behind, rest_of, spots, start_of};
+ghost use Rattle.rpl_verify.specs.Places.{Opener, bracket, closed, declared_by, is_same_loop, loop_of, openers_behind, rest_of, spots, start_of};
 ghost use Rattle.rpl_verify.specs.Fits.{before, innermost, is_same_place, landing, room_on_top};
 ghost use Rattle.rpl_verify.specs.Budget.{words_of_loop, words_of_loops};
 ghost use Rattle.rpl_verify.specs.Stacks.{at, Grows};
 ghost use Rattle.rpl_verify.specs.Walks.{IsRooted, IsNumberOf, IsDeclared, opener_of, openers_of};
-ghost use Rattle.rpl_verify.specs.Walked.{Closes, Lands, are_shut, declares, is_declared, landed, loop_of, with_kinds, with_loop, without_top};
+ghost use Rattle.rpl_verify.specs.Walked.{Closes, Lands, are_shut, declares, is_declared, landed, with_kinds, with_loop, without_top};
 
 use crate::VerifyKind;
 use crate::kinds::room_of;
+use crate::list_loop::Loop;
 use crate::place_fault::PlaceFault;
 use crate::stacks::{Stacks, WORDS_CAP};
 use rpl_code::{Instruction, ValueKind};
@@ -18,12 +19,12 @@ use rw_base::NoMemory;
 use std::alloc::Global;
 use std::marker::Model;
 
-/// A loop that is open: the place where it begins, whether it is a mapping, for how many elements
-/// its list has room, and the number of the operands under that list.
+/// A loop that is open: the place where it begins, its sort, for how many elements its list has
+/// room, and the number of the operands under that list.
 #[derive(Clone, Copy)]
 pub(crate) struct OpenLoop {
     start: u32,
-    maps: bool,
+    sort: Loop,
     room: u16,
     under: u32,
 }
@@ -36,11 +37,11 @@ pub(crate) struct Landing {
     declares: Option<u32>,
 }
 
-/// Where a loop begins, and whether it is a mapping.
+/// Where a loop begins, and its sort.
 #[derive(Clone, Copy)]
 pub(crate) struct Beginning {
     start: u32,
-    maps: bool,
+    sort: Loop,
 }
 
 /// What is before a place of a block, and what jumps have to know of each place.
@@ -77,14 +78,13 @@ fn is_same_place(a: Option<u32>, b: Option<u32>) -> bool
 }
 
 // The words that an open loop takes.
-fn loop_words(maps: bool, room: u16) -> u64
-    ensures words { result ≡ words_of_loop (loop_of maps) room }
+fn loop_words(sort: Loop, room: u16) -> u64
+    ensures words { result ≡ words_of_loop (loop_of sort) room }
     ensures few { result < 2 ^ 18 }
 {
-    if maps {
-        2 * u64::from(room) + 4
-    } else {
-        u64::from(room) + 3
+    match sort {
+        Loop::Visiting => u64::from(room) + 3,
+        Loop::Mapping => 2 * u64::from(room) + 4,
     }
 }
 
@@ -117,14 +117,14 @@ fn declare(stacks: &mut Stacks, instruction: &Instruction) -> Result<Option<u32>
 }
 
 // Closes the innermost loop, if it is of this sort.
-fn leave(openers: &mut Vec<Beginning>, maps: bool)
+fn leave(openers: &mut Vec<Beginning>, sort: Loop)
     ensures { openers_of openers.new.items
-        ≡ closed (loop_of maps) (openers_of openers.old.items) }
+        ≡ closed (loop_of sort) (openers_of openers.old.items) }
 {
     match openers.last().copied() {
         None => {}
         Some(last) => {
-            if last.maps == maps {
+            if is_same_loop(sort, last.sort) {
                 let _ = openers.pop();
             }
         }
@@ -143,34 +143,38 @@ fn follow(
     match instruction {
         Instruction::Foreach(_) => openers.push(Beginning {
             start: place,
-            maps: false,
+            sort: Loop::Visiting,
         })?,
         Instruction::Map(_) => openers.push(Beginning {
             start: place,
-            maps: true,
+            sort: Loop::Mapping,
         })?,
-        Instruction::Next => leave(openers, false),
-        Instruction::Yield => leave(openers, true),
+        Instruction::Next => leave(openers, Loop::Visiting),
+        Instruction::Yield => leave(openers, Loop::Mapping),
         _ => {}
     }
     Ok(())
 }
 
 // Whether a loop is of this sort, and these are the operands under its list.
-fn ends_here(stacks: &Stacks, last: &OpenLoop, maps: bool, kinds: u32) -> bool
+fn ends_here(stacks: &Stacks, last: &OpenLoop, sort: Loop, kinds: u32) -> bool
     requires under_in { last.now.under < length stacks.now }
     requires kinds_in { kinds < length stacks.now }
-    ensures { result ≡ (is_same_loop (loop_of maps) (loop_of last.now.maps)
+    ensures { result ≡ (is_same_loop (loop_of sort) (loop_of last.now.sort)
         && are_same_kinds (at stacks.now last.now.under) (at stacks.now kinds)) }
 {
-    is_same_sort(last.maps, maps) && stacks.same(last.under, kinds)
+    is_same_loop(sort, last.sort) && stacks.same(last.under, kinds)
 }
 
 // Whether two loops are of one sort.
-fn is_same_sort(a: bool, b: bool) -> bool
-    ensures { result ≡ is_same_loop (loop_of b) (loop_of a) }
+fn is_same_loop(a: Loop, b: Loop) -> bool
+    ensures { result ≡ is_same_loop (loop_of a) (loop_of b) }
 {
-    if a { b } else { !b }
+    match (a, b) {
+        (Loop::Visiting, Loop::Visiting) => true,
+        (Loop::Mapping, Loop::Mapping) => true,
+        _ => false,
+    }
 }
 
 // Where the innermost loop begins.
@@ -273,15 +277,15 @@ impl Walk {
     }
 
     /// Begins a loop at a place, over a list that isn't among the operands any more.
-    pub(crate) fn open(&mut self, start: u32, maps: bool, room: u16) -> Result<(), NoMemory>
-        ensures { IfOk result (λ _. self.new ≡ with_loop start (loop_of maps) room self.old) }
+    pub(crate) fn open(&mut self, start: u32, sort: Loop, room: u16) -> Result<(), NoMemory>
+        ensures { IfOk result (λ _. self.new ≡ with_loop start (loop_of sort) room self.old) }
     {
-        let Some(words) = self.loop_words.checked_add(loop_words(maps, room)) else {
+        let Some(words) = self.loop_words.checked_add(loop_words(sort, room)) else {
             return Err(NoMemory);
         };
         self.opens.push(OpenLoop {
             start,
-            maps,
+            sort,
             room,
             under: self.kinds,
         })?;
@@ -291,14 +295,14 @@ impl Walk {
 
     /// Ends the innermost loop, where the operands are those under its list, and answers for how
     /// many elements that has room.
-    pub(crate) fn close(&mut self, maps: bool) -> Result<u16, PlaceFault>
-        ensures { Closes (loop_of maps) self.old self.new result }
+    pub(crate) fn close(&mut self, sort: Loop) -> Result<u16, PlaceFault>
+        ensures { Closes (loop_of sort) self.old self.new result }
     {
         let Some(last) = self.opens.pop() else {
             return Err(PlaceFault::Misfit(VerifyKind::WrongShape));
         };
-        self.loop_words -= loop_words(last.maps, last.room);
-        if !ends_here(&self.stacks, &last, maps, self.kinds) {
+        self.loop_words -= loop_words(last.sort, last.room);
+        if !ends_here(&self.stacks, &last, sort, self.kinds) {
             return Err(PlaceFault::Misfit(VerifyKind::WrongShape));
         }
         Ok(last.room)
