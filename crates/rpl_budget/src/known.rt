@@ -6,8 +6,9 @@ ghost use Rattle.rpl_budget.specs.Seen.{functions_of, tree_kind_seen, tree_kinds
 
 use crate::TreeCost;
 use crate::kind::{TreeKind, weight};
-use crate::load::{Load, WORDS, nothing, plus, standing, stopped};
+use crate::load::{Load, nothing, plus, standing, stopped};
 use crate::named::is_same_name;
+use rw_base::limits::WORDS_MAX;
 
 /// A function that can be called, and what a call comes to, its arguments apart.
 #[derive(Drop)]
@@ -26,7 +27,7 @@ pub(crate) fn weights(kinds: &[TreeKind]) -> u64
 {
     let mut sum = 0;
     for kind in kinds {
-        sum = plus(sum, stopped(weight(*kind), WORDS), WORDS);
+        sum = plus(sum, stopped(weight(*kind), WORDS_MAX), WORDS_MAX);
     }
     sum
 }
@@ -64,8 +65,8 @@ pub(crate) fn function_named<'a, 'b>(known: &'a [Known<'b>], name: &[u8]) -> Opt
 pub(crate) fn called(f: &Known) -> Load
     ensures { result ≡ Pass.load_of_call (priced_seen f.now) }
 {
-    let words = plus(f.room, f.most.words, WORDS);
-    let result = stopped(weight(f.result), WORDS);
+    let words = plus(f.room, f.most.words, WORDS_MAX);
+    let result = stopped(weight(f.result), WORDS_MAX);
     Load {
         count: f.most.instructions,
         looks: f.most.reads,

@@ -5,6 +5,7 @@ ghost use Rattle.rpl_budget.specs.Loads as Loads;
 ghost use Rattle.rpl_budget.specs.Seen.{tree_kind_seen};
 
 use crate::kind::{TreeKind, is_same_kind, weight};
+use rw_base::limits::{INSTRUCTIONS_MAX, LOOKS_MAX, PUTS_MAX, WORDS_MAX};
 
 /// What evaluating an expression, or executing statements, comes to at most.
 #[derive(Clone, Copy)]
@@ -20,14 +21,6 @@ pub(crate) struct Load {
     /// How many words its locals take.
     pub(crate) locals: u64,
 }
-
-pub(crate) const COUNT: u64 = 1_000_000;
-
-const LOOKS: u64 = 20_000;
-
-const PUTS: u64 = 2_000;
-
-pub(crate) const WORDS: u64 = 1_000_000;
 
 pub(crate) fn stopped(n: u128, limit: u64) -> u64
     requires { limit < 2 ^ 32 }
@@ -66,7 +59,7 @@ pub(crate) fn steps(n: u128) -> Load
     ensures { result ≡ Loads.steps n }
 {
     Load {
-        count: stopped(n, COUNT),
+        count: stopped(n, INSTRUCTIONS_MAX),
         ..nothing()
     }
 }
@@ -97,8 +90,8 @@ pub(crate) fn fetched(kind: TreeKind) -> Load
 {
     let words = weight(kind);
     Load {
-        count: stopped(words, COUNT),
-        height: stopped(words, WORDS),
+        count: stopped(words, INSTRUCTIONS_MAX),
+        height: stopped(words, WORDS_MAX),
         ..nothing()
     }
 }
@@ -109,8 +102,8 @@ pub(crate) fn kept(kind: TreeKind) -> Load
 {
     let words = weight(kind);
     Load {
-        count: stopped(words, COUNT),
-        locals: stopped(words, WORDS),
+        count: stopped(words, INSTRUCTIONS_MAX),
+        locals: stopped(words, WORDS_MAX),
         ..nothing()
     }
 }
@@ -120,7 +113,7 @@ pub(crate) fn local(kind: TreeKind) -> Load
     ensures { result ≡ Loads.local (tree_kind_seen kind) }
 {
     Load {
-        locals: stopped(weight(kind), WORDS),
+        locals: stopped(weight(kind), WORDS_MAX),
         ..nothing()
     }
 }
@@ -130,7 +123,7 @@ pub(crate) fn standing(words: u128) -> Load
     ensures { result ≡ Loads.load_standing words }
 {
     Load {
-        height: stopped(words, WORDS),
+        height: stopped(words, WORDS_MAX),
         ..nothing()
     }
 }
@@ -140,11 +133,11 @@ pub(crate) fn both(a: Load, b: Load) -> Load
     ensures { result ≡ Loads.load_both a b }
 {
     Load {
-        count: plus(a.count, b.count, COUNT),
-        looks: plus(a.looks, b.looks, LOOKS),
-        puts: plus(a.puts, b.puts, PUTS),
+        count: plus(a.count, b.count, INSTRUCTIONS_MAX),
+        looks: plus(a.looks, b.looks, LOOKS_MAX),
+        puts: plus(a.puts, b.puts, PUTS_MAX),
         height: a.height.max(b.height),
-        locals: plus(a.locals, b.locals, WORDS),
+        locals: plus(a.locals, b.locals, WORDS_MAX),
     }
 }
 
@@ -157,7 +150,7 @@ pub(crate) fn either(a: Load, b: Load) -> Load
         looks: a.looks.max(b.looks),
         puts: a.puts.max(b.puts),
         height: a.height.max(b.height),
-        locals: plus(a.locals, b.locals, WORDS),
+        locals: plus(a.locals, b.locals, WORDS_MAX),
     }
 }
 
@@ -166,9 +159,9 @@ pub(crate) fn times(m: u64, a: Load) -> Load
     ensures { result ≡ Loads.load_times m a }
 {
     Load {
-        count: product(m, a.count, COUNT),
-        looks: product(m, a.looks, LOOKS),
-        puts: product(m, a.puts, PUTS),
+        count: product(m, a.count, INSTRUCTIONS_MAX),
+        looks: product(m, a.looks, LOOKS_MAX),
+        puts: product(m, a.puts, PUTS_MAX),
         height: a.height,
         locals: a.locals,
     }
@@ -179,7 +172,7 @@ pub(crate) fn above(words: u128, a: Load) -> Load
     ensures { result ≡ Loads.above words a }
 {
     Load {
-        height: stopped(words.saturating_add(u128::from(a.height)), WORDS),
+        height: stopped(words.saturating_add(u128::from(a.height)), WORDS_MAX),
         ..a
     }
 }

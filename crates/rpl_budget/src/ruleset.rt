@@ -11,12 +11,13 @@ use crate::TreeCost;
 use crate::acts::acts;
 use crate::kind::{TreeKind, kind_of_type};
 use crate::known::{Known, weights};
-use crate::load::{COUNT, Load, WORDS, fitted, plus};
+use crate::load::{Load, fitted, plus};
 use crate::pass::pass;
 use crate::work::Work;
 use rpl_scope::Scope;
 use rpl_tree::{Declaration, Param, ParsedRules};
 use rw_base::NoMemory;
+use rw_base::limits::{INSTRUCTIONS_MAX, WORDS_MAX};
 use std::alloc::Global;
 
 fn rule_cost(all: Load) -> TreeCost
@@ -26,7 +27,7 @@ fn rule_cost(all: Load) -> TreeCost
         instructions: all.count,
         reads: all.looks,
         puts: all.puts,
-        words: plus(all.locals, all.height, WORDS),
+        words: plus(all.locals, all.height, WORDS_MAX),
     }
 }
 
@@ -35,12 +36,12 @@ fn function_cost(room: u64, answers: TreeKind, body: Work) -> TreeCost
         ≡ Pass.function_budget room (tree_kind_seen answers) (measured_seen body) }
 {
     let all = fitted(answers, body.kind, body.load);
-    let own = plus(all.locals, all.height, WORDS);
+    let own = plus(all.locals, all.height, WORDS_MAX);
     TreeCost {
         instructions: all.count,
         reads: all.looks,
         puts: all.puts,
-        words: plus(room, own, WORDS),
+        words: plus(room, own, WORDS_MAX),
     }
 }
 
@@ -48,9 +49,9 @@ fn function_cost(room: u64, answers: TreeKind, body: Work) -> TreeCost
 fn call_cost(room: u64, inside: TreeCost) -> TreeCost
     ensures { budget_seen result ≡ Pass.call_budget room (budget_seen inside) }
 {
-    let start = plus(room, 1, COUNT);
+    let start = plus(room, 1, INSTRUCTIONS_MAX);
     TreeCost {
-        instructions: plus(start, inside.instructions, COUNT),
+        instructions: plus(start, inside.instructions, INSTRUCTIONS_MAX),
         ..inside
     }
 }

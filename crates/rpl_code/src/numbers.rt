@@ -7,12 +7,10 @@ ghost use Rattle.rpl_code.specs.Answers.{Says};
 
 use crate::line_fault::LineFault;
 use itoa::Buffer;
+use rw_base::limits::LIST_MAX;
 
 // The greatest quantity.
 const QUANTITY_MAX: u64 = 100_000_000_000_000_000;
-
-// The greatest length of a list.
-const LENGTH_MAX: u64 = 4096;
 
 // Whether the word is what is written of the number, which nothing else spells.
 fn spells(word: &str, number: u64) -> bool
@@ -68,7 +66,7 @@ pub(crate) fn count_in(word: &[u8]) -> Result<u32, LineFault>
 pub(crate) fn length_in(word: &[u8]) -> Result<u16, LineFault>
     ensures { Says (length_in word.now) result }
 {
-    let number = number_in(1, LENGTH_MAX, word)?;
+    let number = number_in(1, u64::from(LIST_MAX), word)?;
     Ok(number as u16)
 }
 

@@ -1,5 +1,6 @@
 // Texts are read as code.
 ghost use Rattle.std.specs.Prelude.{◌≡◌, ◌≤◌, ◌&&◌, [], List, None, false, Result, Err, length, IfOk, IfErr};
+ghost use Rattle.rw_base.specs.declared.limits.TheConstants.{TEXT_MAX};
 ghost use Rattle.std.specs.Str.{bytes_eq};
 ghost use Rattle.rw_base.specs.Answers.{Answers, IsWhy};
 ghost use Rattle.rpl_code.specs.declared.block.Block.{Block};
@@ -109,7 +110,7 @@ fn is_whole(progress: &Progress, left: &[u8]) -> bool
 /// `Truncated` comes where there is no such line, but the text ends before an `END` that is due, or its last line has no
 /// line feed. `NoMemory` says nothing of the text.
 pub fn read_code(alloc: Global, text: &[u8]) -> Result<Code, CodeFault>
-    requires { length text.now ≤ 16_777_216 }
+    requires { length text.now ≤ TEXT_MAX }
     ensures { Answers CodeFault.NoMemory refusal_of (λ code. code) result (read text.now) }
 {
     let mut code = Vec::new(alloc);

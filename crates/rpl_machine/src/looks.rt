@@ -1,13 +1,14 @@
 ghost use Rattle.std.specs.Prelude.{◌≡◌, ◌≤◌, ◌<◌, ◌∷◌, ◌++◌, [], length, vec_capacity, IfOk};
 ghost use Rattle.rpl_machine.specs.Steps.{looks_max};
 
+use rw_base::limits::LOOKS_MAX;
 use rw_base::{Cell, NoMemory, Qty};
 use rw_series::Look;
 use std::alloc::Global;
 use std::marker::Model;
 
 // For how many looks there is room: one more than a budget allows.
-const LOOKS_MAX: usize = 20_001;
+const ROOM: usize = LOOKS_MAX as usize + 1;
 
 /// The looks of a firing, with room for 20,001 of them, seen as their list. Only `with_room` takes memory.
 #[derive(Drop)]
@@ -32,7 +33,7 @@ impl Looks {
     pub(crate) fn with_room(alloc: Global) -> Result<Looks, NoMemory>
         ensures { IfOk result (λ s. s ≡ []) }
     {
-        let looks = Vec::with_capacity(alloc, LOOKS_MAX)?;
+        let looks = Vec::with_capacity(alloc, ROOM)?;
         Ok(Looks { looks })
     }
 

@@ -2,12 +2,13 @@ ghost use Rattle.std.specs.Prelude.{◌≡◌, ◌<◌, ◌++◌, ◌∷◌, [],
 ghost use Rattle.rpl_machine.specs.Steps.{puts_max};
 
 use rw_base::NoMemory;
+use rw_base::limits::PUTS_MAX;
 use rw_series::RulePut;
 use std::alloc::Global;
 use std::marker::Model;
 
 // For how many there is room: one more than a budget allows.
-const PUTS_MAX: usize = 2_001;
+const ROOM: usize = PUTS_MAX as usize + 1;
 
 /// The puts of a firing, seen as their list. Only `with_room` takes memory.
 #[derive(Drop)]
@@ -32,7 +33,7 @@ impl Puts {
     pub(crate) fn with_room(alloc: Global) -> Result<Puts, NoMemory>
         ensures { IfOk result (λ s. s ≡ []) }
     {
-        let puts = Vec::with_capacity(alloc, PUTS_MAX)?;
+        let puts = Vec::with_capacity(alloc, ROOM)?;
         Ok(Puts { puts })
     }
 

@@ -13,6 +13,7 @@ use crate::stop::Stop;
 use crate::token::{Mark, Span, TokenAt};
 use crate::types::{behind_text, parameters, read_type};
 use rpl_tree::{Declaration, Param, Statement};
+use rw_base::limits::DEPTH_MAX;
 use std::alloc::Global;
 
 /// The declaration that all these tokens spell.
@@ -40,7 +41,7 @@ fn rule(alloc: Global, text: &[u8], tokens: &[TokenAt]) -> Result<Declaration, S
     let Some(rest) = behind(text, Mark::Colon, rest) else {
         return Err(Stop::Bad);
     };
-    let (body, _deep, rest) = statements(alloc, text, rest, 100)?;
+    let (body, _deep, rest) = statements(alloc, text, rest, DEPTH_MAX)?;
     let Some([]) = behind(text, Mark::EndRule, rest) else {
         return Err(Stop::Bad);
     };
@@ -86,7 +87,7 @@ fn function_body(
     let Some(rest) = behind(text, Mark::Is, rest) else {
         return Err(Stop::Bad);
     };
-    let (body, _deep, rest) = value_to(alloc, text, Mark::EndFunction, rest, 100)?;
+    let (body, _deep, rest) = value_to(alloc, text, Mark::EndFunction, rest, DEPTH_MAX)?;
     let [] = rest else {
         return Err(Stop::Bad);
     };

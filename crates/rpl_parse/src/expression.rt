@@ -1,5 +1,6 @@
 // Expressions, from the front of some tokens. Each function answers the tree, its depth and the tokens behind it.
 ghost use Rattle.std.specs.Prelude.{◌≡◌, ◌≤◌, ◌<◌, ◌+◌, ◌-◌, ◌++◌, ◌∷◌, [], IfOk, IfErr, OnOk, length, map, option_map, option_and_then, max};
+ghost use Rattle.rw_base.specs.declared.limits.TheConstants.{DEPTH_MAX};
 ghost use Rattle.rpl_tree.specs.Seen.{tree_of};
 ghost use Rattle.rpl_parse.specs.Reading.{read_tree, level, prim, number_with_unit, opened, named, args, slots, braces, in_brackets, choices, loops, maps, word_of_one, word_of_two, converts, steps, chain, behind, name_before, turns_of, up_to, binds, got, many, items, some_items};
 ghost use Rattle.rpl_parse.specs.Gives.{GivesExpression, GivesMany};
@@ -26,7 +27,7 @@ pub(crate) fn expression<'a>(
     limit: u8,
     k: u8,
 ) -> Result<(Expr, u8, &'a [TokenAt]), Stop>
-    requires { limit ≤ 100 }
+    requires { limit ≤ DEPTH_MAX }
     ensures { GivesExpression text.now limit result
         (read_tree limit k (toks text.now tokens.entry.now)) }
 {
@@ -45,7 +46,7 @@ fn level<'a>(
     depth: u8,
     k: u8,
 ) -> Result<(Expr, u8, &'a [TokenAt]), Stop>
-    requires { depth < 100 }
+    requires { depth < DEPTH_MAX }
     ensures { GivesExpression text.now (depth + 1) result (level (read_tree depth) depth k
         (toks text.now tokens.entry.now)) }
 {
@@ -72,7 +73,7 @@ fn primary<'a>(
     tokens: &'a [TokenAt],
     depth: u8,
 ) -> Result<(Expr, u8, &'a [TokenAt]), Stop>
-    requires { depth < 100 }
+    requires { depth < DEPTH_MAX }
     ensures { GivesExpression text.now (depth + 1) result (prim (read_tree depth) depth
         (toks text.now tokens.entry.now)) }
 {
@@ -114,7 +115,7 @@ fn opened<'a>(
     tokens: &'a [TokenAt],
     depth: u8,
 ) -> Result<(Expr, u8, &'a [TokenAt]), Stop>
-    requires { depth < 100 }
+    requires { depth < DEPTH_MAX }
     ensures { GivesExpression text.now (depth + 1) result (opened (read_tree depth) depth mark
         (toks text.now tokens.entry.now)) }
 {
@@ -152,7 +153,7 @@ fn in_brackets<'a>(
     tokens: &'a [TokenAt],
     depth: u8,
 ) -> Result<(Expr, u8, &'a [TokenAt]), Stop>
-    requires { depth < 100 }
+    requires { depth < DEPTH_MAX }
     ensures { GivesExpression text.now (depth + 1) result (in_brackets (read_tree depth) depth
         (toks text.now tokens.entry.now)) }
 {
@@ -168,7 +169,7 @@ fn choices<'a>(
     tokens: &'a [TokenAt],
     depth: u8,
 ) -> Result<(Expr, u8, &'a [TokenAt]), Stop>
-    requires { depth < 100 }
+    requires { depth < DEPTH_MAX }
     ensures { GivesExpression text.now (depth + 1) result (choices (read_tree depth) depth
         (toks text.now tokens.entry.now)) }
 {
@@ -186,7 +187,7 @@ fn binds<'a>(
     tokens: &'a [TokenAt],
     depth: u8,
 ) -> Result<(Expr, u8, &'a [TokenAt]), Stop>
-    requires { depth < 100 }
+    requires { depth < DEPTH_MAX }
     ensures { GivesExpression text.now (depth + 1) result (binds (read_tree depth) depth
         (toks text.now tokens.entry.now)) }
 {
@@ -206,7 +207,7 @@ fn loops<'a>(
     tokens: &'a [TokenAt],
     depth: u8,
 ) -> Result<(Expr, u8, &'a [TokenAt]), Stop>
-    requires { depth < 100 }
+    requires { depth < DEPTH_MAX }
     ensures { GivesExpression text.now (depth + 1) result (loops (read_tree depth) depth
         (toks text.now tokens.entry.now)) }
 {
@@ -230,7 +231,7 @@ fn maps<'a>(
     tokens: &'a [TokenAt],
     depth: u8,
 ) -> Result<(Expr, u8, &'a [TokenAt]), Stop>
-    requires { depth < 100 }
+    requires { depth < DEPTH_MAX }
     ensures { GivesExpression text.now (depth + 1) result (maps (read_tree depth) depth
         (toks text.now tokens.entry.now)) }
 {
@@ -252,7 +253,7 @@ fn of_one<'a>(
     tokens: &'a [TokenAt],
     depth: u8,
 ) -> Result<(Expr, u8, &'a [TokenAt]), Stop>
-    requires { depth < 100 }
+    requires { depth < DEPTH_MAX }
     ensures { GivesExpression text.now (depth + 1) result (word_of_one (read_tree depth) depth word
         (toks text.now tokens.entry.now)) }
 {
@@ -273,7 +274,7 @@ fn of_two<'a>(
     tokens: &'a [TokenAt],
     depth: u8,
 ) -> Result<(Expr, u8, &'a [TokenAt]), Stop>
-    requires { depth < 100 }
+    requires { depth < DEPTH_MAX }
     ensures { GivesExpression text.now (depth + 1) result (word_of_two (read_tree depth) depth word
         (toks text.now tokens.entry.now)) }
 {
@@ -294,7 +295,7 @@ fn converts<'a>(
     tokens: &'a [TokenAt],
     depth: u8,
 ) -> Result<(Expr, u8, &'a [TokenAt]), Stop>
-    requires { depth < 100 }
+    requires { depth < DEPTH_MAX }
     ensures { GivesExpression text.now (depth + 1) result (converts (read_tree depth) depth word
         (toks text.now tokens.entry.now)) }
 {
@@ -318,7 +319,7 @@ fn up_to<'a>(
     tokens: &'a [TokenAt],
     depth: u8,
 ) -> Result<(Expr, u8, &'a [TokenAt]), Stop>
-    requires { depth < 100 }
+    requires { depth < DEPTH_MAX }
     ensures { GivesExpression text.now depth result (up_to (read_tree depth) depth mark
         (toks text.now tokens.entry.now)) }
 {
@@ -337,7 +338,7 @@ fn named<'a>(
     tokens: &'a [TokenAt],
     depth: u8,
 ) -> Result<(Expr, u8, &'a [TokenAt]), Stop>
-    requires { depth < 100 }
+    requires { depth < DEPTH_MAX }
     ensures { GivesExpression text.now (depth + 1) result
         (named (read_tree depth) depth (bytes_in text.now name)
         (toks text.now tokens.entry.now)) }
@@ -364,7 +365,7 @@ fn arguments<'a>(
     tokens: &'a [TokenAt],
     depth: u8,
 ) -> Result<(Expr, u8, &'a [TokenAt]), Stop>
-    requires { depth < 100 }
+    requires { depth < DEPTH_MAX }
     ensures { GivesExpression text.now (depth + 1) result
         (args (read_tree depth) depth (bytes_in text.now name)
         (toks text.now tokens.entry.now)) }
@@ -388,7 +389,7 @@ fn braces<'a>(
     tokens: &'a [TokenAt],
     depth: u8,
 ) -> Result<(Expr, u8, &'a [TokenAt]), Stop>
-    requires { depth < 100 }
+    requires { depth < DEPTH_MAX }
     ensures { GivesExpression text.now (depth + 1) result (braces (read_tree depth) depth
         (toks text.now tokens.entry.now)) }
 {
@@ -407,7 +408,7 @@ fn items<'a>(
     tokens: &'a [TokenAt],
     depth: u8,
 ) -> Result<(Vec<Expr>, u8, &'a [TokenAt]), Stop>
-    requires { depth < 100 }
+    requires { depth < DEPTH_MAX }
     ensures { GivesMany text.now depth result (some_items (read_tree depth) depth
         (toks text.now tokens.entry.now)) }
 {
@@ -427,7 +428,7 @@ fn more<'a>(
     tokens: &'a [TokenAt],
     depth: u8,
 ) -> Result<(Vec<Expr>, u8, &'a [TokenAt]), Stop>
-    requires limit { depth < 100 }
+    requires limit { depth < DEPTH_MAX }
     requires within { deep ≤ depth }
     ensures { GivesMany text.now depth result
         (items (read_tree depth) depth (length tokens.entry.now)
@@ -459,7 +460,7 @@ fn steps<'a>(
     tokens: &'a [TokenAt],
     depth: u8,
 ) -> Result<(Expr, u8, &'a [TokenAt]), Stop>
-    requires limit { depth < 100 }
+    requires limit { depth < DEPTH_MAX }
     requires within { first_deep ≤ depth + 1 }
     ensures { GivesExpression text.now (depth + 1) result (steps (read_tree depth) depth depth (got
         (tree_of first) first_deep (toks text.now tokens.entry.now))) }
@@ -494,7 +495,7 @@ fn chain<'a>(
     depth: u8,
     k: u8,
 ) -> Result<(Expr, u8, &'a [TokenAt]), Stop>
-    requires limit { depth < 100 }
+    requires limit { depth < DEPTH_MAX }
     requires within { first_deep ≤ depth + 1 }
     requires level { 0 < k }
     ensures { GivesExpression text.now (depth + 1) result
@@ -528,7 +529,7 @@ fn operand<'a>(
     depth: u8,
     k: u8,
 ) -> Result<(Expr, u8, &'a [TokenAt]), Stop>
-    requires limit { depth < 100 }
+    requires limit { depth < DEPTH_MAX }
     requires level { 0 < k }
     ensures { GivesExpression text.now depth result
         (read_tree depth (k - 1) (toks text.now tokens.entry.now)) }

@@ -1,4 +1,5 @@
 ghost use Rattle.std.specs.Prelude.{◌≡◌, ◌≤◌, ◌<◌, ◌+◌, ◌-◌, ◌^◌, ◌++◌, ◌∷◌, [], IfOk, IfErr, OnOk, length, drop, map};
+ghost use Rattle.rw_base.specs.declared.limits.TheConstants.{TEXT_MAX};
 ghost use Rattle.rpl_tree.specs.Seen.{declared_of, rules_of};
 ghost use Rattle.rpl_parse.specs.Declarations.{is_full, one_more_if, begins_rule, pieces, IsDue, IsReading, IsRuleset};
 ghost use Rattle.rpl_parse.specs.Parsing.{AnswersReading, TellsDue};
@@ -12,13 +13,14 @@ use crate::scan::{ScanStop, tokens_of};
 use crate::stop::Stop;
 use crate::token::TokenAt;
 use rpl_tree::{Declaration, ParsedRules};
+use rw_base::limits::RULES_MAX;
 use std::alloc::Global;
 
 /// The rules that a text spells, or why it is no ruleset. All tokens are judged first, and then the declarations in order,
 /// each for too many before its tokens. `NoMemory` says nothing of the text. `docs/LANGUAGE.md` has the language, and its
 /// limits under "Limits, costs and budgets".
 pub fn parse(alloc: Global, text: &[u8]) -> Result<ParsedRules, ParseFault>
-    requires { length text.now ≤ 16_777_216 }
+    requires { length text.now ≤ TEXT_MAX }
     ensures reading { AnswersReading text.now result }
     ensures ruleset { IfOk result (λ rules. IsRuleset rules) }
 {
@@ -27,7 +29,7 @@ pub fn parse(alloc: Global, text: &[u8]) -> Result<ParsedRules, ParseFault>
 
 /// What is due for a text.
 fn rules_in(alloc: Global, text: &[u8]) -> Result<ParsedRules, ParseFault>
-    requires { length text.now ≤ 16_777_216 }
+    requires { length text.now ≤ TEXT_MAX }
     ensures reading { TellsDue (IsReading text.now) rules_of result }
     ensures ruleset { IfOk result (λ rules. IsRuleset rules) }
 {
@@ -48,7 +50,7 @@ fn declarations(
     text: &[u8],
     tokens: &[TokenAt],
 ) -> Result<Vec<Declaration>, ParseFault>
-    requires { length tokens.now ≤ 16_777_216 }
+    requires { length tokens.now ≤ TEXT_MAX }
     ensures { TellsDue (IsDue 1 0 0 [] (pieces (map (lined_of text.now) tokens.now)))
         (λ found. map declared_of found.items) result }
 {
@@ -90,9 +92,9 @@ fn is_full(text: &[u8], tokens: &[TokenAt], rules: u32, functions: u32) -> bool
     ensures { result ≡ is_full (toks text.now tokens.now) rules functions }
 {
     if begins_rule(text, tokens) {
-        rules == 200
+        rules == u32::from(RULES_MAX)
     } else if begins_function(text, tokens) {
-        functions == 200
+        functions == u32::from(RULES_MAX)
     } else {
         false
     }

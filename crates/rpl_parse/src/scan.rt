@@ -1,4 +1,5 @@
 ghost use Rattle.std.specs.Prelude.{◌≡◌, ◌≤◌, ◌<◌, ◌+◌, ◌-◌, ◌^◌, ◌++◌, ◌∷◌, [], IfOk, IfErr, OnOk, length, drop, MatchOption};
+ghost use Rattle.rw_base.specs.declared.limits.TheConstants.{TEXT_MAX};
 ghost use Rattle.rpl_parse.specs.Scan.{front, gap, token, bad, tokens, line_behind};
 ghost use Rattle.rpl_parse.specs.Pieces.{piece_seen, Scans, IsFound};
 ghost use Rattle.rpl_parse.specs.Tokens.{token_seen};
@@ -49,7 +50,7 @@ fn behind(at: usize, text: &[u8]) -> &[u8]
 
 /// What stands at a place of the text.
 fn found_at(text: &[u8], at: usize) -> Found
-    requires room { length text.now ≤ 16_777_216 }
+    requires room { length text.now ≤ TEXT_MAX }
     requires inside { at < length text.now }
     ensures { IsFound text.now at result (front (drop at text.now)) }
 {
@@ -65,7 +66,7 @@ fn found_at(text: &[u8], at: usize) -> Found
 
 /// The tokens of a text, each the longest, or the line of the first place that has none.
 pub(crate) fn tokens_of(alloc: Global, text: &[u8]) -> Result<Vec<TokenAt>, ScanStop>
-    requires { length text.now ≤ 16_777_216 }
+    requires { length text.now ≤ TEXT_MAX }
     ensures tokens { Scans text.now result (tokens text.now) }
     ensures few { IfOk result (λ ts. length ts.items ≤ length text.now) }
 {

@@ -1,5 +1,6 @@
 // Statements, from the front of some tokens.
 ghost use Rattle.std.specs.Prelude.{◌≡◌, ◌≤◌, ◌<◌, ◌+◌, ◌-◌, ◌++◌, ◌∷◌, [], IfOk, IfErr, OnOk, map, option_map, option_and_then};
+ghost use Rattle.rw_base.specs.declared.limits.TheConstants.{DEPTH_MAX};
 ghost use Rattle.rpl_tree.specs.Tree.{assign, branch, with_name};
 ghost use Rattle.rpl_tree.specs.Seen.{tree_of, act_of};
 ghost use Rattle.rpl_parse.specs.Reading.{read_tree, closed_by_mark};
@@ -35,7 +36,7 @@ pub(crate) fn statements<'a>(
     tokens: &'a [TokenAt],
     limit: u8,
 ) -> Result<(Vec<Statement>, u8, &'a [TokenAt]), Stop>
-    requires { limit ≤ 100 }
+    requires { limit ≤ DEPTH_MAX }
     ensures { GivesActs text.now limit result (read_acts limit (toks text.now tokens.entry.now)) }
 {
     let mut acts = Vec::new(alloc);
@@ -60,7 +61,7 @@ fn statement<'a>(
     tokens: &'a [TokenAt],
     limit: u8,
 ) -> Result<Option<(Statement, u8, &'a [TokenAt])>, Stop>
-    requires { limit ≤ 100 }
+    requires { limit ≤ DEPTH_MAX }
     ensures { GivesOne text.now limit result (act_at limit (toks text.now tokens.entry.now)) }
 {
     if limit == 0 {
@@ -107,7 +108,7 @@ fn assigns<'a>(
     tokens: &'a [TokenAt],
     depth: u8,
 ) -> Result<(Statement, u8, &'a [TokenAt]), Stop>
-    requires { depth < 100 }
+    requires { depth < DEPTH_MAX }
     ensures { GivesStep text.now (depth + 1) result (assigns (read_tree depth 7) (read_acts depth)
         (bytes_in text.now object) (toks text.now tokens.entry.now)) }
 {
@@ -188,7 +189,7 @@ fn branches<'a>(
     tokens: &'a [TokenAt],
     depth: u8,
 ) -> Result<(Statement, u8, &'a [TokenAt]), Stop>
-    requires { depth < 100 }
+    requires { depth < DEPTH_MAX }
     ensures { GivesStep text.now (depth + 1) result (branches (read_tree depth 7) (read_acts depth)
         (toks text.now tokens.entry.now)) }
 {
@@ -217,7 +218,7 @@ fn otherwise<'a>(
     tokens: &'a [TokenAt],
     depth: u8,
 ) -> Result<(Vec<Statement>, u8, &'a [TokenAt]), Stop>
-    requires { depth < 100 }
+    requires { depth < DEPTH_MAX }
     ensures { GivesActs text.now depth result (others (read_tree depth 7) (read_acts depth)
         (toks text.now tokens.entry.now)) }
 {
@@ -234,7 +235,7 @@ fn withs<'a>(
     tokens: &'a [TokenAt],
     depth: u8,
 ) -> Result<(Statement, u8, &'a [TokenAt]), Stop>
-    requires { depth < 100 }
+    requires { depth < DEPTH_MAX }
     ensures { GivesStep text.now (depth + 1) result (withs (read_tree depth 7) (read_acts depth)
         (toks text.now tokens.entry.now)) }
 {
@@ -273,7 +274,7 @@ pub(crate) fn value_to<'a>(
     tokens: &'a [TokenAt],
     limit: u8,
 ) -> Result<(Expr, u8, &'a [TokenAt]), Stop>
-    requires { limit ≤ 100 }
+    requires { limit ≤ DEPTH_MAX }
     ensures { GivesExpression text.now limit result
         (option_and_then (closed_by_mark mark) (read_tree limit 7
         (toks text.now tokens.entry.now))) }

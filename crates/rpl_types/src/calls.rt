@@ -9,10 +9,11 @@ ghost use Rattle.rpl_types.specs.Judged.{function_names};
 ghost use Rattle.rpl_types.specs.Seen.{callable_of, signature_of, signatures_of};
 
 use crate::TypeKind;
-use crate::fits::{LONGEST, length_misfit, misfit, sooner};
+use crate::fits::{length_misfit, misfit, sooner};
 use crate::forms::{measured, plain_number};
 use rpl_tree::{Declaration, RplType};
 use rw_base::Dim;
+use rw_base::limits::LIST_MAX;
 
 /// A function that was declared: what calls name, the types of its parameters, and that of its result.
 #[derive(Drop)]
@@ -88,7 +89,7 @@ fn row_misfit(first: &RplType, rest: &[RplType]) -> Option<TypeKind>
         (length_misfit (length rest.now + 1) longest) }
     ensures room { result ≡ None → length rest.now < longest }
 {
-    let many = length_misfit(rest.len() + 1, usize::from(LONGEST));
+    let many = length_misfit(rest.len() + 1, usize::from(LIST_MAX));
     sooner(misfit_among(rest, first), many)
 }
 

@@ -24,6 +24,7 @@ use crate::stop::Stop;
 use crate::{TypeFault, TypeKind};
 use rpl_budget::TreeCost;
 use rpl_tree::{Declaration, Expr, Param, RplType, TypeText};
+use rw_base::limits::{INSTRUCTIONS_MAX, LOOKS_MAX, PUTS_MAX, WORDS_MAX};
 use rw_model::Basin;
 use std::alloc::Global;
 
@@ -80,10 +81,10 @@ fn declared_types(known: &Known, declaration: &Declaration) -> Result<NodeTypes,
 fn is_affordable(cost: &TreeCost) -> bool
     ensures { result ≡ is_affordable (budget_seen cost.now) }
 {
-    cost.instructions <= 1_000_000
-        && cost.reads <= 20_000
-        && cost.puts <= 2_000
-        && cost.words <= 1_000_000
+    cost.instructions <= INSTRUCTIONS_MAX
+        && cost.reads <= LOOKS_MAX
+        && cost.puts <= PUTS_MAX
+        && cost.words <= WORDS_MAX
 }
 
 fn cost_refusal(cost: &TreeCost) -> Option<TypeKind>

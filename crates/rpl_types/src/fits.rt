@@ -8,9 +8,6 @@ use crate::TypeKind;
 use rpl_tree::RplType;
 use rw_base::Dim;
 
-/// For how many items a list may have room.
-pub(crate) const LONGEST: u16 = 4096;
-
 // Where a refusal stands in the order of those at one node.
 fn order(kind: TypeKind) -> u8
     ensures { result ≡ refusal_order kind }

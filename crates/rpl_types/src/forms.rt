@@ -7,9 +7,10 @@ ghost use Rattle.rpl_types.specs.Fits.{longest, sooner, unit_misfit, length_misf
 ghost use Rattle.rpl_types.specs.Forms.{append_type, choice_type, compared_type, condition_misfit, difference_type, element_type, is_boolean, is_datetime, item_type, length_type, look_type, mapped_type, measured_in, negative_type, one_type, only_if, plain, product_type, sum_type, total_type, two_type};
 
 use crate::TypeKind;
-use crate::fits::{LONGEST, joined, length_misfit, misfit, sooner, unit_misfit};
+use crate::fits::{joined, length_misfit, misfit, sooner, unit_misfit};
 use rpl_tree::{OneWord, RplType, TwoWord};
 use rw_base::Dim;
+use rw_base::limits::LIST_MAX;
 
 /// The dimension of a number that measures nothing.
 pub(crate) fn plain_number() -> Dim
@@ -218,7 +219,7 @@ fn one_more(m: u16, a: Dim, b: Dim) -> Option<TypeKind>
 {
     sooner(
         unit_misfit(a, b),
-        length_misfit(usize::from(m) + 1, usize::from(LONGEST)),
+        length_misfit(usize::from(m) + 1, usize::from(LIST_MAX)),
     )
 }
 

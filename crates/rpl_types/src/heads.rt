@@ -16,6 +16,7 @@ use crate::names::unit_named;
 use crate::stop::Stop;
 use rpl_scope::Scope;
 use rpl_tree::{Param, RplType, TypeText};
+use rw_base::limits::LIST_MAX;
 use rw_base::{Dim, NoMemory};
 use std::alloc::Global;
 
@@ -24,7 +25,7 @@ fn room(m: i64) -> Option<u16>
     ensures { result
         ≡ (if int_le (pos 1) m && int_le m (pos longest) then Some (unsigned_abs m) else None) }
 {
-    if 1 <= m && m <= 4096 {
+    if 1 <= m && m <= i64::from(LIST_MAX) {
         Some(m.unsigned_abs() as u16)
     } else {
         None

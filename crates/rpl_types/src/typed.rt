@@ -1,4 +1,5 @@
 ghost use Rattle.std.specs.Prelude.{◌≡◌, ◌≤◌, ◌+◌, Some, IsSome, map, option_map};
+ghost use Rattle.rw_base.specs.declared.limits.TheConstants.{RULES_MAX};
 ghost use Rattle.rpl_budget.specs.Seen.{budget_seen};
 ghost use Rattle.rpl_tree.specs.Seen.{declared_of, rules_of};
 ghost use Rattle.rpl_parse.specs.Bounds.{function_count, rule_count};
@@ -44,7 +45,7 @@ impl Model for Typed {
 
 /// How many of them are rules.
 fn rules_in(declarations: &[Declaration]) -> u16
-    requires { rule_count (map declared_of declarations.now) ≤ 200 }
+    requires { rule_count (map declared_of declarations.now) ≤ RULES_MAX }
     ensures { result ≡ rule_count (map declared_of declarations.now) }
 {
     let mut count = 0;
@@ -58,7 +59,7 @@ fn rules_in(declarations: &[Declaration]) -> u16
 
 /// How many of them are functions.
 fn functions_in(declarations: &[Declaration]) -> u16
-    requires { function_count (map declared_of declarations.now) ≤ 200 }
+    requires { function_count (map declared_of declarations.now) ≤ RULES_MAX }
     ensures { result ≡ function_count (map declared_of declarations.now) }
 {
     let mut count = 0;
@@ -111,7 +112,7 @@ impl Typed {
     /// How many rules there are, at most 200.
     pub fn rule_count(&self) -> u16
         ensures count { result ≡ rule_count (rules_of self.now.rules) }
-        ensures most { result ≤ 200 }
+        ensures most { result ≤ RULES_MAX }
     {
         rules_in(&self.rules.declarations)
     }
@@ -119,7 +120,7 @@ impl Typed {
     /// How many functions there are, at most 200.
     pub fn function_count(&self) -> u16
         ensures count { result ≡ function_count (rules_of self.now.rules) }
-        ensures most { result ≤ 200 }
+        ensures most { result ≤ RULES_MAX }
     {
         functions_in(&self.rules.declarations)
     }

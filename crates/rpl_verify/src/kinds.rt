@@ -4,9 +4,7 @@ ghost use Rattle.rpl_verify.specs.Kinds.{is_same_value_kind, is_that_kind, eleme
 ghost use Rattle.rpl_verify.specs.Table.{appended, element_picked, widened_list};
 
 use rpl_code::ValueKind;
-
-/// The most elements for which a list has room.
-const ROOM_MAX: u16 = 4096;
+use rw_base::limits::LIST_MAX;
 
 /// Whether two kinds are the same.
 pub(crate) fn is_same_kind(a: ValueKind, b: ValueKind) -> bool
@@ -70,10 +68,10 @@ pub(crate) fn appended(element: ValueKind, list: ValueKind) -> Option<ValueKind>
     ensures { option_map (λ kind. kind ∷ []) result ≡ appended (element ∷ list ∷ []) }
 {
     match (element, list) {
-        (ValueKind::N, ValueKind::NList(room)) if room < ROOM_MAX => {
+        (ValueKind::N, ValueKind::NList(room)) if room < LIST_MAX => {
             Some(ValueKind::NList(room + 1))
         }
-        (ValueKind::S, ValueKind::SList(room)) if room < ROOM_MAX => {
+        (ValueKind::S, ValueKind::SList(room)) if room < LIST_MAX => {
             Some(ValueKind::SList(room + 1))
         }
         _ => None,

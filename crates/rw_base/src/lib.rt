@@ -6,6 +6,7 @@
 
 mod dimension;
 pub mod law;
+pub mod limits;
 mod memory;
 mod number;
 mod quantity;

@@ -2,10 +2,11 @@ ghost use Rattle.std.specs.Prelude.{◌≡◌, ℕ, ◌+◌, ◌<◌, ◌≤◌,
 ghost use Rattle.rw_io.specs.Causes.{Rose, NoneFell};
 
 use crate::Shelf;
+use rw_base::limits::TEXT_MAX;
 use std::alloc::Global;
 
 /// The greatest length of a file, in bytes.
-pub const FILE_MAX: usize = 16_777_216;
+pub const FILE_MAX: usize = TEXT_MAX;
 
 /// How many bytes are asked for at a time, at most.
 pub const PIECE_MAX: usize = 65_536;

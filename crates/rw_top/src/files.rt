@@ -1,5 +1,6 @@
 // The files of a command, read or made, and judged, each before the next.
 ghost use Rattle.std.specs.Prelude.{◌≡◌, ℕ, ◌≤◌, List, MatchResult, IfOk, IfSome, IsSomeAnd, IsTrue, Some, length};
+ghost use Rattle.rw_base.specs.declared.limits.TheConstants.{TEXT_MAX};
 ghost use Rattle.rw_model.specs.Draft.{IsSlot};
 ghost use Rattle.rw_io.specs.Causes.{NoneFell};
 ghost use Rattle.rw_io.specs.Outside.{Change, ShelfView, change};
@@ -119,7 +120,7 @@ fn judge_for(
     basin: &Basin,
     text: &[u8],
 ) -> Result<Policy, Refusal>
-    requires { length text.now ≤ 16_777_216 }
+    requires { length text.now ≤ TEXT_MAX }
     ensures { MatchResult result
         (IsMadeOf (reads_code (command_said command.now) text.now) basin.now text.now)
         (IsPolicyRefusal (reads_code (command_said command.now) text.now) basin.now text.now) }

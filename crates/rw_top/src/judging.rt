@@ -1,5 +1,6 @@
 // What the texts of files are.
 ghost use Rattle.std.specs.Prelude.{◌≡◌, ◌≤◌, Ok, Err, MatchResult, IfOk, length, false, true};
+ghost use Rattle.rw_base.specs.declared.limits.TheConstants.{TEXT_MAX};
 ghost use Rattle.std.specs.Option.{ForSome};
 ghost use Rattle.rw_base.specs.Answers.{IsWhy as IsWhyOf};
 ghost use Rattle.rpl_code.specs.declared.fault.CodeFault.TheVariants as CodeFault;
@@ -92,7 +93,7 @@ fn refusal_of_grammar(_text: &[u8], fault: ParseFault) -> Refusal
 }
 
 fn parse_rules(alloc: Global, text: &[u8]) -> Result<ParsedRules, Refusal>
-    requires { length text.now ≤ 16_777_216 }
+    requires { length text.now ≤ TEXT_MAX }
     ensures read { MatchResult result (λ rules. IsReading text.now (Ok (rules_of rules)))
         (λ why. (basin : Draft) → IsPolicyRefusal false basin text.now why) }
     ensures ruleset { IfOk result (λ rules. IsRuleset rules) }
@@ -119,7 +120,7 @@ fn refusal_of_types(_basin: &Basin, _text: &[u8], fault: TypeFault) -> Refusal
 
 // The ruleset of a text, for the basin.
 fn judge_rules(alloc: Global, basin: &Basin, text: &[u8]) -> Result<Typed, Refusal>
-    requires { length text.now ≤ 16_777_216 }
+    requires { length text.now ≤ TEXT_MAX }
     ensures { MatchResult result (λ typed. IsMadeOf false basin.now text.now (Held.Ruleset typed))
         (IsPolicyRefusal false basin.now text.now) }
 {
@@ -144,7 +145,7 @@ fn refusal_of_code(_text: &[u8], fault: CodeFault) -> Refusal
 }
 
 fn read_blocks(alloc: Global, text: &[u8]) -> Result<Code, Refusal>
-    requires { length text.now ≤ 16_777_216 }
+    requires { length text.now ≤ TEXT_MAX }
     ensures { MatchResult result (λ code. read text.now ≡ Ok code)
         (λ why. (basin : Draft) → IsPolicyRefusal true basin text.now why) }
 {
@@ -165,7 +166,7 @@ fn refusal_of_block(_basin: &Basin, _text: &[u8], fault: VerifyFault) -> Refusal
 }
 
 fn judge_code(alloc: Global, basin: &Basin, text: &[u8]) -> Result<Verified, Refusal>
-    requires { length text.now ≤ 16_777_216 }
+    requires { length text.now ≤ TEXT_MAX }
     ensures { MatchResult result (λ code. IsMadeOf true basin.now text.now (Held.Code code))
         (IsPolicyRefusal true basin.now text.now) }
 {
@@ -186,7 +187,7 @@ pub(crate) fn judge_policy(
     text: &[u8],
     as_code: bool,
 ) -> Result<Policy, Refusal>
-    requires { length text.now ≤ 16_777_216 }
+    requires { length text.now ≤ TEXT_MAX }
     ensures { MatchResult result (IsMadeOf as_code basin.now text.now)
         (IsPolicyRefusal as_code basin.now text.now) }
 {

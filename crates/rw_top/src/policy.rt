@@ -1,4 +1,5 @@
 ghost use Rattle.std.specs.Prelude.{◌≡◌, ◌≤◌, Some};
+ghost use Rattle.rw_base.specs.declared.limits.TheConstants.{RULES_MAX};
 ghost use Rattle.rpl_budget.specs.Seen.{budget_seen};
 ghost use Rattle.rw_top.specs.Budgets.{budget_in, functions_in, rules_in};
 ghost use Rattle.rw_top.specs.Policy.{Code};
@@ -34,7 +35,7 @@ impl Policy {
     /// How many rules there are, at most 200.
     pub(crate) fn rule_count(&self) -> u16
         ensures count { result ≡ rules_in (policy_of self.now) }
-        ensures most { result ≤ 200 }
+        ensures most { result ≤ RULES_MAX }
     {
         match self {
             Policy::Ruleset(typed) => typed.rule_count(),
