@@ -134,7 +134,7 @@ def solve(view):
     if refused:
         return refused
     puts = {}
-    refused = settle(view, values, puts)
+    refused = solve_balance(view, values, puts)
     if refused:
         return refused
     put_contents(view, values, puts)
@@ -228,7 +228,7 @@ def number_of(view, term):
     return view.number("EnergyRequest" if term == "Outflow" and asks(view) else term)
 
 
-def settle(view, values, puts):
+def solve_balance(view, values, puts):
     """Solves the term that isn't given; where all are, the balance has to be true."""
     terms = terms_of(view.thing)
     if not terms:

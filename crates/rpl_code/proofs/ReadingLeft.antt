@@ -9,7 +9,7 @@ use Rattle.rpl_code.specs.declared.fault.CodeFault.{CodeFault}
 use Rattle.rpl_code.specs.declared.fault.CodeFault.TheVariants.{BadLine, Truncated, NoMemory}
 use Rattle.rpl_code.specs.Bounds.{IsCode}
 use Rattle.rpl_code.specs.Spelling.{spelt}
-use Rattle.rpl_code.specs.Answers.{refusal_of}
+use Rattle.rpl_code.specs.Answers.{code_refusal_of}
 use Rattle.rpl_code.proofs.CodeRead.{read_spelt}
 use Rattle.rpl_code.specs.Parting.{parted}
 use Rattle.rpl_code.specs.Reading.{may_end, truncated, CodeRefusal, bad_line, stage_behind, said_at, unless_bad, all_said, read}
@@ -61,7 +61,7 @@ blocks_or other (Ok blocks) = blocks
 blocks_or other (Err refusal) = other
 
 abbrev Tells : List Block → Result (List Block) CodeFault → Type 0
-Tells blocks result = Answers NoMemory refusal_of (λ code. code) result (Ok blocks)
+Tells blocks result = Answers NoMemory code_refusal_of (λ code. code) result (Ok blocks)
 
 answered : (blocks : List Block) (result : Result (List Block) CodeFault) → Tells blocks result
     → MatchResult result (λ code. code ≡ blocks) (λ fault. fault ≡ NoMemory)
@@ -71,7 +71,7 @@ answered blocks (Err Truncated) why = absurd (false≢true (sym (ap is_ok (why.0
 answered blocks (Err NoMemory) why = refl
 
 pub read_again : (blocks : List Block) (result : Result (List Block) CodeFault) → IsCode blocks
-    → Answers NoMemory refusal_of (λ code. code) result (read (spelt blocks))
+    → Answers NoMemory code_refusal_of (λ code. code) result (read (spelt blocks))
     → MatchResult result (λ code. code ≡ blocks) (λ fault. fault ≡ NoMemory)
 read_again blocks result is answers =
-    answered blocks result (subst (λ reading. Answers NoMemory refusal_of (λ code. code) result reading) (read_spelt blocks is) answers)
+    answered blocks result (subst (λ reading. Answers NoMemory code_refusal_of (λ code. code) result reading) (read_spelt blocks is) answers)

@@ -7,7 +7,7 @@ use Rattle.std.specs.Fmt.{digits}
 use Rattle.rw_base.specs.Quantity.{IsQuantity}
 use Rattle.rpl_code.specs.declared.kind.ValueKind.{ValueKind}
 use Rattle.rpl_code.specs.declared.kind.ValueKind.TheVariants as K
-use Rattle.rpl_code.specs.Names.{is_letter, is_digit}
+use Rattle.rw_base.specs.Byte.{is_letter, is_digit}
 use Rattle.rpl_code.specs.Bounds.{IsNumber, IsLength, IsCodeName, IsCodeKind, AreKinds}
 use Rattle.rpl_code.specs.Parting.{parted}
 use Rattle.rpl_code.specs.Words.{number_in, count_in, length_in, quantity_in, truth_in, name_in, slot_spelt, kind_in, kinds_in, each_kind}

@@ -3,7 +3,8 @@ use Rattle.rw_base.proofs.Common.{◌≡◌, ◌⊎◌, inl, inr, ℕ, List, [],
 use Rattle.rw_base.proofs.Common.{true, false, ◌&&◌, ◌||◌, nat_le, Option, Some, None, is_some, Result, Ok, Err, option_map, option_and_then}
 use Rattle.rw_base.proofs.Common.{list_all, IsErrAnd, IsAscii, IsUtf8, IsUtf8-from_ascii, IsAscii-nil, IsAscii-cons, and_parts, false≢true, nat_tests}
 use Rattle.rpl_code.specs.declared.kind.ValueKind.{ValueKind}
-use Rattle.rpl_code.specs.Names.{is_letter, is_digit, is_code_name}
+use Rattle.rw_base.specs.Byte.{is_letter, is_digit}
+use Rattle.rpl_code.specs.Names.{is_code_name}
 use Rattle.rpl_code.specs.Parting.{parted}
 use Rattle.rpl_code.specs.Words.{if_so, entry_at, length_in, name_in, slot_spelt, slot_of, list_kinds, kind_in, kind_spelt, each_kind}
 use Rattle.rpl_code.specs.Spelling.{texts_joined}

@@ -12,7 +12,7 @@ Says meant (Ok x) = meant ≡ Some x
 Says meant (Err fault) = fault ≡ Bad → meant ≡ None
 
 -- why a text is no code. Want of memory tells nothing of it
-abbrev pub refusal_of : CodeFault → Option CodeRefusal
-refusal_of (BadLine line) = Some (bad_line line)
-refusal_of Truncated = Some truncated
-refusal_of NoMemory = None
+abbrev pub code_refusal_of : CodeFault → Option CodeRefusal
+code_refusal_of (BadLine line) = Some (bad_line line)
+code_refusal_of Truncated = Some truncated
+code_refusal_of NoMemory = None

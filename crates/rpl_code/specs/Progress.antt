@@ -1,4 +1,4 @@
--- What has been read of a code, and what comes of it with the lines that are left.
+-- Within the crate: what has been read of a code, and what comes of it with the lines that are left.
 use Rattle.std.specs.Prelude.{◌≡◌, ℕ, ◌+◌, List, ◌∷◌, ◌++◌, true, Result, Ok, Err}
 use Rattle.rpl_code.specs.declared.block.Block.{Block}
 use Rattle.rpl_code.specs.declared.said.Said.{Said}

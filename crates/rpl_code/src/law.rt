@@ -8,7 +8,7 @@ ghost use Rattle.rpl_code.specs.declared.fault.CodeFault.TheVariants.{NoMemory};
 ghost use Rattle.rpl_code.specs.Bounds.{IsCode};
 ghost use Rattle.rpl_code.specs.Spelling.{spelt};
 ghost use Rattle.rpl_code.specs.Reading.{read, bad_line, truncated};
-ghost use Rattle.rpl_code.specs.Answers.{refusal_of};
+ghost use Rattle.rpl_code.specs.Answers.{code_refusal_of};
 ghost use Rattle.rpl_code.specs.Worked.{
   plain_rule,
   capped_code,
@@ -92,6 +92,6 @@ pub fn read_is_written()
 /// A code that was written is read again as that code, or there is no memory.
 pub fn written_code_is_read_again()
     ensures { (blocks : List Block) (result : Result (List Block) CodeFault) → IsCode blocks
-        → Answers NoMemory refusal_of (λ code. code) result (read (spelt blocks))
+        → Answers NoMemory code_refusal_of (λ code. code) result (read (spelt blocks))
         → MatchResult result (λ code. code ≡ blocks) (λ fault. fault ≡ NoMemory) }
 {}

@@ -1,7 +1,8 @@
 // Names in words.
 ghost use Rattle.std.specs.Prelude.{◌≡◌, ◌||◌};
 ghost use Rattle.std.specs.List.{list_all};
-ghost use Rattle.rpl_code.specs.Names.{is_letter, is_digit, is_code_name};
+ghost use Rattle.rw_base.specs.Byte.{is_letter, is_digit};
+ghost use Rattle.rpl_code.specs.Names.{is_code_name};
 ghost use Rattle.rpl_code.specs.Words.{name_in, slot_spelt};
 ghost use Rattle.rpl_code.specs.Answers.{Says};
 

@@ -9,7 +9,7 @@ ghost use Rattle.rpl_code.specs.declared.line_fault.LineFault.TheVariants as Lin
 ghost use Rattle.rpl_code.specs.declared.progress.Progress.TheVariants as Progress;
 ghost use Rattle.rpl_code.specs.Reading.{CodeRefusal, bad_line, inside, may_say, may_end, said_at, read};
 ghost use Rattle.rpl_code.specs.Progress.{stage_of, Takes, TakesLine};
-ghost use Rattle.rpl_code.specs.Answers.{refusal_of};
+ghost use Rattle.rpl_code.specs.Answers.{code_refusal_of};
 
 use crate::cut::cut;
 use crate::line::said_in;
@@ -88,7 +88,7 @@ fn take_line(
 fn fault_at(number: u32, fault: LineFault) -> CodeFault
     ensures { (reading : Result (List Block) CodeRefusal)
         → (fault ≡ LineFault.Bad → reading ≡ Err (bad_line number))
-        → IsWhy CodeFault.NoMemory refusal_of reading result }
+        → IsWhy CodeFault.NoMemory code_refusal_of reading result }
 {
     match fault {
         LineFault::Bad => CodeFault::BadLine(number),
@@ -111,7 +111,7 @@ fn is_whole(progress: &Progress, left: &[u8]) -> bool
 /// line feed. `NoMemory` says nothing of the text.
 pub fn read_code(alloc: Global, text: &[u8]) -> Result<Code, CodeFault>
     requires { length text.now ≤ TEXT_MAX }
-    ensures { Answers CodeFault.NoMemory refusal_of (λ code. code) result (read text.now) }
+    ensures { Answers CodeFault.NoMemory code_refusal_of (λ code. code) result (read text.now) }
 {
     let mut code = Vec::new(alloc);
     let mut progress = Progress::Top;

@@ -5,6 +5,7 @@ use Rattle.rw_base.proofs.Common.{and_parts, if◌then◌else◌}
 use Rattle.rw_model.proofs.Common.{IsBasin, Draft, IsSound, IsKind, IsName, Object, Placed, all_slots, first_from, is_named, object_at, object_from}
 use Rattle.rw_model.proofs.Common.{object_named, placed_from, slot_named, slots_from, Slot, of_range, all_quantities, slots_of, where_chosen}
 use Rattle.rw_model.proofs.NameFacts.{Decides-name}
+use Rattle.rw_base.specs.Byte.{is_digit, is_letter}
 use Rattle.rw_model.specs.Name as N
 use Rattle.rw_model.specs.declared.data_slots.DataSlot.{DataSlot}
 use Rattle.rw_model.specs.declared.kind.Kind.{Kind}
@@ -24,19 +25,19 @@ both_pass : (a b : Bool) → a ≡ true → b ≡ true → (a && b) ≡ true
 both_pass a b e f = rw (e, f) refl
 
 abbrev goes_on : List ℕ → Bool
-goes_on = list_all (λ b. N.is_letter b || N.is_digit b)
+goes_on = list_all (λ b. is_letter b || is_digit b)
 
 test_spelt : (text : List ℕ) → N.is_name text ≡ true → CanBeSpelt text
 test_spelt [] h = absurd (cc h)
 test_spelt (b ∷ bs) h =
     let text = b ∷ bs in
     let free = not (N.is_word N.reserved_words text) in
-    let some = and_parts (nat_le 1 (length text)) (nat_le (length text) 32 && (N.is_letter b && (goes_on text && free))) h in
-    let short = and_parts (nat_le (length text) 32) (N.is_letter b && (goes_on text && free)) some.1 in
-    let first = and_parts (N.is_letter b) (goes_on text && free) short.1 in
+    let some = and_parts (nat_le 1 (length text)) (nat_le (length text) 32 && (is_letter b && (goes_on text && free))) h in
+    let short = and_parts (nat_le (length text) 32) (is_letter b && (goes_on text && free)) some.1 in
+    let first = and_parts (is_letter b) (goes_on text && free) short.1 in
     let all = and_parts (goes_on text) free first.1 in
-    let rest = and_parts (N.is_letter b || N.is_digit b) (goes_on bs) all.0 in
-    both_pass (nat_le (length text) 32) (N.is_letter b && goes_on bs) short.0 (both_pass (N.is_letter b) (goes_on bs) first.0 rest.1)
+    let rest = and_parts (is_letter b || is_digit b) (goes_on bs) all.0 in
+    both_pass (nat_le (length text) 32) (is_letter b && goes_on bs) short.0 (both_pass (is_letter b) (goes_on bs) first.0 rest.1)
 
 name_spelt : (text : List ℕ) → IsName text → CanBeSpelt text
 name_spelt text h = test_spelt text ((Decides-name text).1 h)

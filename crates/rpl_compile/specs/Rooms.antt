@@ -1,4 +1,4 @@
--- The lists that a ruleset's declared types allow: as many elements as code can say.
+-- Within the crate: the lists that a ruleset's declared types allow: as many elements as code can say.
 use Rattle.std.specs.Prelude.{unsigned_abs, List, [], ◌∷◌}
 use Rattle.std.specs.List.{AllByRecursion}
 use Rattle.rpl_code.specs.Bounds.{IsLength}

@@ -1,4 +1,4 @@
--- What the crate's own types hold, as the definitions see it.
+-- Within the crate: what the crate's own types hold, as the definitions see it.
 use Rattle.std.specs.Prelude.{ℕ, List, map, Option, None, Some, reverse}
 use Rattle.rpl_code.specs.declared.kind.ValueKind.{ValueKind}
 use Rattle.rpl_code.specs.declared.kind.ValueKind.TheVariants as K

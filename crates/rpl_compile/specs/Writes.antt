@@ -1,4 +1,4 @@
--- What a call that writes leaves, unless memory was wanting.
+-- Within the crate: what a call that writes leaves, unless memory was wanting.
 use Rattle.std.specs.Prelude.{◌≡◌, Result, IfOk, OnOk}
 use Rattle.rw_base.specs.declared.memory.NoMemory.{NoMemory}
 use Rattle.rpl_code.specs.declared.kind.ValueKind.{ValueKind}

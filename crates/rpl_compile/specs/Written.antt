@@ -1,4 +1,4 @@
--- How code is written on one way over a tree: line after line, and a jump's place once it is known. What TRANSLATE can't say of a
+-- Within the crate: how code is written on one way over a tree: line after line, and a jump's place once it is known. What TRANSLATE can't say of a
 -- ruleset that isn't kinded, as a name that is no text or a list with too much room, is written here in some way.
 use Rattle.std.specs.Prelude.{ℕ, ◌+◌, ◌-◌, ◌*ℤ◌, ℤ, nat_lt, pos, unsigned_abs, true, false, List, [], ◌∷◌, ◌++◌, drop, length, map, take, Option, Some, None, unwrap_or, bytes_eq, slice_set, if◌then◌else◌}
 use Rattle.std.specs.Str.{is_utf8}

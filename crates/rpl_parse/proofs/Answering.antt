@@ -5,10 +5,10 @@ use Rattle.rpl_tree.specs.declared.rules.ParsedRules.{ParsedRules}
 use Rattle.rpl_parse.specs.declared.fault.ParseFault.{ParseFault}
 use Rattle.rpl_parse.specs.declared.fault.ParseFault.TheVariants.{BadToken, BadDeclaration, TooMany, NoMemory}
 use Rattle.rpl_parse.specs.Declarations.{GrammarRefusal, bad_token, bad_declaration, too_many, IsReading}
-use Rattle.rpl_parse.specs.Parsing.{AnswersReading, TellsDue, refusal_of}
+use Rattle.rpl_parse.specs.Parsing.{AnswersReading, TellsDue, grammar_refusal_of}
 use Rattle.rpl_parse.proofs.CutFacts.{some_reading_holds}
 
-tells : (source : List ℕ) (fault : ParseFault) (refusal : GrammarRefusal) → refusal_of fault ≡ Some refusal → IsReading source (Err refusal)
+tells : (source : List ℕ) (fault : ParseFault) (refusal : GrammarRefusal) → grammar_refusal_of fault ≡ Some refusal → IsReading source (Err refusal)
     → AnswersReading source (Err fault)
 tells source fault refusal told is = record {
   due = Err refusal;

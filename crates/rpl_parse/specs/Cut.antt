@@ -1,4 +1,4 @@
--- How many tokens the first declaration has.
+-- Within the crate: how many tokens the first declaration has.
 use Rattle.std.specs.Prelude.{ℕ, suc, List, [], ◌∷◌, if◌then◌else◌}
 use Rattle.rpl_parse.specs.Tokens.{Tok}
 use Rattle.rpl_parse.specs.Declarations.{is_end}

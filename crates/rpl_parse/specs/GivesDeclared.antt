@@ -1,4 +1,4 @@
--- What a result of the code says of a reading of types, parameters and declarations.
+-- Within the crate: what a result of the code says of a reading of types, parameters and declarations.
 use Rattle.std.specs.Prelude.{◌≡◌, ℕ, List, Option, Some, Result, Ok, Err, map}
 use Rattle.std.specs.Borrow.{Bor}
 use Rattle.std.specs.declared.vec.Vec.{Vec}

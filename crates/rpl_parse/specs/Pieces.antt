@@ -1,4 +1,4 @@
--- What the scanner's code answers, seen as what the definitions speak of.
+-- Within the crate: what the scanner's code answers, seen as what the definitions speak of.
 use Rattle.std.specs.Prelude.{◌≡◌, ◌≤◌, ◌<◌, ◌+◌, ℕ, pos, List, map, take, drop, length, Result, Ok, Err}
 use Rattle.std.specs.declared.vec.Vec.{Vec}
 use Rattle.std.specs.declared.alloc.Global.{Global}

@@ -1,4 +1,4 @@
--- How expressions are read, from the front, with one token of look-ahead.
+-- Within the crate: how expressions are read, from the front, with one token of look-ahead.
 use Rattle.std.specs.Prelude.{◌+◌, ◌-◌, ◌==◌, ◌++◌, ℕ, zero, suc, ℤ, Bool, true, false, if◌then◌else◌, ltb, Option, Some, None, List, [], ◌∷◌, max, length, option_and_then}
 use Rattle.rpl_tree.specs.declared.words.OneWord.{OneWord}
 use Rattle.rpl_tree.specs.declared.words.OneWord.TheVariants as O

@@ -1,4 +1,4 @@
--- How statements are read.
+-- Within the crate: how statements are read.
 use Rattle.std.specs.Prelude.{◌+◌, ◌++◌, ℕ, zero, suc, ℤ, pos, Bool, true, false, if◌then◌else◌, List, [], ◌∷◌, max, length, Option, Some, None}
 use Rattle.rpl_tree.specs.Tree.{Act, Acts, assign, branch, with_name, no_acts, act}
 use Rattle.rpl_parse.specs.declared.token.Mark.{Mark}

@@ -1,4 +1,4 @@
--- How types, parameters and declarations are read.
+-- Within the crate: how types, parameters and declarations are read.
 use Rattle.std.specs.Prelude.{◌++◌, ℕ, zero, suc, ℤ, List, [], ◌∷◌, length, Option, Some, None}
 use Rattle.rpl_tree.specs.Tree.{TypeName, numeric, boolean, datetime, slot_type, numeric_list, slot_list, Parameter, Declared, rule, function}
 use Rattle.rpl_parse.specs.declared.token.Mark.{Mark}

@@ -1,20 +1,12 @@
 -- The tokens of a text: from each place the longest, and the line in which each begins.
-use Rattle.std.specs.Prelude.{◌==◌, ◌+◌, ◌-◌, ◌*◌, ◌++◌, ◌&&◌, ◌||◌, ℕ, zero, suc, pos, Bool, true, false, if◌then◌else◌, leb, codes, nat_eq, Option, Some, None, List, [], ◌∷◌, take, drop}
+use Rattle.std.specs.Prelude.{◌==◌, ◌+◌, ◌-◌, ◌*◌, ◌++◌, ◌||◌, ℕ, zero, suc, pos, Bool, true, false, if◌then◌else◌, leb, codes, nat_eq, Option, Some, None, List, [], ◌∷◌, take, drop}
 use Rattle.std.specs.Cmp.Lexicographic.{pointwise}
 use Rattle.rpl_parse.specs.declared.token.Mark.{Mark}
 use Rattle.rpl_parse.specs.declared.token.Mark.TheVariants as M
 use Rattle.rpl_parse.specs.declared.class.Class.{Class}
 use Rattle.rpl_parse.specs.declared.class.Class.TheVariants as C
 use Rattle.rpl_parse.specs.Tokens.{Tok, mark, word, digits, text, Lined, lined}
-
-abbrev pub byte_between : ℕ → ℕ → ℕ → Bool
-byte_between a b c = leb a c && leb c b
-
-abbrev pub is_digit : ℕ → Bool
-is_digit b = byte_between 48 57 b
-
-abbrev pub is_letter : ℕ → Bool
-is_letter b = byte_between 65 90 b || byte_between 97 122 b || b == 95
+use Rattle.rw_base.specs.Byte.{is_digit, is_letter}
 
 abbrev pub is_blank : ℕ → Bool
 is_blank b = b == 32 || b == 9 || b == 13 || b == 10

@@ -1,5 +1,6 @@
 ghost use Rattle.std.specs.Prelude.{◌≡◌, ◌≤◌, ◌+◌, length};
-ghost use Rattle.rpl_parse.specs.Scan.{is_of, is_digit, is_letter, is_blank, run, head_is};
+ghost use Rattle.rw_base.specs.Byte.{is_digit, is_letter};
+ghost use Rattle.rpl_parse.specs.Scan.{is_of, is_blank, run, head_is};
 
 /// What a byte may be part of.
 #[derive(Clone, Copy)]

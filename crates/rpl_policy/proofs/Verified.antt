@@ -12,8 +12,8 @@ use Rattle.rw_series.specs.declared.fire.FireEnd.TheVariants.{Done, OutOfRange a
 use Rattle.rw_series.specs.declared.look.Look.{Look}
 use Rattle.rw_run.specs.declared.fault.RunFault.TheVariants.{ObjectLimit, RuleLimit}
 use Rattle.rw_run.proofs.Common.{Asked, Cells, Event, Leads, Log, after_objects, answered, asked_for, cells_of, denied_by, dispatch_of, dispatched}
-use Rattle.rw_run.proofs.Common.{dispatches, end_in, fault, first_due, first_waiting, follows_in, given, inside, judged, looks_of, next_of, opened}
-use Rattle.rw_run.proofs.Common.{or_fault, placed, rests, solved_by, standing, value_in}
+use Rattle.rw_run.proofs.Common.{dispatches, end_in, fault, first_due, first_waiting, follows_in, placed, inside, judged, looks_of, next_of, opened}
+use Rattle.rw_run.proofs.Common.{or_fault, with_inputs, rests, solved_by, standing, value_in}
 use Rattle.rw_run.specs.Next.{asked_next, ended, firing_of, firings}
 use Rattle.rw_run.specs.Runs.{IsRun, Standing, over}
 use Rattle.rpl_code.specs.declared.block.Block.{Block}
@@ -137,10 +137,11 @@ module _ (basin : Draft) (code : List Block) (budgets : List Budget) (safe : Are
   stood log event (inside step) is = chosen log event step (first_waiting basin log) is
   stood log event over is = absurd (none-some event is)
 
-  given_verified : (log : Log) (inputs : List (Cell × ℤ)) → AreVerified basin code budgets log → AreVerified basin code budgets (placed log inputs)
+  given_verified : (log : Log) (inputs : List (Cell × ℤ)) → AreVerified basin code budgets log
+      → AreVerified basin code budgets (with_inputs log inputs)
   given_verified log [] verified = verified
   given_verified log (input ∷ inputs) verified =
-      given_verified (given input.0 input.1 ∷ log) inputs (none_fires log (given input.0 input.1) refl, verified)
+      given_verified (placed input.0 input.1 ∷ log) inputs (none_fires log (placed input.0 input.1) refl, verified)
 
   lead_verified : (old : Log) (events : List Event) (new : Log) → Leads basin (policy_of_code basin code) old events new
       → AreVerified basin code budgets old → AreVerified basin code budgets new
@@ -150,4 +151,4 @@ module _ (basin : Draft) (code : List Block) (budgets : List Budget) (safe : Are
 
   pub firings_verified : (inputs : List (Cell × ℤ)) (log : Log) → IsRun basin (policy_of_code basin code) inputs log
       → AreVerified basin code budgets log
-  firings_verified inputs log run = lead_verified (placed [] inputs) run.events log run.leads (given_verified [] inputs tt)
+  firings_verified inputs log run = lead_verified (with_inputs [] inputs) run.events log run.leads (given_verified [] inputs tt)

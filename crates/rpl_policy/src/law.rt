@@ -6,7 +6,7 @@ ghost use Rattle.rw_run.specs.Log.{Log};
 ghost use Rattle.rw_run.specs.Policy.{FireAlike, IsPolicyOf};
 ghost use Rattle.rw_run.specs.Frame.{log_after};
 ghost use Rattle.rw_run.specs.RunOf.{trace_of};
-ghost use Rattle.rw_run.specs.Runs.{IsRun, placed};
+ghost use Rattle.rw_run.specs.Runs.{IsRun, with_inputs};
 ghost use Rattle.rpl_code.specs.declared.block.Block.{Block};
 ghost use Rattle.rpl_tree.specs.Budget.{Budget};
 ghost use Rattle.rpl_tree.specs.Tree.{Declared};
@@ -97,10 +97,10 @@ pub fn firings_of_rules_are_verified()
 /// lets 80 out. The code, and the ruleset that it is of, have this run and this trace.
 pub fn a_dam()
     ensures code { IsRun dam_basin (policy_of_code dam_basin cap_and_base_code) dam_inflow
-        (log_after dam_run (placed [] dam_inflow)) }
+        (log_after dam_run (with_inputs [] dam_inflow)) }
     ensures rules { IsRun dam_basin (policy_of_rules dam_basin cap_and_base) dam_inflow
-        (log_after dam_run (placed [] dam_inflow)) }
-    ensures trace { trace_of (log_after dam_run (placed [] dam_inflow)) ≡ dam_trace }
+        (log_after dam_run (with_inputs [] dam_inflow)) }
+    ensures trace { trace_of (log_after dam_run (with_inputs [] dam_inflow)) ≡ dam_trace }
 {}
 
 /// Rules over plain numbers: one that fires again on what another set and on its own put, one that meets an unknown value, and
@@ -111,8 +111,8 @@ pub fn numbers()
         (log_after raised_policy_run []) }
     ensures thirds { IsRun (basin_of_numbers 2)
         (policy_of_code (basin_of_numbers 2) hundredth_code) three_given
-        (log_after thirds_run (placed [] three_given)) }
+        (log_after thirds_run (with_inputs [] three_given)) }
     ensures divided { IsRun (basin_of_numbers 2)
         (policy_of_code (basin_of_numbers 2) hundredth_code)
-        five_and_none (log_after divided_policy_run (placed [] five_and_none)) }
+        five_and_none (log_after divided_policy_run (with_inputs [] five_and_none)) }
 {}

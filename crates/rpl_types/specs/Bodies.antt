@@ -1,4 +1,4 @@
--- What is answered for a body: its own type beside those of all its nodes.
+-- Within the crate: what is answered for a body: its own type beside those of all its nodes.
 use Rattle.std.specs.Prelude.{Ok, Err}
 use Rattle.rpl_tree.specs.declared.rpl_type.RplType.{RplType}
 use Rattle.rpl_types.specs.Nodes.{Expression, Judged, Types, nodes}

@@ -1,4 +1,4 @@
--- Refusals at nodes, and the types of some declarations before those of others.
+-- Within the crate: refusals at nodes, and the types of some declarations before those of others.
 use Rattle.std.specs.Prelude.{ℕ, List, ◌++◌, Result, Ok, Err}
 use Rattle.rpl_types.specs.Judged.{TypeRefusal}
 use Rattle.rpl_types.specs.Nodes.{NodeRefusal}

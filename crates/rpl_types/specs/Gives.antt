@@ -1,4 +1,4 @@
--- What a call of the judge answers on its way over a tree.
+-- Within the crate: what a call of the judge answers on its way over a tree.
 use Rattle.std.specs.Prelude.{ℕ, Option, [], Result}
 use Rattle.std.specs.declared.vec.Vec.{Vec}
 use Rattle.std.specs.declared.alloc.Global.{Global}

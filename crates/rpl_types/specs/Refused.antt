@@ -4,6 +4,6 @@ use Rattle.rpl_types.specs.Judged.{TypeRefusal, type_refusal}
 use Rattle.rpl_types.specs.declared.fault.TypeFault.{TypeFault}
 use Rattle.rpl_types.specs.declared.fault.TypeFault.TheVariants.{Refused, NoMemory}
 
-abbrev pub refusal_of : TypeFault → Option TypeRefusal
-refusal_of (Refused kind declaration node) = Some (type_refusal kind declaration node)
-refusal_of NoMemory = None
+abbrev pub type_refusal_of : TypeFault → Option TypeRefusal
+type_refusal_of (Refused kind declaration node) = Some (type_refusal kind declaration node)
+type_refusal_of NoMemory = None

@@ -1,4 +1,4 @@
--- What the crate's own types hold, as the definitions see it.
+-- Within the crate: what the crate's own types hold, as the definitions see it.
 use Rattle.std.specs.Prelude.{List, map}
 use Rattle.rpl_tree.specs.declared.rules.Declaration.{Declaration}
 use Rattle.rpl_tree.specs.Seen.{declared_of}

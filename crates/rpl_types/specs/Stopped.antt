@@ -1,4 +1,4 @@
--- What the code's refusals tell, and what is known on the way over a declaration.
+-- Within the crate: what the code's refusals tell, and what is known on the way over a declaration.
 use Rattle.std.specs.Prelude.{Option, Some, None}
 use Rattle.rpl_types.specs.declared.stop.Stop.{Stop}
 use Rattle.rpl_types.specs.declared.stop.Stop.TheVariants.{Refused, NoMemory}

@@ -1,4 +1,4 @@
--- How the types of nodes are found on one way over a tree: a node's place in the table is kept free before its parts, and filled
+-- Within the crate: how the types of nodes are found on one way over a tree: a node's place in the table is kept free before its parts, and filled
 -- after them.
 use Rattle.std.specs.Prelude.{ℕ, ◌+◌, ◌-◌, List, [], ◌∷◌, ◌++◌, length, Option, Some, None, is_some, slice_set, Ok, Err}
 use Rattle.rw_model.specs.Draft.{Draft}

@@ -2,7 +2,7 @@ ghost use Rattle.rw_base.specs.Answers.{Answers};
 ghost use Rattle.rpl_parse.specs.Declarations.{IsRuleset};
 ghost use Rattle.rpl_tree.specs.Seen.{rules_of};
 ghost use Rattle.rpl_types.specs.Checked.{checked, checked_of};
-ghost use Rattle.rpl_types.specs.Refused.{refusal_of};
+ghost use Rattle.rpl_types.specs.Refused.{type_refusal_of};
 ghost use Rattle.rpl_types.specs.declared.fault.TypeFault.TheVariants as Fault;
 
 use crate::declarations::types_of_all;
@@ -18,7 +18,7 @@ use std::alloc::Global;
 /// fault.
 pub fn check(alloc: Global, rules: ParsedRules, basin: &Basin) -> Result<Typed, TypeFault>
     requires ruleset { IsRuleset rules }
-    ensures answers { Answers Fault.NoMemory refusal_of checked_of result
+    ensures answers { Answers Fault.NoMemory type_refusal_of checked_of result
         (checked basin.now (rules_of rules)) }
 {
     let costs = match budgets(alloc, &rules) {

@@ -9,7 +9,7 @@ ghost use Rattle.rpl_tree.specs.Tree.{function};
 ghost use Rattle.rpl_types.specs.Gives.{callable_in};
 ghost use Rattle.rpl_types.specs.Judged.{and_function, cost_refusal, declared_types, is_affordable, rules_judged, refused_as_whole, with_budget};
 ghost use Rattle.rpl_types.specs.Declarations.{node_refusal};
-ghost use Rattle.rpl_types.specs.Refused.{refusal_of};
+ghost use Rattle.rpl_types.specs.Refused.{type_refusal_of};
 ghost use Rattle.rpl_types.specs.Seen.{signatures_of};
 ghost use Rattle.rpl_types.specs.Stopped.{stop_refusal};
 ghost use Rattle.rpl_types.specs.declared.fault.TypeFault.TheVariants as TypeFault;
@@ -136,9 +136,9 @@ fn add_function<'a>(
 
 /// The fault that tells what is wrong in the declaration of a number.
 fn fault_at(number: usize, stop: Stop) -> TypeFault
-    ensures told { ForSome (refusal_of result) (λ why. (why.declaration ≡ number)
+    ensures told { ForSome (type_refusal_of result) (λ why. (why.declaration ≡ number)
         × (stop_refusal stop ≡ Some (node_refusal why.kind why.node))) }
-    ensures memory { refusal_of result ≡ None → result ≡ TypeFault.NoMemory }
+    ensures memory { type_refusal_of result ≡ None → result ≡ TypeFault.NoMemory }
 {
     let Stop::Refused { kind, node } = stop else {
         return TypeFault::NoMemory;
@@ -161,7 +161,8 @@ pub(crate) fn types_of_all(
     costs: &[TreeCost],
 ) -> Result<Vec<NodeTypes>, TypeFault>
     requires costs { map budget_seen costs.now ≡ budgets_of (map declared_of declarations.now) }
-    ensures { Answers TypeFault.NoMemory refusal_of (λ all. map (λ types. types.items) all.items)
+    ensures { Answers TypeFault.NoMemory type_refusal_of
+        (λ all. map (λ types. types.items) all.items)
         result (rules_judged basin.now (map declared_of declarations.now)) }
 {
     let mut all = Vec::new(alloc);

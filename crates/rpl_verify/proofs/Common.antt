@@ -29,4 +29,4 @@ pub use Rattle.rpl_verify.specs.Resolved.{resolved_code, resolved_from, resolved
 pub use Rattle.rpl_verify.specs.Safety.{next_instruction}
 pub use Rattle.rpl_verify.specs.Table.{appended, call_row, function_named, goes_by, invoke_row, lacks, load_row, of_list, operand_count}
 pub use Rattle.rpl_verify.specs.Table.{operands_behind, or_wrong, element_picked, operand_row, store_row, takes}
-pub use Rattle.rpl_verify.specs.Verified.{Accepted, function_head, refusal_of, verified}
+pub use Rattle.rpl_verify.specs.Verified.{Accepted, function_head, misfit_refusal_of, verified}

@@ -1,4 +1,4 @@
--- What is answered of a block.
+-- Within the crate: what is answered of a block.
 use Rattle.std.specs.Prelude.{◌≡◌, ℕ, Result, Ok, Err}
 use Rattle.rpl_verify.specs.declared.verify_kind.VerifyKind.{VerifyKind}
 use Rattle.rpl_verify.specs.declared.place_fault.PlaceFault.{PlaceFault}

@@ -1,4 +1,4 @@
--- The steps of a judgement, by what they go by: a row, a kind, the places of the block.
+-- Within the crate: the steps of a judgement, by what they go by: a row, a kind, the places of the block.
 use Rattle.std.specs.Prelude.{◌≡◌, ℕ, suc, true, nat_lt, List, [], ◌∷◌, length, take, drop, slice_get, Option, Some, None, Result, Ok, Err, if◌then◌else◌}
 use Rattle.std.specs.List.{list_all}
 use Rattle.rw_model.specs.Draft.{Draft}

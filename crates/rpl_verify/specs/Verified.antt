@@ -29,9 +29,9 @@ abbrev pub verified : Draft → List Block → Result Accepted Refusal
 verified basin blocks = with_budgets basin blocks (ruling basin blocks)
 
 -- the refusal that a fault tells
-abbrev pub refusal_of : VerifyFault → Option Refusal
-refusal_of (Refused kind block place) = Some (refusal kind block place)
-refusal_of NoMemory = None
+abbrev pub misfit_refusal_of : VerifyFault → Option Refusal
+misfit_refusal_of (Refused kind block place) = Some (refusal kind block place)
+misfit_refusal_of NoMemory = None
 
 -- the numbers of the blocks that are rules, where the first block has this number
 abbrev pub rules_from : ℕ → List Block → List ℕ

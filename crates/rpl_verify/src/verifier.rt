@@ -5,7 +5,7 @@ ghost use Rattle.rpl_code.specs.Bounds.{IsCode};
 ghost use Rattle.rpl_verify.specs.declared.verify_fault.VerifyFault.TheVariants as F;
 ghost use Rattle.rpl_verify.specs.Budget.{ruling};
 ghost use Rattle.rpl_verify.specs.Notes.{numbers_seen};
-ghost use Rattle.rpl_verify.specs.Verified.{refusal_of};
+ghost use Rattle.rpl_verify.specs.Verified.{misfit_refusal_of};
 ghost use Rattle.rpl_verify.specs.Answered.{fault_in};
 
 use crate::block::block_budget;
@@ -32,7 +32,8 @@ pub(crate) fn budgets(
     blocks: &[Block],
 ) -> Result<Vec<Budget>, VerifyFault>
     requires { IsCode blocks.now }
-    ensures { Answers F.NoMemory refusal_of (λ budgets. map numbers_seen budgets.items) result
+    ensures { Answers F.NoMemory misfit_refusal_of
+        (λ budgets. map numbers_seen budgets.items) result
         (ruling basin.now blocks.now) }
 {
     let mut budgets = Vec::new(alloc);

@@ -5,3 +5,4 @@ pub mod Predefined
 pub mod Unit
 pub mod Answers
 pub mod Range
+pub mod Byte

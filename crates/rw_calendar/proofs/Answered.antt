@@ -10,11 +10,11 @@ use Rattle.rw_calendar.specs.declared.step_length.StepLength.{StepLength}
 use Rattle.rw_calendar.specs.Start.{moment_of, IsStart}
 use Rattle.rw_calendar.specs.StepLength.{CanBegin}
 use Rattle.rw_calendar.specs.Stamps.{Timesteps, timesteps_of, EndsBeyondYears, CanBeStamped, AnswersStamps, CalRefusal, bad_start, not_first_of_month}
-use Rattle.rw_calendar.specs.Stamps.{beyond_years, refusal_of, stamps_refusal}
+use Rattle.rw_calendar.specs.Stamps.{beyond_years, calendar_refusal_of, stamps_refusal}
 use Rattle.rw_calendar.proofs.Refusals.{stamped-iff, bad-iff, first-iff, beyond-iff}
 
 abbrev Stamped : Option CalRefusal → Timesteps → Result Timesteps CalFault → Type 0
-Stamped why run result = Answers NoMemory refusal_of (λ stamps. stamps) result (unless_refused why run)
+Stamped why run result = Answers NoMemory calendar_refusal_of (λ stamps. stamps) result (unless_refused why run)
 
 -- which fault tells a refusal
 abbrev fault_of : CalRefusal → CalFault

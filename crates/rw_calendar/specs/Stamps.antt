@@ -54,11 +54,11 @@ pub data CalRefusal : Type 0 where
   beyond_years : CalRefusal
 
 -- what a fault tells of the steps. Want of memory tells nothing of them
-abbrev pub refusal_of : CalFault → Option CalRefusal
-refusal_of BadStart = Some bad_start
-refusal_of NotFirstOfMonth = Some not_first_of_month
-refusal_of BeyondYears = Some beyond_years
-refusal_of NoMemory = None
+abbrev pub calendar_refusal_of : CalFault → Option CalRefusal
+calendar_refusal_of BadStart = Some bad_start
+calendar_refusal_of NotFirstOfMonth = Some not_first_of_month
+calendar_refusal_of BeyondYears = Some beyond_years
+calendar_refusal_of NoMemory = None
 
 -- why so many steps of one length have no stamps, if they have none
 abbrev pub stamps_refusal : Start → StepLength → ℕ → Option CalRefusal
@@ -75,7 +75,7 @@ stamps_of start length steps = unless_refused (stamps_refusal start length steps
 
 -- what a call that stamps them answers: the stamps, or the fault that tells why there are none. Memory is wanting only where there are some
 pub record AnswersStamps (start : Start) (length : StepLength) (steps : ℕ) (result : Result Timesteps CalFault) : Type 0 where
-  pub answers : Answers NoMemory refusal_of (λ stamps. stamps) result (stamps_of start length steps)
+  pub answers : Answers NoMemory calendar_refusal_of (λ stamps. stamps) result (stamps_of start length steps)
   pub no_memory : IsErrOf result NoMemory → CanBeStamped start length steps
 
 -- a moment so many step lengths after the start, of a year that dates are written with

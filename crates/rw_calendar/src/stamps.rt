@@ -5,7 +5,7 @@ ghost use Rattle.rw_base.specs.Answers.{Answers};
 ghost use Rattle.rw_calendar.specs.declared.fault.CalFault.TheVariants as CalFault;
 ghost use Rattle.rw_calendar.specs.Clock.{moment_at, IsOnTheHour};
 ghost use Rattle.rw_calendar.specs.StepLength.{IsStepLength, CanBegin, moment_after};
-ghost use Rattle.rw_calendar.specs.Stamps.{AreTimesteps, Timesteps, CanBeStamped, IsMomentAfter, HasMoments, refusal_of, stamps_of, begin_of, end_of_step, stamp_text};
+ghost use Rattle.rw_calendar.specs.Stamps.{AreTimesteps, Timesteps, CanBeStamped, IsMomentAfter, HasMoments, calendar_refusal_of, stamps_of, begin_of, end_of_step, stamp_text};
 
 use crate::later::{after, can_begin, first_moment, moment_shown};
 use crate::{CalFault, Moment, Start, StepLength};
@@ -74,7 +74,7 @@ impl Stamps {
     ) -> Result<Stamps, CalFault>
         requires steps { IsInRange 1 STEPS_MAX steps }
         requires length { IsStepLength length }
-        ensures answers { Answers CalFault.NoMemory refusal_of (λ stamps. stamps) result
+        ensures answers { Answers CalFault.NoMemory calendar_refusal_of (λ stamps. stamps) result
             (stamps_of start length steps) }
         ensures no_memory { IsErrOf result CalFault.NoMemory → CanBeStamped start length steps }
     {

@@ -3,9 +3,9 @@ use Rattle.rw_base.proofs.Common.{◌≡◌, ℕ, List, [], ◌∷◌, Option, S
 use Rattle.rw_model.specs.Draft.{Draft}
 use Rattle.rw_model.specs.Turn.{IsStep}
 use Rattle.rw_run.specs.Log.{Event, Log}
-use Rattle.rw_inputs.specs.Givens.{givens}
+use Rattle.rw_inputs.specs.Placings.{placings}
 use Rattle.rw_inputs.specs.Inputs.{Inputs}
-use Rattle.rw_run.specs.Runs.{placed, rests, standing}
+use Rattle.rw_run.specs.Runs.{with_inputs, rests, standing}
 use Rattle.rw_run.proofs.Placed.{standing-placed}
 use Rattle.rw_record.specs.Record.{StepRecord}
 use Rattle.rpl_verify.specs.Verified.{Accepted}
@@ -16,9 +16,9 @@ use Rattle.rw_engine.specs.Shows.{Shows}
 use Rattle.rw_engine.specs.declared.step_end.StepEnd.{StepEnd}
 use Rattle.rw_engine.specs.declared.step_end.StepEnd.TheVariants.{Closed}
 
-pub begins : (basin : Draft) (inputs : Inputs) (engine : Engine) → Shows basin engine (placed [] (givens basin inputs))
+pub begins : (basin : Draft) (inputs : Inputs) (engine : Engine) → Shows basin engine (with_inputs [] (placings basin inputs))
     → (log : Log) × Shows basin engine log × (standing log ≡ rests 0)
-begins basin inputs engine shows = let given = givens basin inputs in (placed [] given, shows, standing-placed [] given refl)
+begins basin inputs engine shows = let given = placings basin inputs in (with_inputs [] given, shows, standing-placed [] given refl)
 
 pub recorded : (basin : Draft) (step : ℕ) (old : Log) (events : List Event) (found : Option StepRecord) (kept : StepRecord)
     → RecordsOrNot basin step old events found → found ≡ Some kept → RecordsThese basin step old events kept

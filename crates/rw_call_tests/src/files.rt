@@ -99,7 +99,7 @@ fn calls_of_a_sink_fail_by_number(rt: HostRuntime) -> Result<(), Fail> {
 #[derive(Drop)]
 struct Endless {
     started: Option<String>,
-    given: u64,
+    taken: u64,
     most: usize,
 }
 
@@ -108,23 +108,23 @@ impl Shelf for Endless {
       holds = λ _. None;
       started = option_map (λ path. string_bytes path) s.started;
       left = None;
-      given = s.given;
+      taken = s.taken;
       faults = λ _. 0;
     } };
 
     fn start(&mut self, path: String) -> Result<(), ShelfFault> {
         self.started = Some(path);
-        self.given = 0;
+        self.taken = 0;
         Ok(())
     }
 
     fn read(&mut self, buf: &mut [u8]) -> Result<usize, ShelfFault> {
-        let _given = self.given;
+        let _taken = self.taken;
         if self.started.is_none() {
             return Ok(0);
         }
         self.most = self.most.max(buf.len());
-        self.given = self.given.saturating_add(buf.len() as u64);
+        self.taken = self.taken.saturating_add(buf.len() as u64);
         Ok(buf.len())
     }
 }
@@ -137,11 +137,11 @@ fn is_too_long(alloc: Global, shelf: &mut impl Shelf) -> bool {
 fn an_endless_file_is_read_in_pieces_until_it_is_too_long(rt: HostRuntime) {
     let mut endless = Endless {
         started: None,
-        given: 0,
+        taken: 0,
         most: 0,
     };
     let is_too_long = is_too_long(rt.alloc(), &mut endless);
-    let read = (endless.most, endless.given);
+    let read = (endless.most, endless.taken);
     assert!(rt; is_too_long && read == (PIECE_MAX, (FILE_MAX + PIECE_MAX) as u64));
 }
 

@@ -1,4 +1,4 @@
--- The objects that slots reach.
+-- Within the crate: the objects that slots reach.
 use Rattle.std.specs.Prelude.{◌≡◌, ◌≤◌, ◌<◌, ◌-◌, ◌/◌, ◌%◌, ◌==◌, ◌&&◌, ℕ, Bool, false, not, List, Option, length, slice_index_or}
 use Rattle.std.specs.Int.{bit_at}
 use Rattle.rw_run.specs.Waiting.{is_but}

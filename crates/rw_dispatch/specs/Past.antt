@@ -1,4 +1,4 @@
--- An earlier value of a slot.
+-- Within the crate: an earlier value of a slot.
 use Rattle.std.specs.Prelude.{ℕ}
 use Rattle.rw_base.specs.declared.number.SlotNo.{SlotNo}
 use Rattle.rw_run.specs.Dispatch.{Past}

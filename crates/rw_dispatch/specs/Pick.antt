@@ -4,7 +4,7 @@ use Rattle.rw_base.specs.declared.number.Cell.{Cell}
 use Rattle.rw_model.specs.Draft.{Draft}
 use Rattle.rw_run.specs.Log.{Event, Log, dispatched_in}
 use Rattle.rw_run.specs.Next.{Policy}
-use Rattle.rw_run.specs.Runs.{IsOver, follows_by, placed, standing}
+use Rattle.rw_run.specs.Runs.{IsOver, follows_by, with_inputs, standing}
 use Rattle.rw_run.specs.Waiting.{waiting}
 
 -- 1 for a dispatch
@@ -51,5 +51,5 @@ LeadsPicked basin policy rule old (event ∷ events) new =
 -- the whole log of these inputs in which the rule picks each object that is dispatched
 pub record IsPickedRun (basin : Draft) (policy : Policy) (rule : Picking) (inputs : List (Cell × ℤ)) (log : Log) : Type 0 where
   pub events : List Event
-  pub leads : LeadsPicked basin policy rule (placed [] inputs) events log
+  pub leads : LeadsPicked basin policy rule (with_inputs [] inputs) events log
   pub end : IsOver basin (standing log)

@@ -1,4 +1,4 @@
--- What is seen of a slot, by its number.
+-- Within the crate: what is seen of a slot, by its number.
 use Rattle.std.specs.Prelude.{ℕ, pos, Option, option_map, option_and_then, unwrap_or}
 use Rattle.rw_model.specs.declared.content.Content.{Content}
 use Rattle.rw_model.specs.Draft.{Draft}

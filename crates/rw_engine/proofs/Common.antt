@@ -12,7 +12,7 @@ pub use Rattle.rw_model.specs.Turn.{IsStep}
 pub use Rattle.rw_dispatch.specs.declared.dispatch_end.DispatchEnd.{DispatchEnd}
 pub use Rattle.rw_engine.specs.Counts.{HasCount, count_of_number, raised, room}
 pub use Rattle.rw_engine.specs.Engine.{Engine}
-pub use Rattle.rw_inputs.specs.Givens.{givens, givens_of, givens_to, if_given}
+pub use Rattle.rw_inputs.specs.Placings.{placings, placings_of, placings_to, if_placed}
 pub use Rattle.rw_engine.specs.Held.{HoldsAll}
 pub use Rattle.rw_engine.specs.Lines.{TraceGrows, fault_by, fault_of_rule, lines_by, lines_of_rule}
 pub use Rattle.rw_engine.specs.Passing.{ComesTo, Passes}
@@ -25,9 +25,11 @@ pub use Rattle.rw_method.specs.declared.put.Put.{Put}
 pub use Rattle.rw_model.specs.Draft.{Draft, IsObject}
 pub use Rattle.rw_model.specs.declared.control.RunControl.{RunControl}
 pub use Rattle.rw_run.proofs.Common.{AreReady, Asked, Cells, Event, IsOver, IsRunOf, Leads, Log, Policy, all_waiting, asked_by, asked_for, cell_at}
-pub use Rattle.rw_run.proofs.Common.{cell_in, cells_of, closed, count_if, dispatched, dispatches, end_of, fault, first_of, follows, follows_in, given}
+pub use Rattle.rw_run.proofs.Common.{cell_in, cells_of, closed, count_if, dispatched, dispatches, end_of, fault, first_of, follows, follows_in}
+pub use Rattle.rw_run.proofs.Common.{placed}
 pub use Rattle.rw_run.proofs.Common.{held_after, idles, input_content, inside, last_closed, last_put, line_of, lines, looks_of, next, next_of}
-pub use Rattle.rw_run.proofs.Common.{no_rules, opened, opens, placed, places, queued_after, queued_after-ready, rests, solves, standing, trace_of}
+pub use Rattle.rw_run.proofs.Common.{no_rules, opened, opens, with_inputs, places, queued_after, queued_after-ready, rests, solves, standing}
+pub use Rattle.rw_run.proofs.Common.{trace_of}
 pub use Rattle.rw_run.proofs.Common.{waiting, written_by}
 pub use Rattle.rw_run.specs.declared.fault.RunFault.{RunFault}
 pub use Rattle.rw_run.specs.declared.run.RunEnd.TheVariants.{Fault, Settled}

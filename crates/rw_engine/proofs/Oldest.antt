@@ -13,7 +13,7 @@ use Rattle.rw_engine.specs.Picked.{EndsStepBy, ComesToPicked, LeadsBy, PassesBy,
 use Rattle.rw_engine.specs.declared.step_end.StepEnd.{StepEnd}
 use Rattle.rw_engine.specs.declared.step_end.StepEnd.TheVariants.{Closed as IsClosed, Fault as IsFaulted}
 use Rattle.rw_engine.proofs.Common.{ComesTo, Draft, Engine, Event, Inputs, Leads, List, Log, Passes, Policy, [], ap, first_of, follows, opened}
-use Rattle.rw_engine.proofs.Common.{placed, refl, sym, waiting, ℕ, ℤ, ◌∙◌, ◌∷◌, ◌≡◌}
+use Rattle.rw_engine.proofs.Common.{with_inputs, refl, sym, waiting, ℕ, ℤ, ◌∙◌, ◌∷◌, ◌≡◌}
 
 first_is : (waits : List ℕ) → first_of waits ≡ slice_get waits 0
 first_is [] = refl
@@ -38,10 +38,10 @@ module _ (basin : Draft) (policy : Policy) where
   leads_picked old (event ∷ events) new leads = (sym (follows_oldest old) ∙ leads.0, leads_picked (event ∷ old) events new leads.1)
 
   pub oldest_is_run : (inputs : List (Cell × ℤ)) (log : Log) → IsPickedRun basin policy oldest inputs log → IsRun basin policy inputs log
-  oldest_is_run inputs log run = record { events = run.events; leads = picked_leads (placed [] inputs) run.events log run.leads; end = run.end }
+  oldest_is_run inputs log run = record { events = run.events; leads = picked_leads (with_inputs [] inputs) run.events log run.leads; end = run.end }
 
   pub run_is_oldest : (inputs : List (Cell × ℤ)) (log : Log) → IsRun basin policy inputs log → IsPickedRun basin policy oldest inputs log
-  run_is_oldest inputs log run = record { events = run.events; leads = leads_picked (placed [] inputs) run.events log run.leads; end = run.end }
+  run_is_oldest inputs log run = record { events = run.events; leads = leads_picked (with_inputs [] inputs) run.events log run.leads; end = run.end }
 
   -- what it comes to is what the run does
   pub comes_oldest : (inputs : Inputs) (run : Run) → ComesToPicked basin policy oldest inputs run → ComesTo basin policy inputs run

@@ -1,6 +1,6 @@
 -- The lines of a timestep, what they say to be written, and its record.
 use Rattle.rw_engine.proofs.Common.{All, Asked, Cell, Cells, Draft, Engine, Event, List, Log, None, Option, Some, [], ap, append-nil, arith, cells_of}
-use Rattle.rw_engine.proofs.Common.{closed, fault, given, last_put, length, line_of, lines, map, opened, option_or, refl, subst, suc, sym, take}
+use Rattle.rw_engine.proofs.Common.{closed, fault, placed, last_put, length, line_of, lines, map, opened, option_or, refl, subst, suc, sym, take}
 use Rattle.rw_engine.proofs.Common.{written_by, zero, ℕ, ◌++◌, ◌+◌, ◌∙◌, ◌∷◌, ◌≡◌}
 use Rattle.std.specs.Prelude.{Err, IfErr, IfOk, IfSome, MatchOption, Ok, Result, option_and_then, slice_get, ◌⊎◌, ◌<◌}
 use Rattle.std.specs.List.{cons_option, flat_map}
@@ -72,8 +72,8 @@ puts_of_lines (put ∷ puts) = ap (λ rest. put ∷ rest) (puts_of_lines puts)
 -- the lines of an event that is no input say what it writes
 puts_of_event : (event : Event) (step : ℕ) (log : Log) → (standing (event ∷ []) ≡ inside step) ⊎ (event ≡ closed step)
     → puts_in (lines event) ≡ written_by event
-puts_of_event (given cell value) step log (inl is) = absurd (cc)
-puts_of_event (given cell value) step log (inr is) = absurd (cc)
+puts_of_event (placed cell value) step log (inl is) = absurd (cc)
+puts_of_event (placed cell value) step log (inr is) = absurd (cc)
 puts_of_event (opened other) step log is = refl
 puts_of_event (closed other) step log is = refl
 puts_of_event (idle object other looked) step log is = refl
@@ -117,7 +117,7 @@ can_told : (basin : Draft) (line : TraceEvent) (puts : List Asked) → CanWriteL
 can_told basin line puts can all = All-cons (CanWriteLine basin) line (map line_of puts) can (can_lines basin puts all)
 
 can_event : (basin : Draft) (event : Event) → AreWrites basin (written_by event) → CanWriteLines basin (lines event)
-can_event basin (given cell value) can = All-nil (CanWriteLine basin)
+can_event basin (placed cell value) can = All-nil (CanWriteLine basin)
 can_event basin (solved dispatch) can = can_told basin (Solve (record { 0 = dispatch.object })) dispatch.written (All-nil (CanWrite basin)) can
 can_event basin (fired firing) can =
     can_told basin (Fire (record { 0 = firing.rule }) firing.is_done firing.count) firing.written (All-nil (CanWrite basin)) can

@@ -1,6 +1,6 @@
 -- A run, timestep by timestep.
 use Rattle.rw_engine.proofs.Common.{ComesTo, Draft, Engine, Event, Inputs, IsBefore, IsOver, IsRunOf, List, Log, RunFault, Shows, [], ap, arith}
-use Rattle.rw_engine.proofs.Common.{givens, Policy, placed, refl, rests, standing, subst, sym, ℕ, ◌++◌, ◌+◌, ◌<◌, ◌∙◌, ◌∷◌, ◌≡◌}
+use Rattle.rw_engine.proofs.Common.{placings, Policy, with_inputs, refl, rests, standing, subst, sym, ℕ, ◌++◌, ◌+◌, ◌<◌, ◌∙◌, ◌∷◌, ◌≡◌}
 use Rattle.std.specs.Prelude.{Err, IsErrAnd, Ok, Result, ◌-◌, ◌^◌, ◌≤◌}
 use Rattle.rw_base.specs.declared.memory.NoMemory.{NoMemory}
 use Rattle.rpl_verify.specs.Verified.{Accepted}
@@ -24,14 +24,14 @@ pub before_step : (basin : Draft) (log : Log) (step : ℕ) → standing log ≡ 
 before_step basin log step rest near = record { last = step; rest = rest; next_one = refl; exists = omega arith }
 
 module _ (basin : Draft) (policy : Policy) (rule : Picking) (inputs : Inputs) where
-  pub stands_first : (engine : Engine) → Shows basin engine (placed [] (givens basin inputs)) → engine.turns ≡ 0
+  pub stands_first : (engine : Engine) → Shows basin engine (with_inputs [] (placings basin inputs)) → engine.turns ≡ 0
       → StandsPicked basin policy rule inputs engine 0
   stands_first engine shows none = record {
-    log = placed [] (givens basin inputs);
+    log = with_inputs [] (placings basin inputs);
     events = [];
     leads = refl;
     shows = shows;
-    rest = standing-placed [] (givens basin inputs) refl;
+    rest = standing-placed [] (placings basin inputs) refl;
     turned = none;
   }
 
@@ -42,7 +42,7 @@ module _ (basin : Draft) (policy : Policy) (rule : Picking) (inputs : Inputs) wh
     log = passes.last ∷ passes.before;
     events = stands.events ++ passes.events;
     leads =
-        leads_on basin policy rule 0 (placed [] (givens basin inputs)) stands.events passes.events stands.log (passes.last ∷ passes.before)
+        leads_on basin policy rule 0 (with_inputs [] (placings basin inputs)) stands.events passes.events stands.log (passes.last ∷ passes.before)
         stands.leads
         (subst (λ turn. LeadsBy basin policy rule turn stands.log passes.events (passes.last ∷ passes.before)) stands.turned passes.leads);
     shows = passes.shows;
@@ -51,13 +51,13 @@ module _ (basin : Draft) (policy : Policy) (rule : Picking) (inputs : Inputs) wh
   }
 
   -- events that the inputs led to are those of the picked run
-  abbrev whole : (events : List Event) (log : Log) → LeadsBy basin policy rule 0 (placed [] (givens basin inputs)) events log
+  abbrev whole : (events : List Event) (log : Log) → LeadsBy basin policy rule 0 (with_inputs [] (placings basin inputs)) events log
       → turns_after 0 events < 2 ^ 64 - 1
-      → IsOver basin (standing log) → IsPickedRun basin policy rule (givens basin inputs) log
+      → IsOver basin (standing log) → IsPickedRun basin policy rule (placings basin inputs) log
   whole events log leads few over = record {
     events = events;
     leads =
-        leads_picked basin policy rule 0 (placed [] (givens basin inputs)) events log (sym (turns_placed [] (givens basin inputs)))
+        leads_picked basin policy rule 0 (with_inputs [] (placings basin inputs)) events log (sym (turns_placed [] (placings basin inputs)))
         (omega arith) few leads;
     end = over;
   }
@@ -67,7 +67,7 @@ module _ (basin : Draft) (policy : Policy) (rule : Picking) (inputs : Inputs) wh
       → step ≡ basin.control.stamps.count → engine.turns < 2 ^ 64 - 1 → IsRunOf basin stands.log run → ComesToPicked basin policy rule inputs run
   comes_settled engine step run stands last few is = record {
     log = stands.log;
-    any = may_lead basin policy rule 0 (placed [] (givens basin inputs)) stands.events stands.log stands.leads;
+    any = may_lead basin policy rule 0 (with_inputs [] (placings basin inputs)) stands.events stands.log stands.leads;
     whole = whole stands.events stands.log stands.leads (subst (λ turn. turn < 2 ^ 64 - 1) stands.turned few)
         (subst (IsOver basin) (sym (stands.rest ∙ ap rests last)) (omega arith));
     is = is;
@@ -83,11 +83,13 @@ module _ (basin : Draft) (policy : Policy) (rule : Picking) (inputs : Inputs) wh
       let all : turns_after 0 (stands.events ++ passes.events) ≡ turns_after old.turns passes.events =
       turns_more 0 stands.events passes.events ∙ ap (λ turn. turns_after turn passes.events) (sym stands.turned) in
       let leads =
-      leads_on basin policy rule 0 (placed [] (givens basin inputs)) stands.events passes.events stands.log (passes.last ∷ passes.before)
+      leads_on basin policy rule 0 (with_inputs [] (placings basin inputs)) stands.events passes.events stands.log (passes.last ∷ passes.before)
       stands.leads
       (subst (λ turn. LeadsBy basin policy rule turn stands.log passes.events (passes.last ∷ passes.before)) stands.turned passes.leads) in record {
         log = passes.last ∷ passes.before;
-        any = may_lead basin policy rule 0 (placed [] (givens basin inputs)) (stands.events ++ passes.events) (passes.last ∷ passes.before) leads;
+        any =
+            may_lead basin policy rule 0 (with_inputs [] (placings basin inputs)) (stands.events ++ passes.events)
+            (passes.last ∷ passes.before) leads;
         whole = whole (stands.events ++ passes.events) (passes.last ∷ passes.before) leads
             (omega (arith, all, least, few))
             (subst (λ event. IsOver basin (standing (event ∷ passes.before))) (sym passes.ends) tt);
@@ -115,7 +117,7 @@ pub without_rules : (basin : Draft) (inputs : Inputs) (run : Run)
     → ComesTo basin no_rules inputs run
 without_rules basin inputs run comes = record {
   log = comes.log;
-  whole = same_runs basin (policy_in basin (record { blocks = []; budgets = []; resolved = [] })) no_rules (givens basin inputs) comes.log
+  whole = same_runs basin (policy_in basin (record { blocks = []; budgets = []; resolved = [] })) no_rules (placings basin inputs) comes.log
       (record { rules = refl; same = λ rule step values is. absurd (omega (arith, is.first, is.last)) }) comes.whole;
   is = comes.is;
 }

@@ -1,7 +1,8 @@
 -- A timestep of the engine, over the log that it shows.
 use Rattle.rw_engine.proofs.Common.{Bool, Cell, Cells, Draft, Engine, Event, GoesByEvent, TraceGrows, HoldsWithin, IsBefore, IsSome, IsStill, List}
 use Rattle.rw_engine.proofs.Common.{Log, None, Option, Policy, Reached, Series, Settled, Shows, Some, State, [], all_waiting, ap, append-nil}
-use Rattle.rw_engine.proofs.Common.{append_assoc, ap₂, arith, cells_of, closed, count_of_number, fault, false, given, held, held_after, if◌then◌else◌}
+use Rattle.rw_engine.proofs.Common.{append_assoc, ap₂, arith, cells_of, closed, count_of_number, fault, false, placed, held, held_after}
+use Rattle.rw_engine.proofs.Common.{if◌then◌else◌}
 use Rattle.rw_engine.proofs.Common.{inside, last_put, length, lines, nat_lt, nat_tests, opened, opens, option_or, refl, seen, standing, subst, sym}
 use Rattle.rw_engine.proofs.Common.{trace_of, true, written_by, ℕ, ◌++◌, ◌+◌, ◌∙◌, ◌∷◌, ◌≡◌, ◌≤◌}
 use Rattle.std.specs.Prelude.{Err, IfSome, IsErrAnd, Ok, Result, is_some}
@@ -104,7 +105,7 @@ calm_inside (fault why) log step is = absurd (cc)
 calm_inside event log step is = λ faulty. faulty
 
 pub alone : (event : Event) (log : Log) → standing (event ∷ []) ≡ standing (event ∷ log)
-alone (given cell value) log = refl
+alone (placed cell value) log = refl
 alone (opened step) log = refl
 alone (closed step) log = refl
 alone (idle object step looked) log = refl

@@ -5,7 +5,8 @@ use Rattle.std.proofs.lemmas.Nat.{mul-le}
 use Rattle.rw_base.specs.declared.number.Cell.{Cell}
 use Rattle.rw_model.specs.Basin.{IsBasin}
 use Rattle.rw_engine.proofs.Common.{add-one, Cells, DispatchEnd, Draft, Event, HasCount, List, Log, Look, None, Option, Policy, Put, RunFault, Some}
-use Rattle.rw_engine.proofs.Common.{State, [], ap, arith, count_of_number, ended_by, event_of, fault, given, length, placed, raised, refl, room, sym}
+use Rattle.rw_engine.proofs.Common.{State, [], ap, arith, count_of_number, ended_by, event_of, fault, placed, length, with_inputs, raised, refl, room}
+use Rattle.rw_engine.proofs.Common.{sym}
 use Rattle.rw_engine.proofs.Common.{ℕ, ℤ, ◌++◌, ◌+◌, ◌-◌, ◌<◌, ◌∙◌, ◌∷◌, ◌≡◌, ◌≤◌}
 use Rattle.rw_dispatch.specs.Answer.{Ends, answer_of}
 use Rattle.rw_dispatch.specs.Pick.{LeadsPicked, Picking, picked_at, turn_of, turn_count}
@@ -149,6 +150,6 @@ leads_picked basin policy rule turn old (event ∷ events) new is most below lea
     )
 
 -- no input is a dispatch
-pub turns_placed : (log : Log) (inputs : List (Cell × ℤ)) → turn_count (placed log inputs) ≡ turn_count log
+pub turns_placed : (log : Log) (inputs : List (Cell × ℤ)) → turn_count (with_inputs log inputs) ≡ turn_count log
 turns_placed log [] = refl
-turns_placed log (input ∷ inputs) = turns_placed (given input.0 input.1 ∷ log) inputs ∙ omega arith
+turns_placed log (input ∷ inputs) = turns_placed (placed input.0 input.1 ∷ log) inputs ∙ omega arith

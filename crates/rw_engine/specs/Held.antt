@@ -1,4 +1,4 @@
--- What a series holds of a log.
+-- Within the crate: what a series holds of a log.
 use Rattle.std.specs.Prelude.{◌≡◌}
 use Rattle.rw_base.specs.declared.number.Cell.{Cell}
 use Rattle.rw_model.specs.Draft.{Draft}

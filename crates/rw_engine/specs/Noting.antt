@@ -1,4 +1,4 @@
--- That cells are noted, all of them, or as many as memory was there for.
+-- Within the crate: that cells are noted, all of them, or as many as memory was there for.
 use Rattle.std.specs.Prelude.{◌≡◌, List, Option, IsSome, Result, Ok, Err}
 use Rattle.rw_base.specs.declared.memory.NoMemory.{NoMemory}
 use Rattle.rw_base.specs.declared.number.Cell.{Cell}

@@ -7,14 +7,14 @@ use Rattle.rw_series.specs.Series.{Sets, held}
 use Rattle.rw_run.specs.Frame.{IsFramed, log_after}
 use Rattle.rw_run.specs.Log.{Event, Log, input_content, opened}
 use Rattle.rw_run.specs.Next.{Policy}
-use Rattle.rw_run.specs.Runs.{Leads, IsRun, placed, standing, rests, inside}
+use Rattle.rw_run.specs.Runs.{Leads, IsRun, with_inputs, standing, rests, inside}
 use Rattle.rw_run.specs.RunOf.{IsRunOf, opened_by}
 use Rattle.rw_run.specs.Timestep.{IsTimestep}
 use Rattle.rw_run.specs.declared.run.Run.{Run}
 use Rattle.rw_record.specs.Noted.{AreHeld}
 use Rattle.rw_record.specs.Record.{StepRecord}
 use Rattle.rw_inputs.specs.Inputs.{Inputs}
-use Rattle.rw_inputs.specs.Givens.{givens}
+use Rattle.rw_inputs.specs.Placings.{placings}
 use Rattle.rw_engine.specs.Engine.{Engine}
 use Rattle.rw_engine.specs.Records.{HasNoted, Records, RecordsThese}
 use Rattle.rw_engine.specs.declared.step_end.StepEnd.{StepEnd}
@@ -100,5 +100,5 @@ pub record CountsSteps (basin : Draft) (before after : ℕ) (result : Result Run
 -- the run comes to what the whole run of the inputs does
 pub record ComesTo (basin : Draft) (policy : Policy) (inputs : Inputs) (run : Run) : Type 0 where
   pub log : Log
-  pub whole : IsRun basin policy (givens basin inputs) log
+  pub whole : IsRun basin policy (placings basin inputs) log
   pub is : IsRunOf basin log run

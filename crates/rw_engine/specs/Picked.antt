@@ -6,13 +6,13 @@ use Rattle.rw_run.specs.Frame.{IsStepFrom, log_after}
 use Rattle.rw_run.specs.Log.{Event, Log, dispatched_in, opened}
 use Rattle.rw_run.specs.Next.{Policy}
 use Rattle.rw_run.specs.Choice.{MayLead}
-use Rattle.rw_run.specs.Runs.{Standing, follows_by, inside, over, placed, rests, standing}
+use Rattle.rw_run.specs.Runs.{Standing, follows_by, inside, over, with_inputs, rests, standing}
 use Rattle.rw_run.specs.RunOf.{IsRunOf, opened_by}
 use Rattle.rw_run.specs.Waiting.{waiting}
 use Rattle.rw_run.specs.declared.run.Run.{Run}
 use Rattle.rw_dispatch.specs.Pick.{IsPickedRun, Picking, picked_at}
 use Rattle.rw_inputs.specs.Inputs.{Inputs}
-use Rattle.rw_inputs.specs.Givens.{givens}
+use Rattle.rw_inputs.specs.Placings.{placings}
 use Rattle.rpl_verify.specs.Verified.{Accepted}
 use Rattle.rw_rules.specs.Rules.{policy_in}
 use Rattle.rw_engine.specs.Engine.{Engine}
@@ -112,23 +112,23 @@ pub record RunsStepBy (basin : Draft) (policy : Accepted) (rule : Picking) (step
 -- the run comes to what the whole run of the inputs does in which the rule picks, one of those that wait each time
 pub record ComesToPicked (basin : Draft) (policy : Policy) (rule : Picking) (inputs : Inputs) (run : Run) : Type 0 where
   pub log : Log
-  pub whole : IsPickedRun basin policy rule (givens basin inputs) log
-  pub any : MayLead basin policy (placed [] (givens basin inputs)) whole.events log
+  pub whole : IsPickedRun basin policy rule (placings basin inputs) log
+  pub any : MayLead basin policy (with_inputs [] (placings basin inputs)) whole.events log
   pub is : IsRunOf basin log run
 
 -- the engine shows a log that the inputs led to, in which this is the last closed timestep, and its turn is that of the log
 pub record StandsPicked (basin : Draft) (policy : Policy) (rule : Picking) (inputs : Inputs) (engine : Engine) (step : ℕ) : Type 0 where
   pub log : Log
   pub events : List Event
-  pub leads : LeadsBy basin policy rule 0 (placed [] (givens basin inputs)) events log
+  pub leads : LeadsBy basin policy rule 0 (with_inputs [] (placings basin inputs)) events log
   pub shows : Shows basin engine log
   pub rest : standing log ≡ rests step
   pub turned : engine.turns ≡ turns_after 0 events
 
 -- all timesteps were passed, or as many as memory was there for: it comes to the run of the inputs that the engine began with
 pub record RunsAllBy (basin : Draft) (policy : Accepted) (rule : Picking) (engine : Engine) (before after : ℕ) (result : Result Run NoMemory) : Type 0 where
-  pub comes : (inputs : Inputs) → Shows basin engine (placed [] (givens basin inputs)) → IfOk result (ComesToPicked basin (policy_in basin policy) rule inputs)
-  pub opened_steps : (inputs : Inputs) → Shows basin engine (placed [] (givens basin inputs))
+  pub comes : (inputs : Inputs) → Shows basin engine (with_inputs [] (placings basin inputs)) → IfOk result (ComesToPicked basin (policy_in basin policy) rule inputs)
+  pub opened_steps : (inputs : Inputs) → Shows basin engine (with_inputs [] (placings basin inputs))
       → IfOk result (λ run. after ≡ before + opened_by run.end run.closed)
   pub closed_steps : IfOk result (λ run. run.closed ≤ basin.control.stamps.count)
   pub kept : IsSome engine.trace → IfOk result (λ run. IsSome run.trace)

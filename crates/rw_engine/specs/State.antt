@@ -19,10 +19,10 @@ use Rattle.rw_record.specs.Notes.{CanTakeBack, Notes}
 use Rattle.rw_model.specs.Turn.{is_data}
 use Rattle.rw_run.specs.Waiting.{waiting}
 use Rattle.rw_run.specs.Next.{next_of, dispatches, firings, first_due}
-use Rattle.rw_run.specs.Runs.{placed, standing, inside}
+use Rattle.rw_run.specs.Runs.{with_inputs, standing, inside}
 use Rattle.rw_dispatch.specs.Pick.{Picking}
 use Rattle.rw_inputs.specs.Inputs.{Inputs}
-use Rattle.rw_inputs.specs.Givens.{givens}
+use Rattle.rw_inputs.specs.Placings.{placings}
 use Rattle.rw_agenda.specs.Agenda.{IsIndexed}
 use Rattle.rpl_verify.specs.Verified.{Accepted}
 use Rattle.rw_rules.specs.Rules.{ShowsLooks, policy_in}
@@ -207,7 +207,7 @@ pub record DoesEvent (basin : Draft) (policy : Accepted) (chosen : Option ℕ) (
 -- the inputs are placed, and no timestep is opened
 pub record Begins (basin : Draft) (policy : Accepted) (inputs : Inputs) (state : State) : Type 0 where
   pub made : IsStateOf basin policy state
-  pub shows : Shows basin (seen state) (placed [] (givens basin inputs))
+  pub shows : Shows basin (seen state) (with_inputs [] (placings basin inputs))
   pub turns : state.turns ≡ 0
 
 -- nothing is noted yet

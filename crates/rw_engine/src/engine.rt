@@ -4,10 +4,10 @@ ghost use Rattle.rw_method.specs.Catalogue.{AreInOrder};
 ghost use Rattle.rw_inputs.specs.Inputs.{IsInputsOf};
 ghost use Rattle.rpl_verify.specs.Verified.{Accepted, verified};
 ghost use Rattle.rw_run.specs.Log.{Event, Log};
-ghost use Rattle.rw_run.specs.Runs.{placed};
+ghost use Rattle.rw_run.specs.Runs.{with_inputs};
 ghost use Rattle.rw_run.specs.RunOf.{IsRunOf};
 ghost use Rattle.rw_model.specs.Turn.{IsStep};
-ghost use Rattle.rw_inputs.specs.Givens.{givens};
+ghost use Rattle.rw_inputs.specs.Placings.{placings};
 ghost use Rattle.rw_model.specs.Links.{IsBetween, bounds_in};
 ghost use Rattle.rw_series.specs.Series.{IsCell, held};
 ghost use Rattle.rw_record.specs.Noted.{AreHeld};
@@ -67,7 +67,7 @@ impl Engine {
         requires inputs { IsInputsOf basin.now inputs.now }
         ensures made { IfOk result (IsEngineOf basin.now policy.now) }
         ensures shows { IfOk result
-            (λ engine. Shows basin.now engine (placed [] (givens basin.now inputs.now))) }
+            (λ engine. Shows basin.now engine (with_inputs [] (placings basin.now inputs.now))) }
         ensures kept { IfOk result (λ engine. IsSome engine.trace) }
         ensures noted { IfOk result (λ engine. IsSome engine.noted) }
         ensures turns { IfOk result (λ engine. engine.turns ≡ 0) }
@@ -88,7 +88,7 @@ impl Engine {
         requires inputs { IsInputsOf basin.now inputs.now }
         ensures made { IfOk result (IsEngineOf basin.now policy.now) }
         ensures shows { IfOk result
-            (λ engine. Shows basin.now engine (placed [] (givens basin.now inputs.now))) }
+            (λ engine. Shows basin.now engine (with_inputs [] (placings basin.now inputs.now))) }
         ensures noted { IfOk result (λ engine. IsSome engine.noted) }
         ensures kept { IfOk result (λ engine. is_some engine.trace ≡ traced) }
         ensures turns { IfOk result (λ engine. engine.turns ≡ 0) }
@@ -112,7 +112,7 @@ impl Engine {
         requires inputs { IsInputsOf basin.now inputs.now }
         ensures made { IfOk result (IsEngineOf basin.now policy.now) }
         ensures shows { IfOk result
-            (λ engine. Shows basin.now engine (placed [] (givens basin.now inputs.now))) }
+            (λ engine. Shows basin.now engine (with_inputs [] (placings basin.now inputs.now))) }
         ensures turns { IfOk result (λ engine. engine.turns ≡ 0) }
     {
         let trace = Trace::unkept(alloc);

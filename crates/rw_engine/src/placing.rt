@@ -4,9 +4,9 @@ ghost use Rattle.rw_model.specs.Draft.{IsSlot};
 ghost use Rattle.rw_series.specs.Series.{IsCell};
 ghost use Rattle.rw_inputs.specs.Inputs.{IsInputsOf, value_at};
 ghost use Rattle.rw_run.specs.Log.{Log, input_content};
-ghost use Rattle.rw_run.specs.Runs.{placed};
+ghost use Rattle.rw_run.specs.Runs.{with_inputs};
 ghost use Rattle.rw_dispatch.specs.Stage.{IsHeldIn};
-ghost use Rattle.rw_inputs.specs.Givens.{if_given, givens_of, givens};
+ghost use Rattle.rw_inputs.specs.Placings.{if_placed, placings_of, placings};
 ghost use Rattle.rw_engine.specs.Held.{HoldsAll};
 
 use rw_base::{Cell, Qty, SlotNo, StepNo};
@@ -35,8 +35,8 @@ fn place_cell(basin: &Basin, inputs: &Inputs, series: &mut Series, cell: Cell)
     requires made { IsHeldIn basin.now series.old }
     ensures made { IsHeldIn basin.now series.new }
     ensures placed { (log : Log) → HoldsAll basin.now series.old log
-        → HoldsAll basin.now series.new (placed log
-        (if_given cell.slot.0 cell.step.0 (value_at inputs.now cell.slot.0 cell.step.0))) }
+        → HoldsAll basin.now series.new (with_inputs log
+        (if_placed cell.slot.0 cell.step.0 (value_at inputs.now cell.slot.0 cell.step.0))) }
 {
     if let Some(value) = inputs.value(cell) {
         let content = Content {
@@ -56,7 +56,7 @@ fn place_slot(basin: &Basin, inputs: &Inputs, series: &mut Series, slot: SlotNo)
     ensures made { IsHeldIn basin.now series.new }
     ensures placed { (log : Log) → HoldsAll basin.now series.old log
         → HoldsAll basin.now series.new
-        (placed log (givens_of inputs.now slot.0 basin.now.control.stamps.count)) }
+        (with_inputs log (placings_of inputs.now slot.0 basin.now.control.stamps.count)) }
 {
     if !inputs.has_places(slot) {
         return;
@@ -74,7 +74,7 @@ pub(crate) fn place(basin: &Basin, inputs: &Inputs, series: &mut Series)
     requires made { IsHeldIn basin.now series.old }
     ensures made { IsHeldIn basin.now series.new }
     ensures placed { (log : Log) → HoldsAll basin.now series.old log
-        → HoldsAll basin.now series.new (placed log (givens basin.now inputs.now)) }
+        → HoldsAll basin.now series.new (with_inputs log (placings basin.now inputs.now)) }
 {
     for before in 0..basin.slot_count() {
         place_slot(basin, inputs, series, SlotNo(before + 1));

@@ -11,7 +11,7 @@ use Rattle.rw_inputs.specs.declared.wrong.Wrong.{Wrong}
 use Rattle.rw_inputs.specs.EditRows.{at_row, batch_at, batches_with, edit_column, four_fields, more_batches, batches_opened, with_edit}
 use Rattle.rw_inputs.specs.Edits.{Batch, IsBatch, IsEdit}
 use Rattle.rw_inputs.specs.Records.{Fields}
-use Rattle.rw_inputs.specs.Refusal.{InputRefusal, refusal_of, refused_at}
+use Rattle.rw_inputs.specs.Refusal.{InputRefusal, input_refusal_of, refused_at}
 
 -- what is read next of a row that is read, or that is refused
 at_row-read : {A B : Type 0} (row : ℕ) (reading : Result A Wrong) (next : A → Result B InputRefusal) (x : A)
@@ -36,8 +36,8 @@ module _ (basin : Draft) (row : ℕ) (batches : List Batch) (old rows : List Fie
   row_read more is =
       sym (at_row-read row (batches_with basin row batches (four_fields fields)) (λ more. more_batches basin (row + 1) more rows) more is) ∙ row_first
 
-  pub row_refused : (fault : InputFault) → IsWhy NoMemory refusal_of (at_row row (batches_with basin row batches (four_fields fields)) Ok) fault
-      → IsWhy NoMemory refusal_of all fault
+  pub row_refused : (fault : InputFault) → IsWhy NoMemory input_refusal_of (at_row row (batches_with basin row batches (four_fields fields)) Ok) fault
+      → IsWhy NoMemory input_refusal_of all fault
   row_refused fault why = (
     (λ refusal is.
         sym row_first

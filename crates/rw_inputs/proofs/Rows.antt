@@ -3,12 +3,12 @@ use Rattle.rw_base.proofs.Common.{◌≡◌, ℕ, false, List, [], ◌∷◌, �
 use Rattle.rw_base.proofs.Common.{list_any}
 use Rattle.csv.specs.Records.{field_at}
 use Rattle.rw_model.specs.Draft.{Draft}
-use Rattle.rw_inputs.specs.declared.given.Given.{Given}
+use Rattle.rw_inputs.specs.declared.row_value.RowValue.{RowValue}
 use Rattle.rw_inputs.specs.Row.{three_fields, read_row}
 use Rattle.rw_inputs.specs.EditRows.{four_fields}
 use Rattle.rw_inputs.specs.Inputs.{Inputs, Keeps}
 use Rattle.rw_inputs.specs.Records.{Fields}
-use Rattle.rw_inputs.specs.Reading.{good, givens, shares_cell, wrong_behind}
+use Rattle.rw_inputs.specs.Reading.{good, row_values, shares_cell, wrong_behind}
 
 -- ---- three fields
 
@@ -53,18 +53,18 @@ four-by_place (a ∷ b ∷ c ∷ d ∷ e ∷ fields) = refl
 
 -- ---- what rows give
 
-givens-append : (basin : Draft) (before : List Fields) (row : Fields)
-    → givens basin (before ++ row ∷ []) ≡ givens basin before ++ good (read_row basin row)
-givens-append basin [] row = append-nil (good (read_row basin row))
-givens-append basin (first ∷ before) row =
-    ap (λ rows. good (read_row basin first) ++ rows) (givens-append basin before row)
-    ∙ sym (append_assoc (good (read_row basin first)) (givens basin before) (good (read_row basin row)))
+row_values-append : (basin : Draft) (before : List Fields) (row : Fields)
+    → row_values basin (before ++ row ∷ []) ≡ row_values basin before ++ good (read_row basin row)
+row_values-append basin [] row = append-nil (good (read_row basin row))
+row_values-append basin (first ∷ before) row =
+    ap (λ rows. good (read_row basin first) ++ rows) (row_values-append basin before row)
+    ∙ sym (append_assoc (good (read_row basin first)) (row_values basin before) (good (read_row basin row)))
 
 -- a row with which nothing is wrong is taken
-pub row_taken : (basin : Draft) (before : List Fields) (row : Fields) (given : Given) (inputs : Inputs) → read_row basin row ≡ Ok given
-    → (list_any (shares_cell basin given) (givens basin before) ≡ false) × Keeps basin (givens basin before ++ given ∷ []) inputs
-    → (wrong_behind basin before (read_row basin row) ≡ None) × Keeps basin (givens basin (before ++ row ∷ [])) inputs
-row_taken basin before row given inputs is taken = (
+pub row_taken : (basin : Draft) (before : List Fields) (row : Fields) (row_value : RowValue) (inputs : Inputs) → read_row basin row ≡ Ok row_value
+    → (list_any (shares_cell basin row_value) (row_values basin before) ≡ false) × Keeps basin (row_values basin before ++ row_value ∷ []) inputs
+    → (wrong_behind basin before (read_row basin row) ≡ None) × Keeps basin (row_values basin (before ++ row ∷ [])) inputs
+row_taken basin before row row_value inputs is taken = (
   ap (wrong_behind basin before) is ∙ rw taken.0 refl,
-  subst (λ rows. Keeps basin rows inputs) (sym (givens-append basin before row ∙ ap (λ read. givens basin before ++ good read) is)) taken.1,
+  subst (λ rows. Keeps basin rows inputs) (sym (row_values-append basin before row ∙ ap (λ read. row_values basin before ++ good read) is)) taken.1,
 )

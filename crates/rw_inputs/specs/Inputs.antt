@@ -3,7 +3,7 @@ use Rattle.std.specs.Prelude.{◌≡◌, ℕ, ◌+◌, ◌==◌, nat_le, ℤ, Bo
 use Rattle.rw_model.specs.Objects.{all_slots}
 use Rattle.rw_model.specs.Draft.{Draft}
 use Rattle.rw_model.specs.Links.{IsBetween, group_of, bounds_in}
-use Rattle.rw_inputs.specs.declared.given.Given.{Given}
+use Rattle.rw_inputs.specs.declared.row_value.RowValue.{RowValue}
 use Rattle.rw_inputs.specs.Column.{Column, IsColumn, value_in_column}
 
 -- a column for each slot. These count from 1, so an empty one stands in the first place
@@ -23,13 +23,13 @@ abbrev pub kept_slot : Draft → ℕ → ℕ
 kept_slot basin slot = slice_index_or (group_of basin.objects basin.links slot) 0 slot
 
 -- the row gives a value to a slot at a timestep, as it is kept
-abbrev pub row_gives : Draft → Given → ℕ → ℕ → Bool
-row_gives basin given slot step = slot == kept_slot basin given.slot && (nat_le given.first step && nat_le step given.last)
+abbrev pub row_gives : Draft → RowValue → ℕ → ℕ → Bool
+row_gives basin row_value slot step = slot == kept_slot basin row_value.slot && (nat_le row_value.first step && nat_le step row_value.last)
 
 -- the value that one of the rows gives to a slot at a timestep
-abbrev pub given_at : Draft → List Given → ℕ → ℕ → Option ℤ
-given_at basin [] slot step = None
-given_at basin (given ∷ rows) slot step = if row_gives basin given slot step then Some given.value else given_at basin rows slot step
+abbrev pub row_value_at : Draft → List RowValue → ℕ → ℕ → Option ℤ
+row_value_at basin [] slot step = None
+row_value_at basin (row_value ∷ rows) slot step = if row_gives basin row_value slot step then Some row_value.value else row_value_at basin rows slot step
 
 -- a value that is kept of a slot: the slot is the least of those that carry one value with it, and can have the value
 pub record IsKeptValue (basin : Draft) (slot : ℕ) (value : ℤ) : Type 0 where
@@ -43,6 +43,6 @@ pub record IsInputsOf (basin : Draft) (inputs : Inputs) : Type 0 where
   pub sound : (slot step : ℕ) (value : ℤ) → value_at inputs slot step ≡ Some value → IsKeptValue basin slot value
 
 -- inputs made for the basin, which keep what the rows give, and nothing else
-pub record Keeps (basin : Draft) (rows : List Given) (inputs : Inputs) : Type 0 where
+pub record Keeps (basin : Draft) (rows : List RowValue) (inputs : Inputs) : Type 0 where
   pub made : IsInputsOf basin inputs
-  pub values : (slot step : ℕ) → value_at inputs slot step ≡ given_at basin rows slot step
+  pub values : (slot step : ℕ) → value_at inputs slot step ≡ row_value_at basin rows slot step

@@ -3,7 +3,7 @@ pub mod Row
 pub mod Records
 pub mod Column
 pub mod Inputs
-pub mod Givens
+pub mod Placings
 pub mod Sound
 pub mod Refusal
 pub mod Reading

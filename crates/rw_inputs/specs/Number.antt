@@ -1,10 +1,7 @@
 -- The numbers that texts spell, and the place of a byte in a text.
 use Rattle.std.specs.Prelude.{ℕ, ◌+◌, ◌-◌, ◌*◌, ◌==◌, nat_le, ℤ, pos, neg_ℤ, Bool, ◌&&◌, if◌then◌else◌, List, [], ◌∷◌, length, Option, Some, None, option_map}
 use Rattle.std.specs.List.{list_all}
-
--- `0` to `9`
-abbrev pub is_digit : ℕ → Bool
-is_digit byte = nat_le 48 byte && nat_le byte 57
+use Rattle.rw_base.specs.Byte.{is_digit}
 
 -- the number that digits spell behind those that spell n
 abbrev pub number_after : ℕ → List ℕ → ℕ

@@ -10,10 +10,10 @@ pub data InputRefusal : Type 0 where
   refused_at : InputKind → ℕ → ℕ → InputRefusal
 
 -- what a fault tells of the text. Want of memory tells nothing of it
-abbrev pub refusal_of : InputFault → Option InputRefusal
-refusal_of (Refused kind row column) = Some (refused_at kind row column)
-refusal_of NoMemory = None
+abbrev pub input_refusal_of : InputFault → Option InputRefusal
+input_refusal_of (Refused kind row column) = Some (refused_at kind row column)
+input_refusal_of NoMemory = None
 
 -- the fault tells the refusal that is due, or is want of memory
 abbrev pub TellsInput : InputFault → Option InputRefusal → Type 0
-TellsInput fault due = ForSome (refusal_of fault) (λ refusal. due ≡ Some refusal) × (refusal_of fault ≡ None → fault ≡ NoMemory)
+TellsInput fault due = ForSome (input_refusal_of fault) (λ refusal. due ≡ Some refusal) × (input_refusal_of fault ≡ None → fault ≡ NoMemory)

@@ -11,7 +11,7 @@ use Rattle.rw_inputs.specs.declared.fault.InputKind.TheVariants.{UnknownSlot, No
 use Rattle.rw_inputs.specs.declared.wrong.Part.{Part}
 use Rattle.rw_inputs.specs.declared.wrong.Part.TheVariants.{Row, Slot, Step, Value}
 use Rattle.rw_inputs.specs.declared.wrong.Wrong.{Wrong}
-use Rattle.rw_inputs.specs.declared.given.Given.{Given}
+use Rattle.rw_inputs.specs.declared.row_value.RowValue.{RowValue}
 use Rattle.rw_inputs.specs.declared.span.Span.{Span}
 use Rattle.rw_inputs.specs.Number.{read_number, read_signed, byte_position}
 
@@ -35,12 +35,12 @@ abbrev pub slot_of_text : Draft → List ℕ → Option ℕ
 slot_of_text basin text = option_and_then (λ dot. slot_of_names basin (take dot text) (drop (dot + 1) text)) (byte_position 46 text)
 
 -- inputs can set the slot
-abbrev pub can_be_given : Draft → ℕ → Bool
-can_be_given basin slot = unwrap_or (option_map (λ placed. is_settable placed.slot.role) (slot_at basin.objects slot)) false
+abbrev pub can_be_set : Draft → ℕ → Bool
+can_be_set basin slot = unwrap_or (option_map (λ placed. is_settable placed.slot.role) (slot_at basin.objects slot)) false
 
 abbrev pub set_slot : Draft → Option ℕ → Result ℕ Wrong
 set_slot basin None = wrong UnknownSlot Slot
-set_slot basin (Some slot) = if can_be_given basin slot then Ok slot else wrong NotSettable Slot
+set_slot basin (Some slot) = if can_be_set basin slot then Ok slot else wrong NotSettable Slot
 
 -- a slot of the model that inputs can set
 abbrev pub read_slot : Draft → List ℕ → Result ℕ Wrong
@@ -88,7 +88,7 @@ three_fields (a ∷ b ∷ c ∷ []) = Some (a, b, c)
 three_fields fields = None
 
 -- a slot, timesteps and a value. What is wrong with an earlier one comes first
-abbrev pub row_of : Draft → Option (List ℕ × List ℕ × List ℕ) → Result Given Wrong
+abbrev pub row_of : Draft → Option (List ℕ × List ℕ × List ℕ) → Result RowValue Wrong
 row_of basin None = wrong Ragged Row
 row_of basin (Some fields) = do
   slot ← read_slot basin fields.0
@@ -97,5 +97,5 @@ row_of basin (Some fields) = do
   Ok (record { slot = slot; first = span.first; last = span.last; value = value })
 
 -- what a row of three fields says
-abbrev pub read_row : Draft → List (List ℕ) → Result Given Wrong
+abbrev pub read_row : Draft → List (List ℕ) → Result RowValue Wrong
 read_row basin fields = row_of basin (three_fields fields)

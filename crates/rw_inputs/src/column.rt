@@ -2,7 +2,7 @@ ghost use Rattle.std.specs.Prelude.{◌≡◌, ◌≢◌, ◌⊎◌, ℕ, ◌+�
 ghost use Rattle.rw_inputs.specs.Column.{HasPlaces, IsColumn, IsFree, IsKeptColumn, IsPaired, IsSet, IsSpanIn, IsTakenWithin, TakesValue, given_values, value_in_column};
 
 use crate::edit::Edit;
-use crate::given::Given;
+use crate::row_value::RowValue;
 use rw_base::{NoMemory, Qty};
 use std::alloc::Global;
 use std::marker::Model;
@@ -200,7 +200,7 @@ impl Column {
     }
 
     /// Takes what a row gives, if nothing is kept yet of its timesteps, of so many in all; `false` exactly where something is.
-    pub(crate) fn take(&mut self, steps: u16, row: &Given) -> Result<bool, NoMemory>
+    pub(crate) fn take(&mut self, steps: u16, row: &RowValue) -> Result<bool, NoMemory>
         requires column { IsColumn steps self.old }
         requires span { IsSpanIn steps row.now.first row.now.last }
         ensures column { IsColumn steps self.new }

@@ -8,7 +8,7 @@ ghost use Rattle.rw_inputs.specs.declared.fault.InputFault.TheVariants as InputF
 ghost use Rattle.rw_inputs.specs.EditRows.{at_row, batch_at, batches_with, edit_column, edits_of, four_fields, is_edit_header, meets, more_batches, batches_opened, read_batches, with_edit, wrong_among};
 ghost use Rattle.rw_inputs.specs.Edits.{IsBatch, IsEdit};
 ghost use Rattle.rw_inputs.specs.Records.{Fields};
-ghost use Rattle.rw_inputs.specs.Refusal.{refusal_of};
+ghost use Rattle.rw_inputs.specs.Refusal.{input_refusal_of};
 
 use crate::batch::Batch;
 use crate::edit::Edit;
@@ -124,7 +124,7 @@ fn take_fields(
     fields: (&[u8], &[u8], &[u8], &[u8]),
 ) -> Result<(), InputFault>
     requires { length batches.old.items ≤ BATCHES_MAX }
-    ensures taken { Answers InputFault.NoMemory refusal_of (λ _. batches.new.items) result
+    ensures taken { Answers InputFault.NoMemory input_refusal_of (λ _. batches.new.items) result
         (at_row number (batches_with basin.now number batches.old.items (Some
         (fields.entry.0.now, fields.entry.1.now, fields.entry.2.now, fields.entry.3.now))) Ok) }
     ensures made { OnOk result (All (IsBatch basin.now) batches.old.items
@@ -158,7 +158,7 @@ fn take_row(
     row: &ByteRecord,
 ) -> Result<(), InputFault>
     requires { length batches.old.items ≤ BATCHES_MAX }
-    ensures taken { Answers InputFault.NoMemory refusal_of (λ _. batches.new.items) result
+    ensures taken { Answers InputFault.NoMemory input_refusal_of (λ _. batches.new.items) result
         (at_row number (batches_with basin.now number batches.old.items
         (four_fields (fields_of row.now))) Ok) }
     ensures made { OnOk result (All (IsBatch basin.now) batches.old.items
@@ -186,7 +186,7 @@ fn take_rows(
     rows: &mut Records<'_>,
 ) -> Result<(), InputFault>
     requires { batches.old.items ≡ [] }
-    ensures taken { Answers InputFault.NoMemory refusal_of (λ _. batches.new.items) result
+    ensures taken { Answers InputFault.NoMemory input_refusal_of (λ _. batches.new.items) result
         (more_batches basin.now 2 [] rows.old) }
     ensures made { OnOk result (All (IsBatch basin.now) batches.new.items) }
 {
@@ -205,7 +205,8 @@ fn take_rows(
 fn read_header(alloc: Global, records: &mut Records<'_>) -> Result<(), InputFault>
     ensures named { OnOk result ((header : Fields) × (records.old ≡ header ∷ records.new)
         × (is_edit_header header ≡ true)) }
-    ensures refused { IfErr result (λ fault. (basin : Draft) → IsWhy InputFault.NoMemory refusal_of
+    ensures refused { IfErr result
+        (λ fault. (basin : Draft) → IsWhy InputFault.NoMemory input_refusal_of
         (read_batches basin records.old) fault) }
 {
     let mut row = ByteRecord::new(alloc);
@@ -226,7 +227,7 @@ fn read_batches(
     basin: &Basin,
     records: &mut Records<'_>,
 ) -> Result<Vec<Batch>, InputFault>
-    ensures answers { Answers InputFault.NoMemory refusal_of (λ batches. batches.items) result
+    ensures answers { Answers InputFault.NoMemory input_refusal_of (λ batches. batches.items) result
         (read_batches basin.now records.old) }
     ensures made { IfOk result (λ batches. All (IsBatch basin.now) batches.items) }
 {
@@ -245,7 +246,7 @@ fn read_batches(
 /// `Twice` where an earlier row of its batch names one of its cells; `TooMany` from the 10,001st row on. `NoMemory` says
 /// nothing of the text. `docs/FORMATS.md` has the rows under "Edits".
 pub fn read_edits(alloc: Global, basin: &Basin, text: &[u8]) -> Result<Vec<Batch>, InputFault>
-    ensures answers { Answers InputFault.NoMemory refusal_of (λ batches. batches.items) result
+    ensures answers { Answers InputFault.NoMemory input_refusal_of (λ batches. batches.items) result
         (edits_of basin.now text.now) }
     ensures made { IfOk result (λ batches. All (IsBatch basin.now) batches.items) }
 {

@@ -1,13 +1,13 @@
 ghost use Rattle.std.specs.Prelude.{◌≡◌, ◌≢◌, ◌⊎◌, [], ℕ, true, false, Ok, MatchBool, IfOk, OnErr, OnOk, length};
 ghost use Rattle.rw_inputs.specs.Inputs.{slot_column, value_at, kept_slot, IsInputsOf, Keeps};
 ghost use Rattle.rw_model.specs.Draft.{IsSlot};
-ghost use Rattle.rw_inputs.specs.Sound.{IsGiven};
+ghost use Rattle.rw_inputs.specs.Sound.{IsRowValue};
 ghost use Rattle.rw_inputs.specs.Edits.{IsEdit, after_edit};
-ghost use Rattle.rw_inputs.specs.Taking.{TakesGiven, IsTwice};
+ghost use Rattle.rw_inputs.specs.Taking.{TakesRowValue, IsTwice};
 
 use crate::column::Column;
 use crate::edit::Edit;
-use crate::given::Given;
+use crate::row_value::RowValue;
 use rw_base::{Cell, NoMemory, Qty, SlotNo};
 use rw_model::Basin;
 use std::alloc::Global;
@@ -104,17 +104,17 @@ impl Inputs {
 
     /// Takes what a row gives. `false` exactly where an earlier row gave a value to one of its cells; then, and after want of
     /// memory, the inputs are as they were.
-    pub(crate) fn take(&mut self, basin: &Basin, given: &Given) -> Result<bool, NoMemory>
+    pub(crate) fn take(&mut self, basin: &Basin, row_value: &RowValue) -> Result<bool, NoMemory>
         requires made { IsInputsOf basin.now self.old }
-        requires given { IsGiven basin.now given.now }
+        requires row_value { IsRowValue basin.now row_value.now }
         ensures made { IsInputsOf basin.now self.new }
-        ensures taken { result ≡ Ok true → TakesGiven basin.now given.now self.old self.new }
-        ensures twice { result ≡ Ok false → IsTwice basin.now given.now self.old }
+        ensures taken { result ≡ Ok true → TakesRowValue basin.now row_value.now self.old self.new }
+        ensures twice { result ≡ Ok false → IsTwice basin.now row_value.now self.old }
         ensures unchanged { (result ≡ Ok true) ⊎ (self.new ≡ self.old) }
     {
-        let slot = kept_slot(basin, given.slot);
+        let slot = kept_slot(basin, row_value.slot);
         let steps = basin.control().stamps.count();
-        self.columns[usize::from(slot)].take(steps, given)
+        self.columns[usize::from(slot)].take(steps, row_value)
     }
 
     /// Sets what an edit says. After want of memory the inputs keep what they kept.

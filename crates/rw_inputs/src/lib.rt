@@ -14,7 +14,6 @@ mod edit;
 mod edit_row;
 mod edits;
 mod fault;
-mod given;
 mod inputs;
 pub mod law;
 mod limits;
@@ -22,6 +21,7 @@ mod number;
 mod reading;
 mod records;
 mod row;
+mod row_value;
 mod span;
 mod wrong;
 

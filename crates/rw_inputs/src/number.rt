@@ -1,7 +1,8 @@
 ghost use Rattle.std.specs.Prelude.{◌≡◌, ◌≤◌, ◌<◌, ◌^◌, IsTrue, length};
 ghost use Rattle.std.specs.Option.{ForSome};
 ghost use Rattle.std.specs.List.{list_all};
-ghost use Rattle.rw_inputs.specs.Number.{is_digit, number_after, is_number_text, read_number, read_signed, byte_position};
+ghost use Rattle.rw_base.specs.Byte.{is_digit};
+ghost use Rattle.rw_inputs.specs.Number.{number_after, is_number_text, read_number, read_signed, byte_position};
 
 // The greatest number of digits of a number.
 const DIGITS_MAX: usize = 18;

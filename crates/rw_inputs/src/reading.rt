@@ -6,8 +6,8 @@ ghost use Rattle.rw_inputs.specs.declared.fault.InputKind.TheVariants as InputKi
 ghost use Rattle.rw_model.specs.Draft.{Draft};
 ghost use Rattle.rw_inputs.specs.Records.{Fields};
 ghost use Rattle.rw_inputs.specs.Inputs.{IsInputsOf, Keeps, value_at};
-ghost use Rattle.rw_inputs.specs.Reading.{column, givens, first_refusal, inputs_of, is_header, read_records, values_read};
-ghost use Rattle.rw_inputs.specs.Refusal.{refusal_of, TellsInput};
+ghost use Rattle.rw_inputs.specs.Reading.{column, row_values, first_refusal, inputs_of, is_header, read_records, values_read};
+ghost use Rattle.rw_inputs.specs.Refusal.{input_refusal_of, TellsInput};
 ghost use Rattle.rw_inputs.specs.Taking.{TakesRow, RefusesRow};
 
 use crate::inputs::Inputs;
@@ -77,11 +77,11 @@ fn take_row(
     ensures taken { OnOk result (TakesRow basin.now (fields_of row.now) inputs.old inputs.new) }
     ensures refused { IfErr result (RefusesRow basin.now number (fields_of row.now) inputs.old) }
 {
-    let given = match read_row(basin, row) {
-        Ok(given) => given,
+    let row_value = match read_row(basin, row) {
+        Ok(row_value) => row_value,
         Err(wrong) => return Err(refused(number, wrong)),
     };
-    match inputs.take(basin, &given) {
+    match inputs.take(basin, &row_value) {
         Ok(true) => Ok(()),
         Ok(false) => Err(refused(
             number,
@@ -103,7 +103,7 @@ fn take_rows(
 ) -> Result<(), InputFault>
     requires { Keeps basin.now [] inputs.old }
     ensures taken { OnOk result (first_refusal basin.now 2 [] rows.old ≡ None) }
-    ensures kept { OnOk result (Keeps basin.now (givens basin.now rows.old) inputs.new) }
+    ensures kept { OnOk result (Keeps basin.now (row_values basin.now rows.old) inputs.new) }
     ensures refused { IfErr result
         (λ fault. TellsInput fault (first_refusal basin.now 2 [] rows.old)) }
 {
@@ -123,7 +123,8 @@ fn take_rows(
 fn read_header(alloc: Global, records: &mut Records<'_>) -> Result<(), InputFault>
     ensures named { OnOk result ((header : Fields) × (records.old ≡ header ∷ records.new)
         × (is_header header ≡ true)) }
-    ensures refused { IfErr result (λ fault. (basin : Draft) → IsWhy InputFault.NoMemory refusal_of
+    ensures refused { IfErr result
+        (λ fault. (basin : Draft) → IsWhy InputFault.NoMemory input_refusal_of
         (read_records basin records.old) fault) }
 {
     let mut row = ByteRecord::new(alloc);
@@ -144,7 +145,7 @@ fn read_records(
     basin: &Basin,
     records: &mut Records<'_>,
 ) -> Result<Inputs, InputFault>
-    ensures answers { Answers InputFault.NoMemory refusal_of value_at result
+    ensures answers { Answers InputFault.NoMemory input_refusal_of value_at result
         (values_read basin.now (read_records basin.now records.old)) }
     ensures made { IfOk result (IsInputsOf basin.now) }
 {
@@ -165,7 +166,7 @@ fn read_records(
 /// an earlier row gives a value to one of its cells, or to one of a slot that carries one value with its slot. `NoMemory`
 /// says nothing of the text. `docs/FORMATS.md` has the rows under "Inputs".
 pub fn read_inputs(alloc: Global, basin: &Basin, text: &[u8]) -> Result<Inputs, InputFault>
-    ensures answers { Answers InputFault.NoMemory refusal_of value_at result
+    ensures answers { Answers InputFault.NoMemory input_refusal_of value_at result
         (inputs_of basin.now text.now) }
     ensures made { IfOk result (IsInputsOf basin.now) }
 {

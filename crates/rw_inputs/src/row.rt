@@ -6,12 +6,12 @@ ghost use Rattle.rw_model.specs.Draft.{IsSlot};
 ghost use Rattle.rw_model.specs.Slot.{IsInside, all_quantities};
 ghost use Rattle.rw_inputs.specs.Number.{read_number, byte_position};
 ghost use Rattle.rw_inputs.specs.Row.{slot_of_names, slot_of_text, read_slot, span_of, span_in, read_span, read_value, three_fields, row_of, read_row};
-ghost use Rattle.rw_inputs.specs.Sound.{IsGiven};
+ghost use Rattle.rw_inputs.specs.Sound.{IsRowValue};
 ghost use Rattle.rw_model.specs.Links.{IsBetween, bounds_in};
 
 use crate::InputKind;
-use crate::given::Given;
 use crate::number::{position_of, read_number, read_signed};
+use crate::row_value::RowValue;
 use crate::span::Span;
 use crate::wrong::{Part, Wrong};
 use csv::ByteRecord;
@@ -138,14 +138,14 @@ pub(crate) fn read_value(basin: &Basin, slot: u16, text: &[u8]) -> Result<Qty, W
 }
 
 // What the three fields of a row give.
-fn read_fields(basin: &Basin, slot: &[u8], span: &[u8], value: &[u8]) -> Result<Given, Wrong>
+fn read_fields(basin: &Basin, slot: &[u8], span: &[u8], value: &[u8]) -> Result<RowValue, Wrong>
     ensures read { result ≡ row_of basin.now (Some (slot.now, span.now, value.now)) }
-    ensures sound { IfOk result (IsGiven basin.now) }
+    ensures sound { IfOk result (IsRowValue basin.now) }
 {
     let slot = read_slot(basin, slot)?;
     let span = read_span(basin, span)?;
     let value = read_value(basin, slot, value)?;
-    Ok(Given {
+    Ok(RowValue {
         slot,
         first: span.first,
         last: span.last,
@@ -174,9 +174,9 @@ pub(crate) fn three_fields(row: &ByteRecord) -> Option<(&[u8], &[u8], &[u8])>
 }
 
 /// What a row gives: three fields, a slot, timesteps and a value.
-pub(crate) fn read_row(basin: &Basin, row: &ByteRecord) -> Result<Given, Wrong>
+pub(crate) fn read_row(basin: &Basin, row: &ByteRecord) -> Result<RowValue, Wrong>
     ensures read { result ≡ read_row basin.now (fields_of row.now) }
-    ensures sound { IfOk result (IsGiven basin.now) }
+    ensures sound { IfOk result (IsRowValue basin.now) }
 {
     match three_fields(row) {
         Some((slot, span, value)) => read_fields(basin, slot, span, value),

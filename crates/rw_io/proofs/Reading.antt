@@ -9,5 +9,5 @@ pub record IsReading (path bytes : List ℕ) (shelf : Change ShelfView) : Type 0
   pub later : NoneFell shelf.before.faults shelf.after.faults
   pub started : shelf.after.started ≡ Some path
   pub parts : Consumes (shelf.before.holds path) shelf.after.left bytes
-  pub count : shelf.after.given ≡ length bytes
+  pub count : shelf.after.taken ≡ length bytes
   pub short : length bytes ≤ 16777216

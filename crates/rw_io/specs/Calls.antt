@@ -3,7 +3,7 @@ use Rattle.std.specs.Prelude.{◌≡◌, ℕ, ◌<◌, ◌≤◌, List, length, 
 use Rattle.std.specs.Io.{ReadsAtMost}
 use Rattle.std.specs.Io.KnownBytes.{ReadConsumes}
 use Rattle.rw_io.specs.Causes.{Rose, NoneFell, PathRose}
-use Rattle.rw_io.specs.Known.{SinkAppends, given_after}
+use Rattle.rw_io.specs.Known.{SinkAppends, taken_after}
 use Rattle.rw_io.specs.Outside.{Change, ShelfView, SinkView}
 use Rattle.rw_io.specs.declared.shelf.ShelfFault.{ShelfFault}
 use Rattle.rw_io.specs.declared.sink.SinkFault.{SinkFault}
@@ -15,10 +15,10 @@ pub record Starts (path : List ℕ) (shelf : Change ShelfView) (result : Result 
   -- the file is started, and the whole of it is left
   pub started : OnOk result (shelf.after.started ≡ Some path)
   pub left : OnOk result (shelf.after.left ≡ shelf.before.holds path)
-  pub given : OnOk result (shelf.after.given ≡ 0)
-  -- after a fault nothing is started, and what was given before still counts
+  pub taken : OnOk result (shelf.after.taken ≡ 0)
+  -- after a fault nothing is started, and what was taken before still counts
   pub nothing : OnErr result (shelf.after.started ≡ None)
-  pub stays : OnErr result (shelf.after.given ≡ shelf.before.given)
+  pub stays : OnErr result (shelf.after.taken ≡ shelf.before.taken)
   -- a fault is one of this path
   pub later : NoneFell shelf.before.faults shelf.after.faults
   pub cause : OnErr result (Rose (shelf.before.faults path) (shelf.after.faults path))
@@ -32,7 +32,7 @@ pub record GivesRead (buffer : List ℕ) (shelf : Change ShelfView) (result : Re
   pub bound : ReadsAtMost result buffer
   pub bytes : ReadConsumes shelf.before.left shelf.after.left result buffer
   pub idle : shelf.before.started ≡ None → result ≡ Ok 0
-  pub given : shelf.after.given ≡ given_after shelf.before.given result
+  pub taken : shelf.after.taken ≡ taken_after shelf.before.taken result
   -- a fault is one of the started path
   pub later : NoneFell shelf.before.faults shelf.after.faults
   pub cause : OnErr result (PathRose shelf.before.started shelf.before.faults shelf.after.faults)

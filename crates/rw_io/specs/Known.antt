@@ -16,7 +16,7 @@ abbrev pub SinkAppends : {E : Type 0} → Option (List ℕ) → Option (List ℕ
 SinkAppends old new result piece =
     MatchResult result (λ n. GrowsBy old new (take n piece)) (λ _. GrowsBy old new (take 0 piece))
 
--- how many bytes were given after a read, up to 2^64 - 1
-abbrev pub given_after : {E : Type 0} → ℕ → Result ℕ E → ℕ
-given_after before (Ok n) = min (before + n) (2 ^ 64 - 1)
-given_after before (Err _) = before
+-- how many bytes were taken after a read, up to 2^64 - 1
+abbrev pub taken_after : {E : Type 0} → ℕ → Result ℕ E → ℕ
+taken_after before (Ok n) = min (before + n) (2 ^ 64 - 1)
+taken_after before (Err _) = before

@@ -11,7 +11,7 @@ seen_of shelf = record {
   holds = λ path. bytes_at shelf.files.items path;
   started = option_map (λ path. string_bytes path) shelf.started;
   left = left_at shelf.files.items shelf.started shelf.place shelf.at;
-  given = shelf.given;
+  taken = shelf.taken;
   faults = λ path. count_at shelf.files.items shelf.counts.items path;
 }
 

@@ -12,8 +12,8 @@ pub record ShelfView : Type 0 where
   pub started : Option (List ℕ)
   -- what is left of the started file, where that is told
   pub left : Option (List ℕ)
-  -- how many bytes were given since the last start that answered Ok, up to 2^64 - 1
-  pub given : ℕ
+  -- how many bytes were taken since the last start that answered Ok, up to 2^64 - 1
+  pub taken : ℕ
   -- how many faults each path has had
   pub faults : List ℕ → ℕ
 

@@ -14,7 +14,7 @@ pub struct FileShelf<R: Files + Drop> {
     files: R,
     started: Option<String>,
     opened: Option<R::File>,
-    given: u64,
+    taken: u64,
     faults: u64,
     ghost paired: { is_some started ≡ is_some opened },
 }
@@ -24,14 +24,14 @@ impl<R: Files + Drop> FileShelf<R> {
     pub fn of(files: R) -> FileShelf<R>
         ensures no_faults { (p : List ℕ) → (⟦<FileShelf<R> as Shelf>⟧.seen result).faults p ≡ 0 }
         ensures not_started { (⟦<FileShelf<R> as Shelf>⟧.seen result).started ≡ None }
-        ensures none_given { (⟦<FileShelf<R> as Shelf>⟧.seen result).given ≡ 0 }
+        ensures none_taken { (⟦<FileShelf<R> as Shelf>⟧.seen result).taken ≡ 0 }
         ensures untold { (p : List ℕ) → (⟦<FileShelf<R> as Shelf>⟧.seen result).holds p ≡ None }
     {
         FileShelf {
             files,
             started: None,
             opened: None,
-            given: 0,
+            taken: 0,
             faults: 0,
         }
     }
@@ -42,7 +42,7 @@ impl<R: Files + Drop> Shelf for FileShelf<R> {
       holds = λ _. None;
       started = option_map (λ path. string_bytes path) s.started;
       left = None;
-      given = s.given;
+      taken = s.taken;
       faults = λ _. s.faults;
     } };
 
@@ -60,7 +60,7 @@ impl<R: Files + Drop> Shelf for FileShelf<R> {
             Ok(file) => {
                 self.started = Some(path);
                 self.opened = Some(file);
-                self.given = 0;
+                self.taken = 0;
                 Ok(())
             }
             Err(_) => {
@@ -78,13 +78,13 @@ impl<R: Files + Drop> Shelf for FileShelf<R> {
         ensures calm { let seen = ⟦<FileShelf<R> as Shelf>⟧.seen in
             OnOk result (SameFaults (change (seen self.old) (seen self.new))) }
     {
-        let _given = self.given;
+        let _taken = self.taken;
         let Some(file) = &mut self.opened else {
             return Ok(0);
         };
         match file.read(buf) {
             Ok(count) => {
-                self.given = self.given.saturating_add(count as u64);
+                self.taken = self.taken.saturating_add(count as u64);
                 Ok(count)
             }
             Err(_) => {

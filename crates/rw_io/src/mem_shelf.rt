@@ -19,7 +19,7 @@ pub struct MemShelf {
     started: Option<String>,
     place: usize,
     at: usize,
-    given: u64,
+    taken: u64,
     ghost counted: { length counts.items ≡ length files.items + 1 },
     ghost found: { ForSome started
         (λ path. place ≡ file_position files.items (string_bytes path)) },
@@ -83,7 +83,7 @@ impl MemShelf {
         ensures no_faults { IfOk result
             (λ shelf. (path : List ℕ) → (seen_of shelf).faults path ≡ 0) }
         ensures not_started { IfOk result (λ shelf. (seen_of shelf).started ≡ None) }
-        ensures none_given { IfOk result (λ shelf. (seen_of shelf).given ≡ 0) }
+        ensures none_taken { IfOk result (λ shelf. (seen_of shelf).taken ≡ 0) }
         ensures failing { IfOk result (λ shelf. failing_of shelf ≡ failing.items) }
         ensures no_calls { IfOk result (λ shelf. calls_of shelf ≡ 0) }
     {
@@ -98,7 +98,7 @@ impl MemShelf {
             started: None,
             place: 0,
             at: 0,
-            given: 0,
+            taken: 0,
         })
     }
 }
@@ -132,7 +132,7 @@ impl Shelf for MemShelf {
         self.place = place;
         self.started = Some(path);
         self.at = 0;
-        self.given = 0;
+        self.taken = 0;
         Ok(())
     }
 
@@ -159,7 +159,7 @@ impl Shelf for MemShelf {
         }
         let count = copy_from(&self.files[self.place].1, self.at, buf);
         self.at += count;
-        self.given = self.given.saturating_add(count as u64);
+        self.taken = self.taken.saturating_add(count as u64);
         Ok(count)
     }
 }

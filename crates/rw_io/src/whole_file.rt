@@ -16,7 +16,7 @@ pub const PIECE_MAX: usize = 65_536;
 pub enum ReadEnd {
     /// The count of faults of the path rose in this call.
     ReadFault,
-    /// More than `FILE_MAX` bytes were given in this call, and no fault came.
+    /// More than `FILE_MAX` bytes were taken in this call, and no fault came.
     TooLong,
     /// There was no memory.
     NoMemory,
@@ -47,12 +47,12 @@ pub fn read_all<S: Shelf>(alloc: Global, shelf: &mut S, path: &str) -> Result<Ve
     ensures whole { IfOk result
         (λ bytes. IfSome ((S.seen shelf.old).holds path.now) (λ file. bytes.items ≡ file)) }
     ensures short { IfOk result (λ bytes. length bytes.items ≤ FILE_MAX) }
-    ensures given { IfOk result (λ bytes. (S.seen shelf.new).given ≡ length bytes.items) }
+    ensures taken { IfOk result (λ bytes. (S.seen shelf.new).taken ≡ length bytes.items) }
 
     // Why it isn't read.
     ensures fault { IsErrOf result ReadEnd.ReadFault
         → Rose ((S.seen shelf.old).faults path.now) ((S.seen shelf.new).faults path.now) }
-    ensures long { IsErrOf result ReadEnd.TooLong → FILE_MAX < (S.seen shelf.new).given }
+    ensures long { IsErrOf result ReadEnd.TooLong → FILE_MAX < (S.seen shelf.new).taken }
     ensures longer { IsErrOf result ReadEnd.TooLong
         → IfSome ((S.seen shelf.old).holds path.now) (λ file. FILE_MAX < length file) }
 

@@ -2,7 +2,8 @@
 use Rattle.rw_laws.proofs.Common.{All, Bool, CanAsk, Cell, DividesByZero, Done, Draft, EndsOutside, Event, Fire, FireEnd, IsBasin, IsFault}
 use Rattle.rw_laws.proofs.Common.{IsPolicyOf, IsRun, List, Log, Policy, Some, Standing, Unknown, [], ap, arith, before_closing, cells_of, closed}
 use Rattle.rw_laws.proofs.Common.{closed-placed, due_is_rule, ended, false, fault, if◌then◌else◌, inl, inr, inside, is_closing, last_closed}
-use Rattle.rw_laws.proofs.Common.{nat_tests, none-some, opened, option_or, over, placed, refl, rests, same_Some, standing, standing-placed, subst}
+use Rattle.rw_laws.proofs.Common.{nat_tests, none-some, opened, option_or, over, with_inputs, refl, rests, same_Some, standing, standing-placed}
+use Rattle.rw_laws.proofs.Common.{subst}
 use Rattle.rw_laws.proofs.Common.{sym, true, value_in, written_by, ℕ, ℤ, ◌+◌, ◌<◌, ◌==◌, ◌∙◌, ◌∷◌, ◌≡◌, ◌≢◌, ◌≤◌, ◌⊎◌}
 use Rattle.rw_laws.proofs.Came.{Came, asks, closes, ends, fires, opens}
 use Rattle.rw_laws.proofs.Dispatches.{Asked_of, asked_of, idles, solves, stops}
@@ -139,7 +140,7 @@ module _ (basin : Draft) (valid : IsBasin basin) (policy : Policy) (promise : Is
   past_run : (inputs : List (Cell × ℤ)) (log : Log) → IsRun basin policy inputs log → ArePast basin log
   past_run inputs log run = along basin policy (ArePast basin) next_past inputs log run (record {
     each = λ at early is. absurd (none-some early (sym (none_closed [] inputs (λ t. refl) at) ∙ is));
-    last = subst (λ s. IsLast s (last_closed (placed [] inputs))) (sym (standing-placed [] inputs refl)) (sym (closed-placed [] inputs));
+    last = subst (λ s. IsLast s (last_closed (with_inputs [] inputs))) (sym (standing-placed [] inputs refl)) (sym (closed-placed [] inputs));
     all = λ step first near. let none = closed-placed [] inputs in absurd (omega (arith, first, near, none));
   })
 

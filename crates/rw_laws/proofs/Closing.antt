@@ -2,7 +2,7 @@
 use Rattle.rw_laws.proofs.Common.{AllByRecursion, Bool, Cell, Cells, DividesByZero, Done, Draft, EndsOutside, Event, Fire, FireEnd, Firing, IsBasin}
 use Rattle.rw_laws.proofs.Common.{IsFault, IsPolicyOf, IsRun, List, Log, Policy, Some, Standing, Unknown, [], ap, arith, asked_for, asked_of_rule}
 use Rattle.rw_laws.proofs.Common.{before_closing, cells_looked, cells_of, due_is_rule, ended, false, fault, fired, idle, if◌then◌else◌, inside}
-use Rattle.rw_laws.proofs.Common.{last_firing, last_ones, looks_at, looks_of, nat_tests, none-some, over, placed, puts_written, refl, rests}
+use Rattle.rw_laws.proofs.Common.{last_firing, last_ones, looks_at, looks_of, nat_tests, none-some, over, with_inputs, puts_written, refl, rests}
 use Rattle.rw_laws.proofs.Common.{same_Some, standing, standing-placed, subst, sym, true, value_in, weaker_all, ℕ, ℤ, ◌==◌, ◌∙◌, ◌∷◌, ◌≡◌, ◌≤◌}
 use Rattle.rw_laws.specs.Rules.{AllStandBy, EndsAs}
 use Rattle.rw_laws.proofs.Came.{Came, Fires, asks, closes, ends, fires, opens}
@@ -136,10 +136,10 @@ module _ (basin : Draft) (valid : IsBasin basin) (policy : Policy) (promise : Is
   next_within log event comes within =
       record { holds = next_holds basin valid policy promise log event within.holds comes; fired = next_fired log event within comes }
 
-  pub begin_within : (inputs : List (Cell × ℤ)) → IsWithin basin policy (placed [] inputs)
+  pub begin_within : (inputs : List (Cell × ℤ)) → IsWithin basin policy (with_inputs [] inputs)
   begin_within inputs = record {
     holds = begin_holds basin valid policy promise inputs;
-    fired = subst (FiredAt basin policy (placed [] inputs)) (sym (standing-placed [] inputs refl)) tt;
+    fired = subst (FiredAt basin policy (with_inputs [] inputs)) (sym (standing-placed [] inputs refl)) tt;
   }
 
   pub rules_stand : (inputs : List (Cell × ℤ)) (log : Log) → IsRun basin policy inputs log → (step : ℕ) (before : Log)

@@ -16,7 +16,7 @@ WasWritten held new = ((1 ≤ held.number) × (new.number ≤ held.number)) ⊎ 
 abbrev pub WasKept : Content → Content → Type 0
 WasKept held new = (held.value ≡ new.value) × (held.number ≤ new.number)
 
--- one that is denied has a greater number than what is there, or what is there has number 0
+-- one that is denied has a lower priority than what is there, or what is there has priority 0
 abbrev pub WasDenied : Content → Content → Type 0
 WasDenied held new = (held.number ≡ 0) ⊎ (held.number < new.number)
 

@@ -4,7 +4,7 @@ use Rattle.rw_laws.proofs.Common.{IsPolicyOf, IsRun, Kind, List, Log, None, Obje
 use Rattle.rw_laws.proofs.Common.{asked_of_rule, before_closing, cells_of, code_of, cond, data_balanced, due_is_rule, ended, ends_wait, false, fault}
 use Rattle.rw_laws.proofs.Common.{fired, first_of, first_waiting, idle, idle_balanced, inl, inr, inside, is_data, is_put_at, is_some, last_ones}
 use Rattle.rw_laws.proofs.Common.{length, looks_at, looks_of, nat_tests, none-some, none_bits, not, numbers, object_at, opened, option_map, over}
-use Rattle.rw_laws.proofs.Common.{placed, puts_written, refl, rests, same_Some, since, solve_of, solved_balanced, solved_by, standing}
+use Rattle.rw_laws.proofs.Common.{with_inputs, puts_written, refl, rests, same_Some, since, solve_of, solved_balanced, solved_by, standing}
 use Rattle.rw_laws.proofs.Common.{standing-placed, subst, sym, times, times-numbers, times-waiting, true, unwrap_or, value_in, view_of, waiting}
 use Rattle.rw_laws.proofs.Common.{wakes, written_by, ℕ, ℤ, ◌&&◌, ◌+◌, ◌-◌, ◌==◌, ◌∙◌, ◌∷◌, ◌≡◌, ◌≤◌, ◌⊎◌}
 use Rattle.rw_method.specs.declared.solved.Solved.TheVariants.{Idle}
@@ -89,7 +89,8 @@ module _ (basin : Draft) (valid : IsBasin basin) (policy : Policy) (promise : Is
             let answers_other : solved_by basin (cells_of basin log) other step ≡ Idle =
             subst (λ o. solved_by basin (cells_of basin log) o step ≡ Idle) same answers in
             stays_balanced basin log (idle object step (looks_of basin (cells_of basin log) object step)) other step kind refl tt
-            (idle_balanced kind (view_of basin (cells_of basin log) other step) (left other kind is) (idle_answer log step other kind is answers_other))
+            (idle_balanced kind (view_of basin (cells_of basin log) other step) (left other kind is)
+            (idle_answer log step other kind is answers_other))
       ]
 
   -- ---- a dispatch that put
@@ -229,4 +230,4 @@ module _ (basin : Draft) (valid : IsBasin basin) (policy : Policy) (promise : Is
   balances inputs log run = all_closed basin policy (λ log. IsWithin basin policy log × SettledAt basin log (standing log))
       (λ log event comes both. (next_within basin valid policy promise log event comes both.0, next_settled log event both.0 both.1 comes))
       (λ step log. AllBalanced basin step (cells_of basin log)) (λ log event both at. closes_balanced log event both.0 at both.1) inputs log run
-      (begin_within basin valid policy promise inputs, subst (SettledAt basin (placed [] inputs)) (sym (standing-placed [] inputs refl)) tt)
+      (begin_within basin valid policy promise inputs, subst (SettledAt basin (with_inputs [] inputs)) (sym (standing-placed [] inputs refl)) tt)

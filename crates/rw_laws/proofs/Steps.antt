@@ -4,11 +4,12 @@ use Rattle.rw_laws.proofs.Common.{Event, Fire, FireEnd, Firing, IsAfterOwn, IsBa
 use Rattle.rw_laws.proofs.Common.{Policy, Put, Rule, Some, Standing, Unknown, View, Writer, [], ap, arith, asked_for, cell_at, cells_of, closed}
 use Rattle.rw_laws.proofs.Common.{dispatch_of, due_is_rule, ended, false, fault, fired, idle, if◌then◌else◌, inl, input_content, inr, inside}
 use Rattle.rw_laws.proofs.Common.{is_same_object, is_shared, last_put, left_begins, left_by_others, left_by_own, looks_of, nat_tests, none-some}
-use Rattle.rw_laws.proofs.Common.{object_at, opened, option_map, option_or, over, own_puts_fall, placed, puts_are_apart, puts_written, refl, rests}
+use Rattle.rw_laws.proofs.Common.{object_at, opened, option_map, option_or, over, own_puts_fall, with_inputs, puts_are_apart, puts_written, refl}
+use Rattle.rw_laws.proofs.Common.{rests}
 use Rattle.rw_laws.proofs.Common.{same_Some, standing, subst, sym, true, value_in, view_of, weaker_all, written_by, ℕ, ℤ, ◌+◌, ◌<◌, ◌==◌, ◌∙◌, ◌∷◌}
 use Rattle.rw_laws.proofs.Common.{◌≡◌, ◌≤◌}
-use Rattle.rw_run.specs.Log.{given}
-use Rattle.rw_laws.specs.Priority.{IsNoWeakerPut, KeepPriority, KeepsPriority}
+use Rattle.rw_run.specs.Log.{placed}
+use Rattle.rw_laws.specs.Priority.{IsNoLowerPut, KeepPriority, KeepsPriority}
 use Rattle.rw_laws.proofs.Came.{Came, Closes, Fires, Opens, asks, closes, ends, fires, opens}
 use Rattle.rw_laws.proofs.Dispatches.{Asked_of, Solves, asked_of, idles, solves, stops}
 use Rattle.rw_laws.proofs.OwnPuts.{later_all, own_after}
@@ -76,7 +77,7 @@ of_same P basin log object other step own kind same has is here =
 -- ---- inputs
 
 told_given : (basin : Draft) (log : Log) (cell : Cell) (value : ℤ) → AreTold 0 (cells_of basin log)
-    → AreTold 0 (cells_of basin (given cell value ∷ log))
+    → AreTold 0 (cells_of basin (placed cell value ∷ log))
 told_given basin log cell value told other content held = by (is_shared basin cell other) held
   where
     by : (test : Bool) → option_or (if test then Some (input_content value) else None) (cells_of basin log other) ≡ Some content
@@ -112,7 +113,7 @@ module _ (basin : Draft) (valid : IsBasin basin) (policy : Policy) (promise : Is
 
   quiet_priority : (log : Log) (event : Event) → written_by event ≡ [] → KeepsPriority basin (cells_of basin log) event
   quiet_priority log event none = record {
-    puts = subst (All (IsNoWeakerPut (cells_of basin log))) (sym none) (All-nil (IsNoWeakerPut (cells_of basin log)));
+    puts = subst (All (IsNoLowerPut (cells_of basin log))) (sym none) (All-nil (IsNoLowerPut (cells_of basin log)));
     inputs = λ cell content held writer. quiet log event none cell ∙ held;
   }
 
@@ -252,17 +253,17 @@ module _ (basin : Draft) (valid : IsBasin basin) (policy : Policy) (promise : Is
 
   -- ---- logs
 
-  given_holds : (log : Log) (cell : Cell) (value : ℤ) → Holds basin log → standing log ≡ rests 0 → Holds basin (given cell value ∷ log)
+  given_holds : (log : Log) (cell : Cell) (value : ℤ) → Holds basin log → standing log ≡ rests 0 → Holds basin (placed cell value ∷ log)
   given_holds log cell value holds stands = record {
     priority = holds.priority;
     told = told_given basin log cell value (subst (ToldIn (cells_of basin log)) stands holds.told);
     left = tt;
   }
 
-  placed_holds : (log : Log) (inputs : List (Cell × ℤ)) → Holds basin log → standing log ≡ rests 0 → Holds basin (placed log inputs)
+  placed_holds : (log : Log) (inputs : List (Cell × ℤ)) → Holds basin log → standing log ≡ rests 0 → Holds basin (with_inputs log inputs)
   placed_holds log [] holds stands = holds
   placed_holds log (input ∷ inputs) holds stands =
-      placed_holds (given input.0 input.1 ∷ log) inputs (given_holds log input.0 input.1 holds stands) refl
+      placed_holds (placed input.0 input.1 ∷ log) inputs (given_holds log input.0 input.1 holds stands) refl
 
-  pub begin_holds : (inputs : List (Cell × ℤ)) → Holds basin (placed [] inputs)
+  pub begin_holds : (inputs : List (Cell × ℤ)) → Holds basin (with_inputs [] inputs)
   begin_holds inputs = placed_holds [] inputs (record { priority = tt; told = λ cell content held. absurd (none-some content held); left = tt }) refl

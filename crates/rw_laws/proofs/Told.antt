@@ -3,7 +3,7 @@ use Rattle.rw_laws.proofs.Common.{All, All-cons, All-nil, AllByRecursion, Asked,
 use Rattle.rw_laws.proofs.Common.{Shared-of, Some, Writer, Written, [], ap, arith, cells_of, end_in, end_of_put, inl, inr, is_same_object, option_or}
 use Rattle.rw_laws.proofs.Common.{same_Some, subst, sym, true, weaker_all, written_by, ℕ, ◌∙◌, ◌∷◌, ◌≡◌, ◌≤◌, ◌⊎◌}
 use Rattle.rw_model.specs.declared.writer.Writer.TheVariants.{Object}
-use Rattle.rw_laws.specs.Priority.{IsNoWeakerPut, KeepsPriority}
+use Rattle.rw_laws.specs.Priority.{IsNoLowerPut, KeepsPriority}
 use Rattle.rw_laws.proofs.Linked.{Found, last_found, linked}
 use Rattle.rw_laws.proofs.PutRules.{was_written}
 
@@ -21,7 +21,7 @@ pub record IsWriting (basin : Draft) (latest : ℕ) (cells : Cells) (put : Asked
   pub slot : IsSlot basin.objects put.cell.slot.0
   pub end : end_in cells put ≡ Written
   pub told : IsTold latest put.cell.step.0 put.content.number put.content.writer
-  pub falls : IsNoWeakerPut cells put
+  pub falls : IsNoLowerPut cells put
 
 pub to_all : {A : Type 0} (P : A → Type 0) (xs : List A) → AllByRecursion P xs → All P xs
 to_all P [] all = All-nil P
@@ -72,8 +72,8 @@ module _ (basin : Draft) (latest : ℕ) (log : Log) (event : Event) (told : AreT
   pub keeps_priority : KeepsPriority basin (cells_of basin log) event
   keeps_priority = record {
     puts =
-        to_all (IsNoWeakerPut (cells_of basin log)) (written_by event)
-        (weaker_all (IsWriting basin latest (cells_of basin log)) (IsNoWeakerPut (cells_of basin log)) (written_by event) (λ put is. is.falls) all);
+        to_all (IsNoLowerPut (cells_of basin log)) (written_by event)
+        (weaker_all (IsWriting basin latest (cells_of basin log)) (IsNoLowerPut (cells_of basin log)) (written_by event) (λ put is. is.falls) all);
     inputs = input;
   }
 

@@ -15,9 +15,9 @@ use Rattle.rw_series.specs.declared.fire.FireEnd.TheVariants.{Done, Unknown}
 use Rattle.rw_series.specs.declared.look.Look.{Look}
 use Rattle.rw_run.specs.Dispatch.{cell_at}
 use Rattle.rw_run.specs.Frame.{log_after}
-use Rattle.rw_run.specs.Log.{Asked, Cells, Event, Log, closed, fired, given, idle, opened, solved}
+use Rattle.rw_run.specs.Log.{Asked, Cells, Event, Log, closed, fired, placed, idle, opened, solved}
 use Rattle.rw_run.specs.Next.{Policy}
-use Rattle.rw_run.specs.Runs.{placed}
+use Rattle.rw_run.specs.Runs.{with_inputs}
 
 -- one object over one day, from the last rule on
 abbrev pub one_object : List ℕ → Kind → Draft
@@ -92,14 +92,14 @@ dam_events =
     fires 1 (saw_first_day 3 (Some (pos 1020)) ∷ []) (by_rule 1 3 (pos 1020) ∷ []) [] 6 ∷ []
 
 abbrev pub dam_log : Log
-dam_log = log_after dam_events (placed [] inflow)
+dam_log = log_after dam_events (with_inputs [] inflow)
 
 -- a log that is none of a run: 1 flows into a gage and 2 flow out
 abbrev pub gage : Draft
 gage = one_object (codes "G") Gage
 
 abbrev pub torn : Log
-torn = given (cell_at 2 1) (pos 2) ∷ given (cell_at 1 1) (pos 1) ∷ []
+torn = placed (cell_at 2 1) (pos 2) ∷ placed (cell_at 1 1) (pos 1) ∷ []
 
 -- another: a rule of number 2 writes over what one of number 1 wrote
 abbrev pub weakened : Log

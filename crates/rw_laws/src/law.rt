@@ -11,7 +11,7 @@ ghost use Rattle.rw_run.specs.Log.{Log, cells_of, closed};
 ghost use Rattle.rw_run.specs.Next.{Policy};
 ghost use Rattle.rw_run.specs.Policy.{IsPolicyOf};
 ghost use Rattle.rw_run.specs.RunOf.{IsRunOf};
-ghost use Rattle.rw_run.specs.Runs.{IsRun, placed};
+ghost use Rattle.rw_run.specs.Runs.{IsRun, with_inputs};
 ghost use Rattle.rw_run.specs.Step.{before_closing};
 ghost use Rattle.rw_run.specs.Worked.{across, across_run, linked_basin};
 ghost use Rattle.rw_run.specs.declared.run.Run.{Run};
@@ -56,7 +56,7 @@ pub fn links()
     ensures { (basin : Draft) (log : Log) → HoldAsLinked basin (cells_of basin log) }
 {}
 
-/// In every run, also one that ended in a fault: no put that is written has a greater number than what its cell holds, and
+/// In every run, also one that ended in a fault: no put that is written has a lower priority than what its cell holds, and
 /// what an input gave stays.
 pub fn priority()
     ensures { (basin : Draft) (policy : Policy) (inputs : List (Cell × ℤ)) (log : Log)
@@ -73,7 +73,7 @@ pub fn balance()
 {}
 
 /// Just before a timestep of a run is closed each rule fired in it and would do the same again, and what it put last stands or
-/// gave way to a put that is no weaker.
+/// gave way to a put of no lower priority.
 pub fn rules()
     ensures { (basin : Draft) (policy : Policy) (inputs : List (Cell × ℤ)) (log before : Log)
         (step : ℕ) → IsBasin basin → IsPolicyOf basin policy → IsRun basin policy inputs log
@@ -113,7 +113,7 @@ pub fn a_link()
 {}
 
 /// The laws aren't true of any cells and any log. In cells that no log leaves linked slots differ. In logs that are of no run a
-/// gage lets out more than flows in, a weaker rule writes over a stronger one, a rule never fired, and a timestep changes that
+/// gage lets out more than flows in, a rule writes over one of a higher priority, a rule never fired, and a timestep changes that
 /// was closed.
 pub fn no_runs()
     ensures links { ¬ HoldAsLinked linked_basin apart }

@@ -1,10 +1,11 @@
 -- What is known where a dispatch answers puts.
 use Rattle.rw_method.proofs.Common.{AllFit, Balanced, Holds, Kind, List, None, Option, Put, Puts, Solves, Some, View, ap, ap₂, arith, balance_of}
-use Rattle.rw_method.proofs.Common.{balanced_of, fault_of_contents, first_fault, fits, inl, inr, map, puts_of, refl, settled, solve_of, sym, ℤ, ◌≡◌}
+use Rattle.rw_method.proofs.Common.{balanced_of, fault_of_contents, first_fault, fits, inl, inr, map, puts_of, refl, solved_balance, solve_of, sym, ℤ}
+use Rattle.rw_method.proofs.Common.{◌≡◌}
 use Rattle.rw_method.proofs.Common.{◌⊎◌}
 use Rattle.rw_method.proofs.Leaving.{Solving}
 use Rattle.rw_method.proofs.SolvedPuts.{contents_faulty, faultless, first_faulty, judged}
-use Rattle.rw_method.proofs.Settled.{balanced_code}
+use Rattle.rw_method.proofs.BalanceFacts.{balanced_code}
 use Rattle.rw_method.proofs.Terms.{shape_of, term_in, terms_are}
 
 -- nothing was wrong before all else, the puts are those that were judged, all of them fit, nothing is wrong with the contents, and a term
@@ -17,7 +18,7 @@ pub record Answered (kind : Kind) (view : View) (puts : List Put) : Type 0 where
   pub ends : (balanced_of kind view ≡ Holds) ⊎ Solving kind view
   pub steady : ℤ
   pub is_steady : (balance_of kind view).steady ≡ Some steady
-  pub settles : settled (Some steady) (map (term_in view) (shape_of kind)) ≡ balanced_of kind view
+  pub comes_to : solved_balance (Some steady) (map (term_in view) (shape_of kind)) ≡ balanced_of kind view
 
 ends_by : (kind : Kind) (view : View) (balanced : Balanced) → balanced_of kind view ≡ balanced
     → (balanced_code balanced ≡ 1) ⊎ (balanced_code balanced ≡ 2)
@@ -31,7 +32,7 @@ steady_by : (kind : Kind) (view : View) (found : Option ℤ) → (balance_of kin
     → (steady : ℤ) × ((balance_of kind view).steady ≡ Some steady)
 steady_by kind view (Some steady) is code = (steady, is)
 steady_by kind view None is code =
-    let idle : balanced_code (balanced_of kind view) ≡ 0 = ap (λ s. balanced_code (settled s (balance_of kind view).terms)) is in
+    let idle : balanced_code (balanced_of kind view) ≡ 0 = ap (λ s. balanced_code (solved_balance s (balance_of kind view).terms)) is in
     absurd (elim code [ inl one ↦ omega (arith, one, idle) | inr two ↦ omega (arith, two, idle) ])
 
 pub answered : (kind : Kind) (view : View) (puts : List Put) → solve_of kind view ≡ Puts puts → Answered kind view puts
@@ -49,5 +50,5 @@ answered kind view puts e =
       ends = ends_by kind view (balanced_of kind view) refl is.code;
       steady = steady.0;
       is_steady = steady.1;
-      settles = ap₂ (λ s ts. settled s ts) (sym steady.1) (sym (terms_are kind view));
+      comes_to = ap₂ (λ s ts. solved_balance s ts) (sym steady.1) (sym (terms_are kind view));
     }

@@ -14,7 +14,7 @@ use Rattle.rw_method.proofs.Leaving.{DispatchFacts, IsBase, Solving, place_in}
 use Rattle.rw_method.proofs.Netting.{IsAgreed, net_zero, put_value, rest_value}
 use Rattle.rw_method.proofs.Among.{Among, all_append, all_at, among, among_right, contains}
 use Rattle.rw_method.proofs.PlainKinds.{base_in, one_sort, solved_at}
-use Rattle.rw_method.proofs.Settled.{balanced_code}
+use Rattle.rw_method.proofs.BalanceFacts.{balanced_code}
 use Rattle.rw_method.proofs.Terms.{Sort, given_as, given_in, routed, shape_of, slot, some_value, sort}
 
 -- ---- what isn't put stays
@@ -34,7 +34,7 @@ module _ (kind : Kind) (old : View) (puts : List Put) (is : Answered kind old pu
       let source = all_at (λ (s : Sort). s.source ≡ slot) (shape_of kind) s slots has in
       slot_agreed old new s source (after.rest s.place (facts.untouched s has source apart))
 
-  -- what is known of a slot once the balance is settled is what it holds then
+  -- what is known of a slot once the balance is solved is what it holds then
   pub after_value : (on : ℕ) → IsBase old (balanced_of kind old) on
       → (((solving : Solving kind old) → on ≢ solving.place) → (put : Put) → Contains puts put → put.place ≢ on)
       → known_value new on ≡ Some (known_after old (balanced_of kind old) on).value

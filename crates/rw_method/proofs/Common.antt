@@ -18,8 +18,9 @@ pub use Rattle.rw_method.specs.Power.{least_release, outflow_of, outflow_or, pla
 pub use Rattle.rw_method.specs.Puts.{asked_number, asked_put, beside_basis, beside_given, content_put, energy_puts, evaporation_put, flow_puts}
 pub use Rattle.rw_method.specs.Puts.{held_after_puts, held_by, is_bounded, known_after, level_puts, power_flows, power_puts, put, put_found, puts_of}
 pub use Rattle.rw_method.specs.Puts.{release_puts, released_puts, seepage_put, solved_put, user_puts}
-pub use Rattle.rw_method.specs.Settling.{GivesWay, IsGreatestBeside, IsNoWeaker, IsSolved, IsStronger, gives_way_before, greatest_beside, missing}
-pub use Rattle.rw_method.specs.Settling.{net_of, priority_of, settled, settled_at, solves, value_from_others, weakest}
+pub use Rattle.rw_method.specs.Solving.{GivesWay, IsGreatestBeside, HasNoLowerPriority, IsSolved, HasHigherPriority, gives_way_before}
+pub use Rattle.rw_method.specs.Solving.{greatest_beside, missing}
+pub use Rattle.rw_method.specs.Solving.{net_of, priority_of, solved_balance, solved_at, solves, value_from_others, weakest}
 pub use Rattle.rw_method.specs.Solve.{AllFit, all_or_misfit, answer, answer_of_puts, balanced_of, fault_of_contents, fault_of_level, fault_of_past}
 pub use Rattle.rw_method.specs.Solve.{fault_of_request, first_fault, first_misfit, fits, is_held, or_else, solve_of, unless_faulty}
 pub use Rattle.rw_method.specs.Term.{IsShare, IsWithin, bringing, brought, brought_by, least_inflow, least_routed, per_mille}

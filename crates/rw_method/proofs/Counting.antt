@@ -13,7 +13,7 @@ none_asked (Some asking) held none = absurd (none-some asking (sym none))
 abbrev counting : Option ℤ → Option Given → Option Content → Option Content
 counting past outflow request = if is_some past then option_and_then (request_beside outflow) request else None
 
--- a request that counts is known, as the past value is, and an outflow that is given has a greater number
+-- a request that counts is known, as the past value is, and an outflow that is given has a lower priority
 pub record IsCounting (past : Option ℤ) (outflow : Option Given) (request : Option Content) (asking : Content) : Type 0 where
   pub past_is : is_some past ≡ true
   pub is : request ≡ Some asking

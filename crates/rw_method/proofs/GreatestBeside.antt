@@ -1,4 +1,4 @@
--- The greatest number beside a term.
+-- The lowest priority beside a term.
 use Rattle.rw_method.proofs.Common.{All, Bool, Contains, Decides-eqb, IsGreatestBeside, List, Term, [], arith, both_ways, cases_Bool, cases_lt, false}
 use Rattle.rw_method.proofs.Common.{greatest_beside, if◌then◌else◌, inl, inr, max, priority_of, refl, suc, true, ℕ, ◌<◌, ◌==◌, ◌∙◌, ◌∷◌, ◌≡◌, ◌≢◌}
 use Rattle.rw_method.proofs.Common.{◌≤◌, ◌⊎◌}

@@ -3,7 +3,8 @@ use Rattle.rw_method.proofs.Common.{AllByRecursion, Balanced, Bifurcation, Bool,
 use Rattle.rw_method.proofs.Common.{Given, Holds, Idle, IdleAnswer, Kind, List, None, Option, Put, Reach, Request, Reservoir, RoutedReach, Solved}
 use Rattle.rw_method.proofs.Common.{Some, Term, View, WaterUser, [], all_or_misfit, answer, ap, ap₂, arith, balance_of, balanced_of, difference}
 use Rattle.rw_method.proofs.Common.{false, fault_of_contents, first_misfit, fits, if◌then◌else◌, inl, inr, int_eq, is_some, known, map, missing}
-use Rattle.rw_method.proofs.Common.{nat_le, nat_tests, net_of, none-some, option_map, pos, puts_of, refl, settled, settled_at, solve_of, solves, suc}
+use Rattle.rw_method.proofs.Common.{nat_le, nat_tests, net_of, none-some, option_map, pos, puts_of, refl, solved_balance, solved_at, solve_of, solves}
+use Rattle.rw_method.proofs.Common.{suc}
 use Rattle.rw_method.proofs.Common.{known_sum, sym, true, value_from_others, weakest, zero, ℕ, ℤ, ◌+ℤ◌, ◌+◌, ◌-ℤ◌, ◌==◌, ◌∙◌, ◌∷◌, ◌≡◌, ◌≢◌, ◌≤◌}
 use Rattle.rw_method.proofs.Common.{PowerReservoir, first_fault, unless_faulty}
 use Rattle.rw_method.specs.Balanced.{IsBalanced, IsHeld}
@@ -11,7 +12,7 @@ use Rattle.rw_method.specs.Left.{Left}
 use Rattle.rw_method.proofs.Leaving.{from_left}
 use Rattle.rw_method.proofs.Netting.{AreDistinct}
 use Rattle.rw_method.proofs.Among.{Among, all_at}
-use Rattle.rw_method.proofs.Settled.{balanced_code}
+use Rattle.rw_method.proofs.BalanceFacts.{balanced_code}
 use Rattle.rw_method.proofs.Terms.{Sort, given_in, shape_of, some_value, term_in, terms_are}
 use Rattle.rw_method.proofs.SolvedPuts.{IsFaulty, answer_code, contents_faulty, first_faulty}
 
@@ -41,9 +42,9 @@ idle_balance kind view e =
 
 -- ---- two terms that aren't given
 
-settled_at_busy : (steady : ℤ) (terms : List Term) (term : Term) (held : Option Given) → 1 ≤ balanced_code (settled_at steady terms term held)
-settled_at_busy steady terms term None = omega arith
-settled_at_busy steady terms term (Some held) = by (int_eq (steady +ℤ net_of terms) (pos 0)) (held.number == 0)
+solved_at_busy : (steady : ℤ) (terms : List Term) (term : Term) (held : Option Given) → 1 ≤ balanced_code (solved_at steady terms term held)
+solved_at_busy steady terms term None = omega arith
+solved_at_busy steady terms term (Some held) = by (int_eq (steady +ℤ net_of terms) (pos 0)) (held.number == 0)
   where
     by : (balanced none : Bool) → 1 ≤ balanced_code
         (if balanced then Holds else (if none then Conflicts term.place held.value (value_from_others steady terms term) else solves steady
@@ -52,16 +53,16 @@ settled_at_busy steady terms term (Some held) = by (int_eq (steady +ℤ net_of t
     by false true = omega arith
     by false false = omega arith
 
-many_missing : (steady : ℤ) (terms : List Term) → balanced_code (settled (Some steady) terms) ≡ 0 → 2 ≤ missing terms
+many_missing : (steady : ℤ) (terms : List Term) → balanced_code (solved_balance (Some steady) terms) ≡ 0 → 2 ≤ missing terms
 many_missing steady [] idle = absurd (omega (arith, idle))
 many_missing steady (first ∷ rest) idle = by (nat_le 2 (missing (first ∷ rest))) refl idle
   where
     by : (test : Bool) → nat_le 2 (missing (first ∷ rest)) ≡ test
-        → balanced_code (if test then Idle else settled_at steady (first ∷ rest) (weakest first rest) (weakest first rest).given) ≡ 0
+        → balanced_code (if test then Idle else solved_at steady (first ∷ rest) (weakest first rest) (weakest first rest).given) ≡ 0
         → 2 ≤ missing (first ∷ rest)
     by true many idle = grind (arith, nat_tests, many)
     by false few idle =
-        absurd (let busy = settled_at_busy steady (first ∷ rest) (weakest first rest) (weakest first rest).given in omega (arith, busy, idle))
+        absurd (let busy = solved_at_busy steady (first ∷ rest) (weakest first rest) (weakest first rest).given in omega (arith, busy, idle))
 
 record IsOpen (view : View) (shape : List Sort) : Type 0 where
   at : Sort
@@ -116,8 +117,8 @@ never : (kind : Kind) (view : View) (steady : ℤ) → Left kind view → AreDis
     → AllKnown view (shape_of kind)
     → solve_of kind view ≡ IdleAnswer → ⊥
 never kind view steady left distinct is all idle =
-    let code : balanced_code (settled (Some steady) (map (term_in view) (shape_of kind))) ≡ 0 =
-    ap₂ (λ s ts. balanced_code (settled s ts)) (sym is) (sym (terms_are kind view)) ∙ idle_balance kind view idle in
+    let code : balanced_code (solved_balance (Some steady) (map (term_in view) (shape_of kind))) ≡ 0 =
+    ap₂ (λ s ts. balanced_code (solved_balance s ts)) (sym is) (sym (terms_are kind view)) ∙ idle_balance kind view idle in
     let open_two = two_open view (shape_of kind) distinct (many_missing steady (map (term_in view) (shape_of kind)) code) in
     let there =
     all_at (λ (s : Sort). (content : Content) × (known view s.place ≡ Some content)) (shape_of kind) open_two.one.at all open_two.one.has in

@@ -2,11 +2,11 @@
 use Rattle.rw_method.proofs.Common.{All, AllByRecursion, Balanced, Bool, ByObject, Contains, Content, Given, Holds, IsShare, IsSome, Kind, List, None}
 use Rattle.rw_method.proofs.Common.{Option, PowerReservoir, Put, Solves, Some, Term, View, [], ap, arith, balance_of, balanced_of, false, held_by}
 use Rattle.rw_method.proofs.Common.{if◌then◌else◌, inl, inr, is_same_object, known, known_after, map, nat_tests, none-some, priority_of, refl, rules}
-use Rattle.rw_method.proofs.Common.{same_Some, settled, subst, sym, true, ℕ, ℤ, ◌==◌, ◌∙◌, ◌∷◌, ◌≡◌, ◌≢◌, ◌≤◌, ◌⊎◌}
+use Rattle.rw_method.proofs.Common.{same_Some, solved_balance, subst, sym, true, ℕ, ℤ, ◌==◌, ◌∙◌, ◌∷◌, ◌≡◌, ◌≢◌, ◌≤◌, ◌⊎◌}
 use Rattle.rw_method.specs.Left.{AreOthersUpTo, IsGivenUpTo, IsOutflowLeft, IsUpTo, Left, Rest, is_own, rest, rests_of}
 use Rattle.rw_method.specs.Passing.{IsAfterOwn, IsAfterOthers, put_content}
 use Rattle.rw_method.proofs.Among.{Among, all_at, among, contains, weaker_all}
-use Rattle.rw_method.proofs.Settled.{SolvedFacts, balanced_code, given_up_to, holds_facts, solved_facts}
+use Rattle.rw_method.proofs.BalanceFacts.{SolvedFacts, balanced_code, given_up_to, holds_facts, solved_facts}
 use Rattle.rw_method.proofs.Terms.{IsSorted, IsTermOf, Sort, all_sorted, among_terms, given_in, other_in, own_in, shape_of, slot, term_in, term_of}
 use Rattle.rw_method.proofs.Terms.{terms_are, up_to_passes}
 use Rattle.rw_method.specs.Passing.{IsOwnFall}
@@ -174,7 +174,7 @@ one_solving kind view one other = ap place_in (sym one.is ∙ other.is)
 -- what is to be known of the puts of a kind
 pub record DispatchFacts (kind : Kind) (view : View) (puts : List Put) : Type 0 where
   pub steady : ℤ
-  pub settles : settled (Some steady) (map (term_in view) (shape_of kind)) ≡ balanced_of kind view
+  pub comes_to : solved_balance (Some steady) (map (term_in view) (shape_of kind)) ≡ balanced_of kind view
   pub ends : (balanced_of kind view ≡ Holds) ⊎ Solving kind view
   pub shares : All (λ (term : Term). IsShare term.share) (map (term_in view) (shape_of kind))
   pub each : AllByRecursion (PutIs kind view puts) puts
@@ -218,7 +218,7 @@ up_to_after old new puts after place content there = elim (put_or_none puts plac
       ]
 ]
 
--- a put leaves no greater number than its own
+-- a put leaves no lower priority than its own
 pub put_up_to : (old new : View) (puts : List Put) → IsAfterOwn old new puts → (put : Put) → Contains puts put
     → IsUpTo put.number (known new put.place)
 put_up_to old new puts after put has = elim (after.put put has) [
@@ -226,7 +226,7 @@ put_up_to old new puts after put has = elim (after.put put has) [
   | inr kept ↦ record { content = kept.content; is = kept.is; most = kept.number }
 ]
 
-pub holds_given : (view : View) (shape : List Sort) (steady : ℤ) → settled (Some steady) (map (term_in view) shape) ≡ Holds → (s : Sort)
+pub holds_given : (view : View) (shape : List Sort) (steady : ℤ) → solved_balance (Some steady) (map (term_in view) shape) ≡ Holds → (s : Sort)
     → Among shape s → IsSome (given_in view s)
 holds_given view [] steady holds s has = absurd has
 holds_given view (first ∷ shape) steady holds s has =
@@ -234,17 +234,17 @@ holds_given view (first ∷ shape) steady holds s has =
     (contains (map (term_in view) (first ∷ shape)) (term_in view s) (among_terms view (first ∷ shape) s has))
 
 -- what is known where a term was solved
-module _ (kind : Kind) (old : View) (steady : ℤ) (settles : settled (Some steady) (map (term_in old) (shape_of kind)) ≡ balanced_of kind old)
+module _ (kind : Kind) (old : View) (steady : ℤ) (comes_to : solved_balance (Some steady) (map (term_in old) (shape_of kind)) ≡ balanced_of kind old)
     (shares : All (λ (term : Term). IsShare term.share) (map (term_in old) (shape_of kind))) where
   pub solving_is : (solving : Solving kind old) → SolvedFacts (map (term_in old) (shape_of kind)) solving.place solving.number
   solving_is solving =
-      solved_facts steady (map (term_in old) (shape_of kind)) solving.place solving.number solving.value shares (settles ∙ solving.is)
+      solved_facts steady (map (term_in old) (shape_of kind)) solving.place solving.number solving.value shares (comes_to ∙ solving.is)
 
   number_of_up : (number : ℕ) (held : Option Given) → IsGivenUpTo number held → priority_of held ≤ number
   number_of_up number None is = omega arith
   number_of_up number (Some held) is = let most = is.most in subst (λ (g : Given). g.number ≤ number) (sym (same_Some _ _ is.is)) most
 
-  -- a solved term that wasn't given has no greater a number than what it replaces
+  -- a solved term that wasn't given has no lower a priority than what it replaces
   falls_open : LeftBy kind old → (solving : Solving kind old) (content : Content) → known old solving.place ≡ Some content
       → (s : IsTermOf old (shape_of kind) (solving_is solving).term) → given_in old s.at ≡ None → solving.number ≤ content.number
   falls_open left solving content there s is = elim (solving_is solving).one [
@@ -260,7 +260,7 @@ module _ (kind : Kind) (old : View) (steady : ℤ) (settles : settled (Some stea
         omega (arith, below, is_number)
   ]
 
-  -- and no other one, where what is given in its slot has no greater a number than what is known there
+  -- and no other one, where what is given in its slot has no lower a priority than what is known there
   pub falls_from : (solving : Solving kind old)
       → ((s : Sort) → Among (shape_of kind) s → s.place ≡ solving.place → (held : Given) → given_in old s ≡ Some held
       → IsFalling kind old s.place held.number)
@@ -279,18 +279,18 @@ module _ (kind : Kind) (old : View) (steady : ℤ) (settles : settled (Some stea
           let most = below s.at s.has at held is left content (ap (known old) at ∙ there) in omega (arith, less, most)
 
 module _ (kind : Kind) (old : View) (puts : List Put) (facts : DispatchFacts kind old puts) (left : LeftBy kind old) where
-  -- each other term is given, with no greater a number
+  -- each other term is given, with no lower a priority
   others_given : (solving : Solving kind old) (r : Sort) → Among (shape_of kind) r → r.place ≢ solving.place
       → IsGivenUpTo solving.number (given_in old r)
   others_given solving r has apart =
-      (solving_is kind old facts.steady facts.settles facts.shares solving).others (term_in old r)
+      (solving_is kind old facts.steady facts.comes_to facts.shares solving).others (term_in old r)
       (contains (map (term_in old) (shape_of kind)) (term_in old r) (among_terms old (shape_of kind) r has)) apart
 
-  -- a solved term has no greater a number than what it replaces
+  -- a solved term has no lower a priority than what it replaces
   pub number_falls : (solving : Solving kind old) (content : Content) → known old solving.place ≡ Some content → solving.number ≤ content.number
   number_falls solving content there = facts.falls solving left content there
 
-  -- what is known of a slot once the balance is settled has no greater a number than what the slot held
+  -- what is known of a slot once the balance is solved has no lower a priority than what the slot held
   after_falls : (balanced : Balanced) → balanced_of kind old ≡ balanced → (on : ℕ) (content : Content) → known old on ≡ Some content
       → (known_after old balanced on).number ≤ content.number
   after_falls (Solves place value number) is on content there = by (place == on) refl
@@ -351,7 +351,7 @@ module _ (kind : Kind) (old : View) (puts : List Put) (facts : DispatchFacts kin
         → known new s.place ≡ Some content → (balanced_of kind old ≡ Holds) ⊎ Solving kind old → IsGivenUpTo content.number (given_in new r)
     terms_by s r content has there apart none held (inl holds) =
         absurd (given_still s has (λ solving same. let no : 1 ≡ 2 = ap balanced_code (sym holds ∙ solving.is) in omega (arith, no))
-        (holds_given old (shape_of kind) facts.steady (facts.settles ∙ holds) s has) none)
+        (holds_given old (shape_of kind) facts.steady (facts.comes_to ∙ holds) s has) none)
     terms_by s r content has there apart none held (inr solving) = by (s.place == solving.place) refl
       where
         by : (test : Bool) → (s.place == solving.place) ≡ test → IsGivenUpTo content.number (given_in new r)
@@ -368,7 +368,7 @@ module _ (kind : Kind) (old : View) (puts : List Put) (facts : DispatchFacts kin
             (others_given solving r there r_apart) in
             let most = up.most in record { held = up.held; is = up.is; most = omega (arith, n, most) }
 
-    -- what it rests on has no greater a number
+    -- what it rests on has no lower a priority
     base_up_to : (on : ℕ) → IsBase old (balanced_of kind old) on → IsUpTo (known_after old (balanced_of kind old) on).number (known new on)
     base_up_to on (inr (value, (number, is))) =
         let solving : Solving kind old = record { place = on; value = value; number = number; is = is } in

@@ -11,7 +11,7 @@ pub mod SolvedPuts
 pub mod Among
 pub mod Earlier
 mod Counting
-mod Settled
+mod BalanceFacts
 mod Terms
 pub mod Leaving
 mod Answering

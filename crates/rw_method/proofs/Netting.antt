@@ -2,13 +2,13 @@
 use Rattle.rw_method.proofs.Common.{All, All-contains, AllByRecursion, Bool, Contains, Contains-append_left, Contains-append_right, Contains-get_or}
 use Rattle.rw_method.proofs.Common.{Content, Given, Holds, IsSome, Kind, List, None, Option, Put, Some, Term, View, [], ap, ap₂, arith, brought}
 use Rattle.rw_method.proofs.Common.{brought_by, false, get_or, inl, inr, ints, known_value, map, net_of, option_map, pos, recursion_from_All, refl}
-use Rattle.rw_method.proofs.Common.{same_Some, settled, subst, sym, true, ℕ, ℤ, ◌++◌, ◌+ℤ◌, ◌∙◌, ◌∷◌, ◌≡◌, ◌≢◌}
+use Rattle.rw_method.proofs.Common.{same_Some, solved_balance, subst, sym, true, ℕ, ℤ, ◌++◌, ◌+ℤ◌, ◌∙◌, ◌∷◌, ◌≡◌, ◌≢◌}
 use Rattle.rw_method.proofs.SolvedTerm.{solved_term}
 use Rattle.rw_method.specs.Passing.{IsAfterOwn}
 use Rattle.rw_method.proofs.Answering.{Answered}
 use Rattle.rw_method.proofs.Leaving.{DispatchFacts, Solving, holds_given, one_solving}
 use Rattle.rw_method.proofs.Among.{Among, all_among, all_mapped, both_all, weaker_all}
-use Rattle.rw_method.proofs.Settled.{balanced_code, holds_facts}
+use Rattle.rw_method.proofs.BalanceFacts.{balanced_code, holds_facts}
 use Rattle.rw_method.proofs.Terms.{Sort, given_in, shape_of, term_in}
 
 -- the slots of these sorts hold these values
@@ -138,7 +138,7 @@ pub rest_value : (old new : View) (puts : List Put) → IsAfterOwn old new puts 
     → known_value new place ≡ known_value old place
 rest_value old new puts after place none = ap (option_map (λ (content : Content). content.value)) (after.rest place none)
 
-all_holds : (old : View) (shape : List Sort) (steady : ℤ) → settled (Some steady) (map (term_in old) shape) ≡ Holds → (first : Sort)
+all_holds : (old : View) (shape : List Sort) (steady : ℤ) → solved_balance (Some steady) (map (term_in old) shape) ≡ Holds → (first : Sort)
     → Among shape first
     → (steady +ℤ net_of (map (term_in old) shape) ≡ pos 0)
 all_holds old [] steady holds first has = absurd has
@@ -152,7 +152,7 @@ module _ (kind : Kind) (old : View) (puts : List Put) (is : Answered kind old pu
   solved_zero solving vs held =
       let of =
       solved_term is.steady (map (term_in old) (shape_of kind)) solving.place solving.number solving.value facts.shares
-      (is.settles ∙ solving.is) in
+      (is.comes_to ∙ solving.is) in
       let way = of.way in
       let parts = split old (shape_of kind) way.before of.term way.after way.among in
       let at : parts.at.place ≡ solving.place = ap (λ (t : Term). t.place) (sym parts.at_is) ∙ of.there in
@@ -210,9 +210,9 @@ module _ (kind : Kind) (old : View) (puts : List Put) (is : Answered kind old pu
   net_zero first has vs held = elim is.ends [
     | inr solving ↦ solved_zero solving vs held
     | inl holds ↦
-        let zero_sum = all_holds old (shape_of kind) is.steady (is.settles ∙ holds) first has in
+        let zero_sum = all_holds old (shape_of kind) is.steady (is.comes_to ∙ holds) first has in
         let net = same_net old new (shape_of kind) vs held (all_among (IsSure old new) (shape_of kind) (λ s in_shape. (
-          holds_given old (shape_of kind) is.steady (is.settles ∙ holds) s in_shape,
+          holds_given old (shape_of kind) is.steady (is.comes_to ∙ holds) s in_shape,
           agreed s in_shape (λ solving same. let differ : 1 ≡ 2 = ap balanced_code (sym holds ∙ solving.is) in omega (arith, differ)),
         ))) in
         omega (arith, ints, zero_sum, net)

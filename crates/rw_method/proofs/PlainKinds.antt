@@ -8,7 +8,7 @@ use Rattle.rw_method.specs.Left.{IsGivenUpTo, Rest, rest, rests_of}
 use Rattle.rw_method.proofs.Answering.{Answered}
 use Rattle.rw_method.proofs.Leaving.{DispatchFacts, IsBase, PutIs, Solving, falls_from, holds_given, rests, solved}
 use Rattle.rw_method.proofs.Among.{Among, all_append, all_at, among, contains, some_there, weaker_all}
-use Rattle.rw_method.proofs.Settled.{SolvedFacts, solved_facts}
+use Rattle.rw_method.proofs.BalanceFacts.{SolvedFacts, solved_facts}
 use Rattle.rw_method.proofs.Terms.{Sort, among_terms, given_as, given_in, given_number, routed, same_given, shape_of, slot, some_value, sort, term_in}
 use Rattle.rw_method.proofs.Terms.{term_of}
 
@@ -18,7 +18,7 @@ pub solving_facts : (kind : Kind) (view : View) (puts : List Put) → All (λ (t
     → Answered kind view puts
     → (solving : Solving kind view) → SolvedFacts (map (term_in view) (shape_of kind)) solving.place solving.number
 solving_facts kind view puts shares is solving =
-    solved_facts is.steady (map (term_in view) (shape_of kind)) solving.place solving.number solving.value shares (is.settles ∙ solving.is)
+    solved_facts is.steady (map (term_in view) (shape_of kind)) solving.place solving.number solving.value shares (is.comes_to ∙ solving.is)
 
 pub record IsSolvedAt (kind : Kind) (place : ℕ) : Type 0 where
   pub at : Sort
@@ -58,7 +58,7 @@ base_in kind view puts shares is s has plain_source = by is.ends
 
     by : (balanced_of kind view ≡ Holds) ⊎ Solving kind view → IsBase view (balanced_of kind view) s.place
     by (inl holds) =
-        let found = some_there (given view s.place) (subst IsSome as_slot (holds_given view (shape_of kind) is.steady (is.settles ∙ holds) s has)) in
+        let found = some_there (given view s.place) (subst IsSome as_slot (holds_given view (shape_of kind) is.steady (is.comes_to ∙ holds) s has)) in
         let seen = given_as view s.place found.0 found.1 in inl (seen.content, seen.there)
     by (inr solving) = by_place solving (s.place == solving.place) refl
 
@@ -101,7 +101,7 @@ record PlainFacts (kind : Kind) (view : View) (puts : List Put) : Type 0 where
 plain_facts : (kind : Kind) (view : View) (puts : List Put) → Answered kind view puts → PlainFacts kind view puts → DispatchFacts kind view puts
 plain_facts kind view puts is facts = record {
   steady = is.steady;
-  settles = is.settles;
+  comes_to = is.comes_to;
   ends = is.ends;
   shares = facts.shares;
   each =
@@ -113,7 +113,7 @@ plain_facts kind view puts is facts = record {
       let at = solved_at kind view puts facts.shares is solving in
       absurd (facts.alone at.at at.has (rest solving.place on) (among (rests_of kind) (rest solving.place on) has) (sym at.there));
   falls = λ solving.
-      falls_from kind view is.steady is.settles facts.shares solving
+      falls_from kind view is.steady is.comes_to facts.shares solving
       (λ s has at held given_is left content there. given_number view s.place held content (sym (as_slot s has) ∙ given_is) there);
   stays = λ new after s has apart number up.
       let still : known new s.place ≡ known view s.place =
@@ -281,11 +281,12 @@ module _ (view : View) (puts : List Put) where
       plain_facts kind view puts is (record {
         slots = (refl, (refl, tt));
         shares = shares;
-        good = all_append (IsGood kind view puts) (solved_put (balanced_of kind view)) left (solved_good kind view puts (balanced_of kind view) refl) (
-          rests_good kind view puts _ 1 (0, omega arith, refl) refl base
-              (λ s has same. let low = flow_place (routed release) s refl has in omega (arith, low, same)),
-          tt,
-        );
+        good =
+            all_append (IsGood kind view puts) (solved_put (balanced_of kind view)) left (solved_good kind view puts (balanced_of kind view) refl) (
+              rests_good kind view puts _ 1 (0, omega arith, refl) refl base
+                  (λ s has same. let low = flow_place (routed release) s refl has in omega (arith, low, same)),
+              tt,
+            );
         has = solved_in kind view left;
         alone = λ s has pair there same. let low = flow_place (routed release) s refl has in let at =
             ap (λ (p : Rest). p.place) (one_rest (rest 2 1) pair there) in omega (arith, low, same, at);

@@ -16,7 +16,7 @@ use Rattle.rw_method.proofs.Among.{Among, all_among, all_append, all_at, among, 
 use Rattle.rw_method.proofs.GreatestBeside.{is_greatest_beside}
 use Rattle.rw_method.proofs.Netting.{put_value, rest_value}
 use Rattle.rw_method.proofs.PlainKinds.{of_solving, shares_three}
-use Rattle.rw_method.proofs.Settled.{balanced_code, given_up_to}
+use Rattle.rw_method.proofs.BalanceFacts.{balanced_code, given_up_to}
 use Rattle.rw_method.proofs.Storing.{IsLevelPut, IsStoring, contents_below, contents_held, contents_stay, given_held, level_good, low_place}
 use Rattle.rw_method.proofs.Storing.{none_first, not_solved, solved_level}
 use Rattle.rw_method.proofs.Terms.{Sort, Source, asked, contents, given_as, given_in, given_number, given_of, given_other, let_out, same_given}
@@ -157,7 +157,7 @@ number_of_up : (held : Option Given) (number : ℕ) → IsGivenUpTo number held 
 number_of_up None number up = omega arith
 number_of_up (Some held) number up = let most = up.most in subst (λ (g : Given). g.number ≤ number) (sym (same_Some _ _ up.is)) most
 
--- the greatest number beside a place is up to what all others are
+-- the lowest priority beside a place is up to what all others are
 greatest_up : (place number : ℕ) (terms : List Term) → AreOthersUpTo number place terms → greatest_beside place terms ≤ number
 greatest_up place number terms up = elim (is_greatest_beside place terms).one [
   | inl none ↦ omega (arith, none)
@@ -333,7 +333,7 @@ module _ (initial_storage : ℤ) (table : List Row) (max_release tailwater : ℤ
   outflow_case : Outflow
   outflow_case = elim is.ends [
     | inl holds ↦
-        let held = some_there (outflow_of of view) (holds_given view (shape_of kind) is.steady (is.settles ∙ holds) (let_out of) (inr (inl refl))) in
+        let held = some_there (outflow_of of view) (holds_given view (shape_of kind) is.steady (is.comes_to ∙ holds) (let_out of) (inr (inl refl))) in
         outflow_by (asked_of of view) refl (λ solving same. let no : 1 ≡ 2 = ap balanced_code (sym holds ∙ solving.is) in omega (arith, no))
         held.0 held.1
     | inr solving ↦ by solving (solving.place == 1) refl
@@ -343,7 +343,7 @@ module _ (initial_storage : ℤ) (table : List Row) (max_release tailwater : ℤ
       by solving true here = inl (record { solving = solving; here = grind (arith, nat_tests, here) })
       by solving false apart =
           let up =
-          (solving_is kind view is.steady is.settles shares solving).others (term_in view (let_out of)) (1, omega arith, refl)
+          (solving_is kind view is.steady is.comes_to shares solving).others (term_in view (let_out of)) (1, omega arith, refl)
           (λ same. absurd (grind (arith, nat_tests, apart, same))) in
           outflow_by (asked_of of view) refl
           (λ other same. let one : other.place ≡ solving.place = one_solving kind view other solving in
@@ -369,7 +369,7 @@ module _ (initial_storage : ℤ) (table : List Row) (max_release tailwater : ℤ
   -- where the outflow is solved
   solved_falls : (solving : Solving kind view) → solving.place ≡ 1 → IsFalling kind view 1 solving.number
   solved_falls solving here left content there =
-      let s = solving_is kind view is.steady is.settles shares solving in
+      let s = solving_is kind view is.steady is.comes_to shares solving in
       elim (up_or_others left content there) [
         | inl up ↦
             let at : s.term.place ≡ 1 = s.there ∙ here in
@@ -390,11 +390,11 @@ module _ (initial_storage : ℤ) (table : List Row) (max_release tailwater : ℤ
           by (inr (inr (inl same))) = absurd (let differ : 2 ≡ term.place = ap (λ (t : Term). t.place) same in omega (arith, differ, at))
           by (inr (inr (inr never))) = absurd never
 
-  -- where another term is solved, and all others than the outflow are given, the request has no greater a number than these
+  -- where another term is solved, and all others than the outflow are given, the request has no lower a priority than these
   request_least : (by : Given) → asked_of of view ≡ Some by → (solving : Solving kind view) → 1 ≢ solving.place → (number : ℕ)
       → AreOthersUpTo number 1 terms → by.number ≤ number
   request_least by asks solving apart number up =
-      let s = solving_is kind view is.steady is.settles shares solving in
+      let s = solving_is kind view is.steady is.comes_to shares solving in
       let out = s.others (term_in view (let_out of)) (1, omega arith, refl) apart in
       let out_is : out.held ≡ by = same_Some _ _ (sym out.is ∙ ap (λ asking. outflow_or asking (given view 1)) asks) in
       let n : out.held.number ≡ by.number = ap (λ (g : Given). g.number) out_is in
@@ -549,7 +549,7 @@ module _ (initial_storage : ℤ) (table : List Row) (max_release tailwater : ℤ
       by true here =
           let at : solving.place ≡ 1 = grind (arith, nat_tests, here) in
           subst (λ place. IsFalling kind view place solving.number) (sym at) (solved_falls solving at)
-      by false apart = falls_from kind view is.steady is.settles shares solving
+      by false apart = falls_from kind view is.steady is.comes_to shares solving
           (λ s has at held. by_sort (λ s. s.place ≡ solving.place → given_in view s ≡ Some held → IsFalling kind view s.place held.number)
           (λ at given_is left content there. given_number view 0 held content given_is there)
           (λ at. absurd (grind (arith, nat_tests, apart, at)))
@@ -563,7 +563,7 @@ module _ (initial_storage : ℤ) (table : List Row) (max_release tailwater : ℤ
   pub power_facts : DispatchFacts kind view puts
   power_facts = record {
     steady = is.steady;
-    settles = is.settles;
+    comes_to = is.comes_to;
     ends = is.ends;
     shares = shares;
     each = all_are;
@@ -651,7 +651,7 @@ module _ (initial_storage : ℤ) (table : List Row) (max_release tailwater : ℤ
     abbrev IsLeft : ℕ → Type 0
     IsLeft number = IsUpTo number (known new 4) ⊎ AreOthersUpTo number 1 (power_balance of new).terms
 
-    -- an outflow that stays was left with its number
+    -- an outflow that stays was left with its priority
     stays_left : LeftBy kind view → (content : Content) → known view 1 ≡ Some content → is_own view content ≡ true → IsLeft content.number
     stays_left left content there own = elim (left.outflow content there own) [
       | inl asks ↦ inl (subst (IsUpTo content.number) (sym (after.rest 4 no_request)) asks)
@@ -674,7 +674,7 @@ module _ (initial_storage : ℤ) (table : List Row) (max_release tailwater : ℤ
     put_left : (put : Put) → IsFlow (asked_of of view) terms b put → put.place ≡ 1 → IsLeft put.number
     put_left put (inl solves) at =
         let solving : Solving kind view = record { place = put.place; value = put.value; number = put.number; is = solves } in
-        let s = solving_is kind view is.steady is.settles shares solving in
+        let s = solving_is kind view is.steady is.comes_to shares solving in
         inr (others_up put.number (λ other. ap place_in (sym other.is ∙ solves) ∙ at)
         (λ other has apart. s.others other has (λ same. apart (same ∙ at))))
     put_left put (inr asks) at = subst IsLeft (sym n) (elim is.ends [
@@ -703,7 +703,7 @@ module _ (initial_storage : ℤ) (table : List Row) (max_release tailwater : ℤ
             all_given : b ≡ Holds → (other : Term) → Contains terms other → IsSome other.given
             all_given holds other has =
                 let r = term_of view (shape_of kind) other (among terms other has) in
-                subst (λ (t : Term). IsSome t.given) (sym r.is) (holds_given view (shape_of kind) is.steady (is.settles ∙ holds) r.at r.has)
+                subst (λ (t : Term). IsSome t.given) (sym r.is) (holds_given view (shape_of kind) is.steady (is.comes_to ∙ holds) r.at r.has)
 
     pub outflow_left : LeftBy kind view → IsOutflowLeft kind new
     outflow_left left content there own = elim (put_or_none puts 1) [

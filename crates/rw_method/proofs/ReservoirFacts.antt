@@ -278,7 +278,7 @@ module _ (initial_storage : ℤ) (table : Option (List Row)) (local_inflow diver
     pub reservoir_facts : DispatchFacts kind view puts
     reservoir_facts = record {
       steady = is.steady;
-      settles = is.settles;
+      comes_to = is.comes_to;
       ends = is.ends;
       shares = shares view;
       each = all_are;
@@ -286,7 +286,7 @@ module _ (initial_storage : ℤ) (table : Option (List Row)) (local_inflow diver
       beside = stored_beside;
       stays = given_stays;
       untouched = low_untouched;
-      falls = λ solving. falls_from kind view is.steady is.settles (shares view) solving (λ s has at held given_is. below_at s held has given_is);
+      falls = λ solving. falls_from kind view is.steady is.comes_to (shares view) solving (λ s has at held given_is. below_at s held has given_is);
       unique = unique;
     }
 

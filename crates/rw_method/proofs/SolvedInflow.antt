@@ -1,7 +1,7 @@
 -- The inflow for which a routed reach is solved.
 use Rattle.rw_method.proofs.Common.{Bool, Given, Option, RoutedReach, Routes, Solves, Some, Takes, Term, View, ap, ap₂, arith, balanced_of}
 use Rattle.rw_method.proofs.Common.{brought_by, given, gives_way_before, if◌then◌else◌, ints, least_routed, neg_ℤ, option_map, per_mille, pos}
-use Rattle.rw_method.proofs.Common.{settled, solves, subst, sym, unwrap_or, false, true, List, [], ◌∷◌, ℕ, ℤ, ◌+ℤ◌, ◌-ℤ◌, ◌<ℤ◌, ◌∙◌, ◌≡◌, ◌≤◌}
+use Rattle.rw_method.proofs.Common.{solved_balance, solves, subst, sym, unwrap_or, false, true, List, [], ◌∷◌, ℕ, ℤ, ◌+ℤ◌, ◌-ℤ◌, ◌<ℤ◌, ◌∙◌, ◌≡◌, ◌≤◌}
 use Rattle.rw_method.proofs.LeastInflow.{least_of_routed, routed}
 use Rattle.rw_method.proofs.SolvedTerm.{place_of, solves_of, value_of}
 
@@ -16,7 +16,7 @@ module _ (content : ℤ) (release : ℕ) where
 
   -- it is the least one
   solved_least : (inflow : Option Given) (outflow : Given) (value : ℤ) (number : ℕ)
-      → settled (Some (pos 0)) (terms_with inflow (Some outflow)) ≡ Solves 0 value number
+      → solved_balance (Some (pos 0)) (terms_with inflow (Some outflow)) ≡ Solves 0 value number
       → value ≡ least_routed content release outflow.value
   solved_least inflow outflow value number is =
       by (gives_way_before inflow (Some outflow)) (solves_of (pos 0) first (second ∷ []) 0 number value is).1
@@ -38,7 +38,7 @@ pub solved_inflow : (initial_content : ℤ) (release : ℕ) (view : View) (conte
     → balanced_of (RoutedReach initial_content release) view ≡ Solves 0 inflow number → inflow ≡ least_routed content release outflow.value
 solved_inflow initial_content release view content outflow inflow number past held is =
     solved_least content release (given view 0) outflow inflow number
-    (ap₂ (λ p o. settled (option_map (λ z. pos 0) p) (terms_with (unwrap_or p (pos 0)) release (given view 0) o)) (sym past) (sym held) ∙ is)
+    (ap₂ (λ p o. solved_balance (option_map (λ z. pos 0) p) (terms_with (unwrap_or p (pos 0)) release (given view 0) o)) (sym past) (sym held) ∙ is)
 
 pub solved_exactly : (initial_content : ℤ) (release : ℕ) (view : View) (content : ℤ) (outflow : Given) (inflow : ℤ) (number : ℕ) → 1 ≤ release
     → release ≤ 1000 → view.past ≡ Some content

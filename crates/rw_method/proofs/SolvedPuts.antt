@@ -4,7 +4,7 @@ use Rattle.rw_method.proofs.Common.{Solves, Some, Term, View, [], all_or_misfit,
 use Rattle.rw_method.proofs.Common.{content_before, content_put, evaporation_put, false, fault_of_contents, fault_of_past, first_misfit, fits}
 use Rattle.rw_method.proofs.Common.{gives_way_before, if◌then◌else◌, inl, inr, int_eq, is_bounded, is_some, known_after, length, length-append}
 use Rattle.rw_method.proofs.Common.{level_puts, missing, nat_le, net_of, none-some, not, or_else, pos, put_found, puts_of, refl, release_puts}
-use Rattle.rw_method.proofs.Common.{same_Some, seepage_put, settled, settled_at, solve_of, solved_put, solves, subst, suc, true, user_puts}
+use Rattle.rw_method.proofs.Common.{same_Some, seepage_put, solved_balance, solved_at, solve_of, solved_put, solves, subst, suc, true, user_puts}
 use Rattle.rw_method.proofs.Common.{value_from_others, weakest, zero, ℕ, ℤ, ◌&&◌, ◌++◌, ◌+ℤ◌, ◌+◌, ◌<◌, ◌==◌, ◌∙◌, ◌∷◌, ◌≡◌, ◌≤◌, ◌⊎◌, asked_of}
 use Rattle.rw_method.proofs.Common.{asked_put, energy_puts, fault_of_level, fault_of_request, first_fault, flow_puts, head_of, held_after_puts, plant}
 use Rattle.rw_method.proofs.Common.{Plant, power_balance, power_flows, release_for, request_of, unless_faulty, Content, put}
@@ -22,7 +22,7 @@ use Rattle.rw_method.specs.Balance.{balance_of, evaporation_of}
 use Rattle.rw_method.specs.Contents.{basis_of, fault_of_basis, disagreement, can_hold, elevation_of, volume_of, are_both_zero, agree}
 use Rattle.rw_method.specs.View.{given}
 use Rattle.rw_method.proofs.PutFacts.{first_fits}
-use Rattle.rw_method.proofs.Settled.{balanced_code}
+use Rattle.rw_method.proofs.BalanceFacts.{balanced_code}
 
 -- ---- a kind has a slot in each place at which it puts
 
@@ -90,19 +90,19 @@ if_solves : (kind : Kind) (test : Bool) (a b : Balanced) → SolvesOwn kind a �
 if_solves kind true a b x y = x
 if_solves kind false a b x y = y
 
-settled_at_own : (kind : Kind) (steady : ℤ) (terms : List Term) (term : Term) (given : Option Given) → IsOwn kind term.place
-    → SolvesOwn kind (settled_at steady terms term given)
-settled_at_own kind steady terms term None own = own
-settled_at_own kind steady terms term (Some held) own =
+solved_at_own : (kind : Kind) (steady : ℤ) (terms : List Term) (term : Term) (given : Option Given) → IsOwn kind term.place
+    → SolvesOwn kind (solved_at steady terms term given)
+solved_at_own kind steady terms term None own = own
+solved_at_own kind steady terms term (Some held) own =
     if_solves kind (int_eq (steady +ℤ net_of terms) (pos 0)) _ _ tt
     (if_solves kind (held.number == 0) (Conflicts term.place held.value (value_from_others steady terms term)) (solves steady terms term) tt own)
 
-settled_own : (kind : Kind) (steady : Option ℤ) (terms : List Term) → TermsOwn kind terms → SolvesOwn kind (settled steady terms)
-settled_own kind None terms own = tt
-settled_own kind (Some steady) [] own = tt
-settled_own kind (Some steady) (term ∷ terms) own =
+solved_own : (kind : Kind) (steady : Option ℤ) (terms : List Term) → TermsOwn kind terms → SolvesOwn kind (solved_balance steady terms)
+solved_own kind None terms own = tt
+solved_own kind (Some steady) [] own = tt
+solved_own kind (Some steady) (term ∷ terms) own =
     if_solves kind (nat_le 2 (missing (term ∷ terms))) _ _ tt
-    (settled_at_own kind steady (term ∷ terms) (weakest term terms) (weakest term terms).given (weakest_own kind term terms own.0 own.1))
+    (solved_at_own kind steady (term ∷ terms) (weakest term terms) (weakest term terms).given (weakest_own kind term terms own.0 own.1))
 
 solved_put_own : (kind : Kind) (balanced : Balanced) → SolvesOwn kind balanced → AreOwn kind 1 (solved_put balanced)
 solved_put_own kind Idle own = none_own kind 1
@@ -172,7 +172,7 @@ PutsOwn kind view = AreOwn kind 8 (puts_of kind view (balanced_of kind view))
 -- the solved term
 solved_alone : (kind : Kind) (view : View) → TermsOwn kind (balance_of kind view).terms → AreOwn kind 1 (solved_put (balanced_of kind view))
 solved_alone kind view own =
-    solved_put_own kind (balanced_of kind view) (settled_own kind (balance_of kind view).steady (balance_of kind view).terms own)
+    solved_put_own kind (balanced_of kind view) (solved_own kind (balance_of kind view).steady (balance_of kind view).terms own)
 
 -- a kind that puts nothing else
 nothing_beside : (kind : Kind) (view : View) → TermsOwn kind (balance_of kind view).terms → AreOwn kind 8 (solved_put (balanced_of kind view))
@@ -242,7 +242,7 @@ puts_own (PowerReservoir initial_storage table max_release tailwater power) view
     let two : IsOwn kind 2 = own_at kind 2 _ (omega arith) refl in
     let flows : AreOwn kind 2 (power_flows of view b) =
     flows_own kind (asked_of of view) (power_balance of view).terms b
-    (settled_own kind view.past (power_balance of view).terms (zero_own, (one, (two, tt)))) one in
+    (solved_own kind view.past (power_balance of view).terms (zero_own, (one, (two, tt)))) one in
     let level : AreOwn kind 1 (level_puts (Some table) (given view 2) (given view 3) b) =
     level_own kind (Some table) (given view 2) (given view 3) b two (λ e. own_at kind 3 _ (omega arith) refl) in
     let energy : AreOwn kind 3 (energy_puts of (head_of of view) (held_after_puts view (power_flows of view b) 1)) =

@@ -1,8 +1,9 @@
 -- A solved term makes the balance true.
 use Rattle.rw_method.proofs.Common.{All, All-append, Balanced, Bool, Brings, Conflicts, Conveys, Given, GivesWay, Holds, Idle, IsGreatestBeside}
-use Rattle.rw_method.proofs.Common.{IsNoWeaker, IsShare, IsSolved, IsSome, IsStronger, List, None, Option, Routes, Solves, Some, Takes, Term, [], ap}
+use Rattle.rw_method.proofs.Common.{HasNoLowerPriority, IsShare, IsSolved, IsSome, HasHigherPriority, List, None, Option, Routes, Solves, Some, Takes}
+use Rattle.rw_method.proofs.Common.{Term, [], ap}
 use Rattle.rw_method.proofs.Common.{arith, both_ways, bringing, brought, brought_by, cases_Bool, false, if◌then◌else◌, inl, inr, int_eq, ints}
-use Rattle.rw_method.proofs.Common.{is_some, missing, nat_le, neg_ℤ, net_of, pos, refl, rules, settled, settled_at, solves, suc, true}
+use Rattle.rw_method.proofs.Common.{is_some, missing, nat_le, neg_ℤ, net_of, pos, refl, rules, solved_balance, solved_at, solves, suc, true}
 use Rattle.rw_method.proofs.Common.{value_from_others, weakest, ℕ, ℤ, ◌++◌, ◌+ℤ◌, ◌+◌, ◌-ℤ◌, ◌==◌, ◌∷◌, ◌≡◌, ◌≤◌}
 use Rattle.rw_method.specs.declared.share.Share.{Share}
 use Rattle.rw_method.proofs.LeastInflow.{conveyed, routed}
@@ -31,21 +32,21 @@ none_missing (x ∷ xs) h =
     let first = given_first x.given (missing xs) h in
     and_pass (λ (other : Term). IsSome other.given) x xs first.0 (none_missing xs first.1)
 
-stronger_given : (a b : Option Given) → IsStronger a b → IsSome a
-stronger_given None b h = absurd h
-stronger_given (Some held) b h = search rules
+higher_given : (a b : Option Given) → HasHigherPriority a b → IsSome a
+higher_given None b h = absurd h
+higher_given (Some held) b h = search rules
 
-no_weaker_given : (a : Option Given) (held : Given) → IsNoWeaker a (Some held) → IsSome a
-no_weaker_given None held h = absurd h
-no_weaker_given (Some other) held h = search rules
+no_lower_given : (a : Option Given) (held : Given) → HasNoLowerPriority a (Some held) → IsSome a
+no_lower_given None held h = absurd h
+no_lower_given (Some other) held h = search rules
 
 earlier_given : (before after : List Term) (term : Term) (given : Option Given) → term.given ≡ given
-    → missing (before ++ term ∷ after) ≤ 1 → All (λ (other : Term). IsNoWeaker other.given term.given) before
+    → missing (before ++ term ∷ after) ≤ 1 → All (λ (other : Term). HasNoLowerPriority other.given term.given) before
     → All (λ (other : Term). IsSome other.given) before
 earlier_given before after term None is few earlier =
     let all = rw (missing-append before (term ∷ after), is) at few in
     none_missing before (omega (arith, all))
-earlier_given before after term (Some held) is few earlier = λ k d lt. no_weaker_given _ held (rw is at (earlier k d lt))
+earlier_given before after term (Some held) is few earlier = λ k d lt. no_lower_given _ held (rw is at (earlier k d lt))
 
 -- ---- the value
 
@@ -83,7 +84,7 @@ not_solved : (balanced : Balanced) (place number : ℕ) (value : ℤ) → balanc
 not_solved balanced place number value is other = both_ways (is_solved balanced) other (ap is_solved is)
 
 solves_at : (steady : ℤ) (terms : List Term) (term : Term) (given : Option Given) (place number : ℕ) (value : ℤ)
-    → settled_at steady terms term given ≡ Solves place value number → solves steady terms term ≡ Solves place value number
+    → solved_at steady terms term given ≡ Solves place value number → solves steady terms term ≡ Solves place value number
 solves_at steady terms term None place number value is = is
 solves_at steady terms term (Some held) place number value is = elim (cases_Bool (int_eq (steady +ℤ net_of terms) (pos 0))) [
   | inl true_balance ↦ absurd (not_solved Holds place number value (rw true_balance at is) refl)
@@ -96,7 +97,7 @@ solves_at steady terms term (Some held) place number value is = elim (cases_Bool
 ]
 
 pub solves_of : (steady : ℤ) (first : Term) (rest : List Term) (place number : ℕ) (value : ℤ)
-    → settled (Some steady) (first ∷ rest) ≡ Solves place value number
+    → solved_balance (Some steady) (first ∷ rest) ≡ Solves place value number
     → (missing (first ∷ rest) ≤ 1) × (solves steady (first ∷ rest) (weakest first rest) ≡ Solves place value number)
 solves_of steady first rest place number value is = elim (cases_Bool (nat_le 2 (missing (first ∷ rest)))) [
   | inl many ↦ absurd (not_solved Idle place number value (rw many at is) refl)
@@ -123,7 +124,7 @@ passes_between P [] after term all = all 0 term (omega arith)
 passes_between P (x ∷ before) after term all = passes_between P before after term (λ k d lt. all (suc k) d (omega (arith, lt)))
 
 pub solved_term : (steady : ℤ) (terms : List Term) (place number : ℕ) (value : ℤ) → All (λ (term : Term). IsShare term.share) terms
-    → settled (Some steady) terms ≡ Solves place value number → IsSolved steady terms place value
+    → solved_balance (Some steady) terms ≡ Solves place value number → IsSolved steady terms place value
 solved_term steady [] place number value shares is = absurd (not_solved Holds place number value is refl)
 solved_term steady (first ∷ rest) place number value shares is =
     let way = gives_way first rest in
@@ -133,13 +134,13 @@ solved_term steady (first ∷ rest) place number value shares is =
     let shares_there : All (λ (other : Term). IsShare other.share) (way.before ++ term ∷ way.after) = rw (← way.among) shares in
     let others = All-append (λ (other : Term). IsSome other.given) way.before way.after
     (earlier_given way.before way.after term term.given refl few way.earlier)
-    (λ k d lt. stronger_given _ term.given (way.later k d lt)) in
+    (λ k d lt. higher_given _ term.given (way.later k d lt)) in
     solved_here steady (first ∷ rest) term place value way
     (passes_between (λ (other : Term). IsShare other.share) way.before way.after term shares_there) (ap place_of solved.1)
     (ap value_of solved.1) others
 
 pub number_of_solved : (steady : ℤ) (terms : List Term) (place number : ℕ) (value : ℤ)
-    → settled (Some steady) terms ≡ Solves place value number → IsGreatestBeside place terms number
+    → solved_balance (Some steady) terms ≡ Solves place value number → IsGreatestBeside place terms number
 number_of_solved steady [] place number value is = absurd (not_solved Holds place number value is refl)
 number_of_solved steady (first ∷ rest) place number value is =
     let solved = solves_of steady first rest place number value is in

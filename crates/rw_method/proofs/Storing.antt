@@ -15,7 +15,7 @@ use Rattle.rw_method.proofs.Among.{Among, all_at, among, contains, some_there}
 use Rattle.rw_method.proofs.Netting.{put_value}
 use Rattle.rw_method.proofs.PutFacts.{first_fits}
 use Rattle.rw_method.proofs.PlainKinds.{of_solving, solved_at, solving_facts}
-use Rattle.rw_method.proofs.Settled.{balanced_code}
+use Rattle.rw_method.proofs.BalanceFacts.{balanced_code}
 use Rattle.rw_method.proofs.Terms.{Sort, among_terms, given_as, given_number, given_of, given_other, same_given, shape_of, stored, term_in}
 use Rattle.rw_method.proofs.Terms.{to_contents}
 
@@ -296,7 +296,7 @@ module _ (kind : Kind) (table : Option (List Row)) (view : View) (puts : List Pu
       (subst (λ found. Among (put_found 3 found solving.number) put) (sym read.1) (inl refl))) in
       (read.0, (read.1, storing.level put in_level))
 
-  -- ---- contents have no greater a number than the storage that is held
+  -- ---- contents have no lower a priority than the storage that is held
 
   no_fault_basis : (from : Given) → basis_of storage elevation ≡ Elevation from → (read : ℤ) × (volume_of table from.value ≡ Some read)
   no_fault_basis from basis = by (volume_of table from.value) refl
@@ -429,7 +429,7 @@ module _ (kind : Kind) (table : Option (List Row)) (view : View) (puts : List Pu
     contents_given : (none : NoneStores) → (held : Given) × (contents_by table (basis_of storage elevation) ≡ Some held)
     contents_given none = elim is.ends [
       | inl holds ↦ some_there (contents_by table (basis_of storage elevation))
-          (holds_given view (shape_of kind) is.steady (is.settles ∙ holds) (stored table) storing.has)
+          (holds_given view (shape_of kind) is.steady (is.comes_to ∙ holds) (stored table) storing.has)
       | inr solving ↦
           let up = (solving_facts kind view puts storing.shares is solving).others (term_in view (stored table))
           (contains (map (term_in view) (shape_of kind)) (term_in view (stored table)) (among_terms view (shape_of kind) (stored table) storing.has))

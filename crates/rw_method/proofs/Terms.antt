@@ -248,7 +248,7 @@ pub own_in : (view : View) (s : Sort) (content : Content) → IsSorted s → giv
     → is_own view content ≡ true
 own_in view s content sorted none there = own_from view s.place s.source content sorted none there
 
--- ---- what others write leaves given what was, with no greater number
+-- ---- what others write leaves given what was, with no lower priority
 
 pub same_given : (old new : View) (place : ℕ) → new.own ≡ old.own → known new place ≡ known old place → given new place ≡ given old place
 same_given old new place own same = ap (λ o. given_by o (known new place)) own ∙ ap (given_by old.own) same

@@ -46,7 +46,7 @@ fault_of_basis table (Storage storage) =
 fault_of_basis table (Elevation elevation) =
     if is_some (volume_of table elevation.value) then None else Some (OutOfRange POOL_ELEVATION elevation.value)
 
--- both are given with number 0
+-- both are given with priority 0
 abbrev pub are_both_zero : Option Given → Option Given → Bool
 are_both_zero None elevation = false
 are_both_zero (Some storage) None = false
@@ -62,7 +62,7 @@ abbrev pub agree : Option (List Row) → ℤ → ℤ → Bool
 agree table storage elevation =
     is_this (elevation_of table storage) elevation || is_this (volume_of table elevation) storage
 
--- a storage and an elevation that are both given with number 0, and don't agree
+-- a storage and an elevation that are both given with priority 0, and don't agree
 abbrev pub disagreement : Option (List Row) → Option Given → Option Given → Option Solved
 disagreement table None elevation = None
 disagreement table (Some storage) None = None

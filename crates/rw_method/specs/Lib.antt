@@ -4,7 +4,7 @@ pub mod Term
 pub mod Contents
 pub mod Power
 pub mod Balance
-pub mod Settling
+pub mod Solving
 pub mod Puts
 pub mod Solve
 pub mod Asking

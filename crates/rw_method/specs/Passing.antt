@@ -29,7 +29,7 @@ pub record IsWritten (old new : View) (put : Put) : Type 0 where
   pub is : known new put.place ≡ Some (put_content old put)
   pub falls : (before : Content) → known old put.place ≡ Some before → put.number ≤ before.number
 
--- a put is kept: its value is there, with no greater number
+-- a put is kept: its value is there, with no lower priority
 pub record IsPutKept (old new : View) (put : Put) : Type 0 where
   pub content : Content
   pub was : known old put.place ≡ Some content
@@ -44,6 +44,6 @@ pub record IsAfterOwn (old new : View) (puts : List Put) : Type 0 where
   pub put : (put : Put) → Contains puts put → IsWritten old new put ⊎ IsPutKept old new put
   pub rest : (place : ℕ) → ((put : Put) → Contains puts put → put.place ≢ place) → known new place ≡ known old place
 
--- over a content that the object wrote itself a put has no greater number
+-- over a content that the object wrote itself a put has no lower priority
 abbrev pub IsOwnFall : View → Put → Type 0
 IsOwnFall view put = (content : Content) → known view put.place ≡ Some content → is_own view content ≡ true → put.number ≤ content.number

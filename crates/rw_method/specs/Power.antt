@@ -60,7 +60,7 @@ abbrev pub head_of : Plant → View → ℤ
 head_of plant view =
     unwrap_or (option_map (λ elevation. head_from elevation plant.tailwater) (option_and_then (elev_of plant.table) view.past)) (pos 0)
 
--- a request counts beside an outflow that isn't given, or that is given with a greater number
+-- a request counts beside an outflow that isn't given, or that is given with a lower priority
 abbrev pub request_beside : Option Given → Content → Option Content
 request_beside None request = Some request
 request_beside (Some outflow) request = if nat_lt request.number outflow.number then Some request else None

@@ -1,4 +1,4 @@
--- What is put once a balance is settled.
+-- What is put once a balance is solved.
 use Rattle.std.specs.Prelude.{ℕ, min, ◌==◌, if◌then◌else◌, ℤ, pos, ◌-ℤ◌, Bool, true, false, not, ◌&&◌, Contains, List, [], ◌∷◌, ◌++◌, Option, None, Some, unwrap_or, ◌+ℤ◌}
 use Rattle.std.specs.Int.{int_min}
 use Rattle.rw_table.specs.Table.{Row}
@@ -20,7 +20,7 @@ use Rattle.rw_method.specs.Term.{per_mille}
 use Rattle.rw_method.specs.Contents.{basis_of, elevation_of, volume_of, are_both_zero}
 use Rattle.rw_method.specs.Power.{IsLeastRelease, Plant, plant, asked_of, energy_of, head_of}
 use Rattle.rw_method.specs.Balance.{evaporation_of, power_balance, content_before}
-use Rattle.rw_method.specs.Settling.{greatest_beside}
+use Rattle.rw_method.specs.Solving.{greatest_beside}
 
 abbrev pub put : ℕ → ℤ → ℕ → Put
 put place value number = record { place = place; value = value; number = number }
@@ -29,7 +29,7 @@ put place value number = record { place = place; value = value; number = number 
 abbrev pub is_bounded : View → Put → Bool
 is_bounded view put = is_between (bounds_in_view view put.place) put.value && is_between all_quantities put.value
 
--- a value and its number, 0 and 0 where nothing is known
+-- a value and its priority, 0 and 0 where nothing is known
 abbrev pub held_by : Option Content → Given
 held_by None = record { value = pos 0; number = 0 }
 held_by (Some content) = record { value = content.value; number = content.number }
@@ -45,7 +45,7 @@ held_after_puts view [] place = held_by (known view place)
 held_after_puts view (put ∷ puts) place =
     if put.place == place then record { value = put.value; number = put.number } else held_after_puts view puts place
 
--- what a place holds once the balance is settled: what was just solved, or what is known
+-- what a place holds once the balance is solved: what was just solved, or what is known
 abbrev pub known_after : View → Balanced → ℕ → Given
 known_after view balanced place = held_after_puts view (solved_put balanced) place
 
@@ -60,7 +60,7 @@ beside_basis table Nothing = []
 beside_basis table (Storage storage) = put_found POOL_ELEVATION (elevation_of table storage.value) storage.number
 beside_basis table (Elevation elevation) = put_found STORAGE (volume_of table elevation.value) elevation.number
 
--- beside the slot that gives the contents the other one, unless both are given with number 0
+-- beside the slot that gives the contents the other one, unless both are given with priority 0
 abbrev pub beside_given : Option (List Row) → Option Given → Option Given → List Put
 beside_given table storage elevation =
     if are_both_zero storage elevation then [] else beside_basis table (basis_of storage elevation)
@@ -71,7 +71,7 @@ level_puts table storage elevation (Solves place value number) =
     if place == STORAGE then put_found POOL_ELEVATION (elevation_of table value) number else beside_given table storage elevation
 level_puts table storage elevation balanced = beside_given table storage elevation
 
--- how much evaporates, with number 0
+-- how much evaporates, with priority 0
 abbrev pub evaporation_put : Bool → Option ℤ → List Put
 evaporation_put evaporation amount = if evaporation then put EVAPORATION (unwrap_or amount (pos 0)) 0 ∷ [] else []
 
@@ -156,7 +156,7 @@ puts_of kind view balanced = solved_put balanced
 
 -- ---- a request for energy
 
--- where the balance is settled, and not by the outflow, a request that counts puts it
+-- where the balance is solved, and not by the outflow, a request that counts puts it
 abbrev pub is_put_by_request : Balanced → Bool
 is_put_by_request Holds = true
 is_put_by_request (Solves place value number) = not (place == OUTFLOW)

@@ -14,7 +14,7 @@ use Rattle.rw_method.specs.View.{given}
 use Rattle.rw_method.specs.Contents.{basis_of, fault_of_basis, disagreement, can_hold}
 use Rattle.rw_method.specs.Power.{Plant, plant, release_for, request_of}
 use Rattle.rw_method.specs.Balance.{balance_of}
-use Rattle.rw_method.specs.Settling.{settled}
+use Rattle.rw_method.specs.Solving.{solved_balance}
 use Rattle.rw_method.specs.Puts.{puts_of, is_bounded}
 
 -- the first of two faults
@@ -95,7 +95,7 @@ answer fit puts balanced None = answer_of_puts fit puts
 
 -- what the balance comes to
 abbrev pub balanced_of : Kind → View → Balanced
-balanced_of kind view = settled (balance_of kind view).steady (balance_of kind view).terms
+balanced_of kind view = solved_balance (balance_of kind view).steady (balance_of kind view).terms
 
 -- a fault before all else, or what is answered then
 abbrev pub unless_faulty : Option Solved → Solved → Solved

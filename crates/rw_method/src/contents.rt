@@ -28,7 +28,7 @@ pub(crate) fn basis_of(storage: Option<Given>, elevation: Option<Given>) -> Basi
     }
 }
 
-/// Whether both are given with number 0.
+/// Whether both are given with priority 0.
 #[inline(always)]
 pub(crate) fn are_both_zero(storage: Option<Given>, elevation: Option<Given>) -> bool
     ensures { result ≡ are_both_zero storage elevation }

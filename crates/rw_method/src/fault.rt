@@ -62,7 +62,7 @@ fn agree(table: Option<&Rating>, storage: i64, elevation: i64) -> bool
         || is_this(volume_of(table, elevation), storage)
 }
 
-// A storage and an elevation that are both given with number 0, and don't agree.
+// A storage and an elevation that are both given with priority 0, and don't agree.
 #[inline(always)]
 fn disagreement(
     table: Option<&Rating>,

@@ -3,6 +3,6 @@
 pub struct Given {
     /// Its value, in the base units of its slot's dimension.
     pub value: i64,
-    /// Its priority: a smaller number is stronger.
+    /// Its priority: a smaller number is a higher one.
     pub number: u16,
 }

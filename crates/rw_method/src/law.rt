@@ -12,7 +12,7 @@ ghost use Rattle.rw_method.specs.declared.term.Term.{Term};
 ghost use Rattle.rw_method.specs.declared.share.Share.TheVariants as Share;
 ghost use Rattle.rw_method.specs.Contents.{evaporated};
 ghost use Rattle.rw_method.specs.Term.{IsShare, brought, least_inflow, least_routed, per_mille};
-ghost use Rattle.rw_method.specs.Settling.{weakest, settled, GivesWay, IsSolved, IsGreatestBeside};
+ghost use Rattle.rw_method.specs.Solving.{weakest, solved_balance, GivesWay, IsSolved, IsGreatestBeside};
 ghost use Rattle.rw_method.specs.Puts.{put};
 ghost use Rattle.rw_method.specs.Solve.{balanced_of, solve_of};
 ghost use Rattle.rw_method.specs.View.{given};
@@ -21,7 +21,7 @@ ghost use Rattle.rw_method.specs.declared.places.TheConstants.{INFLOW, OUTFLOW};
 ghost use Rattle.rw_method.specs.declared.view.View.{View};
 ghost use Rattle.rw_method.specs.Worked.{input, set_by_rule, view_with, worked_rows};
 
-/// The term that gives way is one that isn't given, or else one of the greatest number, and of several such the last.
+/// The term that gives way is one that isn't given, or else one of the lowest priority, and of several such the last.
 #[tactic(auto, using(crate::proofs::GivingWay::gives_way))]
 pub fn term_that_gives_way()
     ensures { (first : Term) (rest : List Term) → GivesWay (first ∷ rest) (weakest first rest) }
@@ -32,14 +32,14 @@ pub fn term_that_gives_way()
 pub fn solved_term()
     ensures { (steady : ℤ) (terms : List Term) (place number : ℕ) (value : ℤ)
         → All (λ (term : Term). IsShare term.share) terms
-        → settled (Some steady) terms ≡ Balanced.Solves place value number
+        → solved_balance (Some steady) terms ≡ Balanced.Solves place value number
         → IsSolved steady terms place value }
 {}
 
-/// A solved term has the greatest number of the others, and 0 where none of them is given.
+/// A solved term has the lowest priority of the others, and 0 where none of them is given.
 pub fn number_of_a_solved_term()
     ensures { (steady : ℤ) (terms : List Term) (place number : ℕ) (value : ℤ)
-        → settled (Some steady) terms ≡ Balanced.Solves place value number
+        → solved_balance (Some steady) terms ≡ Balanced.Solves place value number
         → IsGreatestBeside place terms number }
 {}
 

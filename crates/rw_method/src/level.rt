@@ -37,7 +37,7 @@ fn ask_beside(
     }
 }
 
-// Beside the slot that gives the contents puts the other one, unless both are given with number 0.
+// Beside the slot that gives the contents puts the other one, unless both are given with priority 0.
 #[inline(always)]
 fn ask_beside_given(
     view: &View,

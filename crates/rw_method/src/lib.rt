@@ -1,6 +1,6 @@
 //! How an object solves what it doesn't know. One definition, `specs/Solve.antt`, says for every kind of object what a
 //! dispatch of it answers, from what stands in its slots. `Method` is the interface of whoever computes that, and a
-//! `Catalogue` has one method for each kind: each answers what the definition says. `settle` is the one solver of
+//! `Catalogue` has one method for each kind: each answers what the definition says. `solve_balance` is the one solver of
 //! balances that the methods share. No call takes memory. Laws say what dispatches leave in an object's slots.
 #![tactic(auto)]
 
@@ -22,11 +22,11 @@ mod put;
 mod put_list;
 mod puts;
 mod releasing;
-mod settling;
 mod share;
 mod side;
 pub mod slot_law;
 mod solved;
+mod solving;
 mod term;
 mod view;
 
@@ -45,9 +45,9 @@ pub use put::Put;
 pub use put_list::PutList;
 pub use puts::{add_put, begin_puts, ended, held_after, known_after, put_solved};
 pub use releasing::{ask_released, released};
-pub use settling::{greatest_beside, settle};
 pub use share::{Release, Seepage, Share};
 pub use side::side_flows;
 pub use solved::Solved;
+pub use solving::{greatest_beside, solve_balance};
 pub use term::Term;
 pub use view::View;

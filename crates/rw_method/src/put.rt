@@ -5,7 +5,7 @@ use rw_base::Qty;
 pub struct Put {
     /// The value, in the base units of the slot's dimension.
     pub value: Qty,
-    /// Its priority: a smaller number is stronger.
+    /// Its priority: a smaller number is a higher one.
     pub number: u16,
     /// The slot's place among those of the object, counted from 0.
     pub place: u8,

@@ -167,7 +167,7 @@ fn held_by(content: Option<Content>) -> Given
     }
 }
 
-/// What a place holds once the balance is settled: what was just solved, or what is known, in the base units of its slot's
+/// What a place holds once the balance is solved: what was just solved, or what is known, in the base units of its slot's
 /// dimension, and 0 where nothing is.
 pub fn known_after(view: &View, balanced: Balanced, place: u8) -> Given
     requires { AllFit (is_bounded view.now) (solved_put balanced) }

@@ -25,7 +25,7 @@ pub fn slots_are_left()
         → solve_of kind old ≡ Solved.Puts puts → IsAfterOwn old new puts → Left kind new }
 {}
 
-/// No put over what the object itself wrote has a greater number, and two puts of a dispatch stand in different places.
+/// No put over what the object itself wrote has a lower priority, and two puts of a dispatch stand in different places.
 pub fn own_puts_fall()
     ensures falls { (kind : Kind) (view : View) (puts : List Put) → IsKind kind → Left kind view
         → solve_of kind view ≡ Solved.Puts puts → AllByRecursion (IsOwnFall view) puts }

@@ -233,43 +233,43 @@ max_above a b = (fold-int_max_bounds a (b ∷ []) (int_max a b) refl).0
 min_below : (a b : ℤ) → int_min a b ≤ℤ a
 min_below a b = (fold-int_min_bounds a (b ∷ []) (int_min a b) refl).0
 
-meet_all-within : (objects : List Object) (given : List Bound) (bounds : Bounds) (slots : List ℕ)
-    → (bounds.0 ≤ℤ (meet_all objects given bounds slots).0) × ((meet_all objects given bounds slots).1 ≤ℤ bounds.1)
-meet_all-within objects given bounds [] = (omega (arith, ints), omega (arith, ints))
-meet_all-within objects given bounds (slot ∷ slots) =
-    let own = own_bounds objects given slot in
-    let rest = meet_all-within objects given (meet bounds own) slots in
-    (omega (arith, ints, rest.0, max_above bounds.0 own.0), omega (arith, ints, rest.1, min_below bounds.1 own.1))
+meet_all-within : (objects : List Object) (own : List Bound) (bounds : Bounds) (slots : List ℕ)
+    → (bounds.0 ≤ℤ (meet_all objects own bounds slots).0) × ((meet_all objects own bounds slots).1 ≤ℤ bounds.1)
+meet_all-within objects own bounds [] = (omega (arith, ints), omega (arith, ints))
+meet_all-within objects own bounds (slot ∷ slots) =
+    let first = own_bounds objects own slot in
+    let rest = meet_all-within objects own (meet bounds first) slots in
+    (omega (arith, ints, rest.0, max_above bounds.0 first.0), omega (arith, ints, rest.1, min_below bounds.1 first.1))
 
-found_here : (objects : List Object) (bound : Bound) (given : List Bound) (slot : ℕ) (bounds : Bounds) → IsBound objects bound
-    → (bound_of given slot ≡ Some bounds → IsWithinWidest objects slot bounds)
-    → (test : Bool) → (slot == bound.slot) ≡ test → (if test then Some bound.bounds else bound_of given slot) ≡ Some bounds
+found_here : (objects : List Object) (bound : Bound) (own : List Bound) (slot : ℕ) (bounds : Bounds) → IsBound objects bound
+    → (bound_of own slot ≡ Some bounds → IsWithinWidest objects slot bounds)
+    → (test : Bool) → (slot == bound.slot) ≡ test → (if test then Some bound.bounds else bound_of own slot) ≡ Some bounds
     → IsWithinWidest objects slot bounds
-found_here objects bound given slot bounds here there true same found =
+found_here objects bound own slot bounds here there true same found =
     let at : bound.slot ≡ slot = grind arith in
     let are : bound.bounds ≡ bounds = cc in
     subst (λ s. IsWithinWidest objects s bounds) at (subst (λ b. IsWithinWidest objects bound.slot b) are here.within)
-found_here objects bound given slot bounds here there false other found = there found
+found_here objects bound own slot bounds here there false other found = there found
 
-found_within : (objects : List Object) (given : List Bound) (slot : ℕ) (bounds : Bounds) → All (IsBound objects) given
-    → bound_of given slot ≡ Some bounds
+found_within : (objects : List Object) (own : List Bound) (slot : ℕ) (bounds : Bounds) → All (IsBound objects) own
+    → bound_of own slot ≡ Some bounds
     → IsWithinWidest objects slot bounds
 found_within objects [] slot bounds all found = absurd (cc)
-found_within objects (bound ∷ given) slot bounds all found =
-    found_here objects bound given slot bounds (All-head (IsBound objects) bound given all)
-    (found_within objects given slot bounds (All-tail (IsBound objects) bound given all)) (slot == bound.slot) refl found
+found_within objects (bound ∷ own) slot bounds all found =
+    found_here objects bound own slot bounds (All-head (IsBound objects) bound own all)
+    (found_within objects own slot bounds (All-tail (IsBound objects) bound own all)) (slot == bound.slot) refl found
 
-own_of : (objects : List Object) (given : List Bound) (slot : ℕ) (placed : Placed) (own : Option Bounds)
-    → (ForSome own (λ bounds. IsInside bounds placed.slot.widest)) → slot_at objects slot ≡ Some placed
-    → IsInside (unwrap_or own (unwrap_or (option_map (λ (p : Placed). p.slot.usual) (slot_at objects slot)) all_quantities)) placed.slot.widest
-own_of objects given slot placed (Some bounds) inside found = inside bounds refl
-own_of objects given slot placed None inside found = rw found (slot_at-bounded objects slot placed found).usual
+own_of : (objects : List Object) (own : List Bound) (slot : ℕ) (placed : Placed) (there : Option Bounds)
+    → (ForSome there (λ bounds. IsInside bounds placed.slot.widest)) → slot_at objects slot ≡ Some placed
+    → IsInside (unwrap_or there (unwrap_or (option_map (λ (p : Placed). p.slot.usual) (slot_at objects slot)) all_quantities)) placed.slot.widest
+own_of objects own slot placed (Some bounds) inside found = inside bounds refl
+own_of objects own slot placed None inside found = rw found (slot_at-bounded objects slot placed found).usual
 
-own_bounds-within : (objects : List Object) (given : List Bound) (slot : ℕ) (placed : Placed) → All (IsBound objects) given
+own_bounds-within : (objects : List Object) (own : List Bound) (slot : ℕ) (placed : Placed) → All (IsBound objects) own
     → slot_at objects slot ≡ Some placed
-    → IsInside (own_bounds objects given slot) placed.slot.widest
-own_bounds-within objects given slot placed all found =
-    own_of objects given slot placed (bound_of given slot) (λ bounds own. found_within objects given slot bounds all own placed found) found
+    → IsInside (own_bounds objects own slot) placed.slot.widest
+own_bounds-within objects own slot placed all found =
+    own_of objects own slot placed (bound_of own slot) (λ bounds is. found_within objects own slot bounds all is placed found) found
 
 not_true : (p : ℕ → Bool) (n slot : ℕ) → 1 ≤ slot → slot ≤ n → list_any p (range_with_len 1 n) ≡ false → (test : Bool) → p slot ≡ test
     → p slot ≡ false

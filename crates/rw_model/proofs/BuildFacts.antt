@@ -20,7 +20,7 @@ use Rattle.rw_model.specs.Draft.{Bound, IsSound, IsFresh, CanAdd, bound_of, IsSl
 use Rattle.rw_model.specs.Links.{is_slot}
 use Rattle.rw_base.specs.Answers.{Finds}
 use Rattle.rw_model.specs.declared.fault.BuildFault.{BuildFault}
-use Rattle.rw_model.specs.Refusal.{refusal_of, bad_parameter, too_many}
+use Rattle.rw_model.specs.Refusal.{build_refusal_of, bad_parameter, too_many}
 use Rattle.rw_model.specs.Build.{is_sound, is_fresh, size_refusal, object_refusal, is_allowed, bound_refusal}
 use Rattle.rw_model.proofs.NameFacts.{Decides-name}
 
@@ -163,7 +163,8 @@ object-iff objects object = (
 )
 
 -- an object with which nothing is found to be wrong can be added
-pub found-addable : (objects : List Object) (object : Object) (result : Option BuildFault) → Finds refusal_of result (object_refusal objects object)
+pub found-addable : (objects : List Object) (object : Object) (result : Option BuildFault)
+    → Finds build_refusal_of result (object_refusal objects object)
     → result ≡ None → CanAdd objects object
 found-addable objects object None finds none = (object-iff objects object).0 finds
 found-addable objects object (Some fault) finds none = absurd cc
@@ -180,20 +181,20 @@ none-there (Some x) e = absurd (both_ways true e refl)
 absent : {A : Type 0} (o : Option A) → o ≡ None → is_some o ≡ false
 absent o e = rw e refl
 
-pub bound-iff : (objects : List Object) (given : List Bound) (slot : ℕ) (bounds : Bounds)
-    → (bound_refusal objects given slot bounds ≡ None) ↔ CanBound objects given slot bounds
-bound-iff objects given slot bounds = (
+pub bound-iff : (objects : List Object) (own : List Bound) (slot : ℕ) (bounds : Bounds)
+    → (bound_refusal objects own slot bounds ≡ None) ↔ CanBound objects own slot bounds
+bound-iff objects own slot bounds = (
   λ e.
       let first = passed (is_slot objects slot) _ _ e in
-      let second = spared (is_some (bound_of given slot)) _ _ first.1 in
+      let second = spared (is_some (bound_of own slot)) _ _ first.1 in
       let third = passed (is_allowed (slot_at objects slot) bounds) None bad_parameter second.1 in
       record {
         known = (Decides-slot objects slot).0 first.0;
-        free = none-there (bound_of given slot) second.0;
+        free = none-there (bound_of own slot) second.0;
         within = (Decides-allowed (slot_at objects slot) bounds).0 third.0;
       },
   λ can.
       where-true (is_slot objects slot) _ _ ((Decides-slot objects slot).1 can.known)
-      ∙ unless (is_some (bound_of given slot)) _ _ (absent _ can.free)
+      ∙ unless (is_some (bound_of own slot)) _ _ (absent _ can.free)
       ∙ where-true (is_allowed (slot_at objects slot) bounds) _ _ ((Decides-allowed (slot_at objects slot) bounds).1 can.within),
 )

@@ -124,12 +124,12 @@ unbound : (test : Bool) (bounds : Bounds) (rest : Option Bounds) → (if test th
 unbound true bounds rest none = absurd (cc)
 unbound false bounds rest none = (refl, none)
 
-no_bound : (given : List Bound) (slot : ℕ) → bound_of given slot ≡ None
-    → list_any (λ other. slot == other) (map (λ (bound : Bound). bound.slot) given) ≡ false
+no_bound : (own : List Bound) (slot : ℕ) → bound_of own slot ≡ None
+    → list_any (λ other. slot == other) (map (λ (bound : Bound). bound.slot) own) ≡ false
 no_bound [] slot none = refl
-no_bound (bound ∷ given) slot none =
-    let facts = unbound (slot == bound.slot) bound.bounds (bound_of given slot) none in
-    rw facts.0 (no_bound given slot facts.1)
+no_bound (bound ∷ own) slot none =
+    let facts = unbound (slot == bound.slot) bound.bounds (bound_of own slot) none in
+    rw facts.0 (no_bound own slot facts.1)
 
 pub IsDraft-bound : (draft : Draft) (slot : ℕ) (bounds : Bounds) → IsDraft draft → CanBound draft.objects draft.bounds slot bounds
     → IsDraft (record draft { bounds = draft.bounds ++ record { slot = slot; bounds = bounds } ∷ [] })

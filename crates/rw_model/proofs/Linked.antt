@@ -55,16 +55,16 @@ meet-both a b value = (
   λ each. record { low = max_least a.0 b.0 value each.0.low each.1.low; high = min_greatest a.1 b.1 value each.0.high each.1.high },
 )
 
-pub meet_all-each : (objects : List Object) (given : List Bound) (bounds : Bounds) (slots : List ℕ) (value : ℤ)
-    → IsBetween (meet_all objects given bounds slots) value
-    ↔ (IsBetween bounds value × All (λ other. IsBetween (own_bounds objects given other) value) slots)
-meet_all-each objects given bounds [] value =
-    (λ between. (between, All-nil (λ other. IsBetween (own_bounds objects given other) value)), λ each. each.0)
-meet_all-each objects given bounds (slot ∷ slots) value =
-    let own = own_bounds objects given slot in
-    let P : (ℕ → Type 0) = λ other. IsBetween (own_bounds objects given other) value in
-    let rest = meet_all-each objects given (meet bounds own) slots value in
-    let here = meet-both bounds own value in (
+pub meet_all-each : (objects : List Object) (own : List Bound) (bounds : Bounds) (slots : List ℕ) (value : ℤ)
+    → IsBetween (meet_all objects own bounds slots) value
+    ↔ (IsBetween bounds value × All (λ other. IsBetween (own_bounds objects own other) value) slots)
+meet_all-each objects own bounds [] value =
+    (λ between. (between, All-nil (λ other. IsBetween (own_bounds objects own other) value)), λ each. each.0)
+meet_all-each objects own bounds (slot ∷ slots) value =
+    let first = own_bounds objects own slot in
+    let P : (ℕ → Type 0) = λ other. IsBetween (own_bounds objects own other) value in
+    let rest = meet_all-each objects own (meet bounds first) slots value in
+    let here = meet-both bounds first value in (
       λ between. let parts = rest.0 between in let two = here.0 parts.0 in (two.0, All-cons P slot slots two.1 parts.1),
       λ each. rest.1 (here.1 (each.0, All-head P slot slots each.1), All-tail P slot slots each.1),
     )

@@ -3,7 +3,8 @@ use Rattle.rw_base.proofs.Common.{◌≡◌, ◌⊎◌, ◌<◌, ℕ, zero, suc,
 use Rattle.rw_base.proofs.Common.{arith, inl, inr, Contains, bytes_eq, Decides, list_all, cases_Bool, false≢true, Decides-and, Decides-or}
 use Rattle.rw_base.proofs.Common.{Decides-not, Decides-eqb, Decides-like, Decides-by_and, bytes_eq-Decides}
 use Rattle.rw_base.proofs.Tests.{Decides-le}
-use Rattle.rw_model.specs.Name.{IsLetter, IsDigit, IsName, reserved_words, is_letter, is_digit, is_word, is_name}
+use Rattle.rw_base.specs.Byte.{is_letter, is_digit}
+use Rattle.rw_model.specs.Name.{IsLetter, IsDigit, IsName, reserved_words, is_word, is_name}
 
 Decides-letter : (b : ℕ) → Decides (is_letter b) (IsLetter b)
 Decides-letter b =

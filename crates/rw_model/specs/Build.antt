@@ -54,11 +54,11 @@ is_allowed None bounds = true
 is_allowed (Some placed) bounds =
     int_le bounds.0 bounds.1 && (int_le placed.slot.widest.0 bounds.0 && int_le bounds.1 placed.slot.widest.1)
 
--- why a slot isn't given bounds, if it isn't. A slot has bounds of its own at most once
+-- why a slot can't have the bounds as its own, if it can't. It has bounds of its own at most once
 abbrev pub bound_refusal : List Object → List Bound → ℕ → Bounds → Option BuildRefusal
-bound_refusal objects given slot bounds =
+bound_refusal objects own slot bounds =
     if is_slot objects slot
-    then (if is_some (bound_of given slot)
+    then (if is_some (bound_of own slot)
     then Some duplicate_name
     else (if is_allowed (slot_at objects slot) bounds then None else Some bad_parameter))
     else Some unknown_slot

@@ -12,7 +12,7 @@ use Rattle.rw_model.specs.Name.{IsName}
 use Rattle.rw_model.specs.Kind.{IsKind}
 use Rattle.rw_model.specs.Objects.{Object, object_named, all_slots, slot_at}
 
--- the bounds that one slot was given
+-- the bounds of its own that one slot has
 pub record Bound : Type 0 where
   pub slot : ℕ
   pub bounds : Bounds
@@ -73,7 +73,7 @@ pub record CanAdd (objects : List Object) (object : Object) : Type 0 where
   pub few_objects : length (objects ++ object ∷ []) ≤ OBJECTS_MAX
   pub few_slots : length (all_slots (objects ++ object ∷ [])) ≤ SLOTS_MAX
 
--- the bounds that the slot was given, if it was
+-- the bounds of its own that the slot has, if it has any
 abbrev pub bound_of : List Bound → ℕ → Option Bounds
 bound_of [] slot = None
 bound_of (bound ∷ bounds) slot = if slot == bound.slot then Some bound.bounds else bound_of bounds slot
@@ -92,8 +92,8 @@ pub record IsObject (objects : List Object) (object : ℕ) : Type 0 where
 abbrev pub IsWithinWidest : List Object → ℕ → Bounds → Type 0
 IsWithinWidest objects slot bounds = ForSome (slot_at objects slot) (λ placed. IsInside bounds placed.slot.widest)
 
--- the slot can be given the bounds
-pub record CanBound (objects : List Object) (given : List Bound) (slot : ℕ) (bounds : Bounds) : Type 0 where
+-- the slot can have the bounds as its own
+pub record CanBound (objects : List Object) (own : List Bound) (slot : ℕ) (bounds : Bounds) : Type 0 where
   pub known : IsSlot objects slot
-  pub free : bound_of given slot ≡ None
+  pub free : bound_of own slot ≡ None
   pub within : IsWithinWidest objects slot bounds

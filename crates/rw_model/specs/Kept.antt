@@ -33,7 +33,7 @@ pub record KeepsSlots (objects : List Object) (places : List Place) (firsts : Li
   pub few_objects : length objects ≤ OBJECTS_MAX
   pub few_slots : length (all_slots objects) ≤ SLOTS_MAX
 
--- the bounds that the map's slots were given
+-- the bounds of their own that the map's slots have
 abbrev pub bounds_of : List (ℕ × Bounds) → List Bound
 bounds_of entries = map (λ (entry : ℕ × Bounds). record { slot = entry.0; bounds = entry.1 }) entries
 

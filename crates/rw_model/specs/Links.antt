@@ -96,10 +96,10 @@ pub record IsBetween (bounds : Bounds) (value : ℤ) : Type 0 where
   pub low : bounds.0 ≤ℤ value
   pub high : value ≤ℤ bounds.1
 
--- the bounds that the slot was given, and its usual ones where it was given none
+-- the bounds of its own that the slot has, and its usual ones where it has none
 abbrev pub own_bounds : List Object → List Bound → ℕ → Bounds
-own_bounds objects given slot =
-    unwrap_or (bound_of given slot) (unwrap_or (option_map (λ placed. placed.slot.usual) (slot_at objects slot)) all_quantities)
+own_bounds objects own slot =
+    unwrap_or (bound_of own slot) (unwrap_or (option_map (λ placed. placed.slot.usual) (slot_at objects slot)) all_quantities)
 
 -- what is between both
 abbrev pub meet : Bounds → Bounds → Bounds
@@ -107,8 +107,8 @@ meet a b = (int_max a.0 b.0, int_min a.1 b.1)
 
 -- what is between these bounds, and between those of each of the slots
 abbrev pub meet_all : List Object → List Bound → Bounds → List ℕ → Bounds
-meet_all objects given bounds [] = bounds
-meet_all objects given bounds (slot ∷ slots) = meet_all objects given (meet bounds (own_bounds objects given slot)) slots
+meet_all objects own bounds [] = bounds
+meet_all objects own bounds (slot ∷ slots) = meet_all objects own (meet bounds (own_bounds objects own slot)) slots
 
 -- the slots of the link that has the slot, and none where none has it
 abbrev pub linked_with : List (List ℕ) → ℕ → List ℕ
@@ -116,4 +116,4 @@ linked_with links slot = unwrap_or (option_and_then (λ place. slice_get links p
 
 -- the values that a slot can have, which all slots of its link can have
 abbrev pub bounds_in : List Object → List (List ℕ) → List Bound → ℕ → Bounds
-bounds_in objects links given slot = meet_all objects given (own_bounds objects given slot) (linked_with links slot)
+bounds_in objects links own slot = meet_all objects own (own_bounds objects own slot) (linked_with links slot)

@@ -1,6 +1,7 @@
 -- The names that objects and data slots may have.
-use Rattle.std.specs.Prelude.{ℕ, ◌≤◌, ◌⊎◌, ◌≡◌, ◌==◌, nat_le, Bool, ◌&&◌, ◌||◌, not, List, [], ◌∷◌, length, All, Contains, slice_index, codes, bytes_eq}
+use Rattle.std.specs.Prelude.{ℕ, ◌≤◌, ◌⊎◌, ◌≡◌, nat_le, Bool, ◌&&◌, ◌||◌, not, List, [], ◌∷◌, length, All, Contains, slice_index, codes, bytes_eq}
 use Rattle.std.specs.List.{list_all, list_any}
+use Rattle.rw_base.specs.Byte.{is_digit, is_letter}
 
 -- a letter, or `_`
 abbrev pub IsLetter : ℕ → Type 0
@@ -30,12 +31,6 @@ pub record IsName (text : List ℕ) : Type 0 where
   pub free : ¬ Contains reserved_words text
 
 -- ---- the same, as tests
-
-abbrev pub is_letter : ℕ → Bool
-is_letter b = (nat_le 97 b && nat_le b 122) || ((nat_le 65 b && nat_le b 90) || b == 95)
-
-abbrev pub is_digit : ℕ → Bool
-is_digit b = nat_le 48 b && nat_le b 57
 
 -- the text is one of the words
 abbrev pub is_word : List (List ℕ) → List ℕ → Bool

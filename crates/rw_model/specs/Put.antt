@@ -24,7 +24,7 @@ IsSameObject held new = (object : ObjectNo) × (held ≡ Object object) × (new 
 abbrev pub is_value_kept : Content → Content → Bool
 is_value_kept held new = int_eq held.value new.value && nat_le held.number new.number
 
--- a value of number 0 gives way only to the object that wrote it, any other to a number that isn't larger
+-- a value of priority 0 gives way only to the object that wrote it, any other to a priority that isn't lower
 abbrev pub gives_way : Content → Content → Bool
 gives_way held new = if held.number == 0 then is_same_object held.writer new.writer else nat_le new.number held.number
 

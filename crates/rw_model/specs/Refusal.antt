@@ -14,13 +14,13 @@ pub data BuildRefusal : Type 0 where
   too_many : ℕ → BuildRefusal
 
 -- what a fault tells of what was told. Want of memory tells nothing of it
-abbrev pub refusal_of : BuildFault → Option BuildRefusal
-refusal_of DuplicateName = Some duplicate_name
-refusal_of UnknownSlot = Some unknown_slot
-refusal_of LinkedTwice = Some linked_twice
-refusal_of LinkWithinObject = Some link_within_object
-refusal_of LinkDimension = Some link_dimension
-refusal_of LinkBounds = Some link_bounds
-refusal_of BadParameter = Some bad_parameter
-refusal_of (TooMany most) = Some (too_many most)
-refusal_of NoMemory = None
+abbrev pub build_refusal_of : BuildFault → Option BuildRefusal
+build_refusal_of DuplicateName = Some duplicate_name
+build_refusal_of UnknownSlot = Some unknown_slot
+build_refusal_of LinkedTwice = Some linked_twice
+build_refusal_of LinkWithinObject = Some link_within_object
+build_refusal_of LinkDimension = Some link_dimension
+build_refusal_of LinkBounds = Some link_bounds
+build_refusal_of BadParameter = Some bad_parameter
+build_refusal_of (TooMany most) = Some (too_many most)
+build_refusal_of NoMemory = None

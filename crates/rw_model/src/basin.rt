@@ -28,7 +28,7 @@ pub struct Basin {
     pub(crate) control: RunControl,
     pub(crate) objects: Objects,
     pub(crate) links: Links,
-    pub(crate) given: OwnBounds,
+    pub(crate) own: OwnBounds,
     pub(crate) tables: Tables,
 }
 
@@ -39,11 +39,11 @@ impl Model for Basin {
     ghost Value = { Draft };
 
     ghost view = { λ b.
-        record { control = b.control; objects = b.objects; links = b.links; bounds = b.given } };
+        record { control = b.control; objects = b.objects; links = b.links; bounds = b.own } };
 
     ghost invariant = { λ b.
         KeepsBasin
-        (record { control = b.control; objects = b.objects; links = b.links; bounds = b.given })
+        (record { control = b.control; objects = b.objects; links = b.links; bounds = b.own })
         (numbers_of b.tables.slots.items) (links_of b.tables.groups.items) b.tables.bounds.items
         b.tables.numbers.items };
 }

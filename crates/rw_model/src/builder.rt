@@ -4,7 +4,7 @@ ghost use Rattle.rw_model.specs.Objects.{slot_named};
 ghost use Rattle.rw_model.specs.Basin.{IsDraft, IsBasin, finish_refusal};
 ghost use Rattle.rw_model.specs.Kept.{numbers_of, links_of, KeepsBasin};
 ghost use Rattle.rw_model.specs.Draft.{IsControl};
-ghost use Rattle.rw_model.specs.Refusal.{refusal_of};
+ghost use Rattle.rw_model.specs.Refusal.{build_refusal_of};
 ghost use Rattle.rw_model.specs.Build.{with_object, with_link, with_bound, finished};
 
 use crate::basin::Basin;
@@ -80,7 +80,7 @@ impl BasinBuilder {
     /// slots. `NoMemory` comes only where none of these holds. After each of them the builder is as it was.
     pub fn object(&mut self, name: &str, kind: Kind) -> Result<ObjectNo, BuildFault>
         ensures number { IfOk result (λ object. object.0 ≡ length self.new.objects) }
-        ensures answers { Answers BuildFault.NoMemory refusal_of (λ _. self.new) result
+        ensures answers { Answers BuildFault.NoMemory build_refusal_of (λ _. self.new) result
             (with_object self.old (record { name = name.now; kind = kind })) }
         ensures memory { IsErrOf result BuildFault.NoMemory
             → IsOk (with_object self.old (record { name = name.now; kind = kind })) }
@@ -103,7 +103,7 @@ impl BasinBuilder {
     /// earlier slot of this link is of the same object, else `LinkDimension` where it doesn't measure what the first one
     /// does. `NoMemory` comes only where none of these holds. After each of them the builder is as it was.
     pub fn link(&mut self, slots: &[SlotNo]) -> Result<(), BuildFault>
-        ensures answers { Answers BuildFault.NoMemory refusal_of (λ _. self.new) result
+        ensures answers { Answers BuildFault.NoMemory build_refusal_of (λ _. self.new) result
             (with_link self.old (numbers_of slots.now)) }
         ensures memory { IsErrOf result BuildFault.NoMemory
             → IsOk (with_link self.old (numbers_of slots.now)) }
@@ -124,7 +124,7 @@ impl BasinBuilder {
     /// `BadParameter` where the least is above the greatest or one is outside the widest that the slot can have. `NoMemory`
     /// comes only where none of these holds. After each of them the builder is as it was.
     pub fn bound(&mut self, slot: SlotNo, min: i64, max: i64) -> Result<(), BuildFault>
-        ensures answers { Answers BuildFault.NoMemory refusal_of (λ _. self.new) result
+        ensures answers { Answers BuildFault.NoMemory build_refusal_of (λ _. self.new) result
             (with_bound self.old slot.0 (min, max)) }
         ensures memory { IsErrOf result BuildFault.NoMemory
             → IsOk (with_bound self.old slot.0 (min, max)) }
@@ -135,7 +135,7 @@ impl BasinBuilder {
 
     // Gives the slot of this number bounds of its own.
     fn give(&mut self, slot: u16, bounds: (i64, i64)) -> Result<(), BuildFault>
-        ensures answers { Answers BuildFault.NoMemory refusal_of (λ _. self.new) result
+        ensures answers { Answers BuildFault.NoMemory build_refusal_of (λ _. self.new) result
             (with_bound self.old slot bounds) }
         ensures memory { IsErrOf result BuildFault.NoMemory
             → IsOk (with_bound self.old slot bounds) }
@@ -157,7 +157,7 @@ impl BasinBuilder {
     /// of these holds. After each of them what was told is dropped. `docs/FORMATS.md` has all that is refused under "What is
     /// wrong".
     pub fn finish(self) -> Result<Basin, BuildFault>
-        ensures answers { Answers BuildFault.NoMemory refusal_of (λ basin. basin) result
+        ensures answers { Answers BuildFault.NoMemory build_refusal_of (λ basin. basin) result
             (finished self) }
         ensures valid { OnOk result (IsBasin self) }
         ensures memory { IsErrOf result BuildFault.NoMemory → IsOk (finished self) }
@@ -167,7 +167,7 @@ impl BasinBuilder {
                 control: self.control,
                 objects: self.objects,
                 links: self.links,
-                given: self.bounds,
+                own: self.bounds,
                 tables,
             }),
             Err(fault) => Err(fault),
@@ -176,7 +176,7 @@ impl BasinBuilder {
 
     // Why what was told is no basin.
     fn judge_finish(&self) -> Option<BuildFault>
-        ensures fault { Finds refusal_of result (finish_refusal self.now) }
+        ensures fault { Finds build_refusal_of result (finish_refusal self.now) }
         ensures told { IsDraft self.now }
     {
         if self.objects.count() == 0 {
@@ -194,7 +194,7 @@ impl BasinBuilder {
 
     // What a basin of what was told keeps besides.
     fn tables(&self) -> Result<Tables, BuildFault>
-        ensures answers { Answers BuildFault.NoMemory refusal_of (λ _. self.now) result
+        ensures answers { Answers BuildFault.NoMemory build_refusal_of (λ _. self.now) result
             (finished self.now) }
         ensures memory { IsErrOf result BuildFault.NoMemory → IsOk (finished self.now) }
         ensures kept { IfOk result (λ tables. KeepsBasin self.now (numbers_of tables.slots.items)

@@ -6,7 +6,7 @@ use rw_base::Qty;
 pub struct Content {
     /// The value, in the base units of its slot's dimension.
     pub value: Qty,
-    /// Its priority: a smaller number is stronger.
+    /// Its priority: a smaller number is a higher one.
     pub number: u16,
     /// Who wrote it.
     pub writer: Writer,

@@ -7,7 +7,7 @@ ghost use Rattle.rw_model.specs.Links.{is_same_dim, measures_alike, shares_owner
 ghost use Rattle.rw_model.specs.Kept.{numbers_of};
 ghost use Rattle.rw_model.specs.Draft.{has_slot_named, has_distinct_names, has_distinct_slots, CanAdd, IsSlot};
 ghost use Rattle.rw_model.specs.Kind.{IsKind};
-ghost use Rattle.rw_model.specs.Refusal.{refusal_of};
+ghost use Rattle.rw_model.specs.Refusal.{build_refusal_of};
 ghost use Rattle.rw_model.specs.Build.{size_refusal, object_refusal, is_allowed, bound_refusal};
 
 use crate::limits::{LINK_MAX, OBJECTS_MAX, SLOTS_MAX};
@@ -52,7 +52,7 @@ fn has_distinct_slots(kind: &Kind) -> bool
 // What is wrong with the numbers of objects and slots, with one object more.
 fn judge_size(objects: &Objects, kind: &Kind) -> Option<BuildFault>
     requires { IsKind kind.now }
-    ensures { (name : List ℕ) → Finds refusal_of result
+    ensures { (name : List ℕ) → Finds build_refusal_of result
         (size_refusal (objects.now ++ record { name = name; kind = kind.now } ∷ [])) }
 {
     let owner = objects.count() + 1;
@@ -67,7 +67,7 @@ fn judge_size(objects: &Objects, kind: &Kind) -> Option<BuildFault>
 
 /// What is wrong with an object that is to be added, if something is.
 pub(crate) fn judge_object(objects: &Objects, name: &str, kind: &Kind) -> Option<BuildFault>
-    ensures fault { Finds refusal_of result
+    ensures fault { Finds build_refusal_of result
         (object_refusal objects.now (record { name = name.now; kind = kind.now })) }
     ensures can_add { result ≡ None
         → CanAdd objects.now (record { name = name.now; kind = kind.now }) }
@@ -89,19 +89,19 @@ fn is_within_widest(objects: &Objects, slot: u16, bounds: (i64, i64)) -> bool
     objects.slot(slot).allows(bounds)
 }
 
-/// What is wrong with bounds that a slot is to be given, if something is.
+/// What is wrong with bounds that a slot is to have as its own, if something is.
 pub(crate) fn judge_bound(
     objects: &Objects,
-    given: &OwnBounds,
+    own: &OwnBounds,
     slot: u16,
     bounds: (i64, i64),
 ) -> Option<BuildFault>
-    ensures { Finds refusal_of result (bound_refusal objects.now given.now slot bounds) }
+    ensures { Finds build_refusal_of result (bound_refusal objects.now own.now slot bounds) }
 {
     if slot == 0 || slot > objects.slot_count() {
         return Some(BuildFault::UnknownSlot);
     }
-    if given.get(slot).is_some() {
+    if own.get(slot).is_some() {
         return Some(BuildFault::DuplicateName);
     }
     if !is_within_widest(objects, slot, bounds) {
@@ -152,7 +152,7 @@ fn is_same_dim(a: Dim, b: Dim) -> bool
 // What is wrong with a slot that a link names after others.
 fn join_fault(objects: &Objects, links: &Links, before: &[SlotNo], slot: u16) -> Option<BuildFault>
     requires { All (λ (other : SlotNo). IsSlot objects.now other.0) before.now }
-    ensures fault { Finds refusal_of result
+    ensures fault { Finds build_refusal_of result
         (join_refusal objects.now links.now (numbers_of before.now) slot) }
     ensures known { result ≡ None → IsSlot objects.now slot }
     ensures free { result ≡ None → link_of links.now slot ≡ None }
@@ -175,7 +175,7 @@ fn join_fault(objects: &Objects, links: &Links, before: &[SlotNo], slot: u16) ->
 
 /// What is wrong with a link, if something is.
 pub(crate) fn judge_link(objects: &Objects, links: &Links, slots: &[SlotNo]) -> Option<BuildFault>
-    ensures fault { Finds refusal_of result
+    ensures fault { Finds build_refusal_of result
         (link_refusal objects.now links.now (numbers_of slots.now)) }
     ensures known { result ≡ None → All (λ (slot : SlotNo). IsSlot objects.now slot.0) slots.now }
     ensures free { result ≡ None

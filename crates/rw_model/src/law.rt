@@ -15,9 +15,9 @@ ghost use Rattle.rw_model.specs.Kind.{IsKind, is_kind};
 ghost use Rattle.rw_model.specs.Build.{is_sound, is_fresh, is_allowed, object_refusal, bound_refusal};
 ghost use Rattle.rw_model.specs.Put.{end_of_put, IsSameObject};
 
-/// The put rules, in their order. An unknown cell is written. The held value under a number that isn't smaller is
-/// kept. Another put to a value of number 0 is written where the object that wrote the value puts it, and otherwise
-/// denied. Any other put is written where its number isn't larger than the held one, and otherwise denied.
+/// The put rules, in their order. An unknown cell is written. The held value of a priority that isn't higher is
+/// kept. Another put to a value of priority 0 is written where the object that wrote the value puts it, and otherwise
+/// denied. Any other put is written where its priority isn't lower than the held one, and otherwise denied.
 pub fn put_rules()
     ensures unknown { (new : Content) → end_of_put None new ≡ PutEnd.Written }
     ensures kept { (held new : Content)
@@ -31,9 +31,9 @@ pub fn put_rules()
         → held.number ≡ 0 → ¬ IsSameObject held.writer new.writer
         → end_of_put (Some held) new ≡ PutEnd.Denied held }
 
-    ensures stronger { (held new : Content) → (held.value ≡ new.value → new.number < held.number)
+    ensures higher { (held new : Content) → (held.value ≡ new.value → new.number < held.number)
         → 0 < held.number → new.number ≤ held.number → end_of_put (Some held) new ≡ PutEnd.Written }
-    ensures weaker { (held new : Content) → (held.value ≡ new.value → new.number < held.number)
+    ensures lower { (held new : Content) → (held.value ≡ new.value → new.number < held.number)
         → 0 < held.number → held.number < new.number
         → end_of_put (Some held) new ≡ PutEnd.Denied held }
 {}
@@ -53,8 +53,8 @@ pub fn tests_and_words()
 pub fn faultless_parts()
     ensures object { (objects : List Object) (object : Object)
         → (object_refusal objects object ≡ None) ↔ CanAdd objects object }
-    ensures bound { (objects : List Object) (given : List Bound) (slot : ℕ) (bounds : Bounds)
-        → (bound_refusal objects given slot bounds ≡ None) ↔ CanBound objects given slot bounds }
+    ensures bound { (objects : List Object) (own : List Bound) (slot : ℕ) (bounds : Bounds)
+        → (bound_refusal objects own slot bounds ≡ None) ↔ CanBound objects own slot bounds }
 {}
 
 /// Nothing is wrong with all that a builder was told exactly where it makes a valid basin.
@@ -84,10 +84,10 @@ pub fn links_and_groups()
 
 /// A value is between the bounds of a slot exactly where it is between its own bounds and those of each slot of its link.
 pub fn bounds_of_a_group()
-    ensures { (objects : List Object) (links : List (List ℕ)) (given : List Bound)
+    ensures { (objects : List Object) (links : List (List ℕ)) (own : List Bound)
         (slot : ℕ) (value : ℤ)
-        → IsBetween (bounds_in objects links given slot) value
-        ↔ (IsBetween (own_bounds objects given slot) value
-        × All (λ other. IsBetween (own_bounds objects given other) value)
+        → IsBetween (bounds_in objects links own slot) value
+        ↔ (IsBetween (own_bounds objects own slot) value
+        × All (λ other. IsBetween (own_bounds objects own other) value)
         (linked_with links slot)) }
 {}

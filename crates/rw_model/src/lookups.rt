@@ -28,7 +28,7 @@ impl Tables {
         alloc: Global,
         objects: &Objects,
         links: &Links,
-        given: &OwnBounds,
+        own: &OwnBounds,
     ) -> Result<Tables, NoMemory>
         requires { All (IsLink objects.now) links.now }
         ensures slots { IfOk result
@@ -39,14 +39,14 @@ impl Tables {
         ensures bounds { IfOk result
             (λ tables.
             tables.bounds.items
-            ≡ map (bounds_in objects.now links.now given.now) (slot_numbers objects.now)) }
+            ≡ map (bounds_in objects.now links.now own.now) (slot_numbers objects.now)) }
         ensures numbers { IfOk result
             (λ tables. tables.numbers.items ≡ numbers_up_to objects.now (length objects.now * 12)) }
     {
         let count = objects.slot_count();
         let slots = slots_up_to(alloc, count)?;
         let groups = groups_of(alloc, links, count)?;
-        let bounds = all_bounds(alloc, objects, links, given)?;
+        let bounds = all_bounds(alloc, objects, links, own)?;
         let numbers = all_numbers(alloc, objects)?;
         Ok(Tables {
             slots,

@@ -6,7 +6,7 @@ use rw_base::NoMemory;
 use std::alloc::Global;
 use std::marker::Model;
 
-/// The bounds that slots were given, in the order of the calls.
+/// The bounds of their own that slots have, in the order of the calls.
 #[derive(Drop)]
 pub(crate) struct OwnBounds {
     bounds: IndexMap<u16, (i64, i64)>,
@@ -32,7 +32,7 @@ impl OwnBounds {
         }
     }
 
-    /// The bounds that the slot was given.
+    /// The bounds of its own that the slot has, if it has any.
     pub(crate) fn get(&self, slot: u16) -> Option<(i64, i64)>
         ensures { result ≡ bound_of self.now slot }
     {

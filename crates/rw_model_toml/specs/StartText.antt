@@ -1,7 +1,7 @@
 -- The text of a start, as `2020-01-31T06:00`.
 use Rattle.std.specs.Prelude.{ℕ, ◌+◌, ◌-◌, ◌*◌, pos, List, [], ◌∷◌, Bool, true, false, ◌==◌, ◌&&◌, ◌||◌, if◌then◌else◌, Option, Some, None, slice_index, codes}
 use Rattle.rw_calendar.specs.declared.start.Start.{Start}
-use Rattle.rw_model.specs.Name.{is_digit}
+use Rattle.rw_base.specs.Byte.{is_digit}
 
 -- one of the letters Y, M, D and H, for which digits stand
 abbrev pub is_open : ℕ → Bool

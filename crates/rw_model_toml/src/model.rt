@@ -6,7 +6,7 @@ ghost use Rattle.rw_model.specs.Build.{finished};
 ghost use Rattle.rw_model_toml.specs.Refusal.{refused_as, bad_build};
 ghost use Rattle.toml.specs.View.{table_view};
 ghost use Rattle.rw_model.specs.Draft.{IsControl};
-ghost use Rattle.rw_model_toml.specs.Fault.{Gives, refusal_of};
+ghost use Rattle.rw_model_toml.specs.Fault.{Gives, model_refusal_of};
 ghost use Rattle.rw_model_toml.specs.Model.{control_in, empty_draft, filled, draft_of, toml_of, table_or, basin_of, model_of};
 
 use crate::ModelFault;
@@ -108,7 +108,7 @@ fn read_basin(alloc: Global, table: &Table) -> Result<Basin, ModelFault>
 /// fault is never a want of memory. `NoMemory` says nothing of the file. `docs/FORMATS.md` has the keys and their ranges
 /// under "Model".
 pub fn read_model(alloc: Global, text: &[u8]) -> Result<Basin, ModelFault>
-    ensures answers { Answers ModelFault.NoMemory refusal_of (λ basin. basin) result
+    ensures answers { Answers ModelFault.NoMemory model_refusal_of (λ basin. basin) result
         (model_of text.now) }
     ensures valid { IfOk result IsBasin }
 {

@@ -1,5 +1,5 @@
 ghost use Rattle.std.specs.Prelude.{◌≡◌, ◌+◌, ◌<◌, ◌≤◌, IsTrue, length, slice_index};
-ghost use Rattle.rw_model.specs.Name.{is_digit};
+ghost use Rattle.rw_base.specs.Byte.{is_digit};
 ghost use Rattle.rw_model_toml.specs.StartText.{is_open, fits_byte, fits_forms, two_digits, start_in};
 
 use rw_calendar::Start;

@@ -2,7 +2,7 @@ ghost use Rattle.std.specs.Prelude.{Result};
 ghost use Rattle.rw_base.specs.Answers.{IsWhy as IsWhyOf};
 ghost use Rattle.rw_model.specs.declared.fault.BuildFault.TheVariants as BuildFault;
 ghost use Rattle.rw_model.specs.Draft.{Draft};
-ghost use Rattle.rw_model.specs.Refusal.{BuildRefusal, refusal_of};
+ghost use Rattle.rw_model.specs.Refusal.{BuildRefusal, build_refusal_of};
 ghost use Rattle.rw_model_toml.specs.Refusal.{refused_as, bad_build};
 ghost use Rattle.rw_model_toml.specs.Fault.{IsModelWhy};
 
@@ -13,7 +13,7 @@ use std::alloc::Global;
 /// What a builder's fault at the path tells of the model.
 pub(crate) fn told(alloc: Global, path: &str, fault: BuildFault) -> ModelFault
     ensures { (given : Result Draft BuildRefusal)
-        → IsWhyOf BuildFault.NoMemory refusal_of given fault
+        → IsWhyOf BuildFault.NoMemory build_refusal_of given fault
         → IsModelWhy (refused_as (bad_build path.now) given) result }
 {
     if let BuildFault::NoMemory = fault {

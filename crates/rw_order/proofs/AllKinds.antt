@@ -2,12 +2,12 @@
 use Rattle.rw_order.proofs.Common.{Balanced, ByRule, Canal, Content, Given, Idle, Kind, List, None, Option, PowerReservoir, Put, Puts, Request}
 use Rattle.rw_order.proofs.Common.{Reservoir, RoutedReach, Some, View, WaterUser, [], answered, ap, ap₂, balance_of, balanced_of, both_ways, false}
 use Rattle.rw_order.proofs.Common.{fault_of_contents, fits, given, held_by, inl, inr, is_bounded, known, known_after, option_map, per_mille, refl}
-use Rattle.rw_order.proofs.Common.{same_Some, settled, solve_of, subst, sym, true, user_puts, ℕ, ℤ, ◌-ℤ◌, ◌∙◌, ◌≡◌}
+use Rattle.rw_order.proofs.Common.{same_Some, solved_balance, solve_of, subst, sym, true, user_puts, ℕ, ℤ, ◌-ℤ◌, ◌∙◌, ◌≡◌}
 use Rattle.rw_order.specs.Free.{is_free}
 use Rattle.rw_order.proofs.Held.{AnswersWithin, AreHeld, AreZero, FitsThere, IsSeenOf, Stands, Values, given_stands}
 use Rattle.rw_order.proofs.Terms.{balanced_is, parts_of, sight_of, terms_of}
 use Rattle.rw_order.proofs.Agreeing.{agree_steady}
-use Rattle.rw_order.proofs.Within.{IsWithin, KeepAll, StandsIn, keep_parts, settled_within}
+use Rattle.rw_order.proofs.Within.{IsWithin, KeepAll, StandsIn, keep_parts, solved_within}
 use Rattle.rw_order.proofs.Missing.{IsPart, is_idle, stands_after}
 use Rattle.rw_order.proofs.Judged.{Answered, answered_of, answers_by, rest_of}
 use Rattle.rw_order.proofs.Levels.{AreLevelled}
@@ -28,7 +28,7 @@ user_stays : (values : Values) (depletion : ℕ) (one other : Given) → one.val
 user_stays values depletion one other same held =
     subst (λ v. (values 2 ≡ Some (per_mille v depletion)) × ((values 3 ≡ Some (v -ℤ per_mille v depletion)) × Unit {0})) same held
 
--- what stands in a place once the balance of one view of these values is settled
+-- what stands in a place once the balance of one view of these values is solved
 module _ (values : Values) (past : Option ℤ) (kind : Kind) (view : View) (free : is_free kind ≡ true) (keep : KeepAll (parts_of kind))
     (seen : IsSeenOf values past view)
     (within : IsWithin values (balanced_of kind view)) (some : is_idle (balanced_of kind view) ≡ false) where
@@ -41,8 +41,8 @@ module _ (values : Values) (past : Option ℤ) (kind : Kind) (view : View) (free
 
 -- the diversion of a user that a rule supplies is known
 rule_after : (values : Values) (past : Option ℤ) (view : View) (content : Option Content) → IsSeenOf values past view → known view 1 ≡ content
-    → is_idle (settled (option_map (λ (c : Content). c.value) content) []) ≡ false
-    → values 1 ≡ Some (known_after view (settled (option_map (λ (c : Content). c.value) content) []) 1).value
+    → is_idle (solved_balance (option_map (λ (c : Content). c.value) content) []) ≡ false
+    → values 1 ≡ Some (known_after view (solved_balance (option_map (λ (c : Content). c.value) content) []) 1).value
 rule_after values past view None seen is some = absurd (both_ways true some refl)
 rule_after values past view (Some content) seen is some = seen.now 1 content is ∙ ap (λ c. Some (held_by c).value) (sym is)
 
@@ -118,11 +118,11 @@ module _ (values : Values) (past : Option ℤ) (one other : View) (seen_one : Is
         let keep = keep_parts kind free in
         let answered = answered_of kind values one puts free e held in
         let sights = sights_stand kind levelled answered in
-        let stands : StandsIn values (settled (balance_of kind one).steady (terms_of (sight_of kind one) (parts_of kind))) =
+        let stands : StandsIn values (solved_balance (balance_of kind one).steady (terms_of (sight_of kind one) (parts_of kind))) =
         subst (StandsIn values) (balanced_is kind one free) answered.stands in
         let within : IsWithin values (balanced_of kind other) =
         subst (IsWithin values) (sym (balanced_is kind other free))
-        (settled_within values (sight_of kind one) (sight_of kind other) (parts_of kind) (balance_of kind one).steady (balance_of kind other).steady
+        (solved_within values (sight_of kind one) (sight_of kind other) (parts_of kind) (balance_of kind one).steady (balance_of kind other).steady
         keep sights.0 sights.1
         (agree_steady values past one other seen_one seen_other kind free) stands) in
         answers_by kind values other free (all_fit kind free levelled answered can) within

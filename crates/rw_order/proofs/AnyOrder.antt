@@ -4,7 +4,8 @@ use Rattle.rw_order.proofs.Common.{IsOver, List, Log, LowFirst, MayFollow, MayLe
 use Rattle.rw_order.proofs.Common.{Standing, [], after_objects, agenda_of, ap, arith, asked_next, both_ways, cells_of, closed, dispatched, dispatches}
 use Rattle.rw_order.proofs.Common.{end_of, false, fault, find, follows_by, given_to, if◌then◌else◌, inl, inr, inside, is_data, is_due, is_some}
 use Rattle.rw_order.proofs.Common.{last_closed, nat_le, nat_lt, nat_tests, no_rules, none-some, not, object_at, opened, option_map, over, refl, rests}
-use Rattle.rw_order.proofs.Common.{same_Some, settled, since, standing, subst, sym, true, value_in, waiting, ℕ, ◌+◌, ◌<◌, ◌∙◌, ◌∷◌, ◌≡◌, ◌≢◌, ◌≤◌}
+use Rattle.rw_order.proofs.Common.{same_Some, solved_balance, since, standing, subst, sym, true, value_in, waiting, ℕ, ◌+◌, ◌<◌, ◌∙◌, ◌∷◌, ◌≡◌, ◌≢◌}
+use Rattle.rw_order.proofs.Common.{◌≤◌}
 use Rattle.rw_order.proofs.Common.{◌⊎◌}
 use Rattle.rw_order.specs.AnyRun.{IsSettledLog}
 use Rattle.rw_order.proofs.Writing.{AreBelow}
@@ -228,8 +229,8 @@ module _ (basin : Draft) (start : Cells) (laid : IsLaidOut basin)
       → MayLead basin no_rules first others other → IsOver basin (standing other)
       → IsSettledLog other × (last_closed other ≡ basin.control.stamps.count)
       × ((cell : Cell) → value_in (cells_of basin log) cell ≡ value_in (cells_of basin other) cell)
-  any_order first events others log other some is begins leads end settled leads_other end_other =
-      let orderly = all_orderly first events log is leads (settled_goes log settled) in
+  any_order first events others log other some is begins leads end solved_balance leads_other end_other =
+      let orderly = all_orderly first events log is leads (settled_goes log solved_balance) in
       let whole = whole_by log some orderly end in
       let within =
       never_leaves (cells_of basin log) (opening log) first others other orderly.sound whole.rest is (kept_below first log begins orderly)

@@ -1,7 +1,8 @@
 -- An object that has nothing to put, where all that stands in its places is given to it, has nothing to put where less is known.
 use Rattle.rw_order.proofs.Common.{Bool, Given, Holds, Idle, IdleAnswer, IsSome, Kind, None, Option, Reservoir, Some, View, [], answer, ap, ap₂}
 use Rattle.rw_order.proofs.Common.{arith, balance_of, balanced_of, basis_of, both_ways, contents_by, false, fault_of_contents, fits, given}
-use Rattle.rw_order.proofs.Common.{if◌then◌else◌, is_some, missing, nat_le, nat_tests, puts_of, refl, settled, settled_at, solve_of, subst, sym, true}
+use Rattle.rw_order.proofs.Common.{if◌then◌else◌, is_some, missing, nat_le, nat_tests, puts_of, refl, solved_balance, solved_at, solve_of, subst, sym}
+use Rattle.rw_order.proofs.Common.{true}
 use Rattle.rw_order.proofs.Common.{weakest, ℕ, ℤ, ◌+◌, ◌==◌, ◌∙◌, ◌∷◌, ◌≡◌, ◌≤◌}
 use Rattle.rw_order.specs.Free.{is_free}
 use Rattle.rw_order.proofs.Held.{IsSeenOf, IsWhole, Sight, Values, given_stands}
@@ -27,18 +28,19 @@ fewer one other (part ∷ parts) more =
     fewer_first (one part.1) (other part.1) (missing (terms_of one parts)) (missing (terms_of other parts)) (more part.1) (fewer one other parts more)
 
 stays_idle : (steady_one steady_other : Option ℤ) (one other : Sight) (parts : Parts) → Carries steady_other steady_one
-    → ((place : ℕ) → IsSome (other place) → IsSome (one place)) → settled steady_one (terms_of one parts) ≡ Idle
-    → settled steady_other (terms_of other parts) ≡ Idle
+    → ((place : ℕ) → IsSome (other place) → IsSome (one place)) → solved_balance steady_one (terms_of one parts) ≡ Idle
+    → solved_balance steady_other (terms_of other parts) ≡ Idle
 stays_idle steady_one None one other parts carries more idle = refl
 stays_idle steady_one (Some steady) one other [] carries more idle =
-    absurd (both_ways (is_idle Holds) refl (ap is_idle (ap (λ s. settled s []) (sym carries) ∙ idle)))
+    absurd (both_ways (is_idle Holds) refl (ap is_idle (ap (λ s. solved_balance s []) (sym carries) ∙ idle)))
 stays_idle steady_one (Some steady) one other (part ∷ parts) carries more idle =
-    let here : settled (Some steady) (terms_of one (part ∷ parts)) ≡ Idle = ap (λ s. settled s (terms_of one (part ∷ parts))) (sym carries) ∙ idle in
+    let here : solved_balance (Some steady) (terms_of one (part ∷ parts)) ≡ Idle =
+    ap (λ s. solved_balance s (terms_of one (part ∷ parts))) (sym carries) ∙ idle in
     let many : nat_le 2 (missing (terms_of one (part ∷ parts))) ≡ true =
     subst (Comes steady (terms_of one (part ∷ parts))) here (comes steady (term_in one part) (terms_of one parts)) in
     let le = fewer one other (part ∷ parts) more in
     let still : nat_le 2 (missing (terms_of other (part ∷ parts))) ≡ true = grind (arith, nat_tests, many, le) in
-    ap (λ test. if test then Idle else settled_at steady (terms_of other (part ∷ parts)) (weakest (term_in other part) (terms_of other parts))
+    ap (λ test. if test then Idle else solved_at steady (terms_of other (part ∷ parts)) (weakest (term_in other part) (terms_of other parts))
     (weakest (term_in other part) (terms_of other parts)).given)
     still
 

@@ -52,8 +52,8 @@ pub use Rattle.rw_method.specs.Contents.{agree, are_both_zero, basis_of, can_hol
 pub use Rattle.rw_method.specs.Contents.{fault_of_basis, volume_of}
 pub use Rattle.rw_method.specs.Puts.{beside_basis, beside_given, evaporation_put, held_by, is_bounded, known_after, level_puts, put, put_found}
 pub use Rattle.rw_method.specs.Puts.{puts_of, release_puts, seepage_put, solved_put, user_puts}
-pub use Rattle.rw_method.specs.Settling.{IsSolved, gives_way_before, greatest_beside, missing, net_of, priority_of, settled, settled_at, solves}
-pub use Rattle.rw_method.specs.Settling.{value_from_others, weakest}
+pub use Rattle.rw_method.specs.Solving.{IsSolved, gives_way_before, greatest_beside, missing, net_of, priority_of, solved_balance, solved_at, solves}
+pub use Rattle.rw_method.specs.Solving.{value_from_others, weakest}
 pub use Rattle.rw_method.specs.Solve.{AllFit, all_or_misfit, answer, answer_of_puts, balanced_of, fault_of_contents, fault_of_past, first_fault}
 pub use Rattle.rw_method.specs.Solve.{first_misfit, fits, or_else, solve_of, unless_faulty}
 pub use Rattle.rw_method.specs.Term.{IsShare, brought, brought_by, per_mille}
@@ -74,7 +74,7 @@ pub use Rattle.rw_series.proofs.Bounds.{bounds-shared}
 pub use Rattle.rw_series.proofs.Sharing.{Shared-of, among_group, known_number, linked_alike, together_alike, together_turned}
 pub use Rattle.rw_series.specs.Series.{is_shared}
 pub use Rattle.rw_series.specs.declared.look.Look.{Look}
-pub use Rattle.rw_inputs.specs.Givens.{givens, givens_of, givens_to, if_given}
+pub use Rattle.rw_inputs.specs.Placings.{placings, placings_of, placings_to, if_placed}
 pub use Rattle.rw_inputs.specs.Inputs.{Inputs, IsInputsOf, value_at}
 pub use Rattle.rw_run.proofs.Lists.{any-times, times-numbers}
 pub use Rattle.rw_run.proofs.Waits.{times-waiting}
@@ -84,11 +84,11 @@ pub use Rattle.rw_run.specs.Dispatch.{Past, answered, asked_by, asked_for, bound
 pub use Rattle.rw_run.specs.Dispatch.{dispatched, end_in, is_written, judged, looks_of, or_fault, past_at, past_of, past_value, places, puts_written}
 pub use Rattle.rw_run.specs.Dispatch.{solved_by, value_of_past, view_of}
 pub use Rattle.rw_run.specs.Frame.{IsFault}
-pub use Rattle.rw_run.specs.Log.{Asked, Cells, Event, Log, cells_of, closed, fault, fired, given as given_to, held_after, idle, input_content}
+pub use Rattle.rw_run.specs.Log.{Asked, Cells, Event, Log, cells_of, closed, fault, fired, placed as given_to, held_after, idle, input_content}
 pub use Rattle.rw_run.specs.Log.{is_number, last_put, opened, solved, value_in, written_by}
 pub use Rattle.rw_run.specs.Next.{after_objects, agenda_of, asked_next, dispatches, is_due, no_rules}
 pub use Rattle.rw_run.specs.RunOf.{end_of, last_closed}
-pub use Rattle.rw_run.specs.Runs.{IsOver, IsRun, Leads, Standing, follows, follows_by, inside, over, placed, rests, standing}
+pub use Rattle.rw_run.specs.Runs.{IsOver, IsRun, Leads, Standing, follows, follows_by, inside, over, with_inputs, rests, standing}
 pub use Rattle.rw_run.specs.Times.{times}
 pub use Rattle.rw_run.specs.Waiting.{ends_wait, first_of, is_at, is_put_at, is_since, numbers, since, waiting, waiting_below, wakes}
 pub use Rattle.rw_run.specs.declared.fault.RunFault.TheVariants.{ObjectLimit}

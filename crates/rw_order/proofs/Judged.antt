@@ -73,13 +73,13 @@ puts_in (Puts puts) = Some puts
 puts_in answered = None
 
 -- the balance came to something, and nothing is wrong
-abbrev IsSettled : Balanced → Type 0
-IsSettled Holds = Unit {0}
-IsSettled (Solves place value number) = Unit {0}
-IsSettled balanced = ⊥
+abbrev IsBalanceMet : Balanced → Type 0
+IsBalanceMet Holds = Unit {0}
+IsBalanceMet (Solves place value number) = Unit {0}
+IsBalanceMet balanced = ⊥
 
 record IsJudged (fit : Put → Bool) (judging puts : List Put) (balanced : Balanced) (fault : Option Solved) : Type 0 where
-  settled_one : IsSettled balanced
+  met_one : IsBalanceMet balanced
   fine : fault ≡ None
   same : judging ≡ puts
   fit_all : AllFit fit judging
@@ -101,7 +101,7 @@ judged_by fit judging puts balanced (Some found) faulty e = absurd (both_ways (i
 judged_by fit judging puts (Conflicts place held solves_as) None faulty e = absurd (none-some _ (ap puts_in e))
 judged_by fit judging puts balanced None faulty e =
     let judged = judged_as fit judging puts (first_misfit fit judging) refl e in
-    record { settled_one = tt; fine = refl; same = judged.same; fit_all = judged.fit_all }
+    record { met_one = tt; fine = refl; same = judged.same; fit_all = judged.fit_all }
 
 abbrev is_idle_answer : Solved → Bool
 is_idle_answer IdleAnswer = true
@@ -184,7 +184,7 @@ pub answered_of : (kind : Kind) (values : Values) (view : View) (puts : List Put
 answered_of kind values view puts free e held = record {
   fine = judged.fine;
   stands =
-      by (balanced_of kind view) judged.settled_one
+      by (balanced_of kind view) judged.met_one
       (all_left (λ (put : Put). values put.place ≡ Some put.value) (solved_put (balanced_of kind view)) _ there);
   held =
       all_right (λ (put : Put). values put.place ≡ Some put.value) (solved_put (balanced_of kind view))
@@ -202,7 +202,7 @@ answered_of kind values view puts free e held = record {
     there : AreHeld values (solved_put (balanced_of kind view) ++ rest_of kind view (balanced_of kind view))
     there = subst (AreHeld values) (sym judged.same) held
 
-    by : (balanced : Balanced) → IsSettled balanced → AreHeld values (solved_put balanced) → StandsIn values balanced
+    by : (balanced : Balanced) → IsBalanceMet balanced → AreHeld values (solved_put balanced) → StandsIn values balanced
     by Holds is solved_there = tt
     by (Solves place value number) is solved_there = solved_there.0
     by balanced is solved_there = absurd is

@@ -2,7 +2,8 @@
 use Rattle.rw_order.proofs.Common.{AllByRecursion, Balanced, Bool, Brings, Elevation, Given, Holds, List, None, Option, OutOfRange, Put, Row, Solved}
 use Rattle.rw_order.proofs.Common.{Solves, Some, Storage, Takes, View, [], ap, arith, basis_of, beside_given, both_ways, can_hold, contents_by}
 use Rattle.rw_order.proofs.Common.{elevation_of, false, fault_of_basis, given, if◌then◌else◌, inl, inr, is_some, level_puts, nat_le, nat_tests}
-use Rattle.rw_order.proofs.Common.{none-some, pos, put_found, refl, same_Some, settled, subst, sym, true, unwrap_or, volume_of, ℕ, ℤ, ◌==◌, ◌∙◌, ◌∷◌}
+use Rattle.rw_order.proofs.Common.{none-some, pos, put_found, refl, same_Some, solved_balance, subst, sym, true, unwrap_or, volume_of, ℕ, ℤ, ◌==◌}
+use Rattle.rw_order.proofs.Common.{◌∙◌, ◌∷◌}
 use Rattle.rw_order.proofs.Common.{◌≡◌}
 use Rattle.rw_order.proofs.Held.{AreHeld, AreZero, Sight, Stands, Values}
 use Rattle.rw_order.proofs.Terms.{Parts, store_sight, terms_of}
@@ -79,7 +80,7 @@ module _ (table : Option (List Row)) (storage elevation : Option Given) (zero_st
 
   -- what holds of the puts of a level holds of those beside given contents
   pub beside_of : (P : Put → Type 0) (sight : Sight) (steady : Option ℤ) (balanced : Balanced) → AreZero sight → sight 2 ≡ contents
-      → settled steady (terms_of sight store_parts) ≡ balanced → AllByRecursion P (level_puts table storage elevation balanced)
+      → solved_balance steady (terms_of sight store_parts) ≡ balanced → AllByRecursion P (level_puts table storage elevation balanced)
       → AllByRecursion P (beside_given table storage elevation)
   beside_of P sight steady (Solves place value number) zeros third is all = by (place == 2) refl all
     where
@@ -95,7 +96,7 @@ module _ (table : Option (List Row)) (storage elevation : Option Given) (zero_st
 
   -- where the contents aren't given they are what was solved
   pub third_solved : (sight : Sight) (steady : Option ℤ) (values : Values) (balanced : Balanced)
-      → settled steady (terms_of sight store_parts) ≡ balanced
+      → solved_balance steady (terms_of sight store_parts) ≡ balanced
       → StandsIn values balanced → sight 2 ≡ None → (value : ℤ) × (number : ℕ) × (balanced ≡ Solves 2 value number)
   third_solved sight steady values Holds is stands none =
       absurd (both_ways (is_some (sight 2)) (ap is_some none) (holds_given sight store_parts steady 2 (inr (inr (inl refl))) is))
@@ -113,7 +114,8 @@ module _ (table : Option (List Row)) (storage elevation : Option Given) (zero_st
 
   pub level_stays : (values : Values) (one other : Sight) (steady_one steady_other : Option ℤ) (first second : Balanced) → AreZero one → AreZero other
       → one 2 ≡ contents
-      → other 2 ≡ contents → settled steady_one (terms_of one store_parts) ≡ first → settled steady_other (terms_of other store_parts) ≡ second
+      → other 2 ≡ contents → solved_balance steady_one (terms_of one store_parts) ≡ first
+      → solved_balance steady_other (terms_of other store_parts) ≡ second
       → StandsIn values first → IsWithin values second → AreHeld values (level_puts table storage elevation first)
       → AreHeld values (level_puts table storage elevation second)
   level_stays values one other steady_one steady_other first (Solves place value number) zeros_one zeros_other at_one at_other is_first is_second

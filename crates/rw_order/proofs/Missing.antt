@@ -1,7 +1,8 @@
 -- The solved term is the one that isn't given, where all numbers are 0; so each other term is.
 use Rattle.rw_order.proofs.Common.{Balanced, Bool, Conflicts, Given, Holds, Idle, IsSome, List, None, Option, Solves, Some, Term, View, [], ap, arith}
 use Rattle.rw_order.proofs.Common.{both_ways, false, given, gives_way_before, held_by, if◌then◌else◌, inl, inr, int_eq, known, known_after, missing}
-use Rattle.rw_order.proofs.Common.{nat_le, nat_tests, net_of, none-some, pos, recursion_from_All, refl, same_Some, settled, settled_at, solved_term}
+use Rattle.rw_order.proofs.Common.{nat_le, nat_tests, net_of, none-some, pos, recursion_from_All, refl, same_Some, solved_balance, solved_at}
+use Rattle.rw_order.proofs.Common.{solved_term}
 use Rattle.rw_order.proofs.Common.{solves, subst, sym, true, value_from_others, weakest, ℕ, ℤ, ◌++◌, ◌+ℤ◌, ◌==◌, ◌∙◌, ◌∷◌, ◌≡◌, ◌⊎◌}
 use Rattle.rw_order.proofs.Lists.{all_left, all_right}
 use Rattle.rw_order.proofs.Held.{AreZero, IsSeenOf, Sight, Values, given_known}
@@ -23,7 +24,7 @@ if_place true a b place none e = absurd (none-some _ (sym none ∙ e))
 if_place false a b place none e = e
 
 missing_at : (steady : ℤ) (terms : List Term) (term : Term) (found : Option Given) (place : ℕ) → term.given ≡ found
-    → ((held : Given) → found ≡ Some held → held.number ≡ 0) → place_in (settled_at steady terms term found) ≡ Some place → IsMissing term place
+    → ((held : Given) → found ≡ Some held → held.number ≡ 0) → place_in (solved_at steady terms term found) ≡ Some place → IsMissing term place
 missing_at steady terms term None place is zero_number e = record { there = same_Some _ _ e; none = is }
 missing_at steady terms term (Some held) place is zero_number e =
     let inner = if_place (int_eq (steady +ℤ net_of terms) (pos 0)) Holds _ place refl e in
@@ -46,7 +47,7 @@ weakest_of sight term (part ∷ parts) is =
     (of_either sight (gives_way_before term.given (sight part.1)) term (term_in sight part) is refl)
 
 pub solves_missing : (sight : Sight) (parts : Parts) (steady : Option ℤ) (place number : ℕ) (value : ℤ) → AreZero sight
-    → settled steady (terms_of sight parts) ≡ Solves place value number → sight place ≡ None
+    → solved_balance steady (terms_of sight parts) ≡ Solves place value number → sight place ≡ None
 solves_missing sight parts None place number value zeros is = absurd (none-some _ (ap place_in is))
 solves_missing sight [] (Some steady) place number value zeros is = absurd (none-some _ (ap place_in is))
 solves_missing sight (part ∷ parts) (Some steady) place number value zeros is =
@@ -86,7 +87,8 @@ given_or_solved sight (part ∷ parts) (x ∷ before) term after place among giv
     given_or_solved sight parts before term after place rest given_before.1 given_after later
 
 pub other_given : (sight : Sight) (parts : Parts) (steady : Option ℤ) (solved_place number : ℕ) (value : ℤ) (place : ℕ) → KeepAll parts
-    → settled steady (terms_of sight parts) ≡ Solves solved_place value number → IsPart place parts → IsSome (sight place) ⊎ (solved_place ≡ place)
+    → solved_balance steady (terms_of sight parts) ≡ Solves solved_place value number → IsPart place parts
+    → IsSome (sight place) ⊎ (solved_place ≡ place)
 other_given sight parts None solved_place number value place keep is part = absurd (none-some _ (ap place_in is))
 other_given sight parts (Some steady) solved_place number value place keep is part =
     let found = solved_term steady (terms_of sight parts) solved_place number value (shares_of sight parts keep) is in
@@ -104,7 +106,8 @@ is_idle Idle = true
 is_idle balanced = false
 
 -- where it holds each term is given
-pub holds_given : (sight : Sight) (parts : Parts) (steady : Option ℤ) (place : ℕ) → IsPart place parts → settled steady (terms_of sight parts) ≡ Holds
+pub holds_given : (sight : Sight) (parts : Parts) (steady : Option ℤ) (place : ℕ) → IsPart place parts
+    → solved_balance steady (terms_of sight parts) ≡ Holds
     → IsSome (sight place)
 holds_given sight [] steady place part is = absurd part
 holds_given sight (first ∷ rest) None place part is = absurd (both_ways true (ap is_idle is) refl)
@@ -113,7 +116,7 @@ holds_given sight (first ∷ rest) (Some steady) place part is =
     subst (Comes steady (terms_of sight (first ∷ rest))) is (comes steady (term_in sight first) (terms_of sight rest)) in
     part_given sight (first ∷ rest) place all.0 part
 
--- ---- what stands in a place of a term once the balance is settled
+-- ---- what stands in a place of a term once the balance is solved
 
 given_after : (values : Values) (past : Option ℤ) (view : View) (place : ℕ) (found : Option Given) → IsSeenOf values past view
     → given view place ≡ found
@@ -132,7 +135,8 @@ after_solved values view solved_place number place value false same there other 
 
 module _ (values : Values) (past : Option ℤ) (view : View) (sight : Sight) (parts : Parts) (steady : Option ℤ) (place : ℕ) (keep : KeepAll parts)
     (seen : IsSeenOf values past view) (own : sight place ≡ given view place) (part : IsPart place parts) where
-  pub stands_after : (balanced : Balanced) → settled steady (terms_of sight parts) ≡ balanced → IsWithin values balanced → is_idle balanced ≡ false
+  pub stands_after : (balanced : Balanced) → solved_balance steady (terms_of sight parts) ≡ balanced → IsWithin values balanced
+      → is_idle balanced ≡ false
       → values place ≡ Some (known_after view balanced place).value
   stands_after Idle is within some = absurd (both_ways true some refl)
   stands_after (Conflicts at was solves_as) is within some = absurd within

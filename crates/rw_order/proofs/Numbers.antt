@@ -4,8 +4,9 @@ use Rattle.rw_order.proofs.Common.{Given, Holds, Idle, Kind, List, None, Option,
 use Rattle.rw_order.proofs.Common.{Row, Share, Solves, Some, Term, View, WaterUser, [], ap₂, are_both_zero, arith, balance_of, balanced_of, basis_of}
 use Rattle.rw_order.proofs.Common.{beside_basis, beside_given, both_ways, elevation_of, evaporation_of, evaporation_put, false, given}
 use Rattle.rw_order.proofs.Common.{gives_way_before, greatest_beside, held_by, if◌then◌else◌, int_eq, known, known_after, level_puts, max, missing}
-use Rattle.rw_order.proofs.Common.{nat_le, nat_tests, net_of, priority_of, pos, put, put_found, puts_of, refl, release_puts, seepage_put, settled}
-use Rattle.rw_order.proofs.Common.{settled_at, solve_of, solved_put, solves, subst, suc, sym, true, unwrap_or, user_puts, value_from_others}
+use Rattle.rw_order.proofs.Common.{nat_le, nat_tests, net_of, priority_of, pos, put, put_found, puts_of, refl, release_puts, seepage_put}
+use Rattle.rw_order.proofs.Common.{solved_balance}
+use Rattle.rw_order.proofs.Common.{solved_at, solve_of, solved_put, solves, subst, suc, sym, true, unwrap_or, user_puts, value_from_others}
 use Rattle.rw_order.proofs.Common.{volume_of, weakest, zero, ℕ, ℤ, ◌++◌, ◌+ℤ◌, ◌<◌, ◌==◌, ◌∙◌, ◌∷◌, ◌≡◌, ◌≤◌}
 use Rattle.rw_order.specs.Free.{is_free}
 use Rattle.rw_order.proofs.Lists.{all_joined}
@@ -69,18 +70,18 @@ greatest_zero place sight (part ∷ parts) zeros =
 
 solved_below : (most : ℕ) (steady : ℤ) (terms : List Term) (term : Term) (found : Option Given) → term.place < most
     → greatest_beside term.place terms ≡ 0
-    → SolvesBelow most (settled_at steady terms term found)
+    → SolvesBelow most (solved_at steady terms term found)
 solved_below most steady terms term None near zero_number = (near, zero_number)
 solved_below most steady terms term (Some held) near zero_number =
     solves_if most (int_eq (steady +ℤ net_of terms) (pos 0)) Holds _ tt
     (solves_if most (held.number == 0) (Conflicts term.place held.value (value_from_others steady terms term)) (solves steady terms term) tt
     (near, zero_number))
 
-settled_below : (most : ℕ) (steady : Option ℤ) (sight : Sight) (parts : Parts) → AreZero sight → PartsBelow most parts
-    → SolvesBelow most (settled steady (terms_of sight parts))
-settled_below most None sight parts zeros below = tt
-settled_below most (Some steady) sight [] zeros below = tt
-settled_below most (Some steady) sight (part ∷ parts) zeros below =
+solved_below : (most : ℕ) (steady : Option ℤ) (sight : Sight) (parts : Parts) → AreZero sight → PartsBelow most parts
+    → SolvesBelow most (solved_balance steady (terms_of sight parts))
+solved_below most None sight parts zeros below = tt
+solved_below most (Some steady) sight [] zeros below = tt
+solved_below most (Some steady) sight (part ∷ parts) zeros below =
     let first = term_in sight part in
     let rest = terms_of sight parts in
     solves_if most (nat_le 2 (missing (first ∷ rest))) Idle _ tt
@@ -181,7 +182,7 @@ module _ (kind : Kind) (view : View) (zeros : KnownZero view) (free : is_free ki
   solves_below : (most : ℕ) → PartsBelow most (parts_of kind) → SolvesBelow most (balanced_of kind view)
   solves_below most below =
       subst (SolvesBelow most) (sym (balanced_is kind view free))
-      (settled_below most (balance_of kind view).steady (sight_of kind view) (parts_of kind) (sight_zero kind view zeros) below)
+      (solved_below most (balance_of kind view).steady (sight_of kind view) (parts_of kind) (sight_zero kind view zeros) below)
 
   -- the solved term alone
   alone : PartsBelow 12 (parts_of kind) → ArePlain 0 (solved_put (balanced_of kind view)) 12

@@ -12,7 +12,7 @@ use Rattle.rw_engine.proofs.Anyhow.{chosen_at}
 use Rattle.rw_engine.proofs.Oldest.{run_is_oldest}
 use Rattle.rw_order.proofs.Common.{AgendaOrder, Cell, Cells, Draft, Event, HighFirst, Inputs, IsRun, List, Log, LowFirst, MayLead, None, Option, Some}
 use Rattle.rw_order.proofs.Common.{Standing, [], after_objects, agenda_of, ap, arith, cells_of, find, follows_by, inside, is_due, length, no_rules}
-use Rattle.rw_order.proofs.Common.{over, placed, refl, rests, slice_get, standing, sym, waiting, ℕ, ℤ, ◌<◌, ◌∙◌, ◌∷◌, ◌≡◌, ◌≤◌}
+use Rattle.rw_order.proofs.Common.{over, with_inputs, refl, rests, slice_get, standing, sym, waiting, ℕ, ℤ, ◌<◌, ◌∙◌, ◌∷◌, ◌≡◌, ◌≤◌}
 use Rattle.rw_order.specs.AnyRun.{IsAnyRun}
 
 picks_may_lead : (basin : Draft) (rule : Picking) (old : Log) (events : List Event) (new : Log) → PicksOne rule
@@ -35,7 +35,7 @@ pub picked_is_any : (basin : Draft) (rule : Picking) (inputs : List (Cell × ℤ
     → IsPickedRun basin no_rules rule inputs log
     → IsAnyRun basin inputs log
 picked_is_any basin rule inputs log one run =
-    record { events = run.events; leads = picks_may_lead basin rule (placed [] inputs) run.events log one run.leads; end = run.end }
+    record { events = run.events; leads = picks_may_lead basin rule (with_inputs [] inputs) run.events log one run.leads; end = run.end }
 
 -- so a run is one in any order
 pub run_is_any : (basin : Draft) (inputs : List (Cell × ℤ)) (log : Log) → IsRun basin no_rules inputs log → IsAnyRun basin inputs log

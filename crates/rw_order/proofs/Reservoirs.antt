@@ -3,7 +3,8 @@ use Rattle.rw_order.proofs.Common.{AllByRecursion, Balanced, Bool, Given, IsSome
 use Rattle.rw_order.proofs.Common.{View, [], and_parts, ap, ap₂, arith, balance_of, balanced_of, basis_of, both_ways, can_hold, contents_by}
 use Rattle.rw_order.proofs.Common.{difference, disagreement, evaporation_of, evaporation_put, false, fault_of_basis, fault_of_contents, fault_of_past}
 use Rattle.rw_order.proofs.Common.{fits, given, if◌then◌else◌, int_min, is_bounded, known_after, level_puts, nat_tests, none-some, or_else, put}
-use Rattle.rw_order.proofs.Common.{put_found, refl, release_puts, same_Some, settled, side_flows, solved_put, subst, known_sum, sym, true, volume_of}
+use Rattle.rw_order.proofs.Common.{put_found, refl, release_puts, same_Some, solved_balance, side_flows, solved_put, subst, known_sum, sym, true}
+use Rattle.rw_order.proofs.Common.{volume_of}
 use Rattle.rw_order.proofs.Common.{ℕ, ℤ, ◌&&◌, ◌++◌, ◌-ℤ◌, ◌==◌, ◌∙◌, ◌∷◌, ◌≡◌}
 use Rattle.rw_order.proofs.Lists.{all_joined, all_left, all_right, all_weaker}
 use Rattle.rw_order.proofs.Held.{AreHeld, AreZero, FitsThere, IsSeenOf, Stands, Values, given_stands}
@@ -29,7 +30,7 @@ first_there None b some = some
 first_there (Some a) b some = refl
 
 -- where a balance came to something, what else is brought is known
-steady_there : (steady : Option ℤ) (terms : List Term) → is_idle (settled steady terms) ≡ false → IsSome steady
+steady_there : (steady : Option ℤ) (terms : List Term) → is_idle (solved_balance steady terms) ≡ false → IsSome steady
 steady_there None terms some = absurd (both_ways true some refl)
 steady_there (Some steady) terms some = refl
 
@@ -55,7 +56,7 @@ module _ (initial_storage : ℤ) (table : Option (List Row)) (local_inflow diver
 
   -- the storage that stands there can be held, by what gives the contents
   holds_by : (storage elevation : Option Given) (balanced : Balanced) → given one 2 ≡ storage → given one 3 ≡ elevation → Zero storage
-      → settled (balance_of kind one).steady (terms_of (store_sight table one) store_parts) ≡ balanced → StandsIn values balanced
+      → solved_balance (balance_of kind one).steady (terms_of (store_sight table one) store_parts) ≡ balanced → StandsIn values balanced
       → fault_of_basis table (basis_of storage elevation) ≡ None → AreHeld values (level_puts table storage elevation balanced)
       → AllByRecursion (λ (put : Put). put.place ≡ 2 → can_hold table put.value ≡ true)
       (solved_put balanced ++ level_puts table storage elevation balanced)
@@ -97,7 +98,7 @@ module _ (initial_storage : ℤ) (table : Option (List Row)) (local_inflow diver
       (and_parts (can_hold table value) rest (sym (ap (λ test. (if test then can_hold table value else true) && rest) here) ∙ fit)).0
 
   module _ (answered : Answered kind values one) where
-    is_settled : settled (balance_of kind one).steady (terms_of (store_sight table one) store_parts) ≡ balanced_of kind one
+    is_settled : solved_balance (balance_of kind one).steady (terms_of (store_sight table one) store_parts) ≡ balanced_of kind one
     is_settled = sym (balanced_is kind one refl)
 
     level_held : AreHeld values (level_puts table (given one 2) (given one 3) (balanced_of kind one))

@@ -1,9 +1,10 @@
 -- The log of the inputs, with which every log begins.
 use Rattle.rw_order.proofs.Common.{All-append, All-cons, All-nil, AllByRecursion, Bool, Bounds, Cell, Content, Decides-int_le, Draft, Input, Inputs}
 use Rattle.rw_order.proofs.Common.{IsBasin, IsBetween, IsInputsOf, List, Log, None, Option, Shared-of, Some, [], all_known, all_quantities, all_slots}
-use Rattle.rw_order.proofs.Common.{ap, ap₂, arith, bounds-shared, bounds_in, bounds_in-quantities, cell_at, cells_of, false, given_to, givens}
-use Rattle.rw_order.proofs.Common.{givens_of, givens_to, if_given, if◌then◌else◌, inl, input_content, ints, is_between, is_shared, last_closed}
-use Rattle.rw_order.proofs.Common.{length, none-some, option_or, placed, recursion_from_All, refl, rests, same_Some, slot_numbers, standing, subst}
+use Rattle.rw_order.proofs.Common.{ap, ap₂, arith, bounds-shared, bounds_in, bounds_in-quantities, cell_at, cells_of, false, given_to, placings}
+use Rattle.rw_order.proofs.Common.{placings_of, placings_to, if_placed, if◌then◌else◌, inl, input_content, ints, is_between, is_shared, last_closed}
+use Rattle.rw_order.proofs.Common.{length, none-some, option_or, with_inputs, recursion_from_All, refl, rests, same_Some, slot_numbers, standing}
+use Rattle.rw_order.proofs.Common.{subst}
 use Rattle.rw_order.proofs.Common.{suc, sym, true, value_at, value_in, zero, ℕ, ℤ, ◌&&◌, ◌∷◌, ◌≡◌, ◌≤ℤ◌}
 use Rattle.rw_order.specs.AnyRun.{IsAnyRun, IsSettledLog}
 use Rattle.rw_order.specs.Inside.{AreInside, CanHave}
@@ -59,11 +60,12 @@ module _ (basin : Draft) (valid : IsBasin basin) (laid : IsLaidOut basin) where
           (refl, refl, shared_inside basin at cell value valid shares can)
       by cell content false apart e = begun.each cell content e
 
-  begun_by : (log : Log) (inputs : List (Cell × ℤ)) → AllByRecursion (CanHave basin) inputs → IsBegun basin log → IsBegun basin (placed log inputs)
+  begun_by : (log : Log) (inputs : List (Cell × ℤ)) → AllByRecursion (CanHave basin) inputs → IsBegun basin log
+      → IsBegun basin (with_inputs log inputs)
   begun_by log [] can begun = begun
   begun_by log (input ∷ inputs) can begun = begun_by (given_to input.0 input.1 ∷ log) inputs can.1 (begun_more log input.0 input.1 can.0 begun)
 
-  begun_of : (inputs : List (Cell × ℤ)) → AreInside basin inputs → IsBegun basin (placed [] inputs)
+  begun_of : (inputs : List (Cell × ℤ)) → AreInside basin inputs → IsBegun basin (with_inputs [] inputs)
   begun_of inputs inside =
       begun_by [] inputs (recursion_from_All (CanHave basin) inputs inside)
       (record { opens = refl; stands = refl; each = λ cell content e. absurd (none-some _ e); shared = λ cell other shares. refl })
@@ -91,29 +93,32 @@ module _ (basin : Draft) (valid : IsBasin basin) (laid : IsLaidOut basin) where
       × ((cell : Cell) → value_in (cells_of basin log) cell ≡ value_in (cells_of basin other) cell)
   orders_agree inputs log other inside one settled_one two =
       let begun = begun_of inputs inside in
-      any_order basin (cells_of basin (placed [] inputs)) laid (λ cell content is. (begun.each cell content is).1) valid.whole.control.least_object
-      (placed [] inputs) one.events
-      two.events log other valid.whole.control.timesteps.some (first_orderly (placed [] inputs) begun) (λ cell. refl) one.leads one.end settled_one
+      any_order basin (cells_of basin (with_inputs [] inputs)) laid (λ cell content is. (begun.each cell content is).1)
+      valid.whole.control.least_object
+      (with_inputs [] inputs) one.events
+      two.events log other valid.whole.control.timesteps.some (first_orderly (with_inputs [] inputs) begun) (λ cell. refl) one.leads one.end
+      settled_one
       two.leads two.end
 
 -- ---- what is read as inputs
 
 module _ (basin : Draft) (inputs : Inputs) (made : IsInputsOf basin inputs) where
-  if_inside : (slot step : ℕ) (found : Option ℤ) → value_at inputs slot step ≡ found → AreInside basin (if_given slot step found)
+  if_inside : (slot step : ℕ) (found : Option ℤ) → value_at inputs slot step ≡ found → AreInside basin (if_placed slot step found)
   if_inside slot step None is = All-nil (CanHave basin)
   if_inside slot step (Some value) is =
       All-cons (CanHave basin) (cell_at slot step, value) [] (made.sound slot step value is).within (All-nil (CanHave basin))
 
-  of_inside : (slot steps : ℕ) → AreInside basin (givens_of inputs slot steps)
+  of_inside : (slot steps : ℕ) → AreInside basin (placings_of inputs slot steps)
   of_inside slot zero = All-nil (CanHave basin)
   of_inside slot (suc step) =
-      All-append (CanHave basin) (givens_of inputs slot step) (if_given slot (suc step) (value_at inputs slot (suc step))) (of_inside slot step)
+      All-append (CanHave basin) (placings_of inputs slot step) (if_placed slot (suc step) (value_at inputs slot (suc step))) (of_inside slot step)
       (if_inside slot (suc step) (value_at inputs slot (suc step)) refl)
 
-  to_inside : (slots steps : ℕ) → AreInside basin (givens_to inputs slots steps)
+  to_inside : (slots steps : ℕ) → AreInside basin (placings_to inputs slots steps)
   to_inside zero steps = All-nil (CanHave basin)
   to_inside (suc slot) steps =
-      All-append (CanHave basin) (givens_to inputs slot steps) (givens_of inputs (suc slot) steps) (to_inside slot steps) (of_inside (suc slot) steps)
+      All-append (CanHave basin) (placings_to inputs slot steps) (placings_of inputs (suc slot) steps) (to_inside slot steps)
+      (of_inside (suc slot) steps)
 
-  pub givens_inside : AreInside basin (givens basin inputs)
+  pub givens_inside : AreInside basin (placings basin inputs)
   givens_inside = to_inside (length (all_slots basin.objects)) basin.control.stamps.count

@@ -3,7 +3,7 @@ use Rattle.rw_order.proofs.Common.{AllByRecursion, Balanced, Bifurcation, Bool, 
 use Rattle.rw_order.proofs.Common.{Holds, Idle, IsSome, Kind, List, None, Option, PowerReservoir, Reach, Request, Reservoir, RoutedReach, Row, Share}
 use Rattle.rw_order.proofs.Common.{Solves, Some, Takes, Term, View, WaterUser, [], ap, ap₂, arith, balance_of, balanced_of, basis_of, both_ways}
 use Rattle.rw_order.proofs.Common.{brought, brought_by, contents_by, false, given, gives_way_before, if◌then◌else◌, int_eq, ints, is_some, map}
-use Rattle.rw_order.proofs.Common.{missing, nat_le, net_of, option_map, pos, refl, settled, settled_at, solves, suc, known_sum, true}
+use Rattle.rw_order.proofs.Common.{missing, nat_le, net_of, option_map, pos, refl, solved_balance, solved_at, solves, suc, known_sum, true}
 use Rattle.rw_order.proofs.Common.{value_from_others, weakest, zero, ℕ, ℤ, ◌++◌, ◌+ℤ◌, ◌==◌, ◌∙◌, ◌∷◌, ◌≡◌}
 use Rattle.rw_order.specs.Free.{is_free}
 use Rattle.rw_order.proofs.Held.{Sight, Stands, Values}
@@ -56,8 +56,8 @@ terms_are (RoutedReach initial_content release) view free = absurd (both_ways fa
 terms_are kind view free = refl
 
 pub balanced_is : (kind : Kind) (view : View) → is_free kind ≡ true
-    → balanced_of kind view ≡ settled (balance_of kind view).steady (terms_of (sight_of kind view) (parts_of kind))
-balanced_is kind view free = ap (settled (balance_of kind view).steady) (terms_are kind view free)
+    → balanced_of kind view ≡ solved_balance (balance_of kind view).steady (terms_of (sight_of kind view) (parts_of kind))
+balanced_is kind view free = ap (solved_balance (balance_of kind view).steady) (terms_are kind view free)
 
 -- ---- the term that gives way is given where all are
 
@@ -89,14 +89,14 @@ comes_if : (steady : ℤ) (terms : List Term) (test : Bool) (a b : Balanced) →
 comes_if steady terms true a b x y = x refl
 comes_if steady terms false a b x y = y refl
 
-pub comes : (steady : ℤ) (first : Term) (rest : List Term) → Comes steady (first ∷ rest) (settled (Some steady) (first ∷ rest))
+pub comes : (steady : ℤ) (first : Term) (rest : List Term) → Comes steady (first ∷ rest) (solved_balance (Some steady) (first ∷ rest))
 comes steady first rest =
     comes_if steady (first ∷ rest) (nat_le 2 (missing (first ∷ rest))) Idle
-    (settled_at steady (first ∷ rest) (weakest first rest) (weakest first rest).given) (λ many. many)
+    (solved_at steady (first ∷ rest) (weakest first rest) (weakest first rest).given) (λ many. many)
     (λ few. at (weakest first rest).given refl few)
   where
     at : (found : Option Given) → (weakest first rest).given ≡ found → nat_le 2 (missing (first ∷ rest)) ≡ false
-        → Comes steady (first ∷ rest) (settled_at steady (first ∷ rest) (weakest first rest) found)
+        → Comes steady (first ∷ rest) (solved_at steady (first ∷ rest) (weakest first rest) found)
     at None is few = few
     at (Some held) is few =
         let all = weakest_given first rest (ap is_some is) in

@@ -2,7 +2,8 @@
 use Rattle.rw_order.proofs.Common.{*ℤ-zero, All, All-from_recursion, AllByRecursion, Balanced, Brings, ByRule, Canal, Conflicts, Conveys, DataObject}
 use Rattle.rw_order.proofs.Common.{Decides-int_eq, Gage, Holds, Idle, IsShare, IsSolved, IsSome, Kind, List, None, Option, PowerReservoir, Reach}
 use Rattle.rw_order.proofs.Common.{Request, RoutedReach, Routes, Share, Solves, Some, Takes, Term, WaterUser, [], agree, ap, arith, both_ways}
-use Rattle.rw_order.proofs.Common.{brought, int_eq, ints, nat_tests, net_of, none-some, option_map, pos, recursion_from_All, refl, same_Some, settled}
+use Rattle.rw_order.proofs.Common.{brought, int_eq, ints, nat_tests, net_of, none-some, option_map, pos, recursion_from_All, refl, same_Some}
+use Rattle.rw_order.proofs.Common.{solved_balance}
 use Rattle.rw_order.proofs.Common.{solved_term, subst, suc, sym, true, zero, ℕ, ℤ, ◌++◌, ◌+ℤ◌, ◌∙◌, ◌∷◌, ◌≡◌}
 use Rattle.rw_order.specs.Free.{is_free}
 use Rattle.rw_order.proofs.Lists.{all_left, all_mapped, all_right, all_weaker}
@@ -118,7 +119,7 @@ module _ (values : Values) (sight : Sight) (part : Share × ℕ) (parts : Parts)
   abbrev terms : List Term
   terms = terms_of sight (part ∷ parts)
 
-  true_by : (balanced : Balanced) → settled (Some steady) terms ≡ balanced → StandsIn values balanced → IsTrueOf values steady (part ∷ parts)
+  true_by : (balanced : Balanced) → solved_balance (Some steady) terms ≡ balanced → StandsIn values balanced → IsTrueOf values steady (part ∷ parts)
   true_by Idle is there = absurd there
   true_by (Conflicts place held solved) is there = absurd there
   true_by (Solves place value number) is there =
@@ -129,7 +130,7 @@ module _ (values : Values) (sight : Sight) (part : Share × ℕ) (parts : Parts)
       ap (option_map (λ total. steady +ℤ total)) (all_in values sight (part ∷ parts) stands all.0)
       ∙ ap Some ((Decides-int_eq (steady +ℤ net_of terms) (pos 0)).0 all.1)
 
-  within_by : (balanced : Balanced) → settled (Some steady) terms ≡ balanced → IsTrueOf values steady (part ∷ parts) → IsWithin values balanced
+  within_by : (balanced : Balanced) → solved_balance (Some steady) terms ≡ balanced → IsTrueOf values steady (part ∷ parts) → IsWithin values balanced
   within_by Idle is true_here = tt
   within_by Holds is true_here = tt
   within_by (Solves place value number) is true_here =
@@ -144,18 +145,18 @@ module _ (values : Values) (sight : Sight) (part : Share × ℕ) (parts : Parts)
 
 -- where one view's balance comes to what stands there, another's does too, or comes to nothing
 within : (values : Values) (one other : Sight) (parts : Parts) (steady : ℤ) → KeepAll parts → Stands values one → Stands values other
-    → StandsIn values (settled (Some steady) (terms_of one parts)) → IsWithin values (settled (Some steady) (terms_of other parts))
+    → StandsIn values (solved_balance (Some steady) (terms_of one parts)) → IsWithin values (solved_balance (Some steady) (terms_of other parts))
 within values one other [] steady keep stands_one stands_other there = tt
 within values one other (part ∷ parts) steady keep stands_one stands_other there =
-    within_by values other part parts steady stands_other keep (settled (Some steady) (terms_of other (part ∷ parts))) refl
-    (true_by values one part parts steady stands_one keep (settled (Some steady) (terms_of one (part ∷ parts))) refl there)
+    within_by values other part parts steady stands_other keep (solved_balance (Some steady) (terms_of other (part ∷ parts))) refl
+    (true_by values one part parts steady stands_one keep (solved_balance (Some steady) (terms_of one (part ∷ parts))) refl there)
 
-pub settled_within : (values : Values) (one other : Sight) (parts : Parts) (steady_one steady_other : Option ℤ) → KeepAll parts → Stands values one
+pub solved_within : (values : Values) (one other : Sight) (parts : Parts) (steady_one steady_other : Option ℤ) → KeepAll parts → Stands values one
     → Stands values other
-    → Agree steady_one steady_other → StandsIn values (settled steady_one (terms_of one parts))
-    → IsWithin values (settled steady_other (terms_of other parts))
-settled_within values one other parts None steady_other keep stands_one stands_other agree there = absurd there
-settled_within values one other parts (Some s) None keep stands_one stands_other agree there = tt
-settled_within values one other parts (Some s) (Some t) keep stands_one stands_other agree there =
-    subst (λ steady. IsWithin values (settled (Some steady) (terms_of other parts))) agree
+    → Agree steady_one steady_other → StandsIn values (solved_balance steady_one (terms_of one parts))
+    → IsWithin values (solved_balance steady_other (terms_of other parts))
+solved_within values one other parts None steady_other keep stands_one stands_other agree there = absurd there
+solved_within values one other parts (Some s) None keep stands_one stands_other agree there = tt
+solved_within values one other parts (Some s) (Some t) keep stands_one stands_other agree there =
+    subst (λ steady. IsWithin values (solved_balance (Some steady) (terms_of other parts))) agree
     (within values one other parts s keep stands_one stands_other there)

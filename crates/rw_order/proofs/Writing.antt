@@ -72,7 +72,7 @@ stays_below basin low high written shared below held cell content is =
     sym (ap (option_map (λ (c : Content). c.value)) (shared last.put.cell cell last.shares)) ∙ last.is ∙ ap (λ (c : Content). Some c.value) last.same)
     (λ none stood. below cell content stood)
 
--- ---- a put to a cell that holds its value already, with number 0
+-- ---- a put to a cell that holds its value already, with priority 0
 
 same_kept : (held new : Content) → held.value ≡ new.value → held.number ≡ 0 → end_of_put (Some held) new ≡ Kept
 same_kept held new same zero_number =

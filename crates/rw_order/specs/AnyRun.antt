@@ -6,7 +6,7 @@ use Rattle.rw_model.specs.Draft.{Draft}
 use Rattle.rw_run.specs.Choice.{MayLead}
 use Rattle.rw_run.specs.Log.{Event, Log, cells_of, value_in}
 use Rattle.rw_run.specs.Next.{no_rules}
-use Rattle.rw_run.specs.Runs.{IsOver, placed, standing}
+use Rattle.rw_run.specs.Runs.{IsOver, with_inputs, standing}
 use Rattle.rw_run.specs.Waiting.{since}
 use Rattle.rw_run.specs.RunOf.{end_of}
 use Rattle.rw_run.specs.declared.run.Run.{Run}
@@ -15,7 +15,7 @@ use Rattle.rw_run.specs.declared.run.RunEnd.TheVariants.{Settled}
 -- the whole log of these inputs: they are placed, and event follows event until it is over
 pub record IsAnyRun (basin : Draft) (inputs : List (Cell × ℤ)) (log : Log) : Type 0 where
   pub events : List Event
-  pub leads : MayLead basin no_rules (placed [] inputs) events log
+  pub leads : MayLead basin no_rules (with_inputs [] inputs) events log
   pub end : IsOver basin (standing log)
 
 -- the log ended in no fault

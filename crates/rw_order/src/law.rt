@@ -5,14 +5,14 @@ ghost use Rattle.rw_model.specs.Basin.{IsBasin};
 ghost use Rattle.rw_model.specs.Draft.{Draft};
 ghost use Rattle.rw_model.specs.declared.kind.Kind.TheVariants as Kind;
 ghost use Rattle.rw_series.specs.Series.{held};
-ghost use Rattle.rw_inputs.specs.Givens.{givens};
+ghost use Rattle.rw_inputs.specs.Placings.{placings};
 ghost use Rattle.rw_inputs.specs.Inputs.{Inputs, IsInputsOf};
 ghost use Rattle.rw_run.specs.Dispatch.{cell_at};
 ghost use Rattle.rw_run.specs.Frame.{log_after};
 ghost use Rattle.rw_run.specs.Log.{Log, cells_of, value_in};
 ghost use Rattle.rw_run.specs.Next.{no_rules};
 ghost use Rattle.rw_run.specs.RunOf.{IsRunOf, end_of, last_closed};
-ghost use Rattle.rw_run.specs.Runs.{IsRun, placed};
+ghost use Rattle.rw_run.specs.Runs.{IsRun, with_inputs};
 ghost use Rattle.rw_run.specs.Waiting.{waiting};
 ghost use Rattle.rw_run.specs.declared.run.Run.{Run};
 ghost use Rattle.rw_run.specs.declared.run.RunEnd.TheVariants.{Settled, Fault};
@@ -36,7 +36,7 @@ pub fn any_order()
 /// What is read as inputs is of values that their slots can have.
 pub fn inputs_are_inside()
     ensures { (basin : Draft) (inputs : Inputs) → IsInputsOf basin inputs
-        → AreInside basin (givens basin inputs) }
+        → AreInside basin (placings basin inputs) }
 {}
 
 /// So where the run of inputs settles without rules, in a basin of which the order is free, every order of dispatches closes
@@ -44,8 +44,9 @@ pub fn inputs_are_inside()
 pub fn any_order_of_a_run()
     ensures { (basin : Draft) (inputs : Inputs) (log other : Log) (run : Run)
         → IsBasin basin → order_free basin ≡ true → IsInputsOf basin inputs
-        → IsRun basin no_rules (givens basin inputs) log → IsRunOf basin log run → run.end ≡ Settled
-        → IsAnyRun basin (givens basin inputs) other
+        → IsRun basin no_rules (placings basin inputs) log → IsRunOf basin log run
+        → run.end ≡ Settled
+        → IsAnyRun basin (placings basin inputs) other
         → IsSettledLog other × (last_closed other ≡ run.closed)
         × ((cell : Cell) → value_in (held run.series) cell ≡ value_in (cells_of basin other) cell) }
 {
@@ -87,16 +88,16 @@ pub fn newest_is_last()
 pub fn a_chain()
     ensures free { order_free chain ≡ true }
     ensures oldest { IsPickedRun chain no_rules oldest chain_inputs
-        (log_after chain_oldest (placed [] chain_inputs)) }
+        (log_after chain_oldest (with_inputs [] chain_inputs)) }
     ensures newest { IsPickedRun chain no_rules newest chain_inputs
-        (log_after chain_newest (placed [] chain_inputs)) }
+        (log_after chain_newest (with_inputs [] chain_inputs)) }
     ensures turns { IsPickedRun chain no_rules newest_first chain_inputs
-        (log_after chain_newest (placed [] chain_inputs)) }
+        (log_after chain_newest (with_inputs [] chain_inputs)) }
     ensures oldest_value { value_in
-        (cells_of chain (log_after chain_oldest (placed [] chain_inputs))) (cell_at 5 1)
+        (cells_of chain (log_after chain_oldest (with_inputs [] chain_inputs))) (cell_at 5 1)
         ≡ Some (pos 7) }
     ensures newest_value { value_in
-        (cells_of chain (log_after chain_newest (placed [] chain_inputs))) (cell_at 5 1)
+        (cells_of chain (log_after chain_newest (with_inputs [] chain_inputs))) (cell_at 5 1)
         ≡ Some (pos 7) }
 {}
 
@@ -119,11 +120,11 @@ pub fn free_basins()
 pub fn losing_orders_differ()
     ensures not_free { order_free losing ≡ false }
     ensures oldest { IsPickedRun losing no_rules oldest losing_inputs
-        (log_after losing_oldest (placed [] losing_inputs)) }
+        (log_after losing_oldest (with_inputs [] losing_inputs)) }
     ensures newest { IsPickedRun losing no_rules newest losing_inputs
-        (log_after losing_newest (placed [] losing_inputs)) }
-    ensures settles { end_of (log_after losing_oldest (placed [] losing_inputs)) ≡ Settled }
-    ensures fails { end_of (log_after losing_newest (placed [] losing_inputs))
+        (log_after losing_newest (with_inputs [] losing_inputs)) }
+    ensures settles { end_of (log_after losing_oldest (with_inputs [] losing_inputs)) ≡ Settled }
+    ensures fails { end_of (log_after losing_newest (with_inputs [] losing_inputs))
         ≡ Fault losing_fault }
 {}
 
@@ -132,11 +133,12 @@ pub fn losing_orders_differ()
 pub fn pools_orders_differ()
     ensures not_free { order_free pools ≡ false }
     ensures oldest { IsPickedRun pools no_rules oldest pools_inputs
-        (log_after pools_oldest (placed [] pools_inputs)) }
+        (log_after pools_oldest (with_inputs [] pools_inputs)) }
     ensures newest { IsPickedRun pools no_rules newest pools_inputs
-        (log_after pools_newest (placed [] pools_inputs)) }
-    ensures settles { end_of (log_after pools_oldest (placed [] pools_inputs)) ≡ Settled }
-    ensures fails { end_of (log_after pools_newest (placed [] pools_inputs)) ≡ Fault pools_fault }
+        (log_after pools_newest (with_inputs [] pools_inputs)) }
+    ensures settles { end_of (log_after pools_oldest (with_inputs [] pools_inputs)) ≡ Settled }
+    ensures fails { end_of (log_after pools_newest (with_inputs [] pools_inputs))
+        ≡ Fault pools_fault }
 {}
 
 /// Two reservoirs share a storage of 3 m3, which the second has by its elevation alone. The first one first, it puts 3, and the
@@ -144,10 +146,10 @@ pub fn pools_orders_differ()
 pub fn stores_orders_differ()
     ensures not_free { order_free two_stores ≡ false }
     ensures oldest { IsPickedRun two_stores no_rules oldest stores_inputs
-        (log_after stores_oldest (placed [] stores_inputs)) }
+        (log_after stores_oldest (with_inputs [] stores_inputs)) }
     ensures newest { IsPickedRun two_stores no_rules newest stores_inputs
-        (log_after stores_newest (placed [] stores_inputs)) }
-    ensures settles { end_of (log_after stores_oldest (placed [] stores_inputs)) ≡ Settled }
-    ensures fails { end_of (log_after stores_newest (placed [] stores_inputs))
+        (log_after stores_newest (with_inputs [] stores_inputs)) }
+    ensures settles { end_of (log_after stores_oldest (with_inputs [] stores_inputs)) ≡ Settled }
+    ensures fails { end_of (log_after stores_newest (with_inputs [] stores_inputs))
         ≡ Fault stores_fault }
 {}

@@ -1,7 +1,7 @@
 ghost use Rattle.std.specs.Prelude.{◌≡◌, ◌≤◌, ◌<◌, map, true, IfOk, IsSome};
 ghost use Rattle.rw_model.specs.Basin.{IsBasin};
 ghost use Rattle.rw_method.specs.Catalogue.{AreInOrder};
-ghost use Rattle.rw_inputs.specs.Givens.{givens};
+ghost use Rattle.rw_inputs.specs.Placings.{placings};
 ghost use Rattle.rw_inputs.specs.Inputs.{IsInputsOf};
 ghost use Rattle.rw_run.specs.Log.{Log};
 ghost use Rattle.rw_run.specs.Next.{no_rules};
@@ -82,7 +82,7 @@ pub fn run_any<P: Pick>(
     requires inputs { IsInputsOf basin.now inputs.now }
     ensures run { IfOk result (ComesToPicked basin.now no_rules (P.rule pick.now) inputs.now) }
     ensures free { order_free basin.now ≡ true → (log : Log)
-        → IsAnyRun basin.now (givens basin.now inputs.now) log → IsSettledLog log
+        → IsAnyRun basin.now (placings basin.now inputs.now) log → IsSettledLog log
         → IfOk result (SettlesAs basin.now log) }
     ensures closed { IfOk result (λ run. run.closed ≤ basin.now.control.stamps.count) }
     ensures told { IfOk result (λ run. IsSome run.trace) }

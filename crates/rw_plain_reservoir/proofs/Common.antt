@@ -5,7 +5,7 @@ pub use Rattle.rw_base.proofs.Common.{neg_ℤ, negsuc, none-some, option_map, op
 pub use Rattle.rw_base.proofs.Common.{suc, suc-eq-add-one, sym, take, true, zero, ℕ, ℤ, ◌&&◌, ◌++◌, ◌+ℤ◌, ◌+◌, ◌-ℤ◌, ◌-◌, ◌<◌, ◌==◌, ◌↔◌, ◌∙◌, ◌∷◌}
 pub use Rattle.rw_base.proofs.Common.{◌≡◌, ◌≢◌, ◌≤◌, ◌⊎◌}
 pub use Rattle.rw_base.specs.declared.number.Cell.{Cell}
-pub use Rattle.rw_inputs.specs.Givens.{givens, givens_of, givens_to, if_given}
+pub use Rattle.rw_inputs.specs.Placings.{placings, placings_of, placings_to, if_placed}
 pub use Rattle.rw_inputs.specs.Inputs.{Inputs, value_at}
 pub use Rattle.rw_model.specs.declared.content.Content.{Content}
 pub use Rattle.rw_model.specs.declared.kind.Kind.TheVariants.{Reservoir}

@@ -1,36 +1,36 @@
 -- What the cells hold once the inputs are placed.
-use Rattle.rw_plain_reservoir.proofs.Common.{Bool, Cell, Inputs, List, None, Option, Some, [], ap, arith, false, givens_of, givens_to, if_given}
+use Rattle.rw_plain_reservoir.proofs.Common.{Bool, Cell, Inputs, List, None, Option, Some, [], ap, arith, false, placings_of, placings_to, if_placed}
 use Rattle.rw_plain_reservoir.proofs.Common.{if◌then◌else◌, nat_tests, option_map, option_or, refl, suc, true, value_at, zero, ℕ, ℤ, ◌++◌, ◌==◌, ◌∙◌}
 use Rattle.rw_plain_reservoir.proofs.Common.{◌∷◌, ◌≡◌, ◌≤◌}
 use Rattle.rw_model.specs.Draft.{Draft}
 use Rattle.rw_series.specs.Series.{is_shared}
-use Rattle.rw_run.proofs.Common.{Log, given, cells_of, input_content, cell_at, placed}
+use Rattle.rw_run.proofs.Common.{Log, placed, cells_of, input_content, cell_at, with_inputs}
 use Rattle.rw_plain_reservoir.proofs.Alone.{Case, basin_of}
 
 or_none : {A : Type 0} → (a : Option A) → option_or a None ≡ a
 or_none None = refl
 or_none (Some x) = refl
 
-placed-append : (log : Log) (xs ys : List (Cell × ℤ)) → placed log (xs ++ ys) ≡ placed (placed log xs) ys
+placed-append : (log : Log) (xs ys : List (Cell × ℤ)) → with_inputs log (xs ++ ys) ≡ with_inputs (with_inputs log xs) ys
 placed-append log [] ys = refl
-placed-append log (x ∷ xs) ys = placed-append (given x.0 x.1 ∷ log) xs ys
+placed-append log (x ∷ xs) ys = placed-append (placed x.0 x.1 ∷ log) xs ys
 
 -- ---- the inputs of one slot, behind a log
 
 module _ (basin : Draft) (inputs : Inputs) (log : Log) (slot : ℕ) where
   abbrev behind : ℕ → Log
-  behind n = placed log (givens_of inputs slot n)
+  behind n = with_inputs log (placings_of inputs slot n)
 
   -- one timestep more, whose value the cell shares or not
   one_more : (cell : Cell) (n : ℕ) (shared : Bool) → is_shared basin (cell_at slot (suc n)) cell ≡ shared
       → cells_of basin (behind (suc n)) cell
       ≡ option_or (if shared then option_map input_content (value_at inputs slot (suc n)) else None) (cells_of basin (behind n) cell)
   one_more cell n shared e =
-      ap (λ l. cells_of basin l cell) (placed-append log (givens_of inputs slot n) (if_given slot (suc n) (value_at inputs slot (suc n))))
+      ap (λ l. cells_of basin l cell) (placed-append log (placings_of inputs slot n) (if_placed slot (suc n) (value_at inputs slot (suc n))))
       ∙ at_once (value_at inputs slot (suc n)) shared e
     where
       at_once : (value : Option ℤ) (shared : Bool) → is_shared basin (cell_at slot (suc n)) cell ≡ shared
-          → cells_of basin (placed (behind n) (if_given slot (suc n) value)) cell
+          → cells_of basin (with_inputs (behind n) (if_placed slot (suc n) value)) cell
           ≡ option_or (if shared then option_map input_content value else None) (cells_of basin (behind n) cell)
       at_once None true is = refl
       at_once None false is = refl
@@ -66,21 +66,21 @@ module _ (basin : Draft) (inputs : Inputs) (log : Log) (slot : ℕ) where
 
 module _ (s : Case) (inputs : Inputs) (step n : ℕ) (low : 1 ≤ step) (high : step ≤ n) where
   abbrev after_inflows : Log
-  after_inflows = placed [] (givens_of inputs 1 n)
+  after_inflows = with_inputs [] (placings_of inputs 1 n)
 
   abbrev after_flows : Log
-  after_flows = placed after_inflows (givens_of inputs 2 n)
+  after_flows = with_inputs after_inflows (placings_of inputs 2 n)
 
-  in_turn : (cell : Cell) → cells_of (basin_of s) (placed [] (givens_to inputs 3 n)) cell
-      ≡ cells_of (basin_of s) (placed after_flows (givens_of inputs 3 n)) cell
+  in_turn : (cell : Cell) → cells_of (basin_of s) (with_inputs [] (placings_to inputs 3 n)) cell
+      ≡ cells_of (basin_of s) (with_inputs after_flows (placings_of inputs 3 n)) cell
   in_turn cell =
-      ap (λ l. cells_of (basin_of s) l cell) (placed-append [] (givens_of inputs 1 n ++ givens_of inputs 2 n) (givens_of inputs 3 n)
-      ∙ ap (λ l. placed l (givens_of inputs 3 n)) (placed-append [] (givens_of inputs 1 n) (givens_of inputs 2 n)))
+      ap (λ l. cells_of (basin_of s) l cell) (placed-append [] (placings_of inputs 1 n ++ placings_of inputs 2 n) (placings_of inputs 3 n)
+      ∙ ap (λ l. with_inputs l (placings_of inputs 3 n)) (placed-append [] (placings_of inputs 1 n) (placings_of inputs 2 n)))
 
   -- the cell of a slot holds what is given there
   abbrev HoldsGiven : ℕ → Type 0
   HoldsGiven slot =
-      cells_of (basin_of s) (placed [] (givens_to inputs 3 n)) (cell_at slot step) ≡ option_map input_content (value_at inputs slot step)
+      cells_of (basin_of s) (with_inputs [] (placings_to inputs 3 n)) (cell_at slot step) ≡ option_map input_content (value_at inputs slot step)
 
   pub inflow-placed : HoldsGiven 1
   inflow-placed =

@@ -56,7 +56,7 @@ seen inflow outflow storage past bounds = record {
 abbrev facing : ℤ → ℤ → ℤ → List Bounds → View
 facing inflow outflow past bounds = seen (Some (input_content inflow)) (Some (input_content outflow)) None (Some past) bounds
 
--- a storage that fits is put, under number 0, and any other is told
+-- a storage that fits is put, with priority 0, and any other is told
 abbrev told : Bool → ℤ → Solved
 told fit z = all_or_misfit (put 2 z 0 ∷ []) (if fit then None else Some (put 2 z 0))
 

@@ -1,10 +1,10 @@
 -- The section of the run of a plain reservoir is the text of its run.
 use Rattle.rw_plain_reservoir.proofs.Common.{All, Cell, Fault, FirstModel, Inputs, IsFirstFlows, IsFirstForm, IsFirstText, List, None, Option, RunEnd}
-use Rattle.rw_plain_reservoir.proofs.Common.{Settled, Some, [], ap, arith, givens, none-some, option_map, plain_reservoir, refl, subst, sym, ℕ, ℤ}
+use Rattle.rw_plain_reservoir.proofs.Common.{Settled, Some, [], ap, arith, placings, none-some, option_map, plain_reservoir, refl, subst, sym, ℕ, ℤ}
 use Rattle.rw_plain_reservoir.proofs.Common.{◌+◌, ◌↔◌, ◌∙◌, ◌∷◌, ◌≡◌}
 use Rattle.rw_calendar.specs.Stamps.{Timesteps}
 use Rattle.rw_model.proofs.Common.{IsBasin, IsLink, Draft, bounds_in}
-use Rattle.rw_run.proofs.Common.{Log, cells_of, Policy, input_content, no_rules, end_of, last_closed, IsRun, placed}
+use Rattle.rw_run.proofs.Common.{Log, cells_of, Policy, input_content, no_rules, end_of, last_closed, IsRun, with_inputs}
 use Rattle.rw_report.specs.Section.{section_of, values_in}
 use Rattle.rw_run.proofs.Placed.{standing-placed, end-placed, closed-placed}
 use Rattle.rw_plain_reservoir.proofs.Alone.{Case, basin_of, count_of, model_of, no-links}
@@ -14,13 +14,13 @@ use Rattle.rw_plain_reservoir.proofs.Texts.{same-text}
 
 -- the log once the inputs are placed
 abbrev first_log : Case → Inputs → Log
-first_log s inputs = placed [] (givens (basin_of s) inputs)
+first_log s inputs = with_inputs [] (placings (basin_of s) inputs)
 
 starts : (s : Case) (inputs : Inputs) → IsFirstFlows inputs (count_of s) s.inflows s.outflows → Stands s 0 (first_log s inputs)
 starts s inputs flows = record {
-  standing = standing-placed [] (givens (basin_of s) inputs) refl;
-  end = end-placed [] (givens (basin_of s) inputs) refl;
-  closed = closed-placed [] (givens (basin_of s) inputs);
+  standing = standing-placed [] (placings (basin_of s) inputs) refl;
+  end = end-placed [] (placings (basin_of s) inputs) refl;
+  closed = closed-placed [] (placings (basin_of s) inputs);
   inflow =
       λ t lt. inflow-placed s inputs (t + 1) (count_of s) (omega arith) (omega (arith, lt)) ∙ ap (option_map input_content) (flows.inflow.each t lt);
   outflow =
@@ -72,7 +72,7 @@ tells s log h =
 comes : (s : Case) (inputs : Inputs) → IsCase s → IsFirstFlows inputs (count_of s) s.inflows s.outflows → Comes s (first_log s inputs)
 comes s inputs is flows = runs_on s (count_of s) 0 (first_log s inputs) is (omega arith) (starts s inputs flows)
 
-run_of : (s : Case) (inputs : Inputs) (run : Comes s (first_log s inputs)) → IsRun (basin_of s) no_rules (givens (basin_of s) inputs) run.log
+run_of : (s : Case) (inputs : Inputs) (run : Comes s (first_log s inputs)) → IsRun (basin_of s) no_rules (placings (basin_of s) inputs) run.log
 run_of s inputs run = record { events = run.events; leads = run.leads; end = run.over }
 
 -- any basin in the first form is such a one
@@ -113,20 +113,20 @@ in_first_form basin model inputs inflows outflows P valid form flows all =
 
 pub first_run : (basin : Draft) (model : FirstModel) (inputs : Inputs) (inflows outflows : List ℤ)
     → IsBasin basin → IsFirstForm basin model → IsFirstFlows inputs model.run.count inflows outflows
-    → (log : Log) × IsRun basin no_rules (givens basin inputs) log
+    → (log : Log) × IsRun basin no_rules (placings basin inputs) log
 first_run basin model inputs inflows outflows valid form flows =
-    in_first_form basin model inputs inflows outflows (λ b m ins outs. (log : Log) × IsRun b no_rules (givens b inputs) log) valid form flows
+    in_first_form basin model inputs inflows outflows (λ b m ins outs. (log : Log) × IsRun b no_rules (placings b inputs) log) valid form flows
     (λ s is here. let run = comes s inputs is here in (run.log, run_of s inputs run))
 
 pub first-text : IsOneRun → (basin : Draft) (model : FirstModel) (inputs : Inputs) (inflows outflows : List ℤ) (log : Log)
     → IsBasin basin → IsFirstForm basin model → IsFirstFlows inputs model.run.count inflows outflows
-    → IsRun basin no_rules (givens basin inputs) log
+    → IsRun basin no_rules (placings basin inputs) log
     → Tells basin model inflows outflows log
 first-text one basin model inputs inflows outflows log valid form flows run =
-    in_first_form basin model inputs inflows outflows (λ b m ins outs. IsRun b no_rules (givens b inputs) log → Tells b m ins outs log)
+    in_first_form basin model inputs inflows outflows (λ b m ins outs. IsRun b no_rules (placings b inputs) log → Tells b m ins outs log)
     valid form flows
     (λ s is here that.
     let run = comes s inputs is here in
-    let same = one (basin_of s) no_rules (givens (basin_of s) inputs) run.log log (run_of s inputs run) that in
+    let same = one (basin_of s) no_rules (placings (basin_of s) inputs) run.log log (run_of s inputs run) that in
     tells s log (subst (Ends s) same run.ends))
     run

@@ -11,7 +11,7 @@ ghost use Rattle.rw_run.specs.RunOf.{end_of, last_closed};
 ghost use Rattle.rw_run.specs.Runs.{IsRun};
 ghost use Rattle.rw_report.specs.Section.{section_of, values_in};
 ghost use Rattle.rw_plain_reservoir.specs.FirstForm.{FirstModel, IsFirstForm, IsFirstFlows};
-ghost use Rattle.rw_inputs.specs.Givens.{givens};
+ghost use Rattle.rw_inputs.specs.Placings.{placings};
 ghost use Rattle.rw_plain_reservoir.specs.Reservoir.{IsReservoirRun, storage_at};
 ghost use Rattle.rw_plain_reservoir.specs.Table.{IsFirstText, columns_line, heading_line};
 
@@ -22,7 +22,7 @@ pub fn first_run()
     ensures { (basin : Draft) (model : FirstModel) (inputs : Inputs) (inflows outflows : List ℤ)
         → IsBasin basin → IsFirstForm basin model
         → IsFirstFlows inputs model.run.count inflows outflows
-        → (log : Log) × IsRun basin no_rules (givens basin inputs) log }
+        → (log : Log) × IsRun basin no_rules (placings basin inputs) log }
 {}
 
 /// The section of the run of one plain reservoir, whose inflow and outflow are given, is the text of its run. It says that
@@ -32,7 +32,7 @@ pub fn first_text()
         (inflows outflows : List ℤ) (log : Log)
         → IsBasin basin → IsFirstForm basin model
         → IsFirstFlows inputs model.run.count inflows outflows
-        → IsRun basin no_rules (givens basin inputs) log
+        → IsRun basin no_rules (placings basin inputs) log
         → (fault : Option ℤ)
         × IsFirstText model inflows outflows fault
         (section_of basin 0 (end_of log) (last_closed log) (values_in (cells_of basin log)))

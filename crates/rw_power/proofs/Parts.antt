@@ -17,7 +17,7 @@ use Rattle.rw_method.specs.declared.view.View.{View}
 use Rattle.rw_method.specs.Balance.{power_balance}
 use Rattle.rw_method.specs.Power.{Plant, asked_of, head_of, plant}
 use Rattle.rw_method.specs.Puts.{asked_number, asked_put, energy_puts, flow_puts, held_after_puts, level_puts, power_puts, put, solved_put}
-use Rattle.rw_method.specs.Settling.{settled}
+use Rattle.rw_method.specs.Solving.{solved_balance}
 use Rattle.rw_method.specs.Solve.{AllFit, answer, answer_of_puts, fault_of_level, fault_of_power, solve_of, unless_faulty}
 use Rattle.rw_method.specs.View.{given}
 use Rattle.rw_method.proofs.Misfits.{all_fit, judged_all, judged_refused, refused_at_once, refused_later}
@@ -74,18 +74,18 @@ unsolved asked terms balanced (inl is) = rw is refl
 unsolved asked terms balanced (inr (inl is)) = rw is refl
 unsolved asked terms balanced (inr (inr (place, held, solved, is))) = rw is refl
 
--- what is answered once the balance is settled, with what was reckoned for it
+-- what is answered once the balance is solved, with what was reckoned for it
 pub answered_by : (plant : Plant) (view : View) (head : ℤ) (asked : Option Given) (terms : List Term) (balanced : Balanced) (fault : Option Solved)
     (solved : Solved)
     → head ≡ head_of plant view → asked ≡ asked_of plant view → terms ≡ (power_balance plant view).terms
-    → balanced ≡ settled view.past (power_balance plant view).terms
+    → balanced ≡ solved_balance view.past (power_balance plant view).terms
     → fault ≡ fault_of_level (Some plant.table) view
     → solved ≡ answer_of_puts (can_get (Some plant.table) view)
     (flow_puts asked terms balanced ++ level_puts (Some plant.table) (given view STORAGE) (given view POOL_ELEVATION) balanced
     ++ energy_puts plant head (held_after_puts view (flow_puts asked terms balanced) OUTFLOW))
     → ((fit : Put → Bool) (puts : List Put) → answer fit puts balanced fault ≡ answer_of_puts fit puts)
-    → solved ≡ answer (can_get (Some plant.table) view) (power_puts plant view (settled view.past (power_balance plant view).terms))
-    (settled view.past (power_balance plant view).terms)
+    → solved ≡ answer (can_get (Some plant.table) view) (power_puts plant view (solved_balance view.past (power_balance plant view).terms))
+    (solved_balance view.past (power_balance plant view).terms)
     (fault_of_level (Some plant.table) view)
 answered_by plant view head asked terms balanced fault solved head_is asked_is terms_are balanced_is fault_is is ends =
     is ∙ sym (ends (can_get (Some plant.table) view) (puts head asked terms balanced))
@@ -95,8 +95,8 @@ answered_by plant view head asked terms balanced fault solved head_is asked_is t
     ∙ ap (λ b. answer (can_get (Some plant.table) view) (puts (head_of plant view) (asked_of plant view) (power_balance plant view).terms b) b fault)
     balanced_is
     ∙ ap (λ f. answer (can_get (Some plant.table) view)
-    (puts (head_of plant view) (asked_of plant view) (power_balance plant view).terms (settled view.past (power_balance plant view).terms))
-    (settled view.past (power_balance plant view).terms) f) fault_is
+    (puts (head_of plant view) (asked_of plant view) (power_balance plant view).terms (solved_balance view.past (power_balance plant view).terms))
+    (solved_balance view.past (power_balance plant view).terms) f) fault_is
   where
     puts : ℤ → Option Given → List Term → Balanced → List Put
     puts head asked terms balanced =
@@ -111,11 +111,11 @@ three_same a b c x y z first second third =
 pub solved_as : (initial_storage : ℤ) (table : List Row) (max_release tailwater : ℤ) (power : ℕ) (view : View)
     → fault_of_power (plant table max_release tailwater power) view ≡ None
     → answer (can_get (Some table) view) (power_puts (plant table max_release tailwater power) view
-    (settled view.past (power_balance (plant table max_release tailwater power) view).terms))
-    (settled view.past (power_balance (plant table max_release tailwater power) view).terms) (fault_of_level (Some table) view)
+    (solved_balance view.past (power_balance (plant table max_release tailwater power) view).terms))
+    (solved_balance view.past (power_balance (plant table max_release tailwater power) view).terms) (fault_of_level (Some table) view)
     ≡ solve_of (PowerReservoir initial_storage table max_release tailwater power) view
 solved_as initial_storage table max_release tailwater power view fine =
     sym (ap (λ first. unless_faulty first (answer (can_get (Some table) view)
     (power_puts (plant table max_release tailwater power) view
-    (settled view.past (power_balance (plant table max_release tailwater power) view).terms))
-    (settled view.past (power_balance (plant table max_release tailwater power) view).terms) (fault_of_level (Some table) view))) fine)
+    (solved_balance view.past (power_balance (plant table max_release tailwater power) view).terms))
+    (solved_balance view.past (power_balance (plant table max_release tailwater power) view).terms) (fault_of_level (Some table) view))) fine)

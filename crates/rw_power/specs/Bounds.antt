@@ -1,4 +1,4 @@
--- How great the factors of an energy are, and a request that a release gives.
+-- Within the crate: how great the factors of an energy are, and a request that a release gives.
 use Rattle.std.specs.Prelude.{ℤ, pos, ◌≡◌, ◌≤ℤ◌, Some, None}
 use Rattle.rw_model.specs.declared.content.Content.{Content}
 use Rattle.rw_method.specs.declared.given.Given.{Given}

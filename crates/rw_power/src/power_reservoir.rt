@@ -6,7 +6,7 @@ ghost use Rattle.rw_method.specs.Balance.{lets_out, power_balance};
 ghost use Rattle.rw_method.specs.View.{given};
 ghost use Rattle.rw_method.specs.Term.{IsWithin};
 ghost use Rattle.std.specs.Option.{ForSome};
-ghost use Rattle.rw_method.specs.Settling.{settled};
+ghost use Rattle.rw_method.specs.Solving.{solved_balance};
 ghost use Rattle.rw_method.specs.Puts.{power_puts};
 ghost use Rattle.rw_method.specs.Solve.{answer, fault_of_level, solve_of};
 ghost use Rattle.rw_method.specs.Asking.{can_get};
@@ -16,7 +16,9 @@ use crate::energy::head_of;
 use crate::puts::put_all;
 use crate::request::asked;
 use rw_method::places::{INFLOW, OUTFLOW};
-use rw_method::{Given, Method, Share, Solved, Term, View, ended, fault_of_level, settle, stores};
+use rw_method::{
+    Given, Method, Share, Solved, Term, View, ended, fault_of_level, solve_balance, stores,
+};
 use rw_model::Kind;
 use rw_table::Rating;
 
@@ -64,9 +66,9 @@ fn answer_asked(
         → asked ≡ asked_of (plant rating.now max_release tailwater power) view.entry.now
         → result ≡ answer (can_get (Some rating.now) view.entry.now)
         (power_puts (plant rating.now max_release tailwater power) view.entry.now
-        (settled view.entry.now.past
+        (solved_balance view.entry.now.past
         (power_balance (plant rating.now max_release tailwater power) view.entry.now).terms))
-        (settled view.entry.now.past
+        (solved_balance view.entry.now.past
         (power_balance (plant rating.now max_release tailwater power) view.entry.now).terms)
         (fault_of_level (Some rating.now) view.entry.now) }
 {
@@ -75,7 +77,7 @@ fn answer_asked(
         lets_out(view, asked),
         stores(view, Some(rating)),
     ];
-    let balanced = settle(steady(view), &terms);
+    let balanced = solve_balance(steady(view), &terms);
     match ended(balanced, fault_of_level(view, Some(rating))) {
         Some(answer) => answer,
         None => put_all(

@@ -10,7 +10,7 @@ use Rattle.rw_run.specs.Dispatch.{cell_at}
 use Rattle.rw_run.specs.Frame.{log_after}
 use Rattle.rw_run.specs.Log.{Event}
 use Rattle.rw_run.specs.RunOf.{trace_of}
-use Rattle.rw_run.specs.Runs.{placed}
+use Rattle.rw_run.specs.Runs.{with_inputs}
 use Rattle.rw_report.specs.Lines.{trace_words}
 use Rattle.rw_report.specs.Outcome.{outcome_by}
 use Rattle.rw_report.specs.Why.{why_of}
@@ -36,5 +36,5 @@ five_given = record { columns = [] ∷ (None ∷ Some (pos 5) ∷ []) ∷ [] }
 
 -- why the slot holds what it holds at the timestep, after these inputs and events
 abbrev pub asked : Draft → Inputs → List (Cell × ℤ) → List Event → (slot step : ℕ) → List ℕ
-asked basin inputs givens events slot step =
-    why_of basin inputs (outcome_by basin (log_after events (placed [] givens))) (cell_at slot step)
+asked basin inputs placings events slot step =
+    why_of basin inputs (outcome_by basin (log_after events (with_inputs [] placings))) (cell_at slot step)

@@ -6,12 +6,12 @@ use Rattle.std.proofs.lemmas.List.{length-replicate}
 use Rattle.rw_base.specs.declared.number.Cell.{Cell}
 use Rattle.rw_base.specs.declared.number.StepNo.{StepNo}
 use Rattle.rw_model.specs.Draft.{Draft}
-use Rattle.rw_inputs.specs.Givens.{givens}
+use Rattle.rw_inputs.specs.Placings.{placings}
 use Rattle.rw_inputs.specs.Inputs.{Inputs}
 use Rattle.rw_run.specs.Frame.{IsFramed, log_after}
 use Rattle.rw_run.specs.Log.{Event, Log, cells_of, opened}
 use Rattle.rw_run.specs.Next.{Policy}
-use Rattle.rw_run.specs.Runs.{Leads, placed, rests, standing}
+use Rattle.rw_run.specs.Runs.{Leads, with_inputs, rests, standing}
 use Rattle.rw_run.specs.Reuse.{AreRerun, most_kept}
 use Rattle.rw_run.specs.RunOf.{lines}
 use Rattle.rw_run.specs.Step.{cell_count, events_of, reached_by}
@@ -100,7 +100,9 @@ module _ (basin : Draft) (policy : Policy) (step last : ℕ) (one next : Log) (k
     taken_on = record {
       many = let more = length-append all_kept (Some kept ∷ []) in let at = place_on in omega (arith, more, at);
       events = taken.events ++ opened step ∷ link.first ∷ link.events;
-      leads = leads_more basin policy (placed [] (givens basin inputs)) taken.events (opened step ∷ link.first ∷ link.events) now log_on taken.leads
+      leads =
+          leads_more basin policy (with_inputs [] (placings basin inputs)) taken.events (opened step ∷ link.first ∷ link.events) now log_on
+          taken.leads
           (begins_step basin policy (first_waiting basin now) now step before_on, timestep_on.leads);
       stands = rests_behind step link.first link.events (opened step ∷ now) timestep_on.goes;
       shown = shown_behind basin step one now link.first link.events kept link.timestep.goes link.these shown_here;
@@ -110,16 +112,17 @@ module _ (basin : Draft) (policy : Policy) (step last : ℕ) (one next : Log) (k
           (is_reused basin policy earlier log_on now step kept was closed_on.behind.opening held);
       kept = kept_more basin policy step 1 log_on all_kept (Some kept) place_on
           (still_kept basin policy step 1 now log_on all_kept closed_on.behind (let at = place_on in omega (arith, at)) taken.kept) kept_on;
-      linked = linked_more basin policy step 1 (placed [] (givens basin inputs)) now log_on all_kept (Some kept) place_on taken.linked (record {
-        first = link.first;
-        events = link.events;
-        timestep = timestep_on;
-        shown = shown_here;
-        these = these_again basin policy next log_on now step kept kept_there held;
-        is = refl;
-        few_cells = link.few_cells;
-        few_lines = link.few_lines;
-      });
+      linked =
+          linked_more basin policy step 1 (with_inputs [] (placings basin inputs)) now log_on all_kept (Some kept) place_on taken.linked (record {
+            first = link.first;
+            events = link.events;
+            timestep = timestep_on;
+            shown = shown_here;
+            these = these_again basin policy next log_on now step kept kept_there held;
+            is = refl;
+            few_cells = link.few_cells;
+            few_lines = link.few_lines;
+          });
     }
 
 -- ---- all of them
@@ -200,6 +203,6 @@ begins_by spare pass same changes reran goes = record {
         later = taken.later;
         rerun = subst (λ (steps : List StepNo). AreRerun basin earlier log (numbers_of_steps steps)) (sym reran) taken.rerun;
         kept = subst (AreKept basin policy log 1) (sym now) taken.kept;
-        linked = subst (λ ks. AreStepLinks basin policy 1 (placed [] (givens basin inputs)) ks log) (sym now) taken.linked;
+        linked = subst (λ ks. AreStepLinks basin policy 1 (with_inputs [] (placings basin inputs)) ks log) (sym now) taken.linked;
       };
 }

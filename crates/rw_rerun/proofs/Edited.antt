@@ -10,13 +10,13 @@ use Rattle.rw_model.specs.Links.{group_of, is_among, is_together, slot_numbers}
 use Rattle.rw_model.specs.Objects.{all_slots}
 use Rattle.rw_model.specs.declared.content.Content.{Content}
 use Rattle.rw_inputs.specs.Edits.{Batch, Values, after_batch}
-use Rattle.rw_inputs.specs.Givens.{givens, givens_of, givens_to, if_given}
+use Rattle.rw_inputs.specs.Placings.{placings, placings_of, placings_to, if_placed}
 use Rattle.rw_inputs.specs.Inputs.{Inputs, IsInputsOf, kept_slot, value_at}
 use Rattle.rw_series.specs.Series.{IsCell, is_shared}
 use Rattle.rw_series.proofs.Sharing.{Shared-of, together_alike, together_turned}
 use Rattle.rw_run.specs.Dispatch.{cell_at}
-use Rattle.rw_run.specs.Log.{Cells, Log, cells_of, given, input_content, last_put, written_by}
-use Rattle.rw_run.specs.Runs.{placed}
+use Rattle.rw_run.specs.Log.{Cells, Log, cells_of, placed, input_content, last_put, written_by}
+use Rattle.rw_run.specs.Runs.{with_inputs}
 use Rattle.rw_run.specs.Step.{is_same_cell}
 use Rattle.rw_run.specs.declared.held.Held.{Held}
 use Rattle.rw_record.specs.Noted.{is_noted}
@@ -42,54 +42,55 @@ none_of p xs x none has = by (p x) refl
 -- ---- what inputs give
 
 unplaced : (basin : Draft) (log : Log) (slot step : ℕ) (value : Option ℤ) (cell : Cell) → is_shared basin (cell_at slot step) cell ≡ false
-    → cells_of basin (placed log (if_given slot step value)) cell ≡ cells_of basin log cell
+    → cells_of basin (with_inputs log (if_placed slot step value)) cell ≡ cells_of basin log cell
 unplaced basin log slot step None cell apart = refl
 unplaced basin log slot step (Some value) cell apart =
     ap (λ (test : Bool). option_or (if test then Some (input_content value) else None) (cells_of basin log cell)) apart
 
 placed_alike : (basin : Draft) (one other : Log) (slot step : ℕ) (value : Option ℤ) (cell : Cell)
     → cells_of basin one cell ≡ cells_of basin other cell
-    → cells_of basin (placed one (if_given slot step value)) cell ≡ cells_of basin (placed other (if_given slot step value)) cell
+    → cells_of basin (with_inputs one (if_placed slot step value)) cell ≡ cells_of basin (with_inputs other (if_placed slot step value)) cell
 placed_alike basin one other slot step None cell same = same
 placed_alike basin one other slot step (Some value) cell same =
-    ap (option_or (last_put basin (written_by (given (cell_at slot step) value)) cell)) same
+    ap (option_or (last_put basin (written_by (placed (cell_at slot step) value)) cell)) same
 
 module _ (basin : Draft) (old new : Inputs) (cell : Cell)
     (alike : (slot step : ℕ) → is_shared basin (cell_at slot step) cell ≡ true → value_at old slot step ≡ value_at new slot step) where
   one_alike : (one other : Log) (slot step : ℕ) → cells_of basin one cell ≡ cells_of basin other cell → (shared : Bool)
       → is_shared basin (cell_at slot step) cell ≡ shared
-      → cells_of basin (placed one (if_given slot step (value_at old slot step))) cell
-      ≡ cells_of basin (placed other (if_given slot step (value_at new slot step))) cell
+      → cells_of basin (with_inputs one (if_placed slot step (value_at old slot step))) cell
+      ≡ cells_of basin (with_inputs other (if_placed slot step (value_at new slot step))) cell
   one_alike one other slot step same true shared =
       placed_alike basin one other slot step (value_at old slot step) cell same
-      ∙ ap (λ value. cells_of basin (placed other (if_given slot step value)) cell) (alike slot step shared)
+      ∙ ap (λ value. cells_of basin (with_inputs other (if_placed slot step value)) cell) (alike slot step shared)
   one_alike one other slot step same false apart =
       unplaced basin one slot step (value_at old slot step) cell apart ∙ same
       ∙ sym (unplaced basin other slot step (value_at new slot step) cell apart)
 
   of_alike : (slot steps : ℕ) (one other : Log) → cells_of basin one cell ≡ cells_of basin other cell
-      → cells_of basin (placed one (givens_of old slot steps)) cell ≡ cells_of basin (placed other (givens_of new slot steps)) cell
+      → cells_of basin (with_inputs one (placings_of old slot steps)) cell ≡ cells_of basin (with_inputs other (placings_of new slot steps)) cell
   of_alike slot zero one other same = same
   of_alike slot (suc step) one other same =
-      ap (λ log. cells_of basin log cell) (placed-append one (givens_of old slot step) (if_given slot (suc step) (value_at old slot (suc step))))
-      ∙ one_alike (placed one (givens_of old slot step)) (placed other (givens_of new slot step)) slot (suc step) (of_alike slot step one other same)
+      ap (λ log. cells_of basin log cell) (placed-append one (placings_of old slot step) (if_placed slot (suc step) (value_at old slot (suc step))))
+      ∙ one_alike (with_inputs one (placings_of old slot step)) (with_inputs other (placings_of new slot step)) slot (suc step)
+      (of_alike slot step one other same)
       (is_shared basin (cell_at slot (suc step)) cell) refl
       ∙ sym (ap (λ log. cells_of basin log cell)
-      (placed-append other (givens_of new slot step) (if_given slot (suc step) (value_at new slot (suc step)))))
+      (placed-append other (placings_of new slot step) (if_placed slot (suc step) (value_at new slot (suc step)))))
 
   to_alike : (slots steps : ℕ) (one other : Log) → cells_of basin one cell ≡ cells_of basin other cell
-      → cells_of basin (placed one (givens_to old slots steps)) cell ≡ cells_of basin (placed other (givens_to new slots steps)) cell
+      → cells_of basin (with_inputs one (placings_to old slots steps)) cell ≡ cells_of basin (with_inputs other (placings_to new slots steps)) cell
   to_alike zero steps one other same = same
   to_alike (suc slot) steps one other same =
-      ap (λ log. cells_of basin log cell) (placed-append one (givens_to old slot steps) (givens_of old (suc slot) steps))
-      ∙ of_alike (suc slot) steps (placed one (givens_to old slot steps)) (placed other (givens_to new slot steps))
+      ap (λ log. cells_of basin log cell) (placed-append one (placings_to old slot steps) (placings_of old (suc slot) steps))
+      ∙ of_alike (suc slot) steps (with_inputs one (placings_to old slot steps)) (with_inputs other (placings_to new slot steps))
       (to_alike slot steps one other same)
-      ∙ sym (ap (λ log. cells_of basin log cell) (placed-append other (givens_to new slot steps) (givens_of new (suc slot) steps)))
+      ∙ sym (ap (λ log. cells_of basin log cell) (placed-append other (placings_to new slot steps) (placings_of new (suc slot) steps)))
 
 -- other cells are given what they were given before the batch
 pub given_alike : (basin : Draft) (batch : Batch) (old new : Inputs) (cells : List Cell) → IsInputsOf basin old
     → value_at new ≡ after_batch batch (value_at old) → AreEdited basin batch cells → (cell : Cell) → is_edited basin cells cell ≡ false
-    → cells_of basin (placed [] (givens basin old)) cell ≡ cells_of basin (placed [] (givens basin new)) cell
+    → cells_of basin (with_inputs [] (placings basin old)) cell ≡ cells_of basin (with_inputs [] (placings basin new)) cell
 given_alike basin batch old new cells made values edited cell apart =
     to_alike basin old new cell
     (λ slot step shared.
@@ -141,71 +142,75 @@ module _ (basin : Draft) (inputs : Inputs) (cell kept : Cell) (made : IsInputsOf
 
   -- it stays, whatever is placed
   one_stays : (log : Log) (slot step : ℕ) → cells_of basin log cell ≡ due → (value : Option ℤ) → value_at inputs slot step ≡ value
-      → (test : Bool) → is_shared basin (cell_at slot step) cell ≡ test → cells_of basin (placed log (if_given slot step value)) cell ≡ due
+      → (test : Bool) → is_shared basin (cell_at slot step) cell ≡ test → cells_of basin (with_inputs log (if_placed slot step value)) cell ≡ due
   one_stays log slot step holds None is test here = holds
   one_stays log slot step holds (Some value) is false here = unplaced basin log slot step (Some value) cell here ∙ holds
   one_stays log slot step holds (Some value) is true here =
       ap (λ (b : Bool). option_or (if b then Some (input_content value) else None) (cells_of basin log cell)) here
       ∙ ap (option_map input_content) (sym is ∙ same_kept (cell_at slot step) (made.sound slot step value is).least here)
 
-  of_stays : (slot steps : ℕ) (log : Log) → cells_of basin log cell ≡ due → cells_of basin (placed log (givens_of inputs slot steps)) cell ≡ due
+  of_stays : (slot steps : ℕ) (log : Log) → cells_of basin log cell ≡ due
+      → cells_of basin (with_inputs log (placings_of inputs slot steps)) cell ≡ due
   of_stays slot zero log holds = holds
   of_stays slot (suc step) log holds =
-      ap (λ l. cells_of basin l cell) (placed-append log (givens_of inputs slot step) (if_given slot (suc step) (value_at inputs slot (suc step))))
-      ∙ one_stays (placed log (givens_of inputs slot step)) slot (suc step) (of_stays slot step log holds) (value_at inputs slot (suc step)) refl
+      ap (λ l. cells_of basin l cell) (placed-append log (placings_of inputs slot step) (if_placed slot (suc step) (value_at inputs slot (suc step))))
+      ∙ one_stays (with_inputs log (placings_of inputs slot step)) slot (suc step) (of_stays slot step log holds)
+      (value_at inputs slot (suc step)) refl
       (is_shared basin (cell_at slot (suc step)) cell) refl
 
-  to_stays : (slots steps : ℕ) (log : Log) → cells_of basin log cell ≡ due → cells_of basin (placed log (givens_to inputs slots steps)) cell ≡ due
+  to_stays : (slots steps : ℕ) (log : Log) → cells_of basin log cell ≡ due
+      → cells_of basin (with_inputs log (placings_to inputs slots steps)) cell ≡ due
   to_stays zero steps log holds = holds
   to_stays (suc slot) steps log holds =
-      ap (λ l. cells_of basin l cell) (placed-append log (givens_to inputs slot steps) (givens_of inputs (suc slot) steps))
-      ∙ of_stays (suc slot) steps (placed log (givens_to inputs slot steps)) (to_stays slot steps log holds)
+      ap (λ l. cells_of basin l cell) (placed-append log (placings_to inputs slot steps) (placings_of inputs (suc slot) steps))
+      ∙ of_stays (suc slot) steps (with_inputs log (placings_to inputs slot steps)) (to_stays slot steps log holds)
 
   -- where there is one, it is there once it is placed
   module _ (value : ℤ) (is : value_at inputs kept.slot.0 kept.step.0 ≡ Some value) where
     one_there : (log : Log) (slot step : ℕ) → kept.slot.0 ≡ slot → kept.step.0 ≡ step
-        → cells_of basin (placed log (if_given slot step (value_at inputs slot step))) cell ≡ due
+        → cells_of basin (with_inputs log (if_placed slot step (value_at inputs slot step))) cell ≡ due
     one_there log slot step same_slot same_step =
-        subst (λ s. cells_of basin (placed log (if_given s step (value_at inputs s step))) cell ≡ due) same_slot
-        (subst (λ n. cells_of basin (placed log (if_given kept.slot.0 n (value_at inputs kept.slot.0 n))) cell ≡ due) same_step
-        (ap (λ found. cells_of basin (placed log (if_given kept.slot.0 kept.step.0 found)) cell) is
+        subst (λ s. cells_of basin (with_inputs log (if_placed s step (value_at inputs s step))) cell ≡ due) same_slot
+        (subst (λ n. cells_of basin (with_inputs log (if_placed kept.slot.0 n (value_at inputs kept.slot.0 n))) cell ≡ due) same_step
+        (ap (λ found. cells_of basin (with_inputs log (if_placed kept.slot.0 kept.step.0 found)) cell) is
         ∙ ap (λ (b : Bool). option_or (if b then Some (input_content value) else None) (cells_of basin log cell)) shared
         ∙ sym (ap (option_map input_content) is)))
 
     of_there : (slot steps : ℕ) (log : Log) → kept.slot.0 ≡ slot → 1 ≤ kept.step.0 → kept.step.0 ≤ steps
-        → cells_of basin (placed log (givens_of inputs slot steps)) cell ≡ due
+        → cells_of basin (with_inputs log (placings_of inputs slot steps)) cell ≡ due
     of_there slot zero log same some few = absurd (omega (arith, some, few))
     of_there slot (suc step) log same some few =
-        ap (λ l. cells_of basin l cell) (placed-append log (givens_of inputs slot step) (if_given slot (suc step) (value_at inputs slot (suc step))))
+        ap (λ l. cells_of basin l cell) (placed-append log (placings_of inputs slot step)
+        (if_placed slot (suc step) (value_at inputs slot (suc step))))
         ∙ by (of_there slot step log same some) (kept.step.0 == suc step) refl
       where
-        by : (kept.step.0 ≤ step → cells_of basin (placed log (givens_of inputs slot step)) cell ≡ due) → (test : Bool)
+        by : (kept.step.0 ≤ step → cells_of basin (with_inputs log (placings_of inputs slot step)) cell ≡ due) → (test : Bool)
             → (kept.step.0 == suc step) ≡ test
-            → cells_of basin (placed (placed log (givens_of inputs slot step))
-            (if_given slot (suc step) (value_at inputs slot (suc step)))) cell ≡ due
-        by earlier true here = one_there (placed log (givens_of inputs slot step)) slot (suc step) same (grind (arith, nat_tests, here))
+            → cells_of basin (with_inputs (with_inputs log (placings_of inputs slot step))
+            (if_placed slot (suc step) (value_at inputs slot (suc step)))) cell ≡ due
+        by earlier true here = one_there (with_inputs log (placings_of inputs slot step)) slot (suc step) same (grind (arith, nat_tests, here))
         by earlier false apart =
             let before : kept.step.0 ≤ step = grind (arith, nat_tests, apart, few) in
-            one_stays (placed log (givens_of inputs slot step)) slot (suc step) (earlier before) (value_at inputs slot (suc step)) refl
+            one_stays (with_inputs log (placings_of inputs slot step)) slot (suc step) (earlier before) (value_at inputs slot (suc step)) refl
             (is_shared basin (cell_at slot (suc step)) cell) refl
 
     to_there : (slots steps : ℕ) (log : Log) → 1 ≤ kept.slot.0 → kept.slot.0 ≤ slots → 1 ≤ kept.step.0 → kept.step.0 ≤ steps
-        → cells_of basin (placed log (givens_to inputs slots steps)) cell ≡ due
+        → cells_of basin (with_inputs log (placings_to inputs slots steps)) cell ≡ due
     to_there zero steps log some few first last = absurd (omega (arith, some, few))
     to_there (suc slot) steps log some few first last =
-        ap (λ l. cells_of basin l cell) (placed-append log (givens_to inputs slot steps) (givens_of inputs (suc slot) steps))
+        ap (λ l. cells_of basin l cell) (placed-append log (placings_to inputs slot steps) (placings_of inputs (suc slot) steps))
         ∙ by (λ before. to_there slot steps log some before first last) (kept.slot.0 == suc slot) refl
       where
-        by : (kept.slot.0 ≤ slot → cells_of basin (placed log (givens_to inputs slot steps)) cell ≡ due) → (test : Bool)
+        by : (kept.slot.0 ≤ slot → cells_of basin (with_inputs log (placings_to inputs slot steps)) cell ≡ due) → (test : Bool)
             → (kept.slot.0 == suc slot) ≡ test
-            → cells_of basin (placed (placed log (givens_to inputs slot steps)) (givens_of inputs (suc slot) steps)) cell ≡ due
-        by earlier true here = of_there (suc slot) steps (placed log (givens_to inputs slot steps)) (grind (arith, nat_tests, here)) first last
+            → cells_of basin (with_inputs (with_inputs log (placings_to inputs slot steps)) (placings_of inputs (suc slot) steps)) cell ≡ due
+        by earlier true here = of_there (suc slot) steps (with_inputs log (placings_to inputs slot steps)) (grind (arith, nat_tests, here)) first last
         by earlier false apart =
             let before : kept.slot.0 ≤ slot = grind (arith, nat_tests, apart, few) in
-            of_stays (suc slot) steps (placed log (givens_to inputs slot steps)) (earlier before)
+            of_stays (suc slot) steps (with_inputs log (placings_to inputs slot steps)) (earlier before)
 
   held_given : IsCell basin kept → (value : Option ℤ) → value_at inputs kept.slot.0 kept.step.0 ≡ value
-      → cells_of basin (placed [] (givens basin inputs)) cell ≡ due
+      → cells_of basin (with_inputs [] (placings basin inputs)) cell ≡ due
   held_given known None is =
       to_stays (length (all_slots basin.objects)) basin.control.stamps.count [] (sym (ap (option_map input_content) is))
   held_given known (Some value) is =
@@ -263,7 +268,7 @@ module _ (basin : Draft) (inputs : Inputs) (cell kept : Cell) (made : IsInputsOf
 -- given anew, they hold what they hold where the inputs are placed
 pub given_anew : (basin : Draft) (batch : Batch) (inputs : Inputs) (cells : List Cell) → IsInputsOf basin inputs → AreEdited basin batch cells
     → (was : Cells) (cell : Cell) → is_edited basin cells cell ≡ true
-    → given_all basin inputs cells was cell ≡ cells_of basin (placed [] (givens basin inputs)) cell
+    → given_all basin inputs cells was cell ≡ cells_of basin (with_inputs [] (placings basin inputs)) cell
 given_anew basin batch inputs cells made edited was cell shared =
     let found = Any-from_list_any (λ one. is_shared basin one cell) cells shared in
     let has : Contains cells found.1 = (found.0, found.2, found.3) in

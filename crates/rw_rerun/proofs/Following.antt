@@ -6,12 +6,12 @@ use Rattle.rw_base.specs.declared.memory.NoMemory.{NoMemory}
 use Rattle.rw_base.specs.declared.number.Cell.{Cell}
 use Rattle.rw_model.specs.Draft.{Draft}
 use Rattle.rw_inputs.specs.Edits.{Batch, after_batch}
-use Rattle.rw_inputs.specs.Givens.{givens}
+use Rattle.rw_inputs.specs.Placings.{placings}
 use Rattle.rw_inputs.specs.Inputs.{Inputs, IsInputsOf, value_at}
 use Rattle.rw_run.specs.Frame.{IsFramed}
 use Rattle.rw_run.specs.Log.{Log}
 use Rattle.rw_run.specs.Next.{Policy}
-use Rattle.rw_run.specs.Runs.{placed}
+use Rattle.rw_run.specs.Runs.{with_inputs}
 use Rattle.rw_run.proofs.OneRun.{one_run}
 use Rattle.rw_record.specs.Record.{StepRecord}
 use Rattle.rw_engine.specs.Engine.{Engine}
@@ -78,7 +78,7 @@ passes_behind basin policy inputs cells was behind old new before after result f
       goes = λ given batch earlier leaves kept stands.
           let comes = comes_behind basin policy given inputs batch cells earlier was ready.mid new framed
           (subst (LeavesFirst basin batch cells given inputs was) (sym at) leaves) kept
-          (ready.brings.stands policy (placed [] (givens basin given)) earlier stands) ready.same ready.gives in
+          (ready.brings.stands policy (with_inputs [] (placings basin given)) earlier stands) ready.same ready.gives in
           passes.goes inputs earlier comes.log kept comes.shows comes.taken;
       stay = stays_first was behind new.behind result (ready.same ∙ at) passes.stay;
       each = passes.each;
@@ -183,7 +183,7 @@ module _ (basin : Draft) (policy : Accepted) (session : Session) (inputs : Input
       → IsSpareIn basin policy (session_behind basin policy inputs session.kept pass same) is.log spare
   is_spare spare becomes is =
       let at : spare.behind ≡ behind = becomes.behind_is in
-      let start : Log = placed [] (givens basin inputs) in
+      let start : Log = with_inputs [] (placings basin inputs) in
       let comes =
       becomes.comes policy session.inputs next.batch next.is.log next.leaves next.is.kept (stands_behind_all basin policy session next.is) in
       let some = next.leaves.untouched.few in
@@ -194,7 +194,7 @@ module _ (basin : Draft) (policy : Accepted) (session : Session) (inputs : Input
       let few : spare.behind ≤ length now_kept =
       let all = is.many in let many = next.leaves.many in omega (arith, at, all, many, some) in
       let met_end : next.way.log ≡ is.log =
-      one_run basin in_run (givens basin inputs) next.way.log is.log (whole_way basin in_run inputs next.is.log session.kept pass next.way)
+      one_run basin in_run (placings basin inputs) next.way.log is.log (whole_way basin in_run inputs next.is.log session.kept pass next.way)
       is.whole in
       let split = split_at basin in_run 1 start next.way.log now_kept spare.behind (spare.behind + 1) (omega arith) few next.way.linked in
       let met : split.0 ≡ comes.log =
@@ -233,11 +233,11 @@ module _ (basin : Draft) (policy : Accepted) (session : Session) (inputs : Input
     pub stands_there : IsSpare basin was (record { engine = engine; behind = basin.control.stamps.count })
     stands_there = record {
       policy = policy;
-      start = placed [] (givens basin session.inputs);
+      start = with_inputs [] (placings basin session.inputs);
       end = next.is.log;
-      stands = subst (λ kept. StandsIn basin policy (placed [] (givens basin session.inputs)) next.is.log kept
+      stands = subst (λ kept. StandsIn basin policy (with_inputs [] (placings basin session.inputs)) next.is.log kept
           (record { engine = engine; behind = basin.control.stamps.count })) lent
-          (subst (λ (one : Engine). StandsIn basin policy (placed [] (givens basin session.inputs)) next.is.log session.kept
+          (subst (λ (one : Engine). StandsIn basin policy (with_inputs [] (placings basin session.inputs)) next.is.log session.kept
           (record { engine = one; behind = basin.control.stamps.count })) engine_is (stands_behind_all basin policy session next.is));
     }
 

@@ -3,14 +3,14 @@ use Rattle.rw_base.proofs.Common.{◌≡◌, ◌≤◌, ◌<◌, ◌+◌, ◌∙
 use Rattle.rw_base.proofs.Common.{None, drop, length, map, none-some, refl, sym, ap, subst, arith, slice_get-get_or}
 use Rattle.rw_base.specs.declared.number.Cell.{Cell}
 use Rattle.rw_model.specs.Draft.{Draft}
-use Rattle.rw_inputs.specs.Givens.{givens}
+use Rattle.rw_inputs.specs.Placings.{placings}
 use Rattle.rw_inputs.specs.Inputs.{Inputs}
 use Rattle.rw_series.specs.Series.{held, is_shared}
 use Rattle.rw_series.proofs.Sharing.{Shared-of}
 use Rattle.rw_run.specs.Frame.{IsFramed}
 use Rattle.rw_run.specs.Log.{Log, cells_of}
 use Rattle.rw_run.specs.Next.{Policy}
-use Rattle.rw_run.specs.Runs.{placed}
+use Rattle.rw_run.specs.Runs.{with_inputs}
 use Rattle.rw_run.specs.declared.held.Held.{Held}
 use Rattle.rw_record.specs.Noted.{is_noted}
 use Rattle.rw_record.specs.Record.{StepRecord}
@@ -92,8 +92,8 @@ module _ (basin : Draft) (policy : Accepted) (session : Session) (inputs : Input
       → held pass.engine.series cell ≡ held session.engine.series cell
   same_in cell step before was_from now_from =
       let leaves = next.leaves in
-      let one : Log = placed [] (givens basin session.inputs) in
-      let start : Log = placed [] (givens basin inputs) in
+      let one : Log = with_inputs [] (placings basin session.inputs) in
+      let start : Log = with_inputs [] (placings basin inputs) in
       let some = leaves.untouched.few in
       let few : behind ≤ length now_kept =
       let many = leaves.many in let all = next.way.many in

@@ -4,7 +4,7 @@ use Rattle.rw_base.proofs.Common.{sym, ap, subst, arith, replicate, same_Some, n
 use Rattle.std.proofs.lemmas.Option.{slice_get_read}
 use Rattle.rw_model.specs.Draft.{Draft}
 use Rattle.rw_inputs.specs.Edits.{Batch, after_batch}
-use Rattle.rw_inputs.specs.Givens.{givens}
+use Rattle.rw_inputs.specs.Placings.{placings}
 use Rattle.rw_inputs.specs.Inputs.{Inputs, IsInputsOf, value_at}
 use Rattle.rw_run.specs.Frame.{IsFramed}
 use Rattle.rw_run.specs.Log.{Log}
@@ -121,7 +121,7 @@ applies basin policy batch inputs old pass session values given made way kept sa
   values = values;
   rerun = λ earlier run'.
       subst (λ log. AreRerun basin log way.log (numbers_of_steps pass.reran.items))
-      (one_run basin (policy_in basin policy) (givens basin old.inputs) session.log earlier session.whole run') way.rerun;
+      (one_run basin (policy_in basin policy) (placings basin old.inputs) session.log earlier session.whole run') way.rerun;
   before_same = before;
   kept = kept;
 }

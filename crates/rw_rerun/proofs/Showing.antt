@@ -9,15 +9,15 @@ use Rattle.rw_model.specs.Links.{IsBetween, bounds_in, group_of, slot_numbers}
 use Rattle.rw_model.specs.Objects.{all_slots}
 use Rattle.rw_model.specs.declared.content.Content.{Content}
 use Rattle.rw_model.proofs.Grouping.{all_known}
-use Rattle.rw_inputs.specs.Givens.{givens, givens_of, givens_to, if_given}
+use Rattle.rw_inputs.specs.Placings.{placings, placings_of, placings_to, if_placed}
 use Rattle.rw_inputs.specs.Inputs.{Inputs, IsInputsOf, value_at}
 use Rattle.rw_series.specs.Series.{IsCell, is_shared}
 use Rattle.rw_series.proofs.Bounds.{bounds-shared}
 use Rattle.rw_series.proofs.Sharing.{Shared-of, among_group, known_number, together_alike}
 use Rattle.rw_run.specs.Frame.{IsStepFrom, log_after}
-use Rattle.rw_run.specs.Log.{Asked, Cells, Event, Log, cells_of, given, input_content, last_put, opened}
+use Rattle.rw_run.specs.Log.{Asked, Cells, Event, Log, cells_of, placed, input_content, last_put, opened}
 use Rattle.rw_run.specs.RunOf.{last_closed}
-use Rattle.rw_run.specs.Runs.{placed}
+use Rattle.rw_run.specs.Runs.{with_inputs}
 use Rattle.rw_run.specs.declared.trace.TraceEvent.{TraceEvent}
 use Rattle.rw_run.proofs.Placed.{closed-placed}
 use Rattle.rw_dispatch.specs.Stage.{AreBounded}
@@ -130,39 +130,39 @@ abbrev CanGive : Draft → Cell × ℤ → Type 0
 CanGive basin input = CanWrite basin (record { cell = input.0; content = input_content input.1 })
 
 all_placed : (basin : Draft) (inputs : List (Cell × ℤ)) (log : Log) → All (CanGive basin) inputs → AreShowable basin (cells_of basin log)
-    → AreShowable basin (cells_of basin (placed log inputs))
+    → AreShowable basin (cells_of basin (with_inputs log inputs))
 all_placed basin [] log can was = was
 all_placed basin (input ∷ inputs) log can was =
-    all_placed basin inputs (given input.0 input.1 ∷ log) (All-tail (CanGive basin) input inputs can)
+    all_placed basin inputs (placed input.0 input.1 ∷ log) (All-tail (CanGive basin) input inputs can)
     (put_shown basin (record { cell = input.0; content = input_content input.1 }) (cells_of basin log)
     (All-head (CanGive basin) input inputs can) was)
 
 module _ (basin : Draft) (inputs : Inputs) (made : IsInputsOf basin inputs) where
   one_given : (slot step : ℕ) → IsSlot basin.objects slot → 1 ≤ step → step ≤ basin.control.stamps.count → (value : Option ℤ)
       → value_at inputs slot step ≡ value
-      → All (CanGive basin) (if_given slot step value)
+      → All (CanGive basin) (if_placed slot step value)
   one_given slot step known first last None is = All-nil (CanGive basin)
   one_given slot step known first last (Some value) is =
       All-cons (CanGive basin) (record { slot = record { 0 = slot }; step = record { 0 = step } }, value) []
       (record { cell = record { slot = known; first = first; last = last }; within = (made.sound slot step value is).within })
       (All-nil (CanGive basin))
 
-  of_slot : (slot steps : ℕ) → IsSlot basin.objects slot → steps ≤ basin.control.stamps.count → All (CanGive basin) (givens_of inputs slot steps)
+  of_slot : (slot steps : ℕ) → IsSlot basin.objects slot → steps ≤ basin.control.stamps.count → All (CanGive basin) (placings_of inputs slot steps)
   of_slot slot zero known few = All-nil (CanGive basin)
   of_slot slot (suc step) known few =
-      All-append (CanGive basin) (givens_of inputs slot step) (if_given slot (suc step) (value_at inputs slot (suc step)))
+      All-append (CanGive basin) (placings_of inputs slot step) (if_placed slot (suc step) (value_at inputs slot (suc step)))
       (of_slot slot step known (omega (arith, few)))
       (one_given slot (suc step) known (omega arith) few (value_at inputs slot (suc step)) refl)
 
-  to_slot : (slot : ℕ) → slot ≤ length (all_slots basin.objects) → All (CanGive basin) (givens_to inputs slot basin.control.stamps.count)
+  to_slot : (slot : ℕ) → slot ≤ length (all_slots basin.objects) → All (CanGive basin) (placings_to inputs slot basin.control.stamps.count)
   to_slot zero few = All-nil (CanGive basin)
   to_slot (suc slot) few =
-      All-append (CanGive basin) (givens_to inputs slot basin.control.stamps.count) (givens_of inputs (suc slot) basin.control.stamps.count)
+      All-append (CanGive basin) (placings_to inputs slot basin.control.stamps.count) (placings_of inputs (suc slot) basin.control.stamps.count)
       (to_slot slot (omega (arith, few))) (of_slot (suc slot) basin.control.stamps.count (record { first = omega arith; last = few }) (omega arith))
 
-  pub placed_shown : CanShow basin 1 (placed [] (givens basin inputs))
+  pub placed_shown : CanShow basin 1 (with_inputs [] (placings basin inputs))
   placed_shown =
-      let is = all_placed basin (givens basin inputs) [] (to_slot (length (all_slots basin.objects)) (omega arith)) (record {
+      let is = all_placed basin (placings basin inputs) [] (to_slot (length (all_slots basin.objects)) (omega arith)) (record {
         those = record { shared = λ cell other known shared. refl; none = λ cell unknown. refl };
         bounded = λ cell content known is. absurd (none-some content is);
-      }) in record { cells = is.those; bounded = is.bounded; closed_steps = ap (λ last. last + 1) (sym (closed-placed [] (givens basin inputs))) }
+      }) in record { cells = is.those; bounded = is.bounded; closed_steps = ap (λ last. last + 1) (sym (closed-placed [] (placings basin inputs))) }

@@ -5,14 +5,14 @@ use Rattle.std.specs.List.{flat_map}
 use Rattle.rw_base.specs.declared.number.Cell.{Cell}
 use Rattle.rw_model.specs.Draft.{Draft}
 use Rattle.rw_inputs.specs.Edits.{Batch, after_batch}
-use Rattle.rw_inputs.specs.Givens.{givens}
+use Rattle.rw_inputs.specs.Placings.{placings}
 use Rattle.rw_inputs.specs.Inputs.{Inputs, IsInputsOf, value_at}
 use Rattle.rw_series.specs.Series.{held}
 use Rattle.rw_run.specs.Frame.{IsFramed, IsStepFrom, log_after}
 use Rattle.rw_run.specs.Log.{Event, Log, cells_of, opened}
 use Rattle.rw_run.specs.Next.{Policy}
 use Rattle.rw_run.specs.RunOf.{last_closed, trace_of}
-use Rattle.rw_run.specs.Runs.{Leads, inside, placed, rests, standing}
+use Rattle.rw_run.specs.Runs.{Leads, inside, with_inputs, rests, standing}
 use Rattle.rw_run.specs.declared.trace.TraceEvent.{TraceEvent}
 use Rattle.rw_run.proofs.Passings.{begun, nothing_of}
 use Rattle.rw_run.proofs.Placed.{settled_at_rest, standing-placed, trace-placed}
@@ -85,19 +85,19 @@ first_kept basin policy log step (suc count) [] are = tt
 first_kept basin policy log step (suc count) (one ∷ was) are = (are.0, first_kept basin policy log (step + 1) count was are.1)
 
 none_taken : (basin : Draft) (policy : Policy) (inputs : Inputs) (earlier : Log) → IsInputsOf basin inputs
-    → HasTakenOver basin policy inputs earlier [] (placed [] (givens basin inputs)) 0
+    → HasTakenOver basin policy inputs earlier [] (with_inputs [] (placings basin inputs)) 0
 none_taken basin policy inputs earlier made = record {
   many = refl;
   events = [];
   leads = refl;
-  stands = standing-placed [] (givens basin inputs) refl;
+  stands = standing-placed [] (placings basin inputs) refl;
   shown = placed_shown basin inputs made;
-  later = λ other far. begun (givens basin inputs) other;
+  later = λ other far. begun (placings basin inputs) other;
   rerun = record {
     rising = tt;
     those = λ step. (
       λ (k, less, same). absurd (omega (arith, less)),
-      λ is. absurd (false≢true (subst IsSome (nothing_of step (placed [] (givens basin inputs)) (begun (givens basin inputs) step)).0 is.0)),
+      λ is. absurd (false≢true (subst IsSome (nothing_of step (with_inputs [] (placings basin inputs)) (begun (placings basin inputs) step)).0 is.0)),
     );
   };
   kept = tt;
@@ -113,43 +113,45 @@ alike_self basin log (kept ∷ rest) = (λ one has. refl, alike_self basin log r
 -- as many are taken over behind any inputs with which all is held alike that they hold
 module _ (basin : Draft) (policy : Policy) (one : Inputs) (earlier end : Log) (records : List StepRecord) (framed : IsFramed policy)
     (near : length records ≤ basin.control.stamps.count) (kept : AreKept basin policy earlier 1 (map (λ kept. Some kept) records))
-    (linked : AreStepLinks basin policy 1 (placed [] (givens basin one)) (map (λ kept. Some kept) records) end) where
-  taken_by : (other : Inputs) → IsInputsOf basin other → AreAlikeIn basin (placed [] (givens basin one)) (placed [] (givens basin other)) records
-      → TakesOver basin policy other earlier (map (λ kept. Some kept) records) (placed [] (givens basin one)) (placed [] (givens basin other)) end
+    (linked : AreStepLinks basin policy 1 (with_inputs [] (placings basin one)) (map (λ kept. Some kept) records) end) where
+  taken_by : (other : Inputs) → IsInputsOf basin other
+      → AreAlikeIn basin (with_inputs [] (placings basin one)) (with_inputs [] (placings basin other)) records
+      → TakesOver basin policy other earlier (map (λ kept. Some kept) records) (with_inputs [] (placings basin one))
+      (with_inputs [] (placings basin other)) end
       (length records)
   taken_by other made alike =
-      let from : Log = placed [] (givens basin one) in
-      let start : Log = placed [] (givens basin other) in
+      let from : Log = with_inputs [] (placings basin one) in
+      let start : Log = with_inputs [] (placings basin other) in
       let more : 0 + length records ≡ length records = omega arith in
       subst (TakesOver basin policy other earlier (map (λ kept. Some kept) records) from start end) more
       (takes_over basin policy other earlier records 1 0 from start end [] framed refl (omega (arith, near)) linked
-      (λ step far. begun (givens basin one) step) (none_taken basin policy other earlier made) kept alike)
+      (λ step far. begun (placings basin one) step) (none_taken basin policy other earlier made) kept alike)
 
   -- so they are behind their own
   own_taken : IsInputsOf basin one → HasTakenOver basin policy one earlier (map (λ kept. Some kept) records) end (length records)
   own_taken made =
-      let own = taken_by one made (alike_self basin (placed [] (givens basin one)) records) in
+      let own = taken_by one made (alike_self basin (with_inputs [] (placings basin one)) records) in
       subst (λ log. HasTakenOver basin policy one earlier (map (λ kept. Some kept) records) log (length records))
-      (same_end basin policy records 1 (placed [] (givens basin one)) own.log end own.taken.linked linked) own.taken
+      (same_end basin policy records 1 (with_inputs [] (placings basin one)) own.log end own.taken.linked linked) own.taken
 
 told_in : (basin : Draft) (policy : Policy) (inputs : Inputs) (records : List StepRecord) (end : Log)
-    → AreStepLinks basin policy 1 (placed [] (givens basin inputs)) (map (λ kept. Some kept) records) end
+    → AreStepLinks basin policy 1 (with_inputs [] (placings basin inputs)) (map (λ kept. Some kept) records) end
     → trace_of end ≡ flat_map (λ (kept : StepRecord). kept.lines) records
 told_in basin policy inputs records end linked =
-    told_by basin policy records 1 (placed [] (givens basin inputs)) end linked
-    ∙ ap (λ told. told ++ flat_map (λ (kept : StepRecord). kept.lines) records) (trace-placed [] (givens basin inputs))
+    told_by basin policy records 1 (with_inputs [] (placings basin inputs)) end linked
+    ∙ ap (λ told. told ++ flat_map (λ (kept : StepRecord). kept.lines) records) (trace-placed [] (placings basin inputs))
 
 module _ (basin : Draft) (policy : Policy) (old new : Inputs) (batch : Batch) (cells : List Cell) (earlier end : Log)
     (was : List (Option StepRecord)) (behind : ℕ) (old_made : IsInputsOf basin old) (new_made : IsInputsOf basin new)
     (values : value_at new ≡ after_batch batch (value_at old)) (edited : AreEdited basin batch cells)
-    (are : AreUntouched basin cells (placed [] (givens basin old)) (placed [] (givens basin new)) (take behind was) behind) where
+    (are : AreUntouched basin cells (with_inputs [] (placings basin old)) (with_inputs [] (placings basin new)) (take behind was) behind) where
   abbrev start : Log
-  start = placed [] (givens basin new)
+  start = with_inputs [] (placings basin new)
 
   abbrev those : List (Option StepRecord)
   those = map (λ kept. Some kept) are.records
 
-  module _ (over : TakesOver basin policy new earlier those (placed [] (givens basin old)) start end (length are.records))
+  module _ (over : TakesOver basin policy new earlier those (with_inputs [] (placings basin old)) start end (length are.records))
       (own : HasTakenOver basin policy old earlier those end (length are.records)) where
     module _ (before after : Engine) (showed : Shows basin before end) (gives : GivesAll basin new cells before after) where
       cell_shown : (cell : Cell) (shared : Bool) → is_edited basin cells cell ≡ shared → held after.series cell ≡ cells_of basin over.log cell
@@ -189,10 +191,11 @@ pub takes_first : (basin : Draft) (policy : Policy) (old new : Inputs) (batch : 
     (was : List (Option StepRecord)) (behind : ℕ) → IsFramed policy → IsInputsOf basin old → IsInputsOf basin new
     → value_at new ≡ after_batch batch (value_at old) → AreEdited basin batch cells → length was ≡ basin.control.stamps.count
     → CountsUntouched basin cells was behind → AreKept basin policy earlier 1 was
-    → AreStepLinks basin policy 1 (placed [] (givens basin old)) (take behind was) end → TakesFirst basin policy new cells earlier end was behind
+    → AreStepLinks basin policy 1 (with_inputs [] (placings basin old)) (take behind was) end
+    → TakesFirst basin policy new cells earlier end was behind
 takes_first basin policy old new batch cells earlier end was behind framed old_made new_made values edited many untouched kept linked =
-    let one : Log = placed [] (givens basin old) in
-    let other : Log = placed [] (givens basin new) in
+    let one : Log = with_inputs [] (placings basin old) in
+    let other : Log = with_inputs [] (placings basin new) in
     let are : AreUntouched basin cells one other (take behind was) behind =
     untouched_first basin cells was behind one other untouched
     (λ cell apart. given_alike basin batch old new cells old_made values edited cell apart) in
@@ -208,7 +211,7 @@ takes_first basin policy old new batch cells earlier end was behind framed old_m
 pub comes_behind : (basin : Draft) (policy : Accepted) (old new : Inputs) (batch : Batch) (cells : List Cell) (earlier : Log)
     (was : List (Option StepRecord)) (spare given : Spare) → IsFramed (policy_in basin policy)
     → LeavesFirst basin batch cells old new was spare.behind → AreKept basin (policy_in basin policy) earlier 1 was
-    → StandsIn basin policy (placed [] (givens basin old)) earlier was spare → given.behind ≡ spare.behind
+    → StandsIn basin policy (with_inputs [] (placings basin old)) earlier was spare → given.behind ≡ spare.behind
     → GivesAll basin new cells spare.engine given.engine → HasComeBehind basin policy new earlier was given
 comes_behind basin policy old new batch cells earlier was spare given framed leaves kept stands same gives =
     let first = takes_first basin (policy_in basin policy) old new batch cells earlier stands.log was spare.behind framed
@@ -232,8 +235,9 @@ becomes_spare basin inputs cells was behind count engine back given count_is fra
   comes = λ policy old batch earlier leaves kept stands.
       comes_behind basin policy old inputs batch cells earlier was back given (framed policy stands.made.fits)
       (subst (LeavesFirst basin batch cells old inputs was) (sym brings.behind_is) leaves) kept
-      (brings.stands policy (placed [] (givens basin old)) earlier
-      (subst (λ n. StandsIn basin policy (placed [] (givens basin old)) earlier was (record { engine = engine; behind = n })) (sym count_is) stands))
+      (brings.stands policy (with_inputs [] (placings basin old)) earlier
+      (subst (λ n. StandsIn basin policy (with_inputs [] (placings basin old)) earlier was (record { engine = engine; behind = n }))
+      (sym count_is) stands))
       same gives;
 }
 
@@ -245,7 +249,7 @@ can_give basin was behind old new is brings =
 
 -- a session's engine stands behind all timesteps of its run
 pub stands_behind_all : (basin : Draft) (policy : Accepted) (session : Session) (is : IsSessionOf basin policy session)
-    → StandsIn basin policy (placed [] (givens basin session.inputs)) is.log session.kept
+    → StandsIn basin policy (with_inputs [] (placings basin session.inputs)) is.log session.kept
     (record { engine = session.engine; behind = basin.control.stamps.count })
 stands_behind_all basin policy session is =
     let count : ℕ = basin.control.stamps.count in
@@ -255,7 +259,7 @@ stands_behind_all basin policy session is =
       few = let many = is.many in omega (arith, many);
       log = is.log;
       shows = is.shows;
-      before = subst (λ ks. AreStepLinks basin (policy_in basin policy) 1 (placed [] (givens basin session.inputs)) ks is.log)
+      before = subst (λ ks. AreStepLinks basin (policy_in basin policy) 1 (with_inputs [] (placings basin session.inputs)) ks is.log)
           (sym (take_all count session.kept few)) is.linked;
       rest = subst (λ ks. AreStepLinks basin (policy_in basin policy) (count + 1) is.log ks is.log) (sym (drop_all count session.kept few)) refl;
     }

@@ -3,13 +3,13 @@ use Rattle.rw_base.proofs.Common.{◌≡◌, ◌<◌, ◌≤◌, ◌+◌, ◌∙
 use Rattle.rw_base.proofs.Common.{append_assoc, length-append, refl, sym, ap, subst, arith, false≢true, slice_get, slice_get_within}
 use Rattle.rw_base.specs.declared.number.StepNo.{StepNo}
 use Rattle.rw_model.specs.Draft.{Draft}
-use Rattle.rw_inputs.specs.Givens.{givens}
+use Rattle.rw_inputs.specs.Placings.{placings}
 use Rattle.rw_inputs.specs.Inputs.{Inputs}
 use Rattle.rw_run.specs.Behind.{IsBehind}
 use Rattle.rw_run.specs.Log.{Event, Log}
 use Rattle.rw_run.specs.Next.{Policy}
 use Rattle.rw_run.specs.Reuse.{AreRerun}
-use Rattle.rw_run.specs.Runs.{IsOver, IsRun, Leads, placed, rests, standing}
+use Rattle.rw_run.specs.Runs.{IsOver, IsRun, Leads, with_inputs, rests, standing}
 use Rattle.rw_run.specs.Step.{before_closing, before_opening, events_of}
 use Rattle.rw_record.specs.Record.{StepRecord}
 use Rattle.rw_engine.specs.Shows.{CanShow, IsBefore, Shows}
@@ -56,11 +56,11 @@ module _ (basin : Draft) (policy : Policy) (inputs : Inputs) (earlier : Log) (wa
   changed_now = ap (changed was) changes ∙ changed_more was old.changes.items entry change (ap (slice_get was) way.many ∙ there)
 
   linked_now : (log : Log) → IsStepLink basin policy step way.log (unwrap_or change entry) log
-      → AreStepLinks basin policy 1 (placed [] (givens basin inputs)) (changed was new.changes.items) log
+      → AreStepLinks basin policy 1 (with_inputs [] (placings basin inputs)) (changed was new.changes.items) log
   linked_now log link =
       let many = kept_so_far in
-      subst (λ kept. AreStepLinks basin policy 1 (placed [] (givens basin inputs)) kept log) (sym changed_now)
-      (linked_more basin policy step 1 (placed [] (givens basin inputs)) way.log log (changed was old.changes.items) (unwrap_or change entry)
+      subst (λ kept. AreStepLinks basin policy 1 (with_inputs [] (placings basin inputs)) kept log) (sym changed_now)
+      (linked_more basin policy step 1 (with_inputs [] (placings basin inputs)) way.log log (changed was old.changes.items) (unwrap_or change entry)
       (omega (arith, many, next_one)) way.linked link)
 
   -- one timestep more was passed
@@ -74,7 +74,7 @@ module _ (basin : Draft) (policy : Policy) (inputs : Inputs) (earlier : Log) (wa
     many = so_many;
     log = log;
     events = way.events ++ more;
-    leads = leads_more basin policy (placed [] (givens basin inputs)) way.events more way.log log way.leads leads;
+    leads = leads_more basin policy (with_inputs [] (placings basin inputs)) way.events more way.log log way.leads leads;
     shows = shows;
     stands = stands;
     shown = could;
@@ -125,30 +125,30 @@ module _ (basin : Draft) (policy : Policy) (inputs : Inputs) (earlier : Log) (wa
 -- ---- the first one, and the last
 
 pub first_way : (basin : Draft) (policy : Policy) (inputs : Inputs) (earlier : Log) (was : List (Option StepRecord)) (pass : Pass)
-    → pass.changes.items ≡ [] → pass.reran.items ≡ [] → pass.over ≡ false → Shows basin pass.engine (placed [] (givens basin inputs))
-    → standing (placed [] (givens basin inputs)) ≡ rests 0
-    → ((step : ℕ) → events_of step (placed [] (givens basin inputs)) ≡ [])
-    → ((step : ℕ) → before_opening step (placed [] (givens basin inputs)) ≡ None)
-    → CanShow basin 1 (placed [] (givens basin inputs)) → IsUnderWay basin policy inputs earlier was pass 0
+    → pass.changes.items ≡ [] → pass.reran.items ≡ [] → pass.over ≡ false → Shows basin pass.engine (with_inputs [] (placings basin inputs))
+    → standing (with_inputs [] (placings basin inputs)) ≡ rests 0
+    → ((step : ℕ) → events_of step (with_inputs [] (placings basin inputs)) ≡ [])
+    → ((step : ℕ) → before_opening step (with_inputs [] (placings basin inputs)) ≡ None)
+    → CanShow basin 1 (with_inputs [] (placings basin inputs)) → IsUnderWay basin policy inputs earlier was pass 0
 first_way basin policy inputs earlier was pass changes reran goes shows stands none unopened could = record {
   many = ap length changes;
-  log = placed [] (givens basin inputs);
+  log = with_inputs [] (placings basin inputs);
   events = [];
   leads = refl;
   shows = shows;
   stands = stands ∙ sym (ap (λ o. stands_at o 0) goes);
   shown = λ same. could;
   later = λ other far. none other;
-  rerun = subst (λ steps. AreRerun basin earlier (placed [] (givens basin inputs)) (numbers_of_steps steps)) (sym reran) (record {
+  rerun = subst (λ steps. AreRerun basin earlier (with_inputs [] (placings basin inputs)) (numbers_of_steps steps)) (sym reran) (record {
     rising = tt;
     those = λ step. (
       λ (k, less, same). absurd (omega (arith, less)),
       λ is. absurd (false≢true (subst IsSome (unopened step) is.0)),
     );
   });
-  kept = subst (λ cs. AreKept basin policy (placed [] (givens basin inputs)) 1 (changed was cs)) (sym changes) tt;
+  kept = subst (λ cs. AreKept basin policy (with_inputs [] (placings basin inputs)) 1 (changed was cs)) (sym changes) tt;
   linked =
-      subst (λ cs. AreStepLinks basin policy 1 (placed [] (givens basin inputs)) (changed was cs) (placed [] (givens basin inputs)))
+      subst (λ cs. AreStepLinks basin policy 1 (with_inputs [] (placings basin inputs)) (changed was cs) (with_inputs [] (placings basin inputs)))
       (sym changes) refl;
 }
 
@@ -158,7 +158,7 @@ over_by basin true = tt
 
 -- behind the last timestep the run is whole
 pub whole_way : (basin : Draft) (policy : Policy) (inputs : Inputs) (earlier : Log) (was : List (Option StepRecord)) (pass : Pass)
-    → (way : IsUnderWay basin policy inputs earlier was pass basin.control.stamps.count) → IsRun basin policy (givens basin inputs) way.log
+    → (way : IsUnderWay basin policy inputs earlier was pass basin.control.stamps.count) → IsRun basin policy (placings basin inputs) way.log
 whole_way basin policy inputs earlier was pass way = record {
   events = way.events;
   leads = way.leads;

@@ -6,10 +6,10 @@ use Rattle.rw_model.specs.Draft.{Draft}
 use Rattle.rw_run.specs.Frame.{log_after}
 use Rattle.rw_run.specs.Log.{Event, Log, cells_of, closed, opened, written_by}
 use Rattle.rw_run.specs.Next.{Policy}
-use Rattle.rw_inputs.specs.Givens.{givens}
+use Rattle.rw_inputs.specs.Placings.{placings}
 use Rattle.rw_inputs.specs.Inputs.{Inputs}
 use Rattle.rw_run.specs.Reuse.{AreRerun}
-use Rattle.rw_run.specs.Runs.{Leads, placed, rests, standing}
+use Rattle.rw_run.specs.Runs.{Leads, with_inputs, rests, standing}
 use Rattle.rw_run.specs.Step.{cells_reached, events_of, reached_by}
 use Rattle.rw_run.specs.Timestep.{IsTimestep}
 use Rattle.rw_run.specs.declared.held.Held.{Held}
@@ -57,13 +57,13 @@ HoldAlike basin one other cells = (cell : Cell) → Contains cells cell → cell
 pub record HasTakenOver (basin : Draft) (policy : Policy) (inputs : Inputs) (earlier : Log) (all_kept : List (Option StepRecord)) (log : Log) (step : ℕ) : Type 0 where
   pub many : length all_kept ≡ step
   pub events : List Event
-  pub leads : Leads basin policy (placed [] (givens basin inputs)) events log
+  pub leads : Leads basin policy (with_inputs [] (placings basin inputs)) events log
   pub stands : standing log ≡ rests step
   pub shown : CanShow basin (step + 1) log
   pub later : (other : ℕ) → step < other → events_of other log ≡ []
   pub rerun : AreRerun basin earlier log []
   pub kept : AreKept basin policy log 1 all_kept
-  pub linked : AreStepLinks basin policy 1 (placed [] (givens basin inputs)) all_kept log
+  pub linked : AreStepLinks basin policy 1 (with_inputs [] (placings basin inputs)) all_kept log
 
 -- each cell of these records is held alike behind both logs
 abbrev pub AreAlikeIn : Draft → Log → Log → List StepRecord → Type 0

@@ -1,17 +1,17 @@
--- The cells of a batch, and the timesteps that it doesn't touch.
+-- Within the crate: the cells of a batch, and the timesteps that it doesn't touch.
 use Rattle.std.specs.Prelude.{◌≡◌, Bool, IsFalse, List, [], Contains, Option, IsSome, ℕ, ◌+◌, ◌-◌, length, map, take}
 use Rattle.std.specs.List.{All, list_any, range_with_len}
 use Rattle.rw_base.specs.declared.number.Cell.{Cell}
 use Rattle.rw_model.specs.Draft.{Draft}
 use Rattle.rw_inputs.specs.Edits.{Batch, after_batch}
-use Rattle.rw_inputs.specs.Givens.{givens}
+use Rattle.rw_inputs.specs.Placings.{placings}
 use Rattle.rw_inputs.specs.Inputs.{Inputs, IsInputsOf, kept_slot, value_at}
 use Rattle.rw_inputs.specs.declared.edit.Edit.{Edit}
 use Rattle.rw_series.specs.Series.{IsCell, is_shared}
 use Rattle.rw_run.specs.Dispatch.{cell_at}
 use Rattle.rw_run.specs.Log.{Log, cells_of}
 use Rattle.rw_run.specs.Next.{Policy}
-use Rattle.rw_run.specs.Runs.{placed}
+use Rattle.rw_run.specs.Runs.{with_inputs}
 use Rattle.rw_run.specs.Step.{is_same_cell}
 use Rattle.rw_record.specs.Record.{StepRecord}
 use Rattle.rw_engine.specs.Engine.{Engine}
@@ -72,5 +72,5 @@ pub record BecomesSpare (basin : Draft) (inputs : Inputs) (cells : List Cell) (w
   pub kept : KeepsOn engine spare.engine
   pub comes : (policy : Accepted) (old : Inputs) (batch : Batch) (earlier : Log) → LeavesFirst basin batch cells old inputs was behind
       → AreKept basin (policy_in basin policy) earlier 1 was
-      → StandsIn basin policy (placed [] (givens basin old)) earlier was (record { engine = engine; behind = basin.control.stamps.count })
+      → StandsIn basin policy (with_inputs [] (placings basin old)) earlier was (record { engine = engine; behind = basin.control.stamps.count })
       → HasComeBehind basin policy inputs earlier was spare

@@ -1,13 +1,13 @@
--- The next run of a session: it begins behind the timesteps that a batch leaves.
+-- Within the crate: the next run of a session: it begins behind the timesteps that a batch leaves.
 use Rattle.std.specs.Prelude.{◌≡◌, ◌≤◌, ◌+◌, ℕ, List, [], length, take, IfOk, Option, Result}
 use Rattle.rw_base.specs.declared.memory.NoMemory.{NoMemory}
 use Rattle.rw_base.specs.declared.number.Cell.{Cell}
 use Rattle.rw_model.specs.Draft.{Draft}
 use Rattle.rw_inputs.specs.Edits.{Batch}
-use Rattle.rw_inputs.specs.Givens.{givens}
+use Rattle.rw_inputs.specs.Placings.{placings}
 use Rattle.rw_inputs.specs.Inputs.{Inputs}
 use Rattle.rw_run.specs.Log.{Log}
-use Rattle.rw_run.specs.Runs.{placed}
+use Rattle.rw_run.specs.Runs.{with_inputs}
 use Rattle.rw_record.specs.Record.{StepRecord}
 use Rattle.rw_engine.specs.Shows.{KeepsOn, Shows}
 use Rattle.rpl_verify.specs.Verified.{Accepted}
@@ -50,7 +50,7 @@ pub record PassesBehind (basin : Draft) (policy : Accepted) (inputs : Inputs) (c
   pub made : IfOk result (λ pass. IsPassOf basin policy pass)
   pub kept : IfOk result (λ pass. KeepsOn spare.engine pass.engine)
   pub goes : (old : Inputs) (batch : Batch) (earlier : Log) → LeavesFirst basin batch cells old inputs was behind
-      → AreKept basin (policy_in basin policy) earlier 1 was → StandsIn basin policy (placed [] (givens basin old)) earlier was spare
+      → AreKept basin (policy_in basin policy) earlier 1 was → StandsIn basin policy (with_inputs [] (placings basin old)) earlier was spare
       → IfOk result (λ pass. IsUnderWay basin (policy_in basin policy) inputs earlier was pass basin.control.stamps.count)
   pub stay : IfOk result (StayFirst was behind)
   pub each : IfOk result (λ pass. after ≡ before + length pass.reran.items)

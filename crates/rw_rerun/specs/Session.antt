@@ -5,12 +5,12 @@ use Rattle.rw_base.specs.declared.number.Cell.{Cell}
 use Rattle.rw_base.specs.declared.number.StepNo.{StepNo}
 use Rattle.rw_model.specs.Draft.{Draft}
 use Rattle.rw_inputs.specs.Edits.{Batch, after_batch}
-use Rattle.rw_inputs.specs.Givens.{givens}
+use Rattle.rw_inputs.specs.Placings.{placings}
 use Rattle.rw_inputs.specs.Inputs.{Inputs, IsInputsOf, value_at}
 use Rattle.rw_series.specs.Series.{held}
 use Rattle.rw_run.specs.Log.{Log}
 use Rattle.rw_run.specs.Reuse.{AreOpened, AreRerun}
-use Rattle.rw_run.specs.Runs.{IsRun, placed}
+use Rattle.rw_run.specs.Runs.{IsRun, with_inputs}
 use Rattle.rw_record.specs.Record.{StepRecord}
 use Rattle.rw_engine.specs.Engine.{Engine}
 use Rattle.rw_engine.specs.Shows.{IsEngineOf, KeepsOn, Shows}
@@ -40,11 +40,11 @@ pub record IsSessionOf (basin : Draft) (policy : Accepted) (session : Session) :
   pub made : IsEngineOf basin policy session.engine
   pub noted : IsSome session.engine.noted
   pub log : Log
-  pub whole : IsRun basin (policy_in basin policy) (givens basin session.inputs) log
+  pub whole : IsRun basin (policy_in basin policy) (placings basin session.inputs) log
   pub shows : Shows basin session.engine log
   pub many : length session.kept ≡ basin.control.stamps.count
   pub kept : AreKept basin (policy_in basin policy) log 1 session.kept
-  pub linked : AreStepLinks basin (policy_in basin policy) 1 (placed [] (givens basin session.inputs)) session.kept log
+  pub linked : AreStepLinks basin (policy_in basin policy) 1 (with_inputs [] (placings basin session.inputs)) session.kept log
 
 -- it was started: each timestep was run that the run opened
 pub record IsStarted (basin : Draft) (policy : Accepted) (inputs : Inputs) (session : Session) : Type 0 where
@@ -61,7 +61,7 @@ HoldAsBefore old new = (cell : Cell) → cell.step.0 < new.same → held new.eng
 pub record Applies (basin : Draft) (policy : Accepted) (batch : Batch) (old new : Session) : Type 0 where
   pub is : IsSessionOf basin policy new
   pub values : value_at new.inputs ≡ after_batch batch (value_at old.inputs)
-  pub rerun : (earlier : Log) → IsRun basin (policy_in basin policy) (givens basin old.inputs) earlier
+  pub rerun : (earlier : Log) → IsRun basin (policy_in basin policy) (placings basin old.inputs) earlier
       → AreRerun basin earlier is.log (numbers_of_steps new.reran)
   pub before_same : HoldAsBefore old new
   pub kept : KeepsOn old.engine new.engine

@@ -2,12 +2,12 @@
 use Rattle.std.specs.Prelude.{◌≡◌, ◌≤◌, ◌<◌, ◌+◌, ℕ, if◌then◌else◌, List, [], ◌∷◌, length, option_map, drop, take, replicate, slice_get, Option, Some, None, IfSome, IsSome}
 use Rattle.rw_base.specs.declared.number.Cell.{Cell}
 use Rattle.rw_model.specs.Draft.{Draft}
-use Rattle.rw_inputs.specs.Givens.{givens}
+use Rattle.rw_inputs.specs.Placings.{placings}
 use Rattle.rw_inputs.specs.Inputs.{Inputs, value_at}
 use Rattle.rw_series.specs.Series.{held, is_shared}
 use Rattle.rw_run.specs.Log.{Cells, Log, input_content}
 use Rattle.rw_run.specs.Next.{Policy}
-use Rattle.rw_run.specs.Runs.{placed}
+use Rattle.rw_run.specs.Runs.{with_inputs}
 use Rattle.rw_record.specs.Record.{StepRecord}
 use Rattle.rw_engine.specs.Engine.{Engine}
 use Rattle.rw_engine.specs.Shows.{CanReplay, IsEngineOf, KeepsOn, Shows}
@@ -88,7 +88,7 @@ pub record GivesAll (basin : Draft) (inputs : Inputs) (cells : List Cell) (old n
 
 -- it stands in the session's run, behind timesteps of which each is kept
 pub record IsSpareIn (basin : Draft) (policy : Accepted) (session : Session) (log : Log) (spare : Spare) : Type 0 where
-  pub stands : StandsIn basin policy (placed [] (givens basin session.inputs)) log session.kept spare
+  pub stands : StandsIn basin policy (with_inputs [] (placings basin session.inputs)) log session.kept spare
   pub known : AreKeptFrom session.kept 0 spare.behind
   pub kept : KeepsOn session.engine spare.engine
 

@@ -1,4 +1,4 @@
--- Which cells records hold, found by their order.
+-- Within the crate: which cells records hold, found by their order.
 use Rattle.std.specs.Prelude.{◌≡◌, ◌≤◌, ◌<◌, ℕ, Bool, true, false, not, List, length, IfSome, Option, Some, None, slice_get}
 use Rattle.std.specs.List.{list_any}
 use Rattle.rw_base.specs.declared.number.Cell.{Cell}

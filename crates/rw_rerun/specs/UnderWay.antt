@@ -2,14 +2,14 @@
 use Rattle.std.specs.Prelude.{◌≡◌, ◌≤◌, ◌<◌, ◌+◌, ◌++◌, ℕ, Bool, true, false, List, [], length, IfOk, IfSome, IsSome, is_some, Option, Some, Result, slice_get}
 use Rattle.rw_base.specs.declared.memory.NoMemory.{NoMemory}
 use Rattle.rw_model.specs.Draft.{Draft}
-use Rattle.rw_inputs.specs.Givens.{givens}
+use Rattle.rw_inputs.specs.Placings.{placings}
 use Rattle.rw_inputs.specs.Inputs.{Inputs}
 use Rattle.rw_series.specs.Series.{held}
 use Rattle.rw_run.specs.Frame.{IsFramed}
 use Rattle.rw_run.specs.Log.{Event, Log}
 use Rattle.rw_run.specs.Next.{Policy}
 use Rattle.rw_run.specs.Reuse.{AreRerun}
-use Rattle.rw_run.specs.Runs.{Leads, Standing, over, placed, rests, standing}
+use Rattle.rw_run.specs.Runs.{Leads, Standing, over, with_inputs, rests, standing}
 use Rattle.rw_run.specs.Step.{events_of}
 use Rattle.rw_record.specs.Noted.{AreHeld}
 use Rattle.rw_record.specs.Record.{StepRecord}
@@ -31,7 +31,7 @@ pub record IsUnderWay (basin : Draft) (policy : Policy) (inputs : Inputs) (earli
   pub many : length pass.changes.items ≡ step
   pub log : Log
   pub events : List Event
-  pub leads : Leads basin policy (placed [] (givens basin inputs)) events log
+  pub leads : Leads basin policy (with_inputs [] (placings basin inputs)) events log
   pub shows : Shows basin pass.engine log
   pub stands : standing log ≡ stands_at pass.over step
   pub shown : pass.over ≡ false → CanShow basin (step + 1) log
@@ -39,7 +39,7 @@ pub record IsUnderWay (basin : Draft) (policy : Policy) (inputs : Inputs) (earli
   pub later : (other : ℕ) → step < other → events_of other log ≡ []
   pub rerun : AreRerun basin earlier log (numbers_of_steps pass.reran.items)
   pub kept : AreKept basin policy log 1 (changed was pass.changes.items)
-  pub linked : AreStepLinks basin policy 1 (placed [] (givens basin inputs)) (changed was pass.changes.items) log
+  pub linked : AreStepLinks basin policy 1 (with_inputs [] (placings basin inputs)) (changed was pass.changes.items) log
 
 -- its engine is one of the basin and the policy, and notes timesteps
 pub record IsPassOf (basin : Draft) (policy : Accepted) (pass : Pass) : Type 0 where

@@ -9,7 +9,7 @@ ghost use Rattle.rw_run.specs.Frame.{IsFramed, log_after};
 ghost use Rattle.rw_run.specs.Log.{Log, cells_of, input_content};
 ghost use Rattle.rw_run.specs.Next.{Policy};
 ghost use Rattle.rw_run.specs.RunOf.{trace_of};
-ghost use Rattle.rw_run.specs.Runs.{placed, rests, standing};
+ghost use Rattle.rw_run.specs.Runs.{with_inputs, rests, standing};
 ghost use Rattle.rw_run.specs.Worked.{data_object_basin, raises_x, raised_twice, three};
 ghost use Rattle.rw_inputs.specs.Inputs.{Inputs};
 ghost use Rattle.rw_record.specs.Record.{StepRecord};
@@ -73,10 +73,10 @@ pub fn told()
 pub fn worked_beginning()
     ensures first { TimestepsGo (data_object_basin HighFirst 2) raises_x 1 raised_days [] }
     ensures again { TimestepsGo (data_object_basin HighFirst 2) raises_x 1 raised_days
-        (placed [] three) }
-    ensures whole { log_behind 1 raised_days (placed [] three)
-        ≡ log_after raised_twice (placed [] three) }
+        (with_inputs [] three) }
+    ensures whole { log_behind 1 raised_days (with_inputs [] three)
+        ≡ log_after raised_twice (with_inputs [] three) }
     ensures held { cells_of (data_object_basin HighFirst 2)
-        (log_behind 1 raised_days (placed [] three))
+        (log_behind 1 raised_days (with_inputs [] three))
         (cell_at 2 1) ≡ Some (input_content (pos 3)) }
 {}

@@ -5,11 +5,11 @@ ghost use Rattle.rw_method.specs.declared.places.TheConstants.{INFLOW, OUTFLOW};
 ghost use Rattle.rw_method.specs.Term.{IsWithin};
 ghost use Rattle.rw_method.specs.Contents.{difference};
 ghost use Rattle.rw_method.specs.Balance.{known_sum, brings, takes};
-ghost use Rattle.rw_method.specs.Settling.{settled};
+ghost use Rattle.rw_method.specs.Solving.{solved_balance};
 
 use rw_base::Qty;
 use rw_method::places::{INFLOW, OUTFLOW};
-use rw_method::{Balanced, Given, Share, Term, View, settle};
+use rw_method::{Balanced, Given, Share, Term, View, solve_balance};
 
 fn with_side(past: Qty, side: i128) -> i128
     requires { IsWithin 3 side }
@@ -59,7 +59,7 @@ fn are_two_missing(one: Option<Given>, other: Option<Given>, last: Option<Given>
 #[inline(always)]
 pub(crate) fn is_short(view: &View, contents: &Term, side: Option<i128>) -> bool
     ensures { result ≡ true → (evaporated : Option ℤ)
-        → settled (difference (known_sum view.entry.now.past side) evaporated)
+        → solved_balance (difference (known_sum view.entry.now.past side) evaporated)
         (brings view.entry.now INFLOW ∷ takes view.entry.now OUTFLOW ∷ contents.now ∷ [])
         ≡ Balanced.Idle }
 {
@@ -79,7 +79,7 @@ pub(crate) fn balance(
 ) -> Balanced
     requires side { ForSome side (IsWithin 3) }
     requires evaporated { ForSome evaporated (IsWithin 1) }
-    ensures { result ≡ settled (difference (known_sum view.entry.now.past side) evaporated)
+    ensures { result ≡ solved_balance (difference (known_sum view.entry.now.past side) evaporated)
         (brings view.entry.now INFLOW ∷ takes view.entry.now OUTFLOW ∷ contents.now ∷ []) }
 {
     let terms = [
@@ -87,5 +87,5 @@ pub(crate) fn balance(
         view.term(Share::Takes, OUTFLOW),
         *contents,
     ];
-    settle(steady(view.past, side, evaporated), &terms)
+    solve_balance(steady(view.past, side, evaporated), &terms)
 }

@@ -60,7 +60,7 @@ fn ask_derived(
     }
 }
 
-/// What is answered once the balance is settled: all that is put, or the first put that its slot can't get.
+/// What is answered once the balance is solved: all that is put, or the first put that its slot can't get.
 pub(crate) fn put_all(
     view: &View,
     table: Option<&Rating>,

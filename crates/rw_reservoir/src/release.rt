@@ -7,7 +7,7 @@ use rw_method::places::{EVAPORATION, RELEASE, SPILL};
 use rw_method::{Given, PutList, Solved, View, ask, ask_released};
 use rw_table::Rating;
 
-/// Where evaporation is chosen, puts how much evaporates, with number 0.
+/// Where evaporation is chosen, puts how much evaporates, with priority 0.
 pub(crate) fn ask_evaporation(
     view: &View,
     table: Option<&Rating>,

@@ -10,7 +10,8 @@ ghost use Rattle.rw_method.specs.Solve.{answer, solve_of};
 use rw_base::Qty;
 use rw_method::places::{CONTENT, INFLOW, OUTFLOW};
 use rw_method::{
-    Balanced, Given, Method, Release, Share, Solved, View, add_put, begin_puts, known_after, settle,
+    Balanced, Given, Method, Release, Share, Solved, View, add_put, begin_puts, known_after,
+    solve_balance,
 };
 use rw_model::Kind;
 
@@ -85,7 +86,7 @@ pub(crate) fn solve_routed_reach(view: &View, release: u16) -> Solved
         release: Release::of(release),
     };
     let terms = [view.term(routes, INFLOW), view.term(Share::Takes, OUTFLOW)];
-    put_content(view, settle(steady_of(view.past), &terms))
+    put_content(view, solve_balance(steady_of(view.past), &terms))
 }
 
 impl Method for RoutedReachMethod {

@@ -102,7 +102,7 @@ pub(crate) const CONTENTS: Table<'static> = Table {
     ],
 };
 
-/// A storage and an elevation that are both given with number 0 agree where either is the other's, at 501 mm or with 250.
+/// A storage and an elevation that are both given with priority 0 agree where either is the other's, at 501 mm or with 250.
 pub(crate) const GIVEN_LEVELS: Table<'static> = Table {
     past: Some(250),
     bounds: &[],

@@ -4,12 +4,12 @@ use Rattle.rw_base.proofs.Common.{if◌then◌else◌, option_or, nat_tests}
 use Rattle.rw_base.specs.declared.number.Cell.{Cell}
 use Rattle.rw_model.specs.Draft.{Draft}
 use Rattle.rw_series.specs.Series.{is_shared}
-use Rattle.rw_run.specs.Log.{Asked, Event, given, opened, closed, Log, cells_of, input_content, last_put, written_by}
+use Rattle.rw_run.specs.Log.{Asked, Event, placed, opened, closed, Log, cells_of, input_content, last_put, written_by}
 use Rattle.rw_run.specs.Next.{Policy}
 use Rattle.rw_run.specs.Runs.{follows}
 
 pub given_held : (basin : Draft) (log : Log) (cell other : Cell) (value : ℤ) → IsTrue (is_shared basin cell other)
-    → cells_of basin (given cell value ∷ log) other ≡ Some (input_content value)
+    → cells_of basin (placed cell value ∷ log) other ≡ Some (input_content value)
 given_held basin log cell other value shared =
     ap (λ test. option_or (if test then Some (input_content value) else None) (cells_of basin log other)) shared
 
@@ -30,7 +30,7 @@ pub still_held : (basin : Draft) (log : Log) (event : Event) (cell : Cell) → w
 still_held basin log event cell none = ap (λ puts. option_or (last_put basin puts cell) (cells_of basin log cell)) none
 
 pub opens_first : (basin : Draft) (policy : Policy) (log : Log) (cell : Cell) (value : ℤ) → 1 ≤ basin.control.stamps.count
-    → follows basin policy (given cell value ∷ log) ≡ Some (opened 1)
+    → follows basin policy (placed cell value ∷ log) ≡ Some (opened 1)
 opens_first basin policy log cell value some =
     let more_left : nat_lt 0 basin.control.stamps.count ≡ true =
     grind (arith, nat_tests) in ap (λ test. if test then Some (opened 1) else None) more_left

@@ -5,7 +5,7 @@ use Rattle.rw_base.specs.declared.number.Cell.{Cell}
 use Rattle.rw_model.specs.Draft.{Draft}
 use Rattle.rw_run.specs.Log.{Log, Event, opened}
 use Rattle.rw_run.specs.Next.{Policy}
-use Rattle.rw_run.specs.Runs.{Leads, Standing, rests, inside, over, standing, follows, follows_by, placed, IsOver, IsRun}
+use Rattle.rw_run.specs.Runs.{Leads, Standing, rests, inside, over, standing, follows, follows_by, with_inputs, IsOver, IsRun}
 use Rattle.rw_run.specs.Waiting.{first_waiting}
 
 rests_last : (step count : ℕ) (event : Event) → count ≤ step → (if nat_lt step count then Some event else None) ≡ None
@@ -32,6 +32,6 @@ pub one_run : (basin : Draft) (policy : Policy) (inputs : List (Cell × ℤ)) (o
     → IsRun basin policy inputs other
     → one ≡ other
 one_run basin policy inputs one other r s =
-    same_end basin policy (placed [] inputs) r.events s.events one other r.leads s.leads
+    same_end basin policy (with_inputs [] inputs) r.events s.events one other r.leads s.leads
     (none_follows basin policy one (first_waiting basin one) (standing one) r.end)
     (none_follows basin policy other (first_waiting basin other) (standing other) s.end)

@@ -2,10 +2,10 @@
 use Rattle.rw_base.proofs.Common.{◌≡◌, ◌∙◌, ◌∷◌, ◌+◌, ℕ, ℤ, List, [], ap, arith, refl, subst, sym}
 use Rattle.rw_base.specs.declared.number.Cell.{Cell}
 use Rattle.rw_model.specs.Draft.{Draft}
-use Rattle.rw_run.specs.Log.{Event, Log, given, opened, closed, idle, solved, fired, fault}
+use Rattle.rw_run.specs.Log.{Event, Log, placed, opened, closed, idle, solved, fired, fault}
 use Rattle.rw_run.specs.Next.{Policy}
 use Rattle.rw_run.specs.RunOf.{end_of, last_closed, opened_by, opened_in}
-use Rattle.rw_run.specs.Runs.{IsOver, IsRun, Leads, Standing, rests, inside, over, placed, standing}
+use Rattle.rw_run.specs.Runs.{IsOver, IsRun, Leads, Standing, rests, inside, over, with_inputs, standing}
 use Rattle.rw_run.proofs.Placed.{closed-placed, standing-placed}
 use Rattle.rw_run.proofs.StepEvents.{IsAfter, IsWithin, is_after}
 
@@ -39,18 +39,18 @@ has_led basin policy old (event ∷ events) new leads has =
     has_led basin policy (event ∷ old) events new leads.1
     (has_next (standing old) event old (is_after basin policy old event (standing old) leads.0) has)
 
-opened-placed : (log : Log) (inputs : List (Cell × ℤ)) → opened_in (placed log inputs) ≡ opened_in log
+opened-placed : (log : Log) (inputs : List (Cell × ℤ)) → opened_in (with_inputs log inputs) ≡ opened_in log
 opened-placed log [] = refl
-opened-placed log (input ∷ inputs) = opened-placed (given input.0 input.1 ∷ log) inputs
+opened-placed log (input ∷ inputs) = opened-placed (placed input.0 input.1 ∷ log) inputs
 
-has_begun : (inputs : List (Cell × ℤ)) → Has (placed [] inputs)
+has_begun : (inputs : List (Cell × ℤ)) → Has (with_inputs [] inputs)
 has_begun inputs =
-    subst (λ at. HasOpened at (opened_in (placed [] inputs)) (last_closed (placed [] inputs)))
+    subst (λ at. HasOpened at (opened_in (with_inputs [] inputs)) (last_closed (with_inputs [] inputs)))
     (sym (standing-placed [] inputs refl)) (opened-placed [] inputs, closed-placed [] inputs)
 
 at_end : (basin : Draft) (log : Log) → Has log → IsOver basin (standing log) → opened_in log ≡ opened_by (end_of log) (last_closed log)
 at_end basin [] has is = refl
-at_end basin (given cell value ∷ log) has is = has.0 ∙ sym has.1
+at_end basin (placed cell value ∷ log) has is = has.0 ∙ sym has.1
 at_end basin (closed step ∷ log) has is = has.0 ∙ sym has.1
 at_end basin (fault why ∷ log) has is = has
 at_end basin (event ∷ log) has is = absurd is
@@ -58,4 +58,4 @@ at_end basin (event ∷ log) has is = absurd is
 pub opened_steps : (basin : Draft) (policy : Policy) (inputs : List (Cell × ℤ)) (log : Log) → IsRun basin policy inputs log
     → opened_in log ≡ opened_by (end_of log) (last_closed log)
 opened_steps basin policy inputs log run =
-    at_end basin log (has_led basin policy (placed [] inputs) run.events log run.leads (has_begun inputs)) run.end
+    at_end basin log (has_led basin policy (with_inputs [] inputs) run.events log run.leads (has_begun inputs)) run.end

@@ -6,9 +6,9 @@ use Rattle.rw_model.specs.Draft.{Draft}
 use Rattle.rw_run.specs.Behind.{IsBehind}
 use Rattle.rw_run.specs.declared.fault.RunFault.{RunFault}
 use Rattle.rw_run.specs.Frame.{IsStepFrom, log_after}
-use Rattle.rw_run.specs.Log.{Event, Log, given, opened, closed, idle, solved, fired, fault}
+use Rattle.rw_run.specs.Log.{Event, Log, placed, opened, closed, idle, solved, fired, fault}
 use Rattle.rw_run.specs.Next.{Policy}
-use Rattle.rw_run.specs.Runs.{Leads, Standing, placed, rests, inside, over, standing}
+use Rattle.rw_run.specs.Runs.{Leads, Standing, with_inputs, rests, inside, over, standing}
 use Rattle.rw_run.specs.Step.{before_closing, before_opening, events_of, is_closing, is_of_step, is_opening}
 use Rattle.rw_run.specs.Timestep.{IsTimestep}
 use Rattle.rw_run.proofs.StepEvents.{IsAfter, IsWithin, closes_nothing, is_after, of_its_own, of_no_other, opened_of_no_other, opens_nothing}
@@ -230,9 +230,9 @@ unclosed step (event ∷ log) none =
     let both = not_first step event log none in
     ap (λ (t : Bool). if t then Some log else before_closing step log) (closes_nothing step event both.0) ∙ unclosed step log both.1
 
-pub none-placed : (step : ℕ) (log : Log) (inputs : List (Cell × ℤ)) → events_of step log ≡ [] → events_of step (placed log inputs) ≡ []
+pub none-placed : (step : ℕ) (log : Log) (inputs : List (Cell × ℤ)) → events_of step log ≡ [] → events_of step (with_inputs log inputs) ≡ []
 none-placed step log [] none = none
-none-placed step log (input ∷ inputs) none = none-placed step (given input.0 input.1 ∷ log) inputs none
+none-placed step log (input ∷ inputs) none = none-placed step (placed input.0 input.1 ∷ log) inputs none
 
 -- ---- what is behind a closed timestep, and behind one that a fault ended
 
@@ -295,7 +295,7 @@ faulted_behind basin policy step last old before events why rest next_one open_b
     let went = passed basin policy step last old before events (fault why) rest next_one open_before moved leads in
     (behind step old before (fault why) went, own_closing step old before (fault why) went refl ∙ unclosed step old none)
 
-pub begun : (inputs : List (Cell × ℤ)) (step : ℕ) → events_of step (placed [] inputs) ≡ []
+pub begun : (inputs : List (Cell × ℤ)) (step : ℕ) → events_of step (with_inputs [] inputs) ≡ []
 begun inputs step = none-placed step [] inputs refl
 
 pub nothing_of : (step : ℕ) (log : Log) → events_of step log ≡ [] → (before_opening step log ≡ None) × (before_closing step log ≡ None)

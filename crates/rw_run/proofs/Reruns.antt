@@ -5,10 +5,10 @@ use Rattle.rw_base.proofs.Common.{append_assoc}
 use Rattle.rw_base.specs.declared.number.Cell.{Cell}
 use Rattle.rw_model.specs.Draft.{Draft}
 use Rattle.rw_run.specs.Frame.{AreAlike, IsFramed, IsStepFrom, log_after, looked_in}
-use Rattle.rw_run.specs.Log.{Cells, Event, Log, cells_of, given, opened, closed, idle, solved, fired, fault}
+use Rattle.rw_run.specs.Log.{Cells, Event, Log, cells_of, placed, opened, closed, idle, solved, fired, fault}
 use Rattle.rw_run.specs.Next.{Policy}
 use Rattle.rw_run.specs.Reuse.{IsReused}
-use Rattle.rw_run.specs.Runs.{IsRun, Leads, Standing, follows, placed, rests, inside, over, standing}
+use Rattle.rw_run.specs.Runs.{IsRun, Leads, Standing, follows, with_inputs, rests, inside, over, standing}
 use Rattle.rw_run.specs.Step.{before_newest, before_closing, before_opening, events_of, is_closing, is_of_step, is_opening, looked_at, reached_by}
 use Rattle.rw_run.specs.Waiting.{first_waiting}
 use Rattle.rw_run.proofs.Agains.{AllAlike, AreAll, alike_each, alike_events}
@@ -20,17 +20,17 @@ use Rattle.rw_run.proofs.StepEvents.{IsAfter, IsWithin, is_after, of_its_own, of
 
 abbrev AreGiven : Log → Type 0
 AreGiven [] = Unit {0}
-AreGiven (given cell value ∷ log) = AreGiven log
+AreGiven (placed cell value ∷ log) = AreGiven log
 AreGiven (event ∷ log) = ⊥
 
 given_below : (newer log : Log) → AreGiven (newer ++ log) → AreGiven log
 given_below [] log all = all
-given_below (given cell value ∷ newer) log all = given_below newer log all
+given_below (placed cell value ∷ newer) log all = given_below newer log all
 given_below (event ∷ newer) log all = absurd all
 
-placed_given : (log : Log) (inputs : List (Cell × ℤ)) → AreGiven log → AreGiven (placed log inputs)
+placed_given : (log : Log) (inputs : List (Cell × ℤ)) → AreGiven log → AreGiven (with_inputs log inputs)
 placed_given log [] all = all
-placed_given log (input ∷ inputs) all = placed_given (given input.0 input.1 ∷ log) inputs all
+placed_given log (input ∷ inputs) all = placed_given (placed input.0 input.1 ∷ log) inputs all
 
 -- no event is of a timestep behind this one
 abbrev IsUpTo : ℕ → Log → Type 0
@@ -39,7 +39,7 @@ IsUpTo last (event ∷ log) = ((step : ℕ) → last < step → is_of_step step 
 
 given_up_to : (last : ℕ) (log : Log) → AreGiven log → IsUpTo last log
 given_up_to last [] all = tt
-given_up_to last (given cell value ∷ log) all = (λ step less. refl, given_up_to last log all)
+given_up_to last (placed cell value ∷ log) all = (λ step less. refl, given_up_to last log all)
 given_up_to last (event ∷ log) all = absurd all
 
 weaker : (less last : ℕ) (log : Log) → less ≤ last → IsUpTo less log → IsUpTo last log
@@ -145,7 +145,7 @@ abbrev IsInside : ℕ → Event → Type 0
 IsInside step event = standing (event ∷ []) ≡ inside step
 
 stands_in : (event : Event) (log : Log) (step : ℕ) → standing (event ∷ log) ≡ inside step → IsInside step event
-stands_in (given cell value) log step is = is
+stands_in (placed cell value) log step is = is
 stands_in event log step is = is
 
 within_inside : (last step : ℕ) (event : Event) (log : Log) → IsWithin last event → standing (event ∷ log) ≡ inside step → last ≡ step
@@ -163,7 +163,7 @@ IsResting over = ⊥
 
 given_rests : (log : Log) (step : ℕ) → AreGiven log → standing log ≡ inside step → ⊥
 given_rests [] step all at = subst IsResting at tt
-given_rests (given cell value ∷ log) step all at = subst IsResting at tt
+given_rests (placed cell value ∷ log) step all at = subst IsResting at tt
 given_rests (event ∷ log) step all at = absurd all
 
 abbrev IsClosing : Event → Type 0
@@ -194,7 +194,7 @@ module _ (basin : Draft) (policy : Policy) where
   led_leads old (event ∷ events) new led leads = led_leads (event ∷ old) events new (inr (leads.0, led)) leads.1
 
   led_run : (inputs : List (Cell × ℤ)) (log : Log) → IsRun basin policy inputs log → IsLed log
-  led_run inputs log run = led_leads (placed [] inputs) run.events log (led_given (placed [] inputs) (placed_given [] inputs tt)) run.leads
+  led_run inputs log run = led_leads (with_inputs [] inputs) run.events log (led_given (with_inputs [] inputs) (placed_given [] inputs tt)) run.leads
 
   led_up_to : (log : Log) (step : ℕ) → IsLed log → IsAt step (standing log) → IsUpTo step log
   led_up_to [] step led at = tt
@@ -350,7 +350,7 @@ module _ (basin : Draft) (policy : Policy) where
           let p = parts (is_closing step) log before_it is in
           let whole : log ≡ p.newer ++ closed step ∷ before_it = p.whole ∙ ap (λ e. p.newer ++ e ∷ before_it) (closing_is step p.event p.passes) in
           let all : IsLed (p.newer ++ closed step ∷ before_it) = subst IsLed whole led in
-          let here = led_below p.newer (closed step) before_it (λ given. given) all in record {
+          let here = led_below p.newer (closed step) before_it (λ placed. placed) all in record {
             newer = p.newer;
             before_it = before_it;
             whole = whole;

@@ -6,7 +6,7 @@ use Rattle.rw_model.specs.declared.content.Content.{Content}
 use Rattle.rw_model.specs.Draft.{Draft}
 use Rattle.rw_series.specs.Series.{is_shared}
 use Rattle.rw_series.specs.declared.look.Look.{Look}
-use Rattle.rw_run.specs.Log.{Asked, Cells, Log, Event, given, opened, closed, fault, cells_of, last_put}
+use Rattle.rw_run.specs.Log.{Asked, Cells, Log, Event, placed, opened, closed, fault, cells_of, last_put}
 use Rattle.rw_run.specs.Next.{Policy, next, is_changed, is_same_value}
 use Rattle.rw_run.specs.Runs.{Leads, follows, follows_in, standing, Standing, rests, inside, over}
 use Rattle.rw_run.specs.Frame.{IsFault, looked_in, AreAlike, FollowInStep, IsFramed, IsStepFrom, log_after}
@@ -16,7 +16,7 @@ use Rattle.rw_run.proofs.Frames.{frame}
 -- ---- events of a timestep follow as long as it is open
 
 stands_by : (event : Event) (log : Log) → standing (event ∷ log) ≡ standing (event ∷ [])
-stands_by (given cell value) log = refl
+stands_by (placed cell value) log = refl
 stands_by event log = refl
 
 abbrev IsGoingOn : Standing → Type 0

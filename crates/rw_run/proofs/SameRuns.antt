@@ -12,7 +12,7 @@ use Rattle.rw_run.specs.Times.{times}
 use Rattle.rw_run.specs.Waiting.{numbers, first_waiting}
 use Rattle.rw_run.specs.Next.{Policy, agenda_of, after_objects, ended, firing_of, firings, first_due, is_due, next_of, no_rules}
 use Rattle.rw_run.specs.Policy.{FireAlike, IsRule}
-use Rattle.rw_run.specs.Runs.{IsRun, Leads, Standing, rests, inside, over, follows_by, placed, standing}
+use Rattle.rw_run.specs.Runs.{IsRun, Leads, Standing, rests, inside, over, follows_by, with_inputs, standing}
 use Rattle.rw_run.proofs.Lists.{times-append, times-numbers}
 
 -- ---- what is found on the agenda is a rule
@@ -84,7 +84,7 @@ module _ (basin : Draft) (one other : Policy) (alike : FireAlike one other) wher
 pub same_runs : (basin : Draft) (one other : Policy) (inputs : List (Cell × ℤ)) (log : Log) → FireAlike one other → IsRun basin one inputs log
     → IsRun basin other inputs log
 same_runs basin one other inputs log alike run =
-    record { events = run.events; leads = leads_same basin one other alike (placed [] inputs) run.events log run.leads; end = run.end }
+    record { events = run.events; leads = leads_same basin one other alike (with_inputs [] inputs) run.events log run.leads; end = run.end }
 
 pub alike_none : (other : Policy) → other.rules ≡ 0 → FireAlike no_rules other
 alike_none other none = record {

@@ -13,10 +13,10 @@ use Rattle.rw_series.specs.declared.look.Look.{Look}
 use Rattle.rw_run.specs.declared.fault.RunFault.TheVariants.{ObjectLimit, RuleLimit}
 use Rattle.rw_run.specs.Dispatch.{asked_by, answered, denied_by, dispatch_of, dispatched, end_in, judged, looked_cells, looks_at, or_fault, solved_by}
 use Rattle.rw_run.specs.Frame.{IsFault}
-use Rattle.rw_run.specs.Log.{Asked, Cells, Event, Log, cells_of, given, opened, closed, idle, solved, fault, value_in}
+use Rattle.rw_run.specs.Log.{Asked, Cells, Event, Log, cells_of, placed, opened, closed, idle, solved, fault, value_in}
 use Rattle.rw_run.specs.Next.{Policy, after_objects, asked_next, count_if, dispatches, ended, firing_of, firings, first_due, next, next_of, no_rules}
 use Rattle.rw_run.specs.Policy.{IsPolicyOf, IsRule}
-use Rattle.rw_run.specs.Runs.{IsOver, IsRun, Leads, rests, inside, follows, follows_in, placed, standing}
+use Rattle.rw_run.specs.Runs.{IsOver, IsRun, Leads, rests, inside, follows, follows_in, with_inputs, standing}
 use Rattle.rw_run.specs.Times.{times}
 use Rattle.rw_run.specs.Waiting.{first_of, first_waiting, numbers, since, waiting}
 use Rattle.rw_run.proofs.Lists.{times-numbers}
@@ -254,13 +254,13 @@ rests_on basin policy (suc steps) step log promise at all =
     (within_on basin policy (step + 1) (suc (room basin policy (opened (step + 1) ∷ log))) (opened (step + 1) ∷ log) promise refl (omega arith)
     (λ later rest. rests_on basin policy steps (step + 1) later promise rest (omega (arith, all))))
 
-pub standing-placed : (log : Log) (inputs : List (Cell × ℤ)) → standing log ≡ rests 0 → standing (placed log inputs) ≡ rests 0
+pub standing-placed : (log : Log) (inputs : List (Cell × ℤ)) → standing log ≡ rests 0 → standing (with_inputs log inputs) ≡ rests 0
 standing-placed log [] at = at
-standing-placed log (input ∷ inputs) at = standing-placed (given input.0 input.1 ∷ log) inputs refl
+standing-placed log (input ∷ inputs) at = standing-placed (placed input.0 input.1 ∷ log) inputs refl
 
 pub some_run : (basin : Draft) (policy : Policy) (inputs : List (Cell × ℤ)) → IsPolicyOf basin policy → (log : Log) × IsRun basin policy inputs log
 some_run basin policy inputs promise =
-    let run = rests_on basin policy basin.control.stamps.count 0 (placed [] inputs) promise (standing-placed [] inputs refl) (omega arith) in
+    let run = rests_on basin policy basin.control.stamps.count 0 (with_inputs [] inputs) promise (standing-placed [] inputs refl) (omega arith) in
     (run.log, record { events = run.events; leads = run.leads; end = run.end })
 
 -- no rule promises everything

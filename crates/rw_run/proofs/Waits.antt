@@ -7,7 +7,7 @@ use Rattle.rw_base.specs.declared.number.Cell.{Cell}
 use Rattle.rw_model.specs.Draft.{Draft}
 use Rattle.rw_series.specs.declared.look.Look.{Look}
 use Rattle.rw_run.specs.declared.fault.RunFault.{RunFault}
-use Rattle.rw_run.specs.Log.{Asked, Log, Event, Dispatch, Firing, given, opened, closed, idle, solved, fired, fault, is_number}
+use Rattle.rw_run.specs.Log.{Asked, Log, Event, Dispatch, Firing, placed, opened, closed, idle, solved, fired, fault, is_number}
 use Rattle.rw_run.specs.Times.{times}
 use Rattle.rw_model.specs.Turn.{is_data}
 use Rattle.rw_run.specs.Waiting.{numbers, ends_wait, wakes, since, is_since, waiting_below, waiting, is_at, is_put_at, is_owner, woken, slots_at}
@@ -159,9 +159,9 @@ closes basin log step =
     ∙ ap₂ (λ xs ys. xs ++ ys) (all-kept (waiting basin log)) (none-kept (numbers (length basin.objects)))
     ∙ append-nil (waiting basin log)
 
-pub gives : (basin : Draft) (log : Log) (cell : Cell) (value : ℤ) → waiting basin (given cell value ∷ log) ≡ waiting basin log
+pub gives : (basin : Draft) (log : Log) (cell : Cell) (value : ℤ) → waiting basin (placed cell value ∷ log) ≡ waiting basin log
 gives basin log cell value =
-    waiting-more basin (given cell value) log
+    waiting-more basin (placed cell value) log
     ∙ ap₂ (λ xs ys. xs ++ ys) (all-kept (waiting basin log)) (none-kept (numbers (length basin.objects)))
     ∙ append-nil (waiting basin log)
 

@@ -34,7 +34,7 @@ pub record Firing : Type 0 where
 
 -- what happens in a run. One event is the atomic step
 pub data Event : Type 0 where
-  given : Cell → ℤ → Event
+  placed : Cell → ℤ → Event
   opened : (step : ℕ) → Event
   closed : (step : ℕ) → Event
   idle : (object : ℕ) → (step : ℕ) → List Look → Event
@@ -97,7 +97,7 @@ asked_in event = []
 
 -- the puts that an event wrote
 abbrev pub written_by : Event → List Asked
-written_by (given cell value) = record { cell = cell; content = input_content value } ∷ []
+written_by (placed cell value) = record { cell = cell; content = input_content value } ∷ []
 written_by (solved dispatch) = dispatch.written
 written_by (fired firing) = firing.written
 written_by event = []

@@ -8,7 +8,7 @@ use Rattle.rw_run.specs.declared.run.RunEnd.{RunEnd}
 use Rattle.rw_run.specs.declared.run.RunEnd.TheVariants.{Settled, Fault}
 use Rattle.rw_run.specs.declared.trace.TraceEvent.{TraceEvent}
 use Rattle.rw_run.specs.declared.trace.TraceEvent.TheVariants.{Opened, Idle, Solve, Fire, Written, Closed, Fault as FaultLine}
-use Rattle.rw_run.specs.Log.{Asked, Event, given, opened, closed, idle, solved, fired, fault, Log, cells_of}
+use Rattle.rw_run.specs.Log.{Asked, Event, placed, opened, closed, idle, solved, fired, fault, Log, cells_of}
 
 -- ---- the trace
 
@@ -17,7 +17,7 @@ line_of put = Written put.cell.slot put.cell.step put.content
 
 -- the lines of the trace for an event
 abbrev pub lines : Event → List TraceEvent
-lines (given cell value) = []
+lines (placed cell value) = []
 lines (opened step) = Opened (record { 0 = step }) ∷ []
 lines (closed step) = Closed (record { 0 = step }) ∷ []
 lines (idle object step looked) = Idle (record { 0 = object }) ∷ []

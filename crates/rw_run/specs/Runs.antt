@@ -2,7 +2,7 @@
 use Rattle.std.specs.Prelude.{◌≡◌, ℕ, ◌+◌, ◌≤◌, ℤ, nat_lt, List, [], ◌∷◌, Option, Some, None, if◌then◌else◌}
 use Rattle.rw_base.specs.declared.number.Cell.{Cell}
 use Rattle.rw_model.specs.Draft.{Draft}
-use Rattle.rw_run.specs.Log.{Event, given, opened, closed, idle, solved, fired, fault, Log, cells_of}
+use Rattle.rw_run.specs.Log.{Event, placed, opened, closed, idle, solved, fired, fault, Log, cells_of}
 use Rattle.rw_run.specs.Next.{Policy, next_of}
 use Rattle.rw_run.specs.Waiting.{first_waiting}
 
@@ -15,7 +15,7 @@ pub data Standing : Type 0 where
 -- by the newest event
 abbrev pub standing : Log → Standing
 standing [] = rests 0
-standing (given cell value ∷ log) = rests 0
+standing (placed cell value ∷ log) = rests 0
 standing (opened step ∷ log) = inside step
 standing (closed step ∷ log) = rests step
 standing (idle object step looked ∷ log) = inside step
@@ -43,9 +43,9 @@ Leads basin policy old [] new = new ≡ old
 Leads basin policy old (event ∷ events) new = (follows basin policy old ≡ Some event) × Leads basin policy (event ∷ old) events new
 
 -- the inputs, placed one after another
-abbrev pub placed : Log → List (Cell × ℤ) → Log
-placed log [] = log
-placed log (input ∷ inputs) = placed (given input.0 input.1 ∷ log) inputs
+abbrev pub with_inputs : Log → List (Cell × ℤ) → Log
+with_inputs log [] = log
+with_inputs log (input ∷ inputs) = with_inputs (placed input.0 input.1 ∷ log) inputs
 
 -- a run is over once the last timestep is closed, or by a fault. Where a rule's code is stuck it isn't
 abbrev pub IsOver : Draft → Standing → Type 0
@@ -56,5 +56,5 @@ IsOver basin over = Unit {0}
 -- the whole run of these inputs: they are placed, and event follows event until it is over
 pub record IsRun (basin : Draft) (policy : Policy) (inputs : List (Cell × ℤ)) (log : Log) : Type 0 where
   pub events : List Event
-  pub leads : Leads basin policy (placed [] inputs) events log
+  pub leads : Leads basin policy (with_inputs [] inputs) events log
   pub end : IsOver basin (standing log)

@@ -8,7 +8,7 @@ use Rattle.rw_run.specs.declared.fault.RunFault.{RunFault}
 use Rattle.rw_run.specs.declared.fault.RunFault.TheVariants.{Conflict, ZeroDivisor, ObjectOutOfRange, RuleOutOfRange, ObjectLimit, RuleLimit}
 use Rattle.rw_run.specs.Dispatch.{cell_at}
 use Rattle.rw_run.specs.Frame.{cells_asked, cells_looked}
-use Rattle.rw_run.specs.Log.{Asked, Event, given, opened, closed, idle, solved, fired, fault, Log, asked_in, looks_in}
+use Rattle.rw_run.specs.Log.{Asked, Event, placed, opened, closed, idle, solved, fired, fault, Log, asked_in, looks_in}
 use Rattle.rw_run.specs.RunOf.{lines}
 
 -- ---- its events
@@ -23,7 +23,7 @@ step_of_fault (RuleLimit rule step count) = step.0
 
 -- the event is of this timestep; an input is of none
 abbrev pub is_of_step : ℕ → Event → Bool
-is_of_step step (given cell value) = false
+is_of_step step (placed cell value) = false
 is_of_step step (opened other) = other == step
 is_of_step step (closed other) = other == step
 is_of_step step (idle object other looked) = other == step

@@ -7,13 +7,13 @@ ghost use Rattle.rw_model.specs.Draft.{Draft};
 ghost use Rattle.rw_series.specs.Series.{is_shared};
 ghost use Rattle.rw_series.specs.declared.look.Look.{Look};
 ghost use Rattle.rw_run.specs.declared.fault.RunFault.{RunFault};
-ghost use Rattle.rw_run.specs.Log.{Asked, Cells, Dispatch, Event, Firing, Log, given, opened, closed, idle, solved, fired, fault, cells_of, input_content, last_put, written_by};
+ghost use Rattle.rw_run.specs.Log.{Asked, Cells, Dispatch, Event, Firing, Log, placed, opened, closed, idle, solved, fired, fault, cells_of, input_content, last_put, written_by};
 ghost use Rattle.rw_run.specs.Dispatch.{cell_at};
 ghost use Rattle.rw_run.specs.Waiting.{all_waiting, since, slots_at, waiting, woken};
 ghost use Rattle.rw_run.specs.Since.{WaitsSince};
 ghost use Rattle.rw_run.specs.Next.{Policy, no_rules};
 ghost use Rattle.rw_run.specs.Policy.{FireAlike, IsPolicyOf};
-ghost use Rattle.rw_run.specs.Runs.{IsRun, Leads, follows, inside, placed, rests, standing};
+ghost use Rattle.rw_run.specs.Runs.{IsRun, Leads, follows, inside, with_inputs, rests, standing};
 ghost use Rattle.rw_run.specs.Behind.{IsBehind};
 ghost use Rattle.rw_run.specs.Choice.{MayFollow, MayLead};
 ghost use Rattle.rw_run.specs.RunOf.{end_of, last_closed, opened_by, opened_in};
@@ -29,9 +29,9 @@ ghost use Rattle.rw_run.specs.Index.{IsIndex, MarksTouched};
 /// A cell holds what was last put to a cell that shares its value with it.
 #[tactic(auto, using(crate::proofs::Lasts::given_held, crate::proofs::Lasts::last_held, crate::proofs::Lasts::earlier_held, crate::proofs::Lasts::still_held))]
 pub fn cells_after()
-    ensures given { (basin : Draft) (log : Log) (cell other : Cell) (value : ℤ)
+    ensures placed { (basin : Draft) (log : Log) (cell other : Cell) (value : ℤ)
         → IsTrue (is_shared basin cell other)
-        → cells_of basin (given cell value ∷ log) other ≡ Some (input_content value) }
+        → cells_of basin (placed cell value ∷ log) other ≡ Some (input_content value) }
     ensures last { (basin : Draft) (puts : List Asked) (put : Asked) (cell : Cell)
         → IsTrue (is_shared basin put.cell cell)
         → last_put basin (puts ++ put ∷ []) cell ≡ Some put.content }
@@ -48,7 +48,7 @@ pub fn cells_after()
 pub fn timesteps()
     ensures first { (basin : Draft) (policy : Policy) (log : Log) (cell : Cell) (value : ℤ)
         → 1 ≤ basin.control.stamps.count
-        → follows basin policy (given cell value ∷ log) ≡ Some (opened 1) }
+        → follows basin policy (placed cell value ∷ log) ≡ Some (opened 1) }
     ensures next { (basin : Draft) (policy : Policy) (log : Log) (step : ℕ)
         → step < basin.control.stamps.count
         → follows basin policy (closed step ∷ log) ≡ Some (opened (step + 1)) }
@@ -111,12 +111,12 @@ pub fn worked_runs()
     ensures outranked { IsRun (data_object_basin HighFirst 1) outranked []
         (log_after outranked_run []) }
     ensures divided { IsRun (data_object_basin HighFirst 2) divided three
-        (log_after divided_run (placed [] three)) }
+        (log_after divided_run (with_inputs [] three)) }
     ensures ahead { IsRun (data_object_basin HighFirst 3) sets_ahead [] (log_after ahead_run []) }
     ensures put_twice { IsRun (data_object_basin HighFirst 1) put_twice []
         (log_after put_twice_run []) }
     ensures given { IsRun (data_object_basin HighFirst 1) put_twice five
-        (log_after given_run (placed [] five)) }
+        (log_after given_run (with_inputs [] five)) }
 {}
 
 /// Where a link joins two slots, a put to the one makes a rule due that looked at the other, of two puts the later one counts
@@ -151,19 +151,19 @@ pub fn worked_reruns()
     ensures earlier { IsRun (data_object_basin HighFirst 2) raises_x []
         (log_after raised_twice []) }
     ensures later { IsRun (data_object_basin HighFirst 2) raises_x five
-        (log_after given_once (placed [] five)) }
+        (log_after given_once (with_inputs [] five)) }
     ensures first { AreRerun (data_object_basin HighFirst 2) (log_after raised_twice [])
-        (log_after given_once (placed [] five)) (1 ∷ []) }
+        (log_after given_once (with_inputs [] five)) (1 ∷ []) }
     ensures put { IsRun (data_object_basin HighFirst 2) both_days [] (log_after both_days_run []) }
     ensures given { IsRun (data_object_basin HighFirst 2) both_days seven
-        (log_after given_seven_run (placed [] seven)) }
+        (log_after given_seven_run (with_inputs [] seven)) }
     ensures both { AreRerun (data_object_basin HighFirst 2) (log_after both_days_run [])
-        (log_after given_seven_run (placed [] seven)) (1 ∷ 2 ∷ []) }
+        (log_after given_seven_run (with_inputs [] seven)) (1 ∷ 2 ∷ []) }
     ensures faulty { IsRun (data_object_basin HighFirst 2) needy [] (log_after faulty_run []) }
     ensures longer { IsRun (data_object_basin HighFirst 2) needy five
-        (log_after needy_run (placed [] five)) }
+        (log_after needy_run (with_inputs [] five)) }
     ensures opened { AreRerun (data_object_basin HighFirst 2) (log_after faulty_run [])
-        (log_after needy_run (placed [] five)) (1 ∷ 2 ∷ []) }
+        (log_after needy_run (with_inputs [] five)) (1 ∷ 2 ∷ []) }
     ensures rising { (first later : ℕ) → AreRising (first ∷ later ∷ []) → first < later }
 {}
 
@@ -188,8 +188,8 @@ pub fn waiting_after()
         ++ woken basin None (waiting basin log) (slots_at firing.step firing.written) }
     ensures closed { (basin : Draft) (log : Log) (step : ℕ)
         → waiting basin (closed step ∷ log) ≡ waiting basin log }
-    ensures given { (basin : Draft) (log : Log) (cell : Cell) (value : ℤ)
-        → waiting basin (given cell value ∷ log) ≡ waiting basin log }
+    ensures placed { (basin : Draft) (log : Log) (cell : Cell) (value : ℤ)
+        → waiting basin (placed cell value ∷ log) ≡ waiting basin log }
     ensures fault { (basin : Draft) (log : Log) (why : RunFault)
         → waiting basin (fault why ∷ log) ≡ waiting basin log }
 {}
@@ -265,7 +265,8 @@ pub fn timesteps_behind()
         → standing before ≡ inside step → Leads basin policy old events (closed step ∷ before)
         → IsTimestep basin policy step old first own
         → closed step ∷ before ≡ log_after (first ∷ own) (opened step ∷ old) }
-    ensures begun { (inputs : List (Cell × ℤ)) (step : ℕ) → events_of step (placed [] inputs) ≡ [] }
+    ensures begun { (inputs : List (Cell × ℤ)) (step : ℕ)
+        → events_of step (with_inputs [] inputs) ≡ [] }
     ensures none { (step : ℕ) (log : Log) → events_of step log ≡ []
         → (before_opening step log ≡ None) × (before_closing step log ≡ None) }
 {}

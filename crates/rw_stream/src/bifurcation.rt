@@ -3,7 +3,7 @@ ghost use Rattle.rw_model.specs.declared.kind.Kind.TheVariants as Kind;
 ghost use Rattle.rw_method.specs.Solve.{solve_of};
 
 use rw_method::places::{INFLOW, OUTFLOW_1, OUTFLOW_2};
-use rw_method::{Method, Share, Solved, View, put_solved, settle};
+use rw_method::{Method, Share, Solved, View, put_solved, solve_balance};
 use rw_model::Kind;
 
 /// The method of a bifurcation: what flows in is parted into two outflows.
@@ -18,7 +18,7 @@ pub(crate) fn solve_bifurcation(view: &View) -> Solved
         view.term(Share::Takes, OUTFLOW_1),
         view.term(Share::Takes, OUTFLOW_2),
     ];
-    put_solved(view, settle(Some(0), &terms))
+    put_solved(view, solve_balance(Some(0), &terms))
 }
 
 impl Method for BifurcationMethod {

@@ -3,7 +3,7 @@ ghost use Rattle.rw_model.specs.declared.kind.Kind.TheVariants as Kind;
 ghost use Rattle.rw_method.specs.Solve.{solve_of};
 
 use rw_method::places::{INFLOW, OUTFLOW};
-use rw_method::{Method, Share, Solved, View, put_solved, settle};
+use rw_method::{Method, Share, Solved, View, put_solved, solve_balance};
 use rw_model::Kind;
 
 /// The method of a gage: what flows in flows out.
@@ -17,7 +17,7 @@ pub(crate) fn solve_gage(view: &View) -> Solved
         view.term(Share::Brings, INFLOW),
         view.term(Share::Takes, OUTFLOW),
     ];
-    put_solved(view, settle(Some(0), &terms))
+    put_solved(view, solve_balance(Some(0), &terms))
 }
 
 impl Method for GageMethod {

@@ -8,7 +8,7 @@ ghost use Rattle.rw_method.specs.Solve.{solve_of};
 
 use rw_base::Qty;
 use rw_method::places::{INFLOW, OUTFLOW, REACH_SIDE};
-use rw_method::{Method, Share, Solved, View, put_solved, settle, side_flows};
+use rw_method::{Method, Share, Solved, View, put_solved, side_flows, solve_balance};
 use rw_model::Kind;
 
 /// The method of a reach: what flowed in as many timesteps ago as its lag flows out, and what flows in by the side.
@@ -46,7 +46,7 @@ fn solve_unlagged(view: &View, side: Option<i128>) -> Solved
         view.term(Share::Brings, INFLOW),
         view.term(Share::Takes, OUTFLOW),
     ];
-    put_solved(view, settle(side, &terms))
+    put_solved(view, solve_balance(side, &terms))
 }
 
 fn solve_lagged(view: &View, side: Option<i128>) -> Solved
@@ -58,7 +58,7 @@ fn solve_lagged(view: &View, side: Option<i128>) -> Solved
         view.entry.now }
 {
     let terms = [view.term(Share::Takes, OUTFLOW)];
-    put_solved(view, settle(lagged_outflow(view.past, side), &terms))
+    put_solved(view, solve_balance(lagged_outflow(view.past, side), &terms))
 }
 
 pub(crate) fn solve_reach(

@@ -9,4 +9,4 @@ pub use Rattle.rw_table.specs.Curve.{IsAtMost, IsElevationInside, IsGreatest, Is
 pub use Rattle.rw_table.specs.Curve.{last_row, vol_from, vol_of}
 pub use Rattle.rw_table.specs.Line.{IsLastOnLine, between}
 pub use Rattle.rw_table.specs.Table.{IsAbove, IsGoodRow, IsRisingAt, IsTable, IsWithinBounds, Row, TableRefusal, is_above, is_rising_at}
-pub use Rattle.rw_table.specs.Table.{is_within_bounds, not_rising, refusal_of, row_at, row_refusal, rows_refusal, table_refusal}
+pub use Rattle.rw_table.specs.Table.{is_within_bounds, not_rising, rows_refusal_of, row_at, row_refusal, rows_refusal, table_refusal}

@@ -1,7 +1,7 @@
 -- Nothing is wrong with rows exactly where they are a table.
 use Rattle.rw_table.proofs.Common.{Decides, Decides-and, Decides-like, Finds, IsAbove, IsGoodRow, IsRisingAt, IsTable, IsWithinBounds, List, None}
 use Rattle.rw_table.proofs.Common.{Option, Row, Some, TableRefusal, ap, arith, below_more, cases_eq, inl, inr, is_above, is_rising_at}
-use Rattle.rw_table.proofs.Common.{is_within_bounds, length, nat_lt, nat_tests, not_rising, option_or, refl, refusal_of, row_at, row_refusal}
+use Rattle.rw_table.proofs.Common.{is_within_bounds, length, nat_lt, nat_tests, not_rising, option_or, refl, rows_refusal_of, row_at, row_refusal}
 use Rattle.rw_table.proofs.Common.{rows_refusal, subst, suc, sym, table_refusal, zero, ℕ, ◌+◌, ◌<◌, ◌↔◌, ◌∙◌, ◌≡◌, ◌≤◌}
 use Rattle.rw_base.proofs.Answering.{found}
 use Rattle.rw_base.proofs.Tests.{Decides-from_to, Decides-int_lt, passed, spared, unless, where-true}
@@ -81,14 +81,14 @@ next-none rows k before here =
 
 -- or something is
 pub first-here : (rows : List Row) (k : ℕ) (fault : TableFault) → k < length rows → rows_refusal rows k ≡ None
-    → Finds refusal_of (Some fault) (row_refusal rows k) → Finds refusal_of (Some fault) (rows_refusal rows (length rows))
+    → Finds rows_refusal_of (Some fault) (row_refusal rows k) → Finds rows_refusal_of (Some fault) (rows_refusal rows (length rows))
 first-here rows k fault within before finds =
-    let is = found refusal_of fault (row_refusal rows k) finds in
+    let is = found rows_refusal_of fault (row_refusal rows k) finds in
     let same = found-first rows (suc k) (length rows) is.0 (omega arith) (ap (λ first. option_or first (row_refusal rows k)) before ∙ is.2) in
     (same ∙ sym is.1, rw same refl)
 
 -- 2 to 200 rows of which none is found to be bad are a table
 pub found-table : (rows : List Row) (result : Option TableFault) → 2 ≤ length rows → length rows ≤ 200
-    → Finds refusal_of result (rows_refusal rows (length rows)) → result ≡ None → IsTable rows
+    → Finds rows_refusal_of result (rows_refusal rows (length rows)) → result ≡ None → IsTable rows
 found-table rows None some few finds none = record { some = some; few = few; good = rows-good rows (length rows) finds }
 found-table rows (Some fault) some few finds none = absurd cc

@@ -51,12 +51,12 @@ pub data TableRefusal : Type 0 where
   not_rising : ℕ → TableRefusal
 
 -- what a fault tells of the rows. Want of memory tells nothing of them
-abbrev pub refusal_of : TableFault → Option TableRefusal
-refusal_of TooFewRows = Some too_few_rows
-refusal_of TooManyRows = Some too_many_rows
-refusal_of (OutOfBounds number) = Some (out_of_bounds number)
-refusal_of (NotRising number) = Some (not_rising number)
-refusal_of NoMemory = None
+abbrev pub rows_refusal_of : TableFault → Option TableRefusal
+rows_refusal_of TooFewRows = Some too_few_rows
+rows_refusal_of TooManyRows = Some too_many_rows
+rows_refusal_of (OutOfBounds number) = Some (out_of_bounds number)
+rows_refusal_of (NotRising number) = Some (not_rising number)
+rows_refusal_of NoMemory = None
 
 abbrev pub is_within_bounds : Row → Bool
 is_within_bounds row = is_from_to (pos 0) ELEVATION_MAX row.0 && is_from_to (pos 0) VOLUME_MAX row.1

@@ -1,7 +1,7 @@
 ghost use Rattle.rw_table.specs.declared.fault.TheConstants.{ROWS_MAX};
 ghost use Rattle.std.specs.Prelude.{◌≡◌, ◌<◌, ◌≤◌, length, None};
 ghost use Rattle.rw_base.specs.Answers.{Finds};
-ghost use Rattle.rw_table.specs.Table.{IsTable, refusal_of, is_within_bounds, is_above, row_refusal, rows_refusal, table_refusal};
+ghost use Rattle.rw_table.specs.Table.{IsTable, rows_refusal_of, is_within_bounds, is_above, row_refusal, rows_refusal, table_refusal};
 
 use thiserror::Error;
 
@@ -51,7 +51,7 @@ fn is_above(row: (i64, i64), before: (i64, i64)) -> bool
 fn judge_row(rows: &[(i64, i64)], place: usize) -> Option<TableFault>
     requires few { length rows.now ≤ ROWS_MAX }
     requires within { place < length rows.now }
-    ensures { Finds refusal_of result (row_refusal rows.now place) }
+    ensures { Finds rows_refusal_of result (row_refusal rows.now place) }
 {
     let row = rows[place];
     let number = place as u32 + 1;
@@ -67,7 +67,7 @@ fn judge_row(rows: &[(i64, i64)], place: usize) -> Option<TableFault>
 // The first fault of a row.
 fn judge_rows(rows: &[(i64, i64)]) -> Option<TableFault>
     requires few { length rows.now ≤ ROWS_MAX }
-    ensures { Finds refusal_of result (rows_refusal rows.now (length rows.now)) }
+    ensures { Finds rows_refusal_of result (rows_refusal rows.now (length rows.now)) }
 {
     for place in 0..rows.len() {
         if let Some(fault) = judge_row(rows, place) {
@@ -79,7 +79,7 @@ fn judge_rows(rows: &[(i64, i64)]) -> Option<TableFault>
 
 /// The first fault of the rows, if they have one.
 pub(crate) fn judge(rows: &[(i64, i64)]) -> Option<TableFault>
-    ensures fault { Finds refusal_of result (table_refusal rows.now) }
+    ensures fault { Finds rows_refusal_of result (table_refusal rows.now) }
     ensures table { result ≡ None → IsTable rows.now }
 {
     if rows.len() < 2 {

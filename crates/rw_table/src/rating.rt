@@ -1,7 +1,7 @@
 ghost use Rattle.std.specs.Prelude.{◌≡◌, OnOk, IsOk, IfOk, IsErrOf};
 ghost use Rattle.std.specs.Option.{ForSome};
 ghost use Rattle.rw_base.specs.Answers.{Answers};
-ghost use Rattle.rw_table.specs.Table.{IsTable, refusal_of, table_of};
+ghost use Rattle.rw_table.specs.Table.{IsTable, rows_refusal_of, table_of};
 ghost use Rattle.rw_table.specs.Curve.{vol_of, elev_of, first_row, IsElevationInside};
 
 use crate::fault::{TableFault, judge};
@@ -35,7 +35,7 @@ impl Rating {
     pub fn of(alloc: Global, rows: &[(i64, i64)]) -> Result<Rating, TableFault>
         ensures rows { IfOk result (λ rating. rating ≡ rows.now) }
         ensures table { OnOk result (IsTable rows.now) }
-        ensures answers { Answers TableFault.NoMemory refusal_of (λ rating. rating) result
+        ensures answers { Answers TableFault.NoMemory rows_refusal_of (λ rating. rating) result
             (table_of rows.now) }
         ensures memory { IsErrOf result TableFault.NoMemory → IsOk (table_of rows.now) }
     {

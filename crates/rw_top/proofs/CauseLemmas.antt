@@ -8,15 +8,15 @@ use Rattle.rw_inputs.specs.Refusal.{refused_at}
 use Rattle.rw_io.specs.declared.whole_file.ReadEnd.{ReadEnd}
 use Rattle.rw_io.specs.declared.whole_file.ReadEnd.TheVariants.{ReadFault, TooLong as EndTooLong, NoMemory as EndNoMemory}
 use Rattle.rw_model.specs.Draft.{Draft}
-use Rattle.rw_model_toml.specs.Fault.{refusal_of}
+use Rattle.rw_model_toml.specs.Fault.{model_refusal_of}
 use Rattle.rpl_parse.specs.declared.fault.ParseFault.{ParseFault}
 use Rattle.rpl_parse.specs.declared.fault.ParseFault.TheVariants as P
 use Rattle.rpl_parse.specs.Declarations.{bad_declaration, bad_token, too_many}
-use Rattle.rpl_parse.specs.Parsing.{AnswersReading, refusal_of as refusal_of_grammar}
+use Rattle.rpl_parse.specs.Parsing.{AnswersReading, grammar_refusal_of as refusal_of_grammar}
 use Rattle.rpl_parse.proofs.Answering.{tells_due}
 use Rattle.rpl_types.specs.Judged.{TypeRefusal as NodeRefusal, rules_judged, type_refusal}
 use Rattle.rw_base.specs.Answers.{IsWhy}
-use Rattle.rpl_code.specs.Answers.{refusal_of as refusal_of_code}
+use Rattle.rpl_code.specs.Answers.{code_refusal_of as refusal_of_code}
 use Rattle.rpl_code.specs.Reading.{read}
 use Rattle.rpl_code.specs.declared.fault.CodeFault.{CodeFault}
 use Rattle.rpl_code.specs.declared.fault.CodeFault.TheVariants as C
@@ -50,7 +50,7 @@ told_by wrap status same None reason tells = absurd cc
 told_by wrap status same (Some bad) reason tells = let is : wrap bad ≡ reason = cc in same bad ∙ ap status_by is
 
 pub told_status : (why : Refusal) (reason : Reason) → reason_of why ≡ Some reason → status_of why ≡ status_by reason
-told_status (Model fault) reason tells = told_by (λ bad. BadModel bad) 6 (λ bad. refl) (refusal_of fault) reason tells
+told_status (Model fault) reason tells = told_by (λ bad. BadModel bad) 6 (λ bad. refl) (model_refusal_of fault) reason tells
 told_status (Grammar fault) reason tells =
     told_by (λ bad. BadPolicy (BadRules (BadGrammar bad))) 7 (λ bad. refl) (refusal_of_grammar fault) reason tells
 told_status (Types kind declaration node) reason tells =
@@ -70,7 +70,7 @@ no_memory command shelf why is = subst (FileCause command shelf) (sym is) tt
 pub read_cause : {A : Type 0} (command : Command) (shelf : Change ShelfView) (file : File) (path : List ℕ) (end : ReadEnd) (result : Result A ReadEnd)
     → result ≡ Err end → path_of command file ≡ Some path → Reaches command shelf.before.holds file
     → (IsErrOf result ReadFault → Rose (shelf.before.faults path) (shelf.after.faults path))
-    → (IsErrOf result EndTooLong → FILE_MAX < shelf.after.given)
+    → (IsErrOf result EndTooLong → FILE_MAX < shelf.after.taken)
     → (IsErrOf result EndTooLong → IsTooLong shelf.before.holds path)
     → FileCause command shelf (refusal_after end file)
 read_cause command shelf file path ReadFault result is named reached fault long longer = record {

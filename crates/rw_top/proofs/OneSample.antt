@@ -1,7 +1,7 @@
 -- A seed has one line.
 use Rattle.rw_top.proofs.Common.{List, Ok, Reads, ap, length, subst, sym, ℕ, ℤ, ◌∙◌, ◌≡◌}
 use Rattle.rw_base.specs.declared.number.Cell.{Cell}
-use Rattle.rw_inputs.specs.Givens.{givens}
+use Rattle.rw_inputs.specs.Placings.{placings}
 use Rattle.rw_model.proofs.Common.{Draft, all_slots}
 use Rattle.rw_report.specs.Outcome.{outcome_by}
 use Rattle.rw_run.proofs.Common.{IsRun, Log, Policy}
@@ -28,5 +28,5 @@ one_sample one_run seed text other a b =
     (subst (λ d. IsSampleText d (Ruleset a.rules) a.inputs seed text) same a.line) in
     let given = same_to a.inputs b.inputs values (length (all_slots basin.objects)) basin.control.stamps.count in
     let log =
-    one_run basin policy (givens basin b.inputs) line.log b.line.log (subst (λ xs. IsRun basin policy xs line.log) given line.run) b.line.run in
+    one_run basin policy (placings basin b.inputs) line.log b.line.log (subst (λ xs. IsRun basin policy xs line.log) given line.run) b.line.run in
     line.text_is ∙ ap (λ (l : Log). sample_line basin seed (outcome_by basin l)) log ∙ sym b.line.text_is

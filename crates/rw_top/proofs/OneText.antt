@@ -6,7 +6,7 @@ use Rattle.rw_model.proofs.Common.{Draft, all_slots}
 use Rattle.rw_inputs.specs.Inputs.{Inputs, value_at}
 use Rattle.rw_run.specs.declared.run.Run.{Run}
 use Rattle.rw_run.proofs.Common.{Log, Policy, IsRun, end_of}
-use Rattle.rw_inputs.specs.Givens.{if_given, givens_of, givens_to, givens}
+use Rattle.rw_inputs.specs.Placings.{if_placed, placings_of, placings_to, placings}
 use Rattle.rw_engine.specs.Passing.{ComesTo}
 use Rattle.rw_base.proofs.Common.{Bool, IsSome, IsTrue, Option}
 use Rattle.rw_base.specs.declared.number.StepNo.{StepNo}
@@ -18,7 +18,7 @@ use Rattle.rw_dispatch.specs.Pick.{IsPickedRun, LeadsPicked, Picking, follows_pi
 use Rattle.rw_run.proofs.OneRun.{none_follows}
 use Rattle.rw_run.specs.Log.{Event}
 use Rattle.rw_run.specs.Next.{no_rules}
-use Rattle.rw_run.specs.Runs.{placed, standing}
+use Rattle.rw_run.specs.Runs.{with_inputs, standing}
 use Rattle.rw_run.specs.Waiting.{waiting}
 use Rattle.rw_words.specs.declared.order.Order.{Order}
 use Rattle.rw_words.specs.declared.order.Order.TheVariants.{Oldest, Newest}
@@ -26,11 +26,11 @@ use Rattle.rw_top.specs.RunText.{IsSimulated}
 use Rattle.rw_top.specs.declared.extras.Extras.{Extras}
 
 module _ (inputs others : Inputs) (same : (slot step : ℕ) → value_at inputs slot step ≡ value_at others slot step) where
-  same_of : (slot steps : ℕ) → givens_of inputs slot steps ≡ givens_of others slot steps
+  same_of : (slot steps : ℕ) → placings_of inputs slot steps ≡ placings_of others slot steps
   same_of slot zero = refl
-  same_of slot (suc steps) = ap₂ (λ xs value. xs ++ if_given slot (suc steps) value) (same_of slot steps) (same slot (suc steps))
+  same_of slot (suc steps) = ap₂ (λ xs value. xs ++ if_placed slot (suc steps) value) (same_of slot steps) (same slot (suc steps))
 
-  pub same_to : (slots steps : ℕ) → givens_to inputs slots steps ≡ givens_to others slots steps
+  pub same_to : (slots steps : ℕ) → placings_to inputs slots steps ≡ placings_to others slots steps
   same_to zero steps = refl
   same_to (suc slots) steps = ap₂ (λ xs ys. xs ++ ys) (same_to slots steps) (same_of (suc slots) steps)
 
@@ -51,7 +51,8 @@ pub one_text : ((basin : Draft) (policy : Policy) (inputs : List (Cell × ℤ)) 
     → (end ≡ other) × (text ≡ more)
 one_text one_run basin policy extras reran number inputs others end other text more same left right =
     let given = same_to inputs others same (length (all_slots basin.objects)) basin.control.stamps.count in
-    let log = one_run basin policy (givens basin others) left.log right.log (subst (λ xs. IsRun basin policy xs left.log) given left.run) right.run in
+    let log =
+    one_run basin policy (placings basin others) left.log right.log (subst (λ xs. IsRun basin policy xs left.log) given left.run) right.run in
     (left.end_is ∙ ap end_of log ∙ sym right.end_is, left.text_is ∙ ap (section_text basin extras number reran) log ∙ sym right.text_is)
 
 -- a rule that picks has one run, too
@@ -68,7 +69,7 @@ one_picked : (basin : Draft) (policy : Policy) (rule : Picking) (inputs : List (
     → IsPickedRun basin policy rule inputs one
     → IsPickedRun basin policy rule inputs other → one ≡ other
 one_picked basin policy rule inputs one other r s =
-    same_picked basin policy rule (placed [] inputs) r.events s.events one other r.leads s.leads
+    same_picked basin policy rule (with_inputs [] inputs) r.events s.events one other r.leads s.leads
     (none_follows basin policy one (picked rule one (waiting basin one)) (standing one) r.end)
     (none_follows basin policy other (picked rule other (waiting basin other)) (standing other) s.end)
 
@@ -82,7 +83,7 @@ one_simulated one_run Oldest basin extras number inputs others end other text mo
     one_text one_run basin no_rules extras None number inputs others end other text more same left right
 one_simulated one_run Newest basin extras number inputs others end other text more same left right =
     let given = same_to inputs others same (length (all_slots basin.objects)) basin.control.stamps.count in
-    let log = one_picked basin no_rules newest (givens basin others) left.log right.log
+    let log = one_picked basin no_rules newest (placings basin others) left.log right.log
     (subst (λ xs. IsPickedRun basin no_rules newest xs left.log) given left.run) right.run in
     (left.end_is ∙ ap end_of log ∙ sym right.end_is, left.text_is ∙ ap (section_text basin extras number None) log ∙ sym right.text_is)
 

@@ -8,7 +8,7 @@ use Rattle.rw_report.specs.Outcome.{outcome_by, outcome_of}
 use Rattle.rw_report.specs.Whole.{whole_of}
 use Rattle.rw_run.specs.RunOf.{IsRunOf}
 use Rattle.rw_run.specs.declared.run.Run.{Run}
-use Rattle.rw_inputs.specs.Givens.{givens}
+use Rattle.rw_inputs.specs.Placings.{placings}
 use Rattle.rw_inputs.specs.Inputs.{Inputs}
 use Rattle.rw_model.proofs.Common.{Draft}
 use Rattle.rw_run.proofs.Common.{IsRun, Log, Policy}
@@ -36,7 +36,7 @@ types_of (Err why) is = absurd cc
 -- a run by a policy, as one by another that has it too
 by_other : (basin : Draft) (one other : Policy) (extras : Extras) (reran : Option (List StepNo)) (number : ℕ) (inputs : Inputs) (end : RunEnd)
     (text : List ℕ)
-    → ((log : Log) → IsRun basin one (givens basin inputs) log → IsRun basin other (givens basin inputs) log)
+    → ((log : Log) → IsRun basin one (placings basin inputs) log → IsRun basin other (placings basin inputs) log)
     → IsRunText basin one extras reran number inputs end text → IsRunText basin other extras reran number inputs end text
 by_other basin one other extras reran number inputs end text has is =
     record { log = is.log; run = has is.log is.run; end_is = is.end_is; text_is = is.text_is }
@@ -54,11 +54,11 @@ pub without_rules : ((basin : Draft) (one other : Policy) (inputs : List (Cell �
     → IsRunText basin (policy_of_code basin blocks) extras reran number inputs end text → IsRunText basin no_rules extras reran number inputs end text
 without_rules same_runs basin blocks extras reran number inputs end text none is =
     by_other basin (policy_of_code basin blocks) no_rules extras reran number inputs end text
-    (λ log run. same_runs basin (policy_of_code basin blocks) no_rules (givens basin inputs) log (none_alike basin blocks none) run) is
+    (λ log run. same_runs basin (policy_of_code basin blocks) no_rules (placings basin inputs) log (none_alike basin blocks none) run) is
 
 -- by code
 pub by_code : (basin : Draft) (code : Accepted) (inputs : Inputs) (run : Run) → AreAccepted basin code.blocks code.budgets
-    → ((log : Log) → IsRun basin (policy_of_code basin code.blocks) (givens basin inputs) log → AreVerified basin code.blocks code.budgets log)
+    → ((log : Log) → IsRun basin (policy_of_code basin code.blocks) (placings basin inputs) log → AreVerified basin code.blocks code.budgets log)
     → ComesTo basin (policy_of_code basin code.blocks) inputs run → ComesBy basin (Code code.blocks code.budgets) inputs run
 by_code basin code inputs run accepted firings comes = record {
   log = comes.log;
@@ -70,9 +70,9 @@ by_code basin code inputs run accepted firings comes = record {
 -- by a ruleset
 pub by_ruleset : (basin : Draft) (rules : List Declared) (blocks : List Block) (inputs : Inputs) (run : Run)
     → blocks ≡ translate rules → AreAccepted basin (translate rules) (code_budgets_of rules)
-    → ((log : Log) → IsRun basin (policy_of_code basin (translate rules)) (givens basin inputs) log
-    → IsRun basin (policy_of_rules basin rules) (givens basin inputs) log)
-    → ((log : Log) → IsRun basin (policy_of_rules basin rules) (givens basin inputs) log
+    → ((log : Log) → IsRun basin (policy_of_code basin (translate rules)) (placings basin inputs) log
+    → IsRun basin (policy_of_rules basin rules) (placings basin inputs) log)
+    → ((log : Log) → IsRun basin (policy_of_rules basin rules) (placings basin inputs) log
     → AreVerified basin (translate rules) (code_budgets_of rules) log)
     → ComesTo basin (policy_of_code basin blocks) inputs run → ComesBy basin (Ruleset rules) inputs run
 by_ruleset basin rules blocks inputs run same accepted means firings comes =
@@ -89,14 +89,14 @@ by_ruleset basin rules blocks inputs run same accepted means firings comes =
 -- the code that is compiled of it
 pub code_of_ruleset : (basin : Draft) (rules : List Declared) (code : Accepted) → code.blocks ≡ translate rules
     → AreAccepted basin (translate rules) (code_budgets_of rules)
-    → ((inputs : Inputs) (log : Log) → IsRun basin (policy_of_code basin (translate rules)) (givens basin inputs) log
-    → IsRun basin (policy_of_rules basin rules) (givens basin inputs) log)
-    → ((inputs : Inputs) (log : Log) → IsRun basin (policy_of_rules basin rules) (givens basin inputs) log
+    → ((inputs : Inputs) (log : Log) → IsRun basin (policy_of_code basin (translate rules)) (placings basin inputs) log
+    → IsRun basin (policy_of_rules basin rules) (placings basin inputs) log)
+    → ((inputs : Inputs) (log : Log) → IsRun basin (policy_of_rules basin rules) (placings basin inputs) log
     → AreVerified basin (translate rules) (code_budgets_of rules) log)
     → IsCodeOf basin (Ruleset rules) code
 code_of_ruleset basin rules code same accepted means firings = record {
   comes = λ inputs run'. by_ruleset basin rules code.blocks inputs run' same accepted (means inputs) (firings inputs);
-  runs = λ inputs log whole. means inputs log (subst (λ bs. IsRun basin (policy_of_code basin bs) (givens basin inputs) log) same whole);
+  runs = λ inputs log whole. means inputs log (subst (λ bs. IsRun basin (policy_of_code basin bs) (placings basin inputs) log) same whole);
 }
 
 -- what the law says of the text of a run, by its log

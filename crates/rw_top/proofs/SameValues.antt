@@ -2,7 +2,7 @@
 use Rattle.rw_base.proofs.Common.{◌≡◌, ◌<◌, ◌+◌, ◌∙◌, ℕ, ℤ, List, [], Option, ap, none-some, sym, subst}
 use Rattle.rw_base.specs.declared.number.Cell.{Cell}
 use Rattle.rw_engine.specs.Passing.{ComesTo}
-use Rattle.rw_inputs.specs.Givens.{givens}
+use Rattle.rw_inputs.specs.Placings.{placings}
 use Rattle.rw_model.proofs.Common.{Draft}
 use Rattle.rw_report.proofs.Keeping.{values_alike}
 use Rattle.rw_report.specs.Sheet.{AreToldBefore, AreToldOf}
@@ -19,7 +19,7 @@ pub run_cells : (basin : Draft) (code : Accepted) (session : Session) (run : Run
     → ComesTo basin (policy_in basin code) session.inputs run → (cell : Cell) → held run.series cell ≡ held session.engine.series cell
 run_cells basin code session run is comes cell =
     comes.is.cells cell
-    ∙ ap (λ log. cells_of basin log cell) (one_run basin (policy_in basin code) (givens basin session.inputs) comes.log is.log comes.whole is.whole)
+    ∙ ap (λ log. cells_of basin log cell) (one_run basin (policy_in basin code) (placings basin session.inputs) comes.log is.log comes.whole is.whole)
     ∙ sym (is.shows.cells cell)
 
 -- values are told alike of cells that hold alike

@@ -5,7 +5,7 @@ use Rattle.rw_base.proofs.Common.{Bool, IsTrue, arith, length-map}
 use Rattle.rw_base.specs.declared.number.StepNo.{StepNo}
 use Rattle.rw_engine.specs.Passing.{ComesTo}
 use Rattle.rw_inputs.specs.Edits.{Batch, after_batch}
-use Rattle.rw_inputs.specs.Givens.{givens}
+use Rattle.rw_inputs.specs.Placings.{placings}
 use Rattle.rw_inputs.specs.Inputs.{Inputs, value_at}
 use Rattle.rw_model.proofs.Common.{Draft}
 use Rattle.rw_report.specs.Outcome.{outcome_of}
@@ -50,7 +50,7 @@ module _ (basin : Draft) (policy : Rules) (code : Accepted) (means : IsCodeOf ba
     inputs_are = sym started.inputs_are;
     log = started.is.log;
     run =
-        means.runs inputs started.is.log (subst (λ i. IsRun basin (policy_in basin code) (givens basin i) started.is.log) started.inputs_are
+        means.runs inputs started.is.log (subst (λ i. IsRun basin (policy_in basin code) (placings basin i) started.is.log) started.inputs_are
         started.is.whole);
     rerun = refl;
     count = (numbers_of_steps session.reran, started.opened_steps, length_numbers session.reran);
@@ -60,8 +60,8 @@ module _ (basin : Draft) (policy : Rules) (code : Accepted) (means : IsCodeOf ba
   pub later_next : (number : ℕ) (given : GivenInputs) (batch : Batch) (old new : Session) → (number == 0) ≡ false → given.inputs ≡ old.inputs
       → IsSessionOf basin code old → Applies basin code batch old new → IsNextSection basin policy number (edited_given given new.inputs) new
   later_next number given batch old new later same was applies =
-      let before : IsRun basin (policy_in_run basin policy) (givens basin given.inputs) was.log =
-      subst (λ i. IsRun basin (policy_in_run basin policy) (givens basin i) was.log) (sym same) (means.runs old.inputs was.log was.whole) in
+      let before : IsRun basin (policy_in_run basin policy) (placings basin given.inputs) was.log =
+      subst (λ i. IsRun basin (policy_in_run basin policy) (placings basin i) was.log) (sym same) (means.runs old.inputs was.log was.whole) in
       let rerun = applies.rerun was.log was.whole in
       record {
         inputs_are = refl;
@@ -82,7 +82,7 @@ module _ (basin : Draft) (policy : Rules) (code : Accepted) (means : IsCodeOf ba
   next_section texts extras number given session run reran text reuses comes kept next told is =
       let by : ComesBy basin policy given.inputs run =
       means.comes given.inputs run (subst (λ i. ComesTo basin (policy_in basin code) i run) (sym next.inputs_are) comes) in
-      let same : next.log ≡ by.log = one_run basin (policy_in_run basin policy) (givens basin given.inputs) next.log by.log next.run by.whole in
+      let same : next.log ≡ by.log = one_run basin (policy_in_run basin policy) (placings basin given.inputs) next.log by.log next.run by.whole in
       section_by texts basin policy extras reran number given run text by kept
       (subst (λ reuse. IsRerun basin (policy_in_run basin policy) reuse given by.log reran) (sym reuses)
       (subst (λ log. IsRerun basin (policy_in_run basin policy) true given log reran) same

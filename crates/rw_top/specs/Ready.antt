@@ -1,4 +1,4 @@
--- What is known of the files of a command before its text is made.
+-- Within the crate: what is known of the files of a command before its text is made.
 use Rattle.std.specs.Prelude.{◌≡◌, ℕ, ◌≤◌, Bool, List, length, Ok, IfSome, IsOk, IsSome, IsSomeAnd, IsTrue}
 use Rattle.std.specs.List.{All}
 use Rattle.rw_inputs.specs.EditRows.{edits_of}

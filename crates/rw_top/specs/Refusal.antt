@@ -6,15 +6,15 @@ use Rattle.rw_io.specs.declared.whole_file.TheConstants.{FILE_MAX}
 use Rattle.rw_io.specs.declared.whole_file.ReadEnd.{ReadEnd}
 use Rattle.rw_io.specs.declared.whole_file.ReadEnd.TheVariants.{ReadFault, TooLong as EndTooLong, NoMemory as EndNoMemory}
 use Rattle.rw_model.specs.Draft.{Draft}
-use Rattle.rw_model_toml.specs.Fault.{refusal_of}
+use Rattle.rw_model_toml.specs.Fault.{model_refusal_of}
 use Rattle.rw_model_toml.specs.Model.{model_of}
 use Rattle.rw_model_toml.specs.Refusal.{ModelRefusal}
 use Rattle.rw_inputs.specs.EditRows.{edits_of}
 use Rattle.rw_inputs.specs.Reading.{Refuses}
 use Rattle.rw_inputs.specs.Refusal.{InputRefusal, refused_at}
-use Rattle.rpl_parse.specs.Parsing.{refusal_of as refusal_of_grammar}
+use Rattle.rpl_parse.specs.Parsing.{grammar_refusal_of as refusal_of_grammar}
 use Rattle.rpl_types.specs.Judged.{type_refusal}
-use Rattle.rpl_code.specs.Answers.{refusal_of as refusal_of_code}
+use Rattle.rpl_code.specs.Answers.{code_refusal_of as refusal_of_code}
 use Rattle.rpl_verify.specs.Fits.{refusal as block_refusal}
 use Rattle.rw_top.specs.Command.{path_of}
 use Rattle.rw_words.specs.Command.{Command}
@@ -43,7 +43,7 @@ status_of (TooLong file) = 10
 
 -- the reason that a refusal tells, if it tells one
 abbrev pub reason_of : Refusal → Option Reason
-reason_of (Model fault) = option_map (λ why. BadModel why) (refusal_of fault)
+reason_of (Model fault) = option_map (λ why. BadModel why) (model_refusal_of fault)
 reason_of (Grammar fault) = option_map (λ why. BadPolicy (BadRules (BadGrammar why))) (refusal_of_grammar fault)
 reason_of (Types kind declaration node) = Some (BadPolicy (BadRules (BadNode (type_refusal kind declaration node))))
 reason_of (Code fault) = option_map (λ why. BadPolicy (BadBlocks (Unread why))) (refusal_of_code fault)
@@ -69,10 +69,10 @@ pub record FailsToRead (command : Command) (shelf : Change ShelfView) (file : Fi
   pub rose : IsSomeAnd (path_of command file)
       (λ path. Rose (shelf.before.faults path) (shelf.after.faults path))
 
--- the file was reached, and more bytes were given of it than a file may hold
+-- the file was reached, and more bytes were taken of it than a file may hold
 pub record FindsTooLong (command : Command) (shelf : Change ShelfView) (file : File) : Type 0 where
   pub holds_too_long : HoldsTooLong command shelf.before.holds file
-  pub more : FILE_MAX < shelf.after.given
+  pub more : FILE_MAX < shelf.after.taken
 
 -- the reason was found in the call
 abbrev pub WasFound : Command → Change ShelfView → Reason → Type 0

@@ -1,9 +1,9 @@
--- Sections of a session's runs.
+-- Within the crate: sections of a session's runs.
 use Rattle.std.specs.Prelude.{◌≡◌, ◌+◌, ◌==◌, ℕ, IfOk, List, length, MatchResult, Option, Some, None, Result, true, if◌then◌else◌}
 use Rattle.rw_base.specs.declared.number.StepNo.{StepNo}
 use Rattle.rw_model.specs.Draft.{Draft}
 use Rattle.rw_inputs.specs.Edits.{Batch}
-use Rattle.rw_inputs.specs.Givens.{givens}
+use Rattle.rw_inputs.specs.Placings.{placings}
 use Rattle.rw_io.specs.Outside.{Change, SinkView}
 use Rattle.rw_run.specs.Log.{Log}
 use Rattle.rw_run.specs.Runs.{IsRun}
@@ -23,7 +23,7 @@ told_of number reran = if number == 0 then None else Some reran
 pub record IsNextSection (basin : Draft) (policy : Rules) (number : ℕ) (given : GivenInputs) (session : Session) : Type 0 where
   pub inputs_are : given.inputs ≡ session.inputs
   pub log : Log
-  pub run : IsRun basin (policy_in_run basin policy) (givens basin given.inputs) log
+  pub run : IsRun basin (policy_in_run basin policy) (placings basin given.inputs) log
   pub rerun : IsRerun basin (policy_in_run basin policy) true given log (told_of number session.reran)
   pub count : CountsOf basin (policy_in_run basin policy) given.before log (length session.reran)
 

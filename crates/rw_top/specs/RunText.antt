@@ -15,7 +15,7 @@ use Rattle.rw_words.specs.declared.order.Order.TheVariants.{Oldest, Newest}
 use Rattle.rw_dispatch.specs.Pick.{IsPickedRun, newest}
 use Rattle.rw_model.specs.Draft.{Draft}
 use Rattle.rw_inputs.specs.Inputs.{Inputs}
-use Rattle.rw_inputs.specs.Givens.{givens}
+use Rattle.rw_inputs.specs.Placings.{placings}
 use Rattle.rw_run.specs.declared.run.Run.{Run}
 use Rattle.rw_run.specs.declared.run.RunEnd.{RunEnd}
 use Rattle.rw_run.specs.Log.{Log}
@@ -49,14 +49,14 @@ section_text basin extras number reran log = whole_of basin number (outcome_by b
 -- the section of this number, of the run of a basin by a policy from inputs, and how the run ends
 pub record IsRunText (basin : Draft) (policy : Policy) (extras : Extras) (reran : Option (List StepNo)) (number : ℕ) (inputs : Inputs) (end : RunEnd) (text : List ℕ) : Type 0 where
   pub log : Log
-  pub run : IsRun basin policy (givens basin inputs) log
+  pub run : IsRun basin policy (placings basin inputs) log
   pub end_is : end ≡ end_of log
   pub text_is : text ≡ section_text basin extras number reran log
 
 -- the section of the run without rules in which the object is dispatched that has waited shortest
 pub record IsNewestText (basin : Draft) (extras : Extras) (number : ℕ) (inputs : Inputs) (end : RunEnd) (text : List ℕ) : Type 0 where
   pub log : Log
-  pub run : IsPickedRun basin no_rules newest (givens basin inputs) log
+  pub run : IsPickedRun basin no_rules newest (placings basin inputs) log
   pub end_is : end ≡ end_of log
   pub text_is : text ≡ section_text basin extras number None log
 
@@ -71,7 +71,7 @@ IsPlainText basin extras number given end text = IsSimulated extras.order basin 
 -- how a cell came to what it holds in that run, and how the run ends
 pub record IsWhyText (basin : Draft) (policy : Policy) (inputs : Inputs) (cell : Cell) (end : RunEnd) (text : List ℕ) : Type 0 where
   pub log : Log
-  pub run : IsRun basin policy (givens basin inputs) log
+  pub run : IsRun basin policy (placings basin inputs) log
   pub end_is : end ≡ end_of log
   pub text_is : text ≡ why_of basin inputs (outcome_by basin log) cell
 
@@ -91,22 +91,22 @@ pub record IsVerifiedRun (basin : Draft) (policy : Rules) (log : Log) : Type 0 w
 -- the run comes to what the run by it does, in which each firing is verified
 pub record ComesBy (basin : Draft) (policy : Rules) (inputs : Inputs) (run : Run) : Type 0 where
   pub log : Log
-  pub whole : IsRun basin (policy_in_run basin policy) (givens basin inputs) log
+  pub whole : IsRun basin (policy_in_run basin policy) (placings basin inputs) log
   pub is : IsRunOf basin log run
   pub verified : IsVerifiedRun basin policy log
 
 -- the runs of the code are those by it, in which each firing is verified
 pub record IsCodeOf (basin : Draft) (policy : Rules) (code : Accepted) : Type 0 where
   pub comes : (inputs : Inputs) (run : Run) → ComesTo basin (policy_in basin code) inputs run → ComesBy basin policy inputs run
-  pub runs : (inputs : Inputs) (log : Log) → IsRun basin (policy_in basin code) (givens basin inputs) log
-      → IsRun basin (policy_in_run basin policy) (givens basin inputs) log
+  pub runs : (inputs : Inputs) (log : Log) → IsRun basin (policy_in basin code) (placings basin inputs) log
+      → IsRun basin (policy_in_run basin policy) (placings basin inputs) log
 
 -- the timesteps that are told of a run: none, or, where timesteps are to be reused and there was a run before it, those that aren't
 abbrev pub IsRerun : Draft → Policy → (reuse : Bool) → GivenInputs → Log → Option (List StepNo) → Type 0
 IsRerun basin policy false given log reran = reran ≡ None
 IsRerun basin policy true given log None = given.before ≡ None
 IsRerun basin policy true given log (Some steps) =
-    IsSomeAnd given.before (λ before. (earlier : Log) × IsRun basin policy (givens basin before) earlier × AreRerun basin earlier log (numbers_of_steps steps))
+    IsSomeAnd given.before (λ before. (earlier : Log) × IsRun basin policy (placings basin before) earlier × AreRerun basin earlier log (numbers_of_steps steps))
 
 -- the section of the run by it, in which each firing is verified
 pub record IsRulesText (basin : Draft) (policy : Rules) (extras : Extras) (number : ℕ) (given : GivenInputs) (end : RunEnd) (text : List ℕ) : Type 0 where
@@ -119,10 +119,10 @@ pub record IsRulesText (basin : Draft) (policy : Rules) (extras : Extras) (numbe
 abbrev pub CountsOf : Draft → Policy → Option Inputs → Log → ℕ → Type 0
 CountsOf basin policy None log count = (steps : List ℕ) × AreOpened log steps × (count ≡ length steps)
 CountsOf basin policy (Some before) log count =
-    (earlier : Log) × (steps : List ℕ) × IsRun basin policy (givens basin before) earlier × AreRerun basin earlier log steps × (count ≡ length steps)
+    (earlier : Log) × (steps : List ℕ) × IsRun basin policy (placings basin before) earlier × AreRerun basin earlier log steps × (count ≡ length steps)
 
 abbrev pub CountsRun : Draft → Policy → GivenInputs → ℕ → Type 0
-CountsRun basin policy given count = (log : Log) × IsRun basin policy (givens basin given.inputs) log × CountsOf basin policy given.before log count
+CountsRun basin policy given count = (log : Log) × IsRun basin policy (placings basin given.inputs) log × CountsOf basin policy given.before log count
 
 -- and so many were counted for all sections
 abbrev pub CountsSections : Draft → Rules → Inputs → List Batch → Change ℕ → Type 0
@@ -139,7 +139,7 @@ pub record IsWhyOfRules (basin : Draft) (policy : Rules) (inputs : Inputs) (cell
 -- the line on the run of this basin by this policy from these inputs, in which each firing is verified
 pub record IsSampleText (basin : Draft) (policy : Rules) (inputs : Inputs) (seed : ℕ) (text : List ℕ) : Type 0 where
   pub log : Log
-  pub run : IsRun basin (policy_in_run basin policy) (givens basin inputs) log
+  pub run : IsRun basin (policy_in_run basin policy) (placings basin inputs) log
   pub verified : IsVerifiedRun basin policy log
   pub text_is : text ≡ sample_line basin seed (outcome_by basin log)
 

@@ -1,4 +1,4 @@
--- What was read, in the definitions' terms.
+-- Within the crate: what was read, in the definitions' terms.
 use Rattle.std.specs.Prelude.{option_map}
 use Rattle.rpl_tree.specs.Seen.{rules_of}
 use Rattle.rw_top.specs.declared.policy.Policy.{Policy as Held}

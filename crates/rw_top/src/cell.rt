@@ -3,7 +3,8 @@ ghost use Rattle.std.specs.Prelude.{◌≡◌, ◌≤◌, ◌<◌, ◌^◌, true
 ghost use Rattle.std.specs.List.{list_all};
 ghost use Rattle.std.specs.Option.{ForSome};
 ghost use Rattle.std.specs.Str.{is_utf8};
-ghost use Rattle.rw_inputs.specs.Number.{is_digit, is_number_text, number_after, byte_position, read_number};
+ghost use Rattle.rw_base.specs.Byte.{is_digit};
+ghost use Rattle.rw_inputs.specs.Number.{is_number_text, number_after, byte_position, read_number};
 ghost use Rattle.rw_inputs.specs.Row.{slot_of_names, slot_of_text};
 ghost use Rattle.rw_model.specs.Draft.{Draft, IsSlot};
 ghost use Rattle.rw_words.specs.Command.{cell_seen};

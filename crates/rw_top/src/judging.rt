@@ -4,13 +4,13 @@ ghost use Rattle.rw_base.specs.declared.limits.TheConstants.{TEXT_MAX};
 ghost use Rattle.std.specs.Option.{ForSome};
 ghost use Rattle.rw_base.specs.Answers.{IsWhy as IsWhyOf};
 ghost use Rattle.rpl_code.specs.declared.fault.CodeFault.TheVariants as CodeFault;
-ghost use Rattle.rpl_code.specs.Answers.{refusal_of as refusal_of_code};
+ghost use Rattle.rpl_code.specs.Answers.{code_refusal_of as refusal_of_code};
 ghost use Rattle.rpl_code.specs.Reading.{read};
 ghost use Rattle.rpl_parse.specs.Declarations.{IsReading, IsRuleset};
 ghost use Rattle.rpl_parse.specs.Parsing.{AnswersReading};
 ghost use Rattle.rpl_tree.specs.Seen.{rules_of};
-ghost use Rattle.rpl_types.specs.Refused.{refusal_of};
-ghost use Rattle.rpl_verify.specs.Verified.{refusal_of as refusal_of_verify};
+ghost use Rattle.rpl_types.specs.Refused.{type_refusal_of};
+ghost use Rattle.rpl_verify.specs.Verified.{misfit_refusal_of as refusal_of_verify};
 ghost use Rattle.rw_inputs.specs.Reading.{Reads};
 ghost use Rattle.rw_model.specs.Draft.{Draft};
 ghost use Rattle.rw_model_toml.specs.Fault.{IsModelWhy};
@@ -105,7 +105,7 @@ fn parse_rules(alloc: Global, text: &[u8]) -> Result<ParsedRules, Refusal>
 }
 
 fn refusal_of_types(_basin: &Basin, _text: &[u8], fault: TypeFault) -> Refusal
-    requires { ForSome (refusal_of fault) (RefusesNode _basin.now _text.now) }
+    requires { ForSome (type_refusal_of fault) (RefusesNode _basin.now _text.now) }
     ensures { IsPolicyRefusal false _basin.now _text.now result }
 {
     match fault {

@@ -44,7 +44,7 @@ pub enum Refusal {
     Edits(InputKind, u32, u8),
     /// The basin has no cell that the words name.
     NoCell,
-    /// More bytes were given of that file than a file may hold.
+    /// More bytes were taken of that file than a file may hold.
     TooLong(File),
 }
 

@@ -6,7 +6,8 @@ ghost use Rattle.rw_method.specs.Solve.{answer, solve_of};
 
 use rw_method::places::{INFLOW, OUTFLOW, SEEPAGE};
 use rw_method::{
-    Balanced, Given, Method, Seepage, Share, Solved, View, add_put, begin_puts, known_after, settle,
+    Balanced, Given, Method, Seepage, Share, Solved, View, add_put, begin_puts, known_after,
+    solve_balance,
 };
 use rw_model::Kind;
 
@@ -47,7 +48,7 @@ pub(crate) fn solve_canal(view: &View, seepage: u16) -> Solved
         view.term(Share::Conveys(Seepage::of(seepage)), INFLOW),
         view.term(Share::Takes, OUTFLOW),
     ];
-    put_seepage(view, settle(Some(0), &terms))
+    put_seepage(view, solve_balance(Some(0), &terms))
 }
 
 impl Method for CanalMethod {

@@ -10,7 +10,7 @@ ghost use Rattle.rw_method.specs.Solve.{answer, balanced_of, solve_of};
 use rw_method::places::{DEPLETION, DIVERSION, DIVERSION_REQUEST, RETURN_FLOW};
 use rw_method::{
     Balanced, Given, Method, Share, Solved, View, add_put, begin_puts, known_after, per_mille,
-    settle,
+    solve_balance,
 };
 use rw_model::{Kind, Supply};
 
@@ -48,11 +48,11 @@ fn balanced_by(view: &View, supply: Supply) -> Balanced
         → result ≡ balanced_of (Kind.WaterUser depletion supply) view.entry.now }
 {
     match supply {
-        Supply::Request => settle(
+        Supply::Request => solve_balance(
             known_flow(view, DIVERSION_REQUEST),
             &[view.term(Share::Takes, DIVERSION)],
         ),
-        Supply::Rule => settle(known_flow(view, DIVERSION), &[]),
+        Supply::Rule => solve_balance(known_flow(view, DIVERSION), &[]),
     }
 }
 

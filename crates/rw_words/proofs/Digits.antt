@@ -1,7 +1,8 @@
 -- The digits of a seed.
 use Rattle.rw_base.proofs.Common.{common_steps, ◌≡◌, ℕ, zero, suc, ◌+◌, ◌*◌, ◌<◌, ◌≤◌, ◌^◌, ◌&&◌, true, List, [], ◌∷◌, length, arith, lit≤}
 use Rattle.rw_base.proofs.Common.{slice_index_or, nat_le, list_all, pow-le-pow_right, and_parts, nat_tests}
-use Rattle.rw_words.specs.Seed.{are_digits, is_digit}
+use Rattle.rw_base.specs.Byte.{is_digit}
+use Rattle.rw_words.specs.Seed.{are_digits}
 
 pub next_power : (i v d : ℕ) → v < 10 ^ i → d < 10 → v * 10 + d < 10 ^ (i + 1)
 next_power i v d small digit = grind (arith, common_steps)

@@ -1,7 +1,8 @@
 // The seed of a sample, as a word spells it.
 ghost use Rattle.std.specs.Prelude.{◌≡◌, IsTrue};
 ghost use Rattle.std.specs.List.{list_all};
-ghost use Rattle.rw_words.specs.Seed.{are_digits, is_digit, seed_number_after, seed_of_text};
+ghost use Rattle.rw_base.specs.Byte.{is_digit};
+ghost use Rattle.rw_words.specs.Seed.{are_digits, seed_number_after, seed_of_text};
 
 // The greatest number of digits of a seed.
 const DIGITS_MAX: usize = 20;

@@ -1,5 +1,5 @@
 use Rattle.rw_base.proofs.Common.{ap}
-use Rattle.rpl_verify.proofs.Common.{refusal, refusal_of}
+use Rattle.rpl_verify.proofs.Common.{refusal, misfit_refusal_of}
 use Rattle.rpl_compile.proofs.Compiled.{never_refused}
 use Rattle.rpl_compile.proofs.compiling.compile.Goals as goal
 
@@ -8,4 +8,4 @@ unreachable-requires c =
     let why = refusal c.in-Err-Refused.field-0-0 c.in-Err-Refused.field-0-1 c.in-Err-Refused.field-0-2 in
     never_refused c.args.basin.now c.args.typed.now.rules c.rules-rules.result.now c.in_ok-code.code why c.rules-rules.ensures.rules
     (c.bounds.ensures.all c.rules-rules.result.now c.rules-rules.ensures.ruleset) c.requires c.in_ok-code.ensures
-    (c.in-Err-Refused.ensures.0 why (ap refusal_of c.in-Err-Refused.field-0-is))
+    (c.in-Err-Refused.ensures.0 why (ap misfit_refusal_of c.in-Err-Refused.field-0-is))

@@ -1,4 +1,4 @@
-use Rattle.rw_engine.proofs.Common.{[], ap, cells_of, if_given, input_content, last_put, option_or, placed, put-set, sym, ◌∙◌, ◌∷◌}
+use Rattle.rw_engine.proofs.Common.{[], ap, cells_of, if_placed, input_content, last_put, option_or, with_inputs, put-set, sym, ◌∙◌, ◌∷◌}
 use Rattle.rw_engine.proofs.Places.{given-bounded}
 use Rattle.rw_engine.proofs.placing.place_cell.Goals as goal
 
@@ -15,5 +15,5 @@ returns-in-Some-clause-placed c log holds cell =
     put-set c.args.basin.now (record { cell = c.args.cell; content = input_content c.in-Some.value }) c.args.series.now c.hold.new.self
     c.hold.ensures.cells cell
     ∙ ap (option_or (last_put c.args.basin.now (record { cell = c.args.cell; content = input_content c.in-Some.value } ∷ []) cell)) (holds cell)
-    ∙ ap (λ given. cells_of c.args.basin.now (placed log (if_given c.args.cell.slot.0 c.args.cell.step.0 given)) cell)
+    ∙ ap (λ given. cells_of c.args.basin.now (with_inputs log (if_placed c.args.cell.slot.0 c.args.cell.step.0 given)) cell)
     (sym (sym c.value.ensures ∙ c.in-Some.is))

@@ -1,4 +1,4 @@
-use Rattle.rw_engine.proofs.Common.{Inputs, IsEngineOf, IsSome, Shows, [], givens, placed, ◌+◌, ◌≡◌, ◌≤◌}
+use Rattle.rw_engine.proofs.Common.{Inputs, IsEngineOf, IsSome, Shows, [], placings, with_inputs, ◌+◌, ◌≡◌, ◌≤◌}
 use Rattle.std.specs.Prelude.{◌*◌}
 use Rattle.rw_engine.specs.Picked.{StandsPicked, most_turns}
 use Rattle.rw_rules.specs.Rules.{policy_in}
@@ -11,6 +11,6 @@ invariant-loop-before g l = record {
   last : l.engine.closed ≡ l.before;
   steps : l.steps ≡ l.fn.steps + l.before;
   few : l.engine.turns ≤ l.before * most_turns l.setup.basin.now;
-  stands : (inputs : Inputs) → Shows l.setup.basin.now l.fn.engine (placed [] (givens l.setup.basin.now inputs))
+  stands : (inputs : Inputs) → Shows l.setup.basin.now l.fn.engine (with_inputs [] (placings l.setup.basin.now inputs))
       → StandsPicked l.setup.basin.now (policy_in l.setup.basin.now l.setup.policy.now) (g.P.Pick.rule l.pick) inputs l.engine l.before;
 }

@@ -1,4 +1,4 @@
-use Rattle.rw_engine.proofs.Common.{[], givens, ◌∙◌}
+use Rattle.rw_engine.proofs.Common.{[], placings, ◌∙◌}
 use Rattle.rw_run.proofs.Placed.{closed-placed}
 use Rattle.rw_rules.specs.Rules.{policy_in}
 use Rattle.rw_engine.proofs.Oldest.{comes_run}
@@ -6,7 +6,7 @@ use Rattle.rw_engine.proofs.running.run_all.Goals as goal
 
 pub pass_all-requires-clause-begun : goal.pass_all-requires-clause-begun
 pass_all-requires-clause-begun g c =
-    c.in_ok-engine.ensures.shows.closed_steps ∙ closed-placed [] (givens c.args.basin.now c.args.inputs.now)
+    c.in_ok-engine.ensures.shows.closed_steps ∙ closed-placed [] (placings c.args.basin.now c.args.inputs.now)
 
 pub returns-clause-run : goal.returns-clause-run
 returns-clause-run g c =

@@ -4,4 +4,4 @@ use Rattle.rw_model.specs.Basin.{is_crossed}
 use Rattle.rw_model.proofs.bounds.has_crossed_bounds.Given as goal
 
 abbrev pub invariant-loop-before : goal.invariant-loop-before
-invariant-loop-before l = list_any (λ slot. is_crossed (bounds_in l.objects l.links l.given slot)) (range_with_len 1 l.before) ≡ false
+invariant-loop-before l = list_any (λ slot. is_crossed (bounds_in l.objects l.links l.own slot)) (range_with_len 1 l.before) ≡ false

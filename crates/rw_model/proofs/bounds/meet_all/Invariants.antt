@@ -5,4 +5,4 @@ use Rattle.rw_model.proofs.bounds.meet_all.Given as goal
 
 abbrev pub invariant-loop-slot : goal.invariant-loop-slot
 invariant-loop-slot l =
-    meet_all l.objects l.given l.met (numbers_of (drop l.slot-index l.slots)) ≡ meet_all l.objects l.given l.fn.bounds (numbers_of l.slots)
+    meet_all l.objects l.own l.met (numbers_of (drop l.slot-index l.slots)) ≡ meet_all l.objects l.own l.fn.bounds (numbers_of l.slots)

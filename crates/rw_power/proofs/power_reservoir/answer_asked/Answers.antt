@@ -1,6 +1,6 @@
 use Rattle.rw_base.proofs.Common.{ap₂, to_z-of_z, w64, ◌∙◌}
 use Rattle.rw_method.specs.Power.{Plant, plant}
-use Rattle.rw_method.specs.Settling.{settled}
+use Rattle.rw_method.specs.Solving.{solved_balance}
 use Rattle.rw_power.proofs.Parts.{answered_by, three_same}
 use Rattle.rw_power.proofs.power_reservoir.answer_asked.Goals as goal
 
@@ -13,5 +13,5 @@ returns-in-None c tailwater head asked =
     let put =
     rw (to_z-of_z w64 c.args.max_release c.ranges.max_release, to_z-of_z w64 c.args.head c.ranges.head) at
     (c.put_all.ensures tailwater c.args.rating.now) in
-    answered_by of view c.args.head c.args.asked _ c.settle-balanced.result c.fault_of_level.result c.put_all.result head asked terms
-    (c.settle-balanced.ensures ∙ ap₂ settled c.steady.ensures.flow terms) c.fault_of_level.ensures put c.in-None.ensures
+    answered_by of view c.args.head c.args.asked _ c.solve_balance-balanced.result c.fault_of_level.result c.put_all.result head asked terms
+    (c.solve_balance-balanced.ensures ∙ ap₂ solved_balance c.steady.ensures.flow terms) c.fault_of_level.ensures put c.in-None.ensures

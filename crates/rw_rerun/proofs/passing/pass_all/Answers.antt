@@ -1,8 +1,8 @@
 use Rattle.rw_base.proofs.Common.{[], ap, arith, length, refl, ◌∙◌, ◌≡◌}
-use Rattle.rw_inputs.specs.Givens.{givens}
+use Rattle.rw_inputs.specs.Placings.{placings}
 use Rattle.rw_run.proofs.Passings.{begun, nothing_of}
 use Rattle.rw_run.proofs.Placed.{standing-placed}
-use Rattle.rw_run.specs.Runs.{placed}
+use Rattle.rw_run.specs.Runs.{with_inputs}
 use Rattle.rw_rules.specs.Rules.{policy_in}
 use Rattle.rw_rerun.proofs.Counted.{wants_all}
 use Rattle.rw_rerun.proofs.Showing.{placed_shown}
@@ -20,7 +20,7 @@ returns-in_err-pass_rest g c =
 pub returns : goal.returns
 returns g c =
     let basin = c.args.setup.now.basin.now in
-    let inputs = givens basin c.args.inputs.now in
+    let inputs = placings basin c.args.inputs.now in
     let none = ap length c.new.ensures.items in
     let counted = c.in_ok-pass_rest.ensures.each in record {
       made = c.in_ok-pass_rest.ensures.made;
@@ -30,7 +30,7 @@ returns g c =
           (first_way basin (policy_in basin c.args.setup.now.policy.now) c.args.inputs.now earlier c.args.kept.now _ c.new-2.ensures.items
           c.new.ensures.items refl
           c.in_ok-engine.ensures.shows (standing-placed [] inputs refl) (begun inputs)
-          (λ step. (nothing_of step (placed [] inputs) (begun inputs step)).0)
+          (λ step. (nothing_of step (with_inputs [] inputs) (begun inputs step)).0)
           (placed_shown basin c.args.inputs.now c.requires.inputs));
       each = omega (arith, none, counted);
       rises = c.in_ok-pass_rest.ensures.rises;

@@ -1,8 +1,8 @@
 use Rattle.rw_base.proofs.Common.{[], arith, refl, subst, sym, ◌∙◌}
-use Rattle.rw_inputs.specs.Givens.{givens}
+use Rattle.rw_inputs.specs.Placings.{placings}
 use Rattle.rw_inputs.specs.Inputs.{Inputs}
 use Rattle.rw_engine.specs.Shows.{Shows}
-use Rattle.rw_run.specs.Runs.{placed}
+use Rattle.rw_run.specs.Runs.{with_inputs}
 use Rattle.rw_rerun.proofs.spare.fresh.Goals as goal
 
 pub returns : goal.returns
@@ -11,8 +11,8 @@ returns c = λ session is same traced. record {
     made = c.in_ok-engine.ensures.made;
     noted = c.in_ok-engine.ensures.noted;
     few = omega arith;
-    log = placed [] (givens c.args.basin.now session.inputs);
-    shows = subst (λ (inputs : Inputs). Shows c.args.basin.now c.in_ok-engine.engine (placed [] (givens c.args.basin.now inputs))) (sym same)
+    log = with_inputs [] (placings c.args.basin.now session.inputs);
+    shows = subst (λ (inputs : Inputs). Shows c.args.basin.now c.in_ok-engine.engine (with_inputs [] (placings c.args.basin.now inputs))) (sym same)
         c.in_ok-engine.ensures.shows;
     before = refl;
     rest = is.linked;

@@ -7,7 +7,7 @@ use Rattle.rw_model.specs.declared.control.AgendaOrder.TheVariants.{HighFirst}
 use Rattle.rw_run.specs.Frame.{AreAlike, log_after}
 use Rattle.rw_run.specs.Log.{Log, cells_of}
 use Rattle.rw_run.specs.Reuse.{IsReused}
-use Rattle.rw_run.specs.Runs.{placed}
+use Rattle.rw_run.specs.Runs.{with_inputs}
 use Rattle.rw_run.specs.Step.{before_opening, looked_at}
 use Rattle.rw_run.specs.Worked.{data_object_basin, both_days_run, faulty_run, five, given_once, given_seven_run, needy_run, raised_twice, seven}
 use Rattle.rw_run.proofs.law.worked_reruns.Goals as goal
@@ -65,10 +65,10 @@ abbrev raised_earlier : Log
 raised_earlier = log_after raised_twice []
 
 abbrev raised_later : Log
-raised_later = log_after given_once (placed [] five)
+raised_later = log_after given_once (with_inputs [] five)
 
 raised_first : ¬ IsReused days raised_earlier raised_later 1
-raised_first reused = absurd (none-some _ ((alike_before days raised_earlier raised_later [] (placed [] five) 1 reused refl refl).0))
+raised_first reused = absurd (none-some _ ((alike_before days raised_earlier raised_later [] (with_inputs [] five) 1 reused refl refl).0))
 
 raised_second : IsReused days raised_earlier raised_later 2
 raised_second = record {
@@ -104,10 +104,10 @@ abbrev put_earlier : Log
 put_earlier = log_after both_days_run []
 
 abbrev put_later : Log
-put_later = log_after given_seven_run (placed [] seven)
+put_later = log_after given_seven_run (with_inputs [] seven)
 
 put_first : ¬ IsReused days put_earlier put_later 1
-put_first reused = absurd (none-some _ ((alike_before days put_earlier put_later [] (placed [] seven) 1 reused refl refl).1.1.0))
+put_first reused = absurd (none-some _ ((alike_before days put_earlier put_later [] (with_inputs [] seven) 1 reused refl refl).1.1.0))
 
 put_second : ¬ IsReused days put_earlier put_later 2
 put_second reused =
@@ -145,7 +145,7 @@ abbrev needy_earlier : Log
 needy_earlier = log_after faulty_run []
 
 abbrev needy_later : Log
-needy_later = log_after needy_run (placed [] five)
+needy_later = log_after needy_run (with_inputs [] five)
 
 needy_first : ¬ IsReused days needy_earlier needy_later 1
 needy_first reused = absurd (false≢true reused.closed)

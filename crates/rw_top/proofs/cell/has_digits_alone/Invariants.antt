@@ -1,5 +1,5 @@
 use Rattle.rw_base.proofs.Common.{◌≡◌, drop, list_all}
-use Rattle.rw_inputs.specs.Number.{is_digit}
+use Rattle.rw_base.specs.Byte.{is_digit}
 use Rattle.rw_top.proofs.cell.has_digits_alone.Given as goal
 
 abbrev pub invariant-loop-byte : goal.invariant-loop-byte

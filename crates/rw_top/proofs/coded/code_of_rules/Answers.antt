@@ -1,5 +1,5 @@
 use Rattle.rw_top.proofs.Common.{ap, subst, ◌∙◌}
-use Rattle.rw_inputs.specs.Givens.{givens}
+use Rattle.rw_inputs.specs.Placings.{placings}
 use Rattle.rpl_parse.specs.Bounds.{AreLimited}
 use Rattle.rpl_tree.specs.Seen.{rules_of}
 use Rattle.rpl_tree.specs.declared.rules.ParsedRules.{ParsedRules}
@@ -22,5 +22,5 @@ returns-clause-runs c =
     (c.bounds.ensures.all c.rules-rules.result.now c.rules-rules.ensures.ruleset) in
     code_of_ruleset basin rules c.in_ok-code.code c.in_ok-code.ensures.code
     (c.compiled_budgets.ensures basin rules typed bounded.rules bounded.functions)
-    (λ inputs log. (c.policies_have_runs.ensures.same basin rules (givens basin inputs) log typed bounded.rules bounded.functions).1)
-    (λ inputs log whole. c.firings_of_rules_are_verified.ensures basin rules (givens basin inputs) log typed bounded.rules bounded.functions whole)
+    (λ inputs log. (c.policies_have_runs.ensures.same basin rules (placings basin inputs) log typed bounded.rules bounded.functions).1)
+    (λ inputs log whole. c.firings_of_rules_are_verified.ensures basin rules (placings basin inputs) log typed bounded.rules bounded.functions whole)

@@ -1,4 +1,4 @@
-use Rattle.rw_inputs.specs.Givens.{givens}
+use Rattle.rw_inputs.specs.Placings.{placings}
 use Rattle.rw_top.proofs.RulesText.{by_code}
 use Rattle.rw_top.proofs.coded.code_runs.Goals as goal
 
@@ -8,6 +8,6 @@ returns c = λ basin code fits.
     record {
       comes = λ inputs run'.
           by_code basin code inputs run' accepted
-          (λ log whole. c.firings_are_verified.ensures basin code.blocks code.budgets (givens basin inputs) log accepted whole);
+          (λ log whole. c.firings_are_verified.ensures basin code.blocks code.budgets (placings basin inputs) log accepted whole);
       runs = λ inputs log whole. whole;
     }

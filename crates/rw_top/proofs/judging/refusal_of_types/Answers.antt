@@ -1,5 +1,5 @@
 use Rattle.std.proofs.Common.{inr, refl, ap}
-use Rattle.rpl_types.specs.Refused.{refusal_of}
+use Rattle.rpl_types.specs.Refused.{type_refusal_of}
 use Rattle.rpl_types.specs.Judged.{type_refusal}
 use Rattle.rw_top.specs.Policy.{BadNode, BadRules}
 use Rattle.rw_top.proofs.judging.refusal_of_types.Goals as goal
@@ -8,4 +8,4 @@ pub returns-in-Refused : goal.returns-in-Refused
 returns-in-Refused c =
     let why =
     type_refusal c.in-Refused.kind c.in-Refused.declaration c.in-Refused.node in
-    inr (BadRules (BadNode why), refl, (refl, c.requires why (ap refusal_of c.in-Refused.is)))
+    inr (BadRules (BadNode why), refl, (refl, c.requires why (ap type_refusal_of c.in-Refused.is)))

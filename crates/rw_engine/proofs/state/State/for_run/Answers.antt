@@ -1,4 +1,4 @@
-use Rattle.rw_engine.proofs.Common.{[], givens, refl, rules, sym, ◌∙◌}
+use Rattle.rw_engine.proofs.Common.{[], placings, refl, rules, sym, ◌∙◌}
 use Rattle.rw_run.proofs.Placed.{trace-placed, closed-placed, end-placed}
 use Rattle.rw_engine.proofs.Traces.{kept_where, shows_nothing}
 use Rattle.rw_engine.specs.Shows.{NotesAlike}
@@ -16,7 +16,7 @@ returns-clause-begun c =
       same = kept_where c.trace_where-lines.result _ c.trace_where-lines.ensures ∙ c.is_kept.ensures;
       traced = c.requires.notes;
     } in
-    let given = givens c.args.basin.now c.args.inputs.now in record {
+    let given = placings c.args.basin.now c.args.inputs.now in record {
       made = search (rules, notes);
       shows = record {
         cells = c.place.ensures.placed [] c.in_ok-series.ensures.unknown;

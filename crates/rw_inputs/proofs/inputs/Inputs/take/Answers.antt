@@ -11,14 +11,14 @@ module _ (c : goal.After-self-1) where
   abbrev holding : Inputs
   holding = record { columns = slice_set c.self.inside.columns.items c.from.result c.take.new.self }
 
-  facts : Taking c.args.basin.now c.args.given.now held holding c.index_mut.result.now c.take.new.self
+  facts : Taking c.args.basin.now c.args.row_value.now held holding c.index_mut.result.now c.take.new.self
   facts =
       let made = subst (IsInputsOf c.args.basin.now) (sym c.self.view_is) c.requires.made in
-      let at : c.from.result ≡ kept_slot c.args.basin.now c.args.given.now.slot = c.from.ensures ∙ c.kept_slot-slot.ensures.least in
+      let at : c.from.result ≡ kept_slot c.args.basin.now c.args.row_value.now.slot = c.from.ensures ∙ c.kept_slot-slot.ensures.least in
       let known = subst (IsSlot c.args.basin.now.objects) (sym c.from.ensures) c.kept_slot-slot.ensures.known in
       let run : c.count-steps.result ≡ c.args.basin.now.control.stamps.count = search rules in
-      taking c.args.basin.now c.args.given.now held holding c.from.result c.count-steps.result c.index_mut.result.now c.take.new.self
-      made c.requires.given at known run c.index_mut.ensures.value refl c.take.ensures.column
+      taking c.args.basin.now c.args.row_value.now held holding c.from.result c.count-steps.result c.index_mut.result.now c.take.new.self
+      made c.requires.row_value at known run c.index_mut.ensures.value refl c.take.ensures.column
 
 pub returns-clause-unchanged : goal.returns-clause-unchanged
 returns-clause-unchanged c =

@@ -14,7 +14,7 @@ returns-clause-gives c =
       bytes = left_at-read shelf.files.items shelf.started shelf.place shelf.at c.copy_from-count.result
           (length c.copy_from-count.new.buf) _ c.index.result.now shelf.inside c.index.ensures copied end;
       idle = search rules;
-      given = search rules;
+      taken = search rules;
       later = search rules;
       cause = search rules;
     }

@@ -1,7 +1,7 @@
 use Rattle.rw_base.proofs.Common.{List, Option, [], ap, arith, length, subst, sym, ◌∙◌, ◌≡◌, ◌≤◌}
 use Rattle.std.specs.Prelude.{is_some}
-use Rattle.rw_inputs.specs.Givens.{givens}
-use Rattle.rw_run.specs.Runs.{placed}
+use Rattle.rw_inputs.specs.Placings.{placings}
+use Rattle.rw_run.specs.Runs.{with_inputs}
 use Rattle.rw_record.specs.Record.{StepRecord}
 use Rattle.rw_rules.specs.Rules.{policy_in}
 use Rattle.rw_rerun.specs.Session.{Session}
@@ -33,10 +33,10 @@ pass_behind-requires-clause-stands g c =
     spare_ready basin policy c.args.self.now _ made c.self.inside.spare c.take-found.result c.in_ok-spare.spare c.is_kept-traced.result c.self.view_is
     (c.is_kept-traced.ensures ∙ ap is_some c.run.ensures.same.1) c.self.invariant
     c.take-found.ensures.value c.in_ok-spare.ensures in record {
-      start = placed [] (givens basin c.args.self.now.inputs);
+      start = with_inputs [] (placings basin c.args.self.now.inputs);
       end = made.log;
       stands =
-          subst (λ kept. StandsIn basin policy (placed [] (givens basin c.args.self.now.inputs)) made.log kept c.in_ok-spare.spare) lent
+          subst (λ kept. StandsIn basin policy (with_inputs [] (placings basin c.args.self.now.inputs)) made.log kept c.in_ok-spare.spare) lent
           stands.stands;
     }
 

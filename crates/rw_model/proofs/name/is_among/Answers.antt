@@ -1,5 +1,5 @@
 use Rattle.rw_base.proofs.Common.{◌∙◌, refl, sym, below_more, false≢true, get_or-map, length-map, bytes_eq-Decides}
-use Rattle.rw_model.proofs.name_rule.is_among.Goals as goal
+use Rattle.rw_model.proofs.name.is_among.Goals as goal
 
 pub returns-then-eq : goal.returns-then-eq
 returns-then-eq c = (

@@ -1,7 +1,7 @@
 use Rattle.rw_base.proofs.Common.{rules, same_from_decides}
 use Rattle.rw_model.specs.Name.{is_name}
 use Rattle.rw_model.proofs.NameFacts.{Decides-name}
-use Rattle.rw_model.proofs.name_rule.is_name.Goals as goal
+use Rattle.rw_model.proofs.name.is_name.Goals as goal
 
 pub returns-then-all-clause-name : goal.returns-then-all-clause-name
 returns-then-all-clause-name c = search rules

@@ -1,8 +1,10 @@
--- What a settled balance tells of its terms.
+-- What a solved balance tells of its terms.
 use Rattle.rw_method.proofs.Common.{All, All-contains, Balanced, Conflicts, Contains, Contains-append_cases, Contains-append_left}
-use Rattle.rw_method.proofs.Common.{Contains-append_right, Decides-int_eq, Given, Holds, Idle, IsNoWeaker, IsShare, IsSome, IsStronger, List, None}
+use Rattle.rw_method.proofs.Common.{Contains-append_right, Decides-int_eq, Given, Holds, Idle, HasNoLowerPriority, IsShare, IsSome, HasHigherPriority}
+use Rattle.rw_method.proofs.Common.{List, None}
 use Rattle.rw_method.proofs.Common.{Option, Solves, Some, Term, ap, arith, cases_Bool, inl, inr, int_eq, missing, nat_le, net_of, priority_of, pos}
-use Rattle.rw_method.proofs.Common.{refl, rules, settled, settled_at, solves, subst, sym, value_from_others, weakest, ℕ, ℤ, ◌++◌, ◌+ℤ◌, ◌==◌, ◌∙◌}
+use Rattle.rw_method.proofs.Common.{refl, rules, solved_balance, solved_at, solves, subst, sym, value_from_others, weakest, ℕ, ℤ, ◌++◌, ◌+ℤ◌, ◌==◌}
+use Rattle.rw_method.proofs.Common.{◌∙◌}
 use Rattle.rw_method.proofs.Common.{◌∷◌, ◌≡◌, ◌≢◌, ◌≤◌, ◌⊎◌}
 use Rattle.rw_method.proofs.GivingWay.{gives_way}
 use Rattle.rw_method.proofs.SolvedTerm.{number_of_solved, solved_term}
@@ -29,13 +31,13 @@ pub given_up_to : (given : Option Given) (number : ℕ) → IsSome given → pri
 given_up_to None number some most = absurd (cc)
 given_up_to (Some held) number some most = record { held = held; is = refl; most = most }
 
-no_weaker : (given : Option Given) (held : Given) → IsNoWeaker given (Some held) → priority_of given ≤ held.number
-no_weaker None held is = absurd is
-no_weaker (Some other) held is = is
+no_lower : (given : Option Given) (held : Given) → HasNoLowerPriority given (Some held) → priority_of given ≤ held.number
+no_lower None held is = absurd is
+no_lower (Some other) held is = is
 
-stronger : (given : Option Given) (held : Given) → IsStronger given (Some held) → priority_of given ≤ held.number
-stronger None held is = absurd is
-stronger (Some other) held is = omega (arith, is)
+higher : (given : Option Given) (held : Given) → HasHigherPriority given (Some held) → priority_of given ≤ held.number
+higher None held is = absurd is
+higher (Some other) held is = omega (arith, is)
 
 -- of those around the one that gives way
 beside : (P : Term → Type 0) (before after : List Term) (term other : Term) → Contains (before ++ term ∷ after) other → term.place ≢ other.place
@@ -49,7 +51,7 @@ beside P before after term other has apart f g = elim (Contains-append_cases bef
 ]
 
 pub solved_facts : (steady : ℤ) (terms : List Term) (place number : ℕ) (value : ℤ) → All (λ (term : Term). IsShare term.share) terms
-    → settled (Some steady) terms ≡ Solves place value number → SolvedFacts terms place number
+    → solved_balance (Some steady) terms ≡ Solves place value number → SolvedFacts terms place number
 solved_facts steady terms place number value shares is =
     let solved = solved_term steady terms place number value shares is in
     let greatest = number_of_solved steady terms place number value is in
@@ -59,10 +61,10 @@ solved_facts steady terms place number value shares is =
     (λ held given other has apart.
     beside (λ (o : Term). priority_of o.given ≤ held.number) way.before way.after solved.term other (subst (λ ts. Contains ts other) way.among has)
     (λ same. apart (sym same ∙ solved.there))
-    (λ earlier. no_weaker other.given held (subst (λ g. IsNoWeaker other.given g) given
-    (All-contains (λ (o : Term). IsNoWeaker o.given solved.term.given) way.before other way.earlier earlier)))
-    (λ later. stronger other.given held (subst (λ g. IsStronger other.given g) given
-    (All-contains (λ (o : Term). IsStronger o.given solved.term.given) way.after other way.later later)))) in
+    (λ earlier. no_lower other.given held (subst (λ g. HasNoLowerPriority other.given g) given
+    (All-contains (λ (o : Term). HasNoLowerPriority o.given solved.term.given) way.before other way.earlier earlier)))
+    (λ later. higher other.given held (subst (λ g. HasHigherPriority other.given g) given
+    (All-contains (λ (o : Term). HasHigherPriority o.given solved.term.given) way.after other way.later later)))) in
     record {
       term = solved.term;
       has =
@@ -91,15 +93,15 @@ pub record HoldsFacts (steady : ℤ) (terms : List Term) : Type 0 where
   pub given : (other : Term) → Contains terms other → IsSome other.given
   pub balances : steady +ℤ net_of terms ≡ pos 0
 
-some_given : (given : Option Given) (held : Given) → IsNoWeaker given (Some held) → IsSome given
+some_given : (given : Option Given) (held : Given) → HasNoLowerPriority given (Some held) → IsSome given
 some_given None held is = absurd is
 some_given (Some other) held is = search rules
 
-some_stronger : (given : Option Given) (held : Given) → IsStronger given (Some held) → IsSome given
-some_stronger None held is = absurd is
-some_stronger (Some other) held is = search rules
+some_higher : (given : Option Given) (held : Given) → HasHigherPriority given (Some held) → IsSome given
+some_higher None held is = absurd is
+some_higher (Some other) held is = search rules
 
-holds_at : (steady : ℤ) (terms : List Term) (term : Term) (given : Option Given) → settled_at steady terms term given ≡ Holds
+holds_at : (steady : ℤ) (terms : List Term) (term : Term) (given : Option Given) → solved_at steady terms term given ≡ Holds
     → (held : Given) × ((given ≡ Some held) × (steady +ℤ net_of terms ≡ pos 0))
 holds_at steady terms term None is = absurd (let no = ap balanced_code is in omega (arith, no))
 holds_at steady terms term (Some held) is = elim (cases_Bool (int_eq (steady +ℤ net_of terms) (pos 0))) [
@@ -114,7 +116,7 @@ holds_at steady terms term (Some held) is = elim (cases_Bool (int_eq (steady +�
   ]
 ]
 
-holds_of : (steady : ℤ) (first : Term) (rest : List Term) → settled (Some steady) (first ∷ rest) ≡ Holds
+holds_of : (steady : ℤ) (first : Term) (rest : List Term) → solved_balance (Some steady) (first ∷ rest) ≡ Holds
     → (held : Given) × (((weakest first rest).given ≡ Some held) × (steady +ℤ net_of (first ∷ rest) ≡ pos 0))
 holds_of steady first rest is = elim (cases_Bool (nat_le 2 (missing (first ∷ rest)))) [
   | inl many ↦
@@ -124,7 +126,8 @@ holds_of steady first rest is = elim (cases_Bool (nat_le 2 (missing (first ∷ r
 ]
 
 -- with a term or more
-pub holds_facts : (steady : ℤ) (first : Term) (rest : List Term) → settled (Some steady) (first ∷ rest) ≡ Holds → HoldsFacts steady (first ∷ rest)
+pub holds_facts : (steady : ℤ) (first : Term) (rest : List Term) → solved_balance (Some steady) (first ∷ rest) ≡ Holds
+    → HoldsFacts steady (first ∷ rest)
 holds_facts steady first rest is =
     let holds = holds_of steady first rest is in
     let way = gives_way first rest in
@@ -133,13 +136,13 @@ holds_facts steady first rest is =
           λ other has. elim (Contains-append_cases way.before (weakest first rest ∷ way.after) other
           (subst (λ ts. Contains ts other) way.among has)) [
             | inl earlier ↦ some_given other.given holds.0
-                (subst (λ g. IsNoWeaker other.given g) holds.1.0
-                (All-contains (λ (o : Term). IsNoWeaker o.given (weakest first rest).given) way.before other way.earlier earlier))
+                (subst (λ g. HasNoLowerPriority other.given g) holds.1.0
+                (All-contains (λ (o : Term). HasNoLowerPriority o.given (weakest first rest).given) way.before other way.earlier earlier))
             | inr later ↦ elim (among (weakest first rest ∷ way.after) other later) [
               | inl same ↦ rw (← ap (λ (t : Term). t.given) same, holds.1.0) search rules
-              | inr behind ↦ some_stronger other.given holds.0
-                  (subst (λ g. IsStronger other.given g) holds.1.0
-                  (All-contains (λ (o : Term). IsStronger o.given (weakest first rest).given) way.after other way.later
+              | inr behind ↦ some_higher other.given holds.0
+                  (subst (λ g. HasHigherPriority other.given g) holds.1.0
+                  (All-contains (λ (o : Term). HasHigherPriority o.given (weakest first rest).given) way.after other way.later
                   (contains way.after other behind)))
             ]
           ];

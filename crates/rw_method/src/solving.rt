@@ -2,7 +2,7 @@ ghost use Rattle.std.specs.Prelude.{◌≡◌, ◌≤◌, pos, neg_ℤ, ◌+ℤ�
 ghost use Rattle.std.specs.Ordering.{int_eq};
 ghost use Rattle.std.specs.Option.{ForSome};
 ghost use Rattle.rw_method.specs.Term.{IsWithin};
-ghost use Rattle.rw_method.specs.Settling.{missing, net_of, greatest_beside, priority_of, gives_way_before, weakest, value_from_others, solves, settled_at, settled};
+ghost use Rattle.rw_method.specs.Solving.{missing, net_of, greatest_beside, priority_of, gives_way_before, weakest, value_from_others, solves, solved_at, solved_balance};
 
 use crate::brought::{bringing, brought_by};
 use crate::{Balanced, Given, Term};
@@ -52,7 +52,7 @@ fn number_of(given: Option<Given>) -> u16
     }
 }
 
-/// The greatest number of the given terms but the one of this place, 0 where there is none.
+/// The lowest priority of the given terms but the one of this place, 0 where there is none.
 #[inline(always)]
 pub fn greatest_beside(place: u8, terms: &[Term]) -> u16
     ensures { result ≡ greatest_beside place terms.now }
@@ -136,10 +136,10 @@ fn holds(steady: i128, terms: &[Term]) -> bool
 
 // What becomes of the term that gives way.
 #[inline(always)]
-fn settle_at(steady: i128, terms: &[Term], term: &Term) -> Balanced
+fn solve_at(steady: i128, terms: &[Term], term: &Term) -> Balanced
     requires few { length terms.now ≤ 3 }
     requires bound { IsWithin 6 steady }
-    ensures { result ≡ settled_at steady terms.now term.now term.now.given }
+    ensures { result ≡ solved_at steady terms.now term.now term.now.given }
 {
     let Some(held) = term.given else {
         return solves(steady, terms, term);
@@ -161,14 +161,14 @@ fn settle_at(steady: i128, terms: &[Term], term: &Term) -> Balanced
 /// 6 x 10^23.
 ///
 /// `Idle` where it isn't known, or where more than one term isn't given. A term that isn't given is solved from the others.
-/// Where all are given and the balance is false, the one of the greatest number is solved from the others, the last one in a
-/// tie; with number 0 the last one conflicts. A solved term has the greatest number of the others. `docs/DEFINITIONS.md` has
+/// Where all are given and the balance is false, the one of the lowest priority is solved from the others, the last one in a
+/// tie; with priority 0 the last one conflicts. A solved term has the lowest priority of the others. `docs/DEFINITIONS.md` has
 /// this under "The rules, in their order".
 #[inline(always)]
-pub fn settle(steady: Option<i128>, terms: &[Term]) -> Balanced
+pub fn solve_balance(steady: Option<i128>, terms: &[Term]) -> Balanced
     requires few { length terms.now ≤ 3 }
     requires bound { ForSome steady (IsWithin 6) }
-    ensures { result ≡ settled steady terms.now }
+    ensures { result ≡ solved_balance steady terms.now }
 {
     let Some(steady) = steady else {
         return Balanced::Idle;
@@ -179,5 +179,5 @@ pub fn settle(steady: Option<i128>, terms: &[Term]) -> Balanced
     if missing(terms) >= 2 {
         return Balanced::Idle;
     }
-    settle_at(steady, terms, &weakest(*first, rest))
+    solve_at(steady, terms, &weakest(*first, rest))
 }

@@ -1,7 +1,7 @@
 use Rattle.rw_base.proofs.Common.{◌≡◌, rules, FitsSigned, w64, to_z-of_z}
 use Rattle.rw_table.specs.Curve.{elev_of}
 use Rattle.rw_model.proofs.Inside.{some-iff-inside}
-use Rattle.rw_model.proofs.kind_rule.is_in_table.Goals as goal
+use Rattle.rw_model.proofs.kind.is_in_table.Goals as goal
 
 pub returns : goal.returns
 returns c =

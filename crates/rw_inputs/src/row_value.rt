@@ -1,8 +1,8 @@
 use rw_base::Qty;
 
-/// What a row gives: a value for a slot at each of some timesteps.
+/// What a row says: a value of a slot at each of some timesteps.
 #[derive(Clone, Copy)]
-pub(crate) struct Given {
+pub(crate) struct RowValue {
     /// The number of the slot.
     pub(crate) slot: u16,
     /// The first timestep.

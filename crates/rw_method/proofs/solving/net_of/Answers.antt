@@ -1,6 +1,6 @@
 use Rattle.rw_method.proofs.Common.{FitsSigned, IsWithin, List, Term, add-one, arith, brought_by, drop, drop-cons, get_or, ints, length, net_of}
 use Rattle.rw_method.proofs.Common.{rules, to_z-of_z, w128, ℕ, ℤ, ◌+ℤ◌, ◌+◌, ◌<◌, ◌≡◌}
-use Rattle.rw_method.proofs.settling.net_of.Goals as goal
+use Rattle.rw_method.proofs.solving.net_of.Goals as goal
 
 -- what is left, once the next term is counted
 next_term : (terms : List Term) (i : ℕ) (term : Term) (net next : ℤ) → i < length terms

@@ -1,5 +1,5 @@
 use Rattle.rw_method.proofs.Common.{drop, missing, ◌+◌, ◌≡◌, ◌≤◌}
-use Rattle.rw_method.proofs.settling.missing.Given as goal
+use Rattle.rw_method.proofs.solving.missing.Given as goal
 
 abbrev pub invariant-loop-term : goal.invariant-loop-term
 invariant-loop-term l = record {

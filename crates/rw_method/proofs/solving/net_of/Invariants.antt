@@ -1,5 +1,5 @@
 use Rattle.rw_method.proofs.Common.{IsWithin, drop, net_of, ◌+ℤ◌, ◌≡◌}
-use Rattle.rw_method.proofs.settling.net_of.Given as goal
+use Rattle.rw_method.proofs.solving.net_of.Given as goal
 
 abbrev pub invariant-loop-term : goal.invariant-loop-term
 invariant-loop-term l = record {

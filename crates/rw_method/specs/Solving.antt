@@ -21,7 +21,7 @@ abbrev pub priority_of : Option Given → ℕ
 priority_of None = 0
 priority_of (Some held) = held.number
 
--- the greatest number of the given terms but the one of this place, 0 if there is none
+-- the lowest priority of the given terms but the one of this place, 0 if there is none
 abbrev pub greatest_beside : ℕ → List Term → ℕ
 greatest_beside place [] = 0
 greatest_beside place (term ∷ terms) = max (if term.place == place then 0 else priority_of term.given) (greatest_beside place terms)
@@ -32,7 +32,7 @@ gives_way_before None later = is_some later
 gives_way_before (Some held) None = false
 gives_way_before (Some held) (Some later) = nat_lt later.number held.number
 
--- the term that gives way: one that isn't given, or else the one of the greatest number, and of several such the last
+-- the term that gives way: one that isn't given, or else the one of the lowest priority, and of several such the last
 abbrev pub weakest : Term → List Term → Term
 weakest term [] = term
 weakest term (next ∷ terms) = weakest (if gives_way_before term.given next.given then term else next) terms
@@ -42,47 +42,47 @@ abbrev pub value_from_others : ℤ → List Term → Term → ℤ
 value_from_others steady terms term =
     bringing term.share (neg_ℤ (steady +ℤ (net_of terms -ℤ brought_by term.share term.given)))
 
--- the term is put as that value, with the greatest number of the others
+-- the term is put as that value, with the lowest priority of the others
 abbrev pub solves : ℤ → List Term → Term → Balanced
 solves steady terms term =
     Solves term.place (value_from_others steady terms term) (greatest_beside term.place terms)
 
--- a term that isn't given is solved. A given one stays where the balance is true; otherwise it is solved, unless its number, the
--- greatest, is 0: then it conflicts
-abbrev pub settled_at : ℤ → List Term → Term → Option Given → Balanced
-settled_at steady terms term None = solves steady terms term
-settled_at steady terms term (Some held) =
+-- a term that isn't given is solved. A given one stays where the balance is true; otherwise it is solved, unless its priority, the
+-- lowest, is 0: then it conflicts
+abbrev pub solved_at : ℤ → List Term → Term → Option Given → Balanced
+solved_at steady terms term None = solves steady terms term
+solved_at steady terms term (Some held) =
     if int_eq (steady +ℤ net_of terms) (pos 0) then Holds
     else (if held.number == 0 then Conflicts term.place held.value (value_from_others steady terms term)
     else solves steady terms term)
 
 -- what the terms come to, beside what else is brought, where that is known. All but one have to be given
-abbrev pub settled : Option ℤ → List Term → Balanced
-settled None terms = Idle
-settled (Some steady) [] = Holds
-settled (Some steady) (term ∷ terms) =
+abbrev pub solved_balance : Option ℤ → List Term → Balanced
+solved_balance None terms = Idle
+solved_balance (Some steady) [] = Holds
+solved_balance (Some steady) (term ∷ terms) =
     if nat_le 2 (missing (term ∷ terms)) then Idle
-    else settled_at steady (term ∷ terms) (weakest term terms) (weakest term terms).given
+    else solved_at steady (term ∷ terms) (weakest term terms) (weakest term terms).given
 
--- a term is no weaker than another: the other isn't given, or this one is given with no greater a number
-abbrev pub IsNoWeaker : Option Given → Option Given → Type 0
-IsNoWeaker given None = Unit {0}
-IsNoWeaker None (Some other) = ⊥
-IsNoWeaker (Some held) (Some other) = held.number ≤ other.number
+-- a term has no lower priority than another: the other isn't given, or this one is given with no lower one
+abbrev pub HasNoLowerPriority : Option Given → Option Given → Type 0
+HasNoLowerPriority given None = Unit {0}
+HasNoLowerPriority None (Some other) = ⊥
+HasNoLowerPriority (Some held) (Some other) = held.number ≤ other.number
 
--- a term is stronger than another: it is given, and the other isn't or has a greater number
-abbrev pub IsStronger : Option Given → Option Given → Type 0
-IsStronger None other = ⊥
-IsStronger (Some held) None = Unit {0}
-IsStronger (Some held) (Some other) = held.number < other.number
+-- a term has a higher priority than another: it is given, and the other isn't or has a lower one
+abbrev pub HasHigherPriority : Option Given → Option Given → Type 0
+HasHigherPriority None other = ⊥
+HasHigherPriority (Some held) None = Unit {0}
+HasHigherPriority (Some held) (Some other) = held.number < other.number
 
--- of these terms none is weaker than this one, and all that come after it are stronger
+-- of these terms none has a lower priority than this one, and all that come after it have a higher one
 pub record GivesWay (terms : List Term) (term : Term) : Type 0 where
   pub before : List Term
   pub after : List Term
   pub among : terms ≡ before ++ term ∷ after
-  pub earlier : All (λ (other : Term). IsNoWeaker other.given term.given) before
-  pub later : All (λ (other : Term). IsStronger other.given term.given) after
+  pub earlier : All (λ (other : Term). HasNoLowerPriority other.given term.given) before
+  pub later : All (λ (other : Term). HasHigherPriority other.given term.given) after
 
 -- of these terms the one in this place gives way, the others are all given, and with this value of it the balance is true, beside
 -- what else is brought

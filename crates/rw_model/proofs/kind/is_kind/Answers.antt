@@ -1,7 +1,7 @@
 use Rattle.rw_base.proofs.Common.{rules, same_from_decides}
 use Rattle.rw_model.specs.Kind.{is_kind}
 use Rattle.rw_model.proofs.BuildFacts.{Decides-kind}
-use Rattle.rw_model.proofs.kind_rule.is_kind.Goals as goal
+use Rattle.rw_model.proofs.kind.is_kind.Goals as goal
 
 pub returns-in-DataObject-clause-kind : goal.returns-in-DataObject-clause-kind
 returns-in-DataObject-clause-kind c = search rules
