@@ -1,5 +1,6 @@
 -- Lines of a table that are kept beside the values from which they were told.
-use Rattle.std.specs.Prelude.{◌≡◌, ◌≢◌, ◌<◌, ◌+◌, ℕ, List, Some, slice_get, string_bytes}
+use Rattle.std.specs.Prelude.{◌≡◌, ◌≢◌, ◌<◌, ◌≤◌, ◌+◌, ℕ, List, Some, length, slice_get, string_bytes}
+use Rattle.std.specs.List.{All}
 use Rattle.rw_model.specs.Draft.{Draft}
 use Rattle.rw_run.specs.Log.{Cells}
 use Rattle.rw_report.specs.declared.kept.KeptLine.{KeptLine}
@@ -22,3 +23,9 @@ TellFirst basin cells count lines =
 -- the first lines, so many of them, tell of the first timesteps
 abbrev pub AreInPlace : ℕ → List KeptLine → Type 0
 AreInPlace count lines = (place : ℕ) (line : KeptLine) → place < count → slice_get lines place ≡ Some line → line.step ≡ place + 1
+
+-- where any of these lines tells of a timestep, it does so of its values, and the first ones, so many of them, tell what these cells hold
+pub record AreKeptLines (basin : Draft) (cells : Cells) (count : ℕ) (lines : List KeptLine) : Type 0 where
+  pub told : All (IsTold basin) lines
+  pub there : count ≤ length lines
+  pub same : TellFirst basin cells count lines

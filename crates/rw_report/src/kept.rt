@@ -5,7 +5,7 @@ ghost use Rattle.rw_model.specs.Draft.{Draft};
 ghost use Rattle.rw_model.specs.Objects.{all_slots};
 ghost use Rattle.rw_run.specs.Log.{Cells};
 ghost use Rattle.rw_series.specs.Series.{held};
-ghost use Rattle.rw_report.specs.Kept.{IsTold, TellFirst, TellsKeptLine};
+ghost use Rattle.rw_report.specs.Kept.{AreKeptLines, IsTold, TellFirst, TellsKeptLine};
 ghost use Rattle.rw_report.specs.Section.{row, rows, values_in};
 ghost use Rattle.rw_report.specs.Sheet.{values_listed};
 
@@ -214,14 +214,11 @@ pub(crate) fn push_kept(
     kept: u16,
 ) -> Result<(), NoMemory>
     requires kept { kept ≤ basin.now.control.stamps.count }
-    requires lines { All (IsTold basin.now) lines.old.items }
+    requires lines { AreKeptLines basin.now (held series.now) first lines.old.items }
     requires first { first ≤ kept }
-    requires there { first ≤ vec_len lines.old }
-    requires same { TellFirst basin.now (held series.now) first lines.old.items }
     ensures told { All (IsTold basin.now) lines.new.items }
-    ensures room { OnOk result (kept ≤ vec_len lines.new) }
-    ensures tells { OnOk result
-        (TellFirst basin.now (held series.now) kept lines.new.items) }
+    ensures lines { OnOk result
+        (AreKeptLines basin.now (held series.now) kept lines.new.items) }
     ensures rows { OnOk result (string_bytes text.new
         ≡ string_bytes text.old ++ rows basin.now (values_in (held series.now)) kept) }
 {

@@ -1,7 +1,7 @@
-ghost use Rattle.std.specs.Prelude.{◌≡◌, ◌≤◌, ◌<◌, ◌+◌, ◌++◌, ℕ, IfErr, IfOk, OnOk, option_map, string_bytes, vec_len, []};
+ghost use Rattle.std.specs.Prelude.{◌≡◌, ◌≤◌, ◌<◌, ◌+◌, ◌++◌, ℕ, IfErr, IfOk, OnOk, option_map, string_bytes, []};
 ghost use Rattle.std.specs.List.{All};
 ghost use Rattle.rw_series.specs.Series.{held};
-ghost use Rattle.rw_report.specs.Kept.{IsTold, TellFirst};
+ghost use Rattle.rw_report.specs.Kept.{AreKeptLines, IsTold};
 ghost use Rattle.rw_report.specs.Outcome.{outcome_of};
 ghost use Rattle.rw_report.specs.Sheet.{AreToldBefore, AreToldOf};
 ghost use Rattle.rw_report.specs.Whole.{run_table, whole_of};
@@ -58,14 +58,11 @@ fn push_table(
 ) -> Result<(), NoMemory>
     requires closed { run.now.closed ≤ basin.now.control.stamps.count }
     requires kept { kept ≤ run.now.closed }
-    requires lines { All (IsTold basin.now) lines.old.items }
+    requires lines { AreKeptLines basin.now (held run.now.series) first lines.old.items }
     requires first { first ≤ kept }
-    requires there { first ≤ vec_len lines.old }
-    requires same { TellFirst basin.now (held run.now.series) first lines.old.items }
     ensures told { All (IsTold basin.now) lines.new.items }
-    ensures room { OnOk result (kept ≤ vec_len lines.new) }
-    ensures tells { OnOk result
-        (TellFirst basin.now (held run.now.series) kept lines.new.items) }
+    ensures lines { OnOk result
+        (AreKeptLines basin.now (held run.now.series) kept lines.new.items) }
     ensures table { OnOk result (string_bytes text.new
         ≡ string_bytes text.old ++ run_table basin.now (outcome_of run.now)) }
 {
@@ -90,14 +87,11 @@ fn push_section(
 ) -> Result<(), NoMemory>
     requires closed { run.now.closed ≤ basin.now.control.stamps.count }
     requires kept { kept ≤ run.now.closed }
-    requires lines { All (IsTold basin.now) lines.old.items }
+    requires lines { AreKeptLines basin.now (held run.now.series) first lines.old.items }
     requires first { first ≤ kept }
-    requires there { first ≤ vec_len lines.old }
-    requires same { TellFirst basin.now (held run.now.series) first lines.old.items }
     ensures told { All (IsTold basin.now) lines.new.items }
-    ensures room { OnOk result (kept ≤ vec_len lines.new) }
-    ensures tells { OnOk result
-        (TellFirst basin.now (held run.now.series) kept lines.new.items) }
+    ensures lines { OnOk result
+        (AreKeptLines basin.now (held run.now.series) kept lines.new.items) }
     ensures section { OnOk result (string_bytes text.new
         ≡ string_bytes text.old ++ whole_of basin.now batch (outcome_of run.now)
         (option_map (λ steps. steps.now) reran.entry) flags trace) }

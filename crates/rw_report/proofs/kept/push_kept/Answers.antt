@@ -6,14 +6,16 @@ use Rattle.rw_report.proofs.Growing.{next}
 use Rattle.rw_report.proofs.kept.push_kept.Goals as goal
 
 pub push_first-requires : goal.push_first-requires
-push_first-requires c = let same = ap length c.as_slice.ensures.value in let there = c.requires.there in omega (arith, same, there)
+push_first-requires c = let same = ap length c.as_slice.ensures.value in let there = c.requires.lines.there in omega (arith, same, there)
 
 pub loop-before-init : goal.loop-before-init
 loop-before-init c =
-    let lent = sym c.as_slice.ensures.value in (
-      c.in_ok-push_first.ensures c.args.basin.now (held c.args.series.now) (subst (All (IsTold c.args.basin.now)) lent c.requires.lines)
-          (subst (TellFirst c.args.basin.now (held c.args.series.now) c.args.first) lent c.requires.same),
-      (c.requires.lines, (c.requires.there, (c.requires.first, c.requires.same))),
+    let lent = sym c.as_slice.ensures.value in
+    let there = c.requires.lines.there in
+    let many = c.args.lines.now.ok.0 in (
+      c.in_ok-push_first.ensures c.args.basin.now (held c.args.series.now) (subst (All (IsTold c.args.basin.now)) lent c.requires.lines.told)
+          (subst (TellFirst c.args.basin.now (held c.args.series.now) c.args.first) lent c.requires.lines.same),
+      (c.requires.lines.told, (omega (arith, many, there), (c.requires.first, c.requires.lines.same))),
     )
 
 pub loop-before-preserved : goal.loop-before-preserved
@@ -48,13 +50,15 @@ returns-clause-rows c =
     c.loop-before.invariant.0
     ∙ ap (λ n. string_bytes c.args.text.now ++ for_each (row c.args.basin.now (values_in (held c.args.series.now))) n) same
 
-pub returns-clause-room : goal.returns-clause-room
-returns-clause-room c =
-    let done = c.loop-before-test.false in let room = c.loop-before.invariant.1.1.0 in omega (arith, done, room)
-
-pub returns-clause-tells : goal.returns-clause-tells
-returns-clause-tells c =
+pub returns-clause-lines : goal.returns-clause-lines
+returns-clause-lines c =
     let done = c.loop-before-test.false in
+    let room = c.loop-before.invariant.1.1.0 in
     let few = c.loop-before.invariant.1.1.1.0 in
-    let same : c.loop-before.before ≡ c.args.kept = omega (arith, done, few) in
-    subst (λ n. TellFirst c.args.basin.now (held c.args.series.now) n c.loop-before.lines.items) same c.loop-before.invariant.1.1.1.1
+    let many = c.loop-before.lines.ok.0 in
+    let same : c.loop-before.before ≡ c.args.kept = omega (arith, done, few) in record {
+      told = c.loop-before.invariant.1.0;
+      there = omega (arith, done, room, many);
+      same =
+          subst (λ n. TellFirst c.args.basin.now (held c.args.series.now) n c.loop-before.lines.items) same c.loop-before.invariant.1.1.1.1;
+    }

@@ -15,21 +15,28 @@ returns-in-Ok-clause-text c =
     ∙ ap (λ (sheet : Sheet). whole_of sheet.basin c.args.batch (outcome_of c.args.run.now)
     (option_map (λ (steps : Bor (List StepNo)). steps.now) c.args.reran) c.args.flags c.args.trace) c.self.view_is
 
-pub push_section-requires-clause-same : goal.push_section-requires-clause-same
-push_section-requires-clause-same c =
+pub push_section-requires-clause-lines : goal.push_section-requires-clause-lines
+push_section-requires-clause-lines c =
     let cells = held c.args.run.now.series in
     let few = c.count_before.ensures.told in
     let less = c.lesser-first.ensures.0 in
-    tells_before c.self.inside.basin.now cells c.args.same c.self.inside.told c.lesser-first.result c.self.inside.lines.items c.self.invariant.1.1
-    (omega (arith, few, less)) (λ place near. c.count_before.ensures.same place (omega (arith, near, less)))
-    (subst (λ (sheet : Sheet). AreToldBefore sheet.basin cells c.args.same sheet.values) (sym c.self.view_is) c.requires.same)
+    let room = c.self.invariant.1.0 in
+    let many = c.self.inside.lines.ok.0 in record {
+      told = c.self.invariant.0;
+      there = omega (arith, few, less, room, many);
+      same =
+          tells_before c.self.inside.basin.now cells c.args.same c.self.inside.told c.lesser-first.result c.self.inside.lines.items
+          c.self.invariant.1.1
+          (omega (arith, few, less)) (λ place near. c.count_before.ensures.same place (omega (arith, near, less)))
+          (subst (λ (sheet : Sheet). AreToldBefore sheet.basin cells c.args.same sheet.values) (sym c.self.view_is) c.requires.same);
+    }
 
 pub invariant_of-self : goal.invariant_of-self
 invariant_of-self c = (
   c.in-Ok.ensures.told,
   (
-    c.in-Ok.ensures.room,
-    in_place c.self.inside.basin.now (held c.args.run.now.series) c.count_kept-kept.result c.push_section.new.lines.items c.in-Ok.ensures.tells,
+    (let there = c.in-Ok.ensures.lines.there in let many = c.push_section.new.lines.ok.0 in omega (arith, there, many)),
+    in_place c.self.inside.basin.now (held c.args.run.now.series) c.count_kept-kept.result c.push_section.new.lines.items c.in-Ok.ensures.lines.same,
   ),
 )
 
@@ -39,4 +46,4 @@ returns-in-Ok-clause-values c =
     let lines = c.push_section.new.lines.items in
     let kept = c.count_kept-kept.result in
     subst (λ (sheet : Sheet). AreToldOf sheet.basin cells (map (λ (line : KeptLine). line.values.items) (take kept lines)))
-    c.self.view_is (told_by c.self.inside.basin.now cells lines kept c.in-Ok.ensures.tells)
+    c.self.view_is (told_by c.self.inside.basin.now cells lines kept c.in-Ok.ensures.lines.same)
