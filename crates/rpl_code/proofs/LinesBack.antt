@@ -77,7 +77,10 @@ alone_spoken = (
                                       (refl, tt),
                                       (
                                         (refl, tt),
-                                        ((refl, tt), ((refl, tt), ((refl, tt), ((refl, tt), ((refl, tt), ((refl, tt), ((refl, tt), ((refl, tt), tt)))))))),
+                                        (
+                                          (refl, tt),
+                                          ((refl, tt), ((refl, tt), ((refl, tt), ((refl, tt), ((refl, tt), ((refl, tt), ((refl, tt), tt))))))),
+                                        ),
                                       ),
                                     ),
                                   ),

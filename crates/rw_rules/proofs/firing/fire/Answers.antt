@@ -13,7 +13,8 @@ use Rattle.rw_rules.proofs.firing.fire.Goals as goal
 
 pub judge-requires-clause-can : goal.judge-requires-clause-can
 judge-requires-clause-can g c =
-    code_asks c.args.policy.now.blocks c.args.basin.now c.args.rule.0 c.args.step.0 (value_in_series c.args.series.now) (fire_seen c.fire-fired.result)
+    code_asks c.args.policy.now.blocks c.args.basin.now c.args.rule.0 c.args.step.0 (value_in_series c.args.series.now)
+    (fire_seen c.fire-fired.result)
     c.fire-fired.ensures.fires
 
 pub judge-requires-clause-few : goal.judge-requires-clause-few

@@ -1,4 +1,5 @@
-use Rattle.rw_record.proofs.Common.{None, Option, [], ap, get_or_default, held, is_noted, refl, rules, slice_index_or, subst, sym, true, with_noted, ℕ}
+use Rattle.rw_record.proofs.Common.{None, Option, [], ap, get_or_default, held, is_noted, refl, rules, slice_index_or, subst, sym, true, with_noted}
+use Rattle.rw_record.proofs.Common.{ℕ}
 use Rattle.rw_record.proofs.Common.{◌∙◌, ◌∷◌, ◌≡◌}
 use Rattle.std.specs.List.{list_all}
 use Rattle.std.specs.Prelude.{Err}

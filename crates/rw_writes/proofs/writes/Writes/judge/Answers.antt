@@ -6,13 +6,15 @@ use Rattle.rw_writes.proofs.writes.Writes.judge.Goals as goal
 
 pub keep_written-requires-clause-can : goal.keep_written-requires-clause-can
 keep_written-requires-clause-can c =
-    asks_write c.args.basin.now c.args.rule.0 c.args.step.0 c.args.puts.now _ (c.as_slice.ensures.value ∙ c.ask_all.ensures.asked) c.requires.step.first
+    asks_write c.args.basin.now c.args.rule.0 c.args.step.0 c.args.puts.now _ (c.as_slice.ensures.value ∙ c.ask_all.ensures.asked)
+    c.requires.step.first
     c.requires.can
 
 pub returns-clause-can : goal.returns-clause-can
 returns-clause-can c =
     let asks =
-    asks_write c.args.basin.now c.args.rule.0 c.args.step.0 c.args.puts.now _ (c.as_slice.ensures.value ∙ c.ask_all.ensures.asked) c.requires.step.first
+    asks_write c.args.basin.now c.args.rule.0 c.args.step.0 c.args.puts.now _ (c.as_slice.ensures.value ∙ c.ask_all.ensures.asked)
+    c.requires.step.first
     c.requires.can in (
       subst (AreWrites c.args.basin.now) c.as_slice.ensures.value asks,
       subst (AreWrites c.args.basin.now) (sym c.keep_written.ensures.kept)
