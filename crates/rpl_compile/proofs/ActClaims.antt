@@ -1,20 +1,12 @@
 -- The lines of statements are those that TRANSLATE gives.
-use Rattle.rw_base.proofs.Common.{◌≡◌, ℕ, ◌+◌, ℤ, List, [], ◌∷◌, ◌++◌, length, length-map, reverse, Option, None, Some, IsSome, IsSomeAnd}
-use Rattle.rw_base.proofs.Common.{unsigned_abs, refl, sym, ap, ◌∙◌, AllByRecursion, append-nil, append_assoc, arith}
-use Rattle.rw_model.proofs.Common.{Draft, IsBasin, slot_named}
-use Rattle.rpl_code.specs.declared.kind.ValueKind.{ValueKind}
-use Rattle.rpl_code.specs.declared.kind.ValueKind.TheVariants.{N}
-use Rattle.rpl_code.specs.declared.instruction.Instruction.{Instruction}
+use Rattle.rpl_compile.proofs.Common.{Act, Acts, AllByRecursion, AreKindedActs, Callee, Draft, Instruction, IsBasin, IsKindedAct, IsSome, IsSomeAnd}
+use Rattle.rpl_compile.proofs.Common.{Kind, List, N, None, Option, Site, Some, Tree, ValueKind, Written, [], act, act_code, act_local_kinds}
+use Rattle.rpl_compile.proofs.Common.{act_locals, acts_code, acts_local_kinds, acts_locals, after_act, after_acts, after_tree, ap, append-nil}
+use Rattle.rpl_compile.proofs.Common.{append_assoc, arith, assign, at_most_30, bound, branch, callee_heads, code_kind, code_kinds, code_of, compiled}
+use Rattle.rpl_compile.proofs.Common.{compiled_act, compiled_acts, keeping, kind_of_tree, knowing, length, length-map, local_kinds, names_in, no_acts}
+use Rattle.rpl_compile.proofs.Common.{on, outer, refl, reverse, size_of_act, size_of_acts, slot_named, sym, target, unsigned_abs, with_local}
+use Rattle.rpl_compile.proofs.Common.{with_name, ℕ, ℤ, ◌++◌, ◌+◌, ◌∙◌, ◌∷◌, ◌≡◌}
 use Rattle.rpl_code.specs.declared.instruction.Instruction.TheVariants as I
-use Rattle.rpl_tree.specs.Count.{act_locals, acts_locals}
-use Rattle.rpl_tree.proofs.Common.{Kind, act_local_kinds, acts_local_kinds, local_kinds, Tree, Act, Acts, assign, branch, with_name, no_acts, act}
-use Rattle.rpl_tree.proofs.PutsAhead.{at_most_30}
-use Rattle.rpl_compile.specs.Kinded.{AreKindedActs, IsKindedAct}
-use Rattle.rpl_compile.specs.Operations.{code_kind, code_kinds, target}
-use Rattle.rpl_compile.specs.Site.{Site, bound, keeping, knowing, names_in, on}
-use Rattle.rpl_compile.specs.Size.{size_of_act, size_of_acts}
-use Rattle.rpl_compile.specs.Translate.{Callee, act_code, acts_code, after_act, after_acts, after_tree, callee_heads, code_of, kind_of_tree}
-use Rattle.rpl_compile.specs.Written.{Written, compiled, compiled_act, compiled_acts, outer, with_local}
 use Rattle.rpl_compile.proofs.Claims.{claim}
 use Rattle.rpl_compile.proofs.Forms.{behind_one, branch_lines, three_more, two_more, value_lines}
 use Rattle.rpl_compile.proofs.KindsFound.{act_counted, acts_counted}

@@ -1,23 +1,15 @@
 -- Where loops end: over the code of a tree no loop is closed that was open before it.
-use Rattle.rw_base.proofs.Common.{◌≡◌, ℕ, suc, ◌+◌, Bool, true, false, List, [], ◌∷◌, ◌++◌, length, drop, Option, Some, None, refl, ap, ap₂, ◌∙◌}
-use Rattle.rw_base.proofs.Common.{arith, append_assoc, length-append, bytes_eq, slice_index, if◌then◌else◌}
-use Rattle.rpl_code.specs.declared.instruction.Instruction.{Instruction}
+use Rattle.rpl_compile.proofs.Common.{And, Append, Bool, Bracket, Callee, ConvertWord, Day, Divide, ElevationToStorage, Equal, Greater, GreaterEqual}
+use Rattle.rpl_compile.proofs.Common.{Instruction, Item, Kind, Known, Length, Less, LessEqual, Less_by, List, Loop, Minus, Month, None, Not, OneWord}
+use Rattle.rpl_compile.proofs.Common.{Option, Or, Plus, Site, Some, StorageToElevation, Times, Tree, Trees, TwoWord, Unequal, Year, [], after_room}
+use Rattle.rpl_compile.proofs.Common.{after_tree, all_code, ap, append_assoc, ap₂, arguments_code, arith, asked_code, at, bind, bound, bracket}
+use Rattle.rpl_compile.proofs.Common.{brackets, bytes_eq, call, call_by, call_line, choice, choice_lines, closing, code_of, convert, convert_line}
+use Rattle.rpl_compile.proofs.Common.{date_kind, difference_line, drop, each, element_of, ends_before, false, if◌then◌else◌, is_same_kind, keeping}
+use Rattle.rpl_compile.proofs.Common.{kind_of_tree, knowing, length, length-append, level, list, literal, loop_end, loop_ends, mapped, mapping, name}
+use Rattle.rpl_compile.proofs.Common.{no_trees, now, on, one, one_line, one_lines, opening, over, refl, rest_of, room_lines, room_of, slice_index}
+use Rattle.rpl_compile.proofs.Common.{slot, suc, sum_line, target, test_line, tree, true, truth, truth_kind, two, two_lines, visiting, widening, ℕ}
+use Rattle.rpl_compile.proofs.Common.{◌++◌, ◌+◌, ◌∙◌, ◌∷◌, ◌≡◌}
 use Rattle.rpl_code.specs.declared.instruction.Instruction.TheVariants as I
-use Rattle.rpl_tree.specs.declared.words.OneWord.{OneWord}
-use Rattle.rpl_tree.specs.declared.words.OneWord.TheVariants.{Not, Minus, Known, Length, Month, Day, Year}
-use Rattle.rpl_tree.specs.declared.words.TwoWord.{TwoWord}
-use Rattle.rpl_tree.specs.declared.words.TwoWord.TheVariants.{Or, And, Equal, Unequal, Less, LessEqual, Greater, GreaterEqual, Plus, Minus as Less_by}
-use Rattle.rpl_tree.specs.declared.words.TwoWord.TheVariants.{Times, Divide, Append, Item}
-use Rattle.rpl_tree.specs.declared.words.ConvertWord.{ConvertWord}
-use Rattle.rpl_tree.specs.declared.words.ConvertWord.TheVariants.{StorageToElevation, ElevationToStorage}
-use Rattle.rpl_tree.specs.Value.{Kind, truth_kind, date_kind, is_same_kind, element_of, room_of}
-use Rattle.rpl_tree.specs.Tree.{Tree, Trees, literal, truth, now, slot, name, call, brackets, list, choice, bind, each, mapped, one, two, convert, at}
-use Rattle.rpl_tree.specs.Tree.{no_trees, tree}
-use Rattle.rpl_verify.specs.Places.{Loop, visiting, mapping, Bracket, closing, level, opening, bracket, ends_before, loop_end, loop_ends, rest_of}
-use Rattle.rpl_compile.specs.Operations.{convert_line, difference_line, one_line, sum_line, target, test_line, two_lines, widening}
-use Rattle.rpl_compile.specs.Site.{Site, bound, keeping, knowing, on, over}
-use Rattle.rpl_compile.specs.Translate.{Callee, after_room, after_tree, kind_of_tree, room_lines, all_code, arguments_code, asked_code, call_by}
-use Rattle.rpl_compile.specs.Translate.{call_line, choice_lines, code_of, one_lines}
 use Rattle.rpl_compile.proofs.OfKind.{At}
 
 -- the loops that are open behind these lines are those that are open before them

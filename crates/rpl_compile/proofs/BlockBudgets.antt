@@ -1,27 +1,12 @@
 -- The budget of a declaration's block is what the declaration costs.
-use Rattle.rw_base.proofs.Common.{◌≡◌, ℕ, ◌+◌, ◌-◌, max, List, [], ◌∷◌, ◌++◌, reverse, Option, Ok, refl, ap, ap₂, ◌∙◌, arith}
-use Rattle.rw_model.specs.Draft.{Draft}
-use Rattle.rpl_code.specs.declared.instruction.Instruction.{Instruction}
-use Rattle.rpl_code.specs.declared.block.Block.{Block}
-use Rattle.rpl_tree.specs.Value.{Kind, weight, weights}
-use Rattle.rpl_tree.specs.Tree.{Tree, Acts, Parameter}
-use Rattle.rpl_tree.specs.Kinds.{Head, Names, takes_named}
-use Rattle.rpl_tree.specs.Budget.{Budget, budget, capped, limits}
-use Rattle.rpl_tree.specs.Cost.{Costed, Price, costed_heads, most_of_acts, most_of_body, param_names, price_of_looks, price_of_puts, price_of_steps}
-use Rattle.rpl_tree.specs.Words.{height, height_of_acts}
-use Rattle.rpl_tree.specs.Mean.{param_kinds}
-use Rattle.rpl_tree.specs.Locals.{acts_local_kinds, local_kinds}
-use Rattle.rpl_verify.specs.Kinds.{words_of_all}
-use Rattle.rpl_verify.specs.Places.{spots}
-use Rattle.rpl_verify.specs.Names.{Scope}
-use Rattle.rpl_verify.specs.Fits.{Before, before, befores, heads_of, scope_of}
-use Rattle.rpl_verify.specs.Budget.{budget_by, count_of, looks_of, puts_of, words_at}
-use Rattle.rpl_verify.specs.Notes.{words_kept}
-use Rattle.rpl_verify.proofs.Costs.{C, W}
-use Rattle.rpl_compile.specs.Operations.{code_kind, code_kinds}
-use Rattle.rpl_compile.specs.Site.{names_in, parameters_from}
-use Rattle.rpl_compile.specs.Kinded.{AreKindedActs, IsKindedBody}
-use Rattle.rpl_compile.specs.Translate.{Callee, call_by, callee_heads, function_block, rule_block}
+use Rattle.rpl_compile.proofs.Common.{Acts, AreKindedActs, Before, Block, Budget, C, Callee, Costed, Draft, Head, Instruction, IsKindedBody, Kind}
+use Rattle.rpl_compile.proofs.Common.{List, Names, Ok, Option, Parameter, Price, Scope, Tree, W, [], acts_local_kinds, ap, ap₂, arith, before}
+use Rattle.rpl_compile.proofs.Common.{befores, budget, budget_by, call_by, callee_heads, capped, code_kind, code_kinds, costed_heads, function_block}
+use Rattle.rpl_compile.proofs.Common.{heads_of, height, height_of_acts, limits, local_kinds, looks_of, max, most_of_acts, most_of_body, names_in}
+use Rattle.rpl_compile.proofs.Common.{param_kinds, param_names, parameters_from, price_of_looks, price_of_puts, price_of_steps, puts_of, refl}
+use Rattle.rpl_compile.proofs.Common.{reverse, rule_block, scope_of, spots, takes_named, weight, weights, words_at, words_kept, words_of_all, ℕ, ◌++◌}
+use Rattle.rpl_compile.proofs.Common.{◌+◌, ◌-◌, ◌∙◌, ◌∷◌, ◌≡◌}
+use Rattle.rpl_verify.specs.Budget.{count_of}
 use Rattle.rpl_compile.proofs.Placing.{has_all}
 use Rattle.rpl_compile.proofs.Counting.{Prices}
 use Rattle.rpl_compile.proofs.Costing.{CallsFit}

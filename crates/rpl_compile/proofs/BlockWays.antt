@@ -1,23 +1,9 @@
 -- The code of a declaration leads from nothing to what its block leaves, and comes to what the declaration costs.
-use Rattle.rw_base.proofs.Common.{◌≡◌, ℕ, suc, ◌+◌, max, List, [], ◌∷◌, length, refl, sym, ap, ◌∙◌, subst, arith}
-use Rattle.rw_model.specs.Draft.{Draft}
-use Rattle.rpl_code.specs.declared.kind.ValueKind.{ValueKind}
-use Rattle.rpl_code.specs.declared.instruction.Instruction.{Instruction}
-use Rattle.rpl_code.specs.declared.block.Block.{Block}
-use Rattle.rpl_tree.specs.Value.{Kind, weight}
-use Rattle.rpl_tree.specs.Tree.{Tree, Acts, Parameter}
-use Rattle.rpl_tree.specs.Kinds.{Head, Names, kind_of_type, tree_kind}
-use Rattle.rpl_tree.specs.Cost.{Costed, Price, costed_heads, most, most_of_acts, most_of_body, param_names, to_widen}
-use Rattle.rpl_tree.specs.Words.{height, height_of_acts}
-use Rattle.rpl_tree.specs.Mean.{param_kinds}
-use Rattle.rpl_tree.specs.Locals.{acts_local_kinds, local_kinds}
-use Rattle.rpl_verify.specs.Names.{Scope}
-use Rattle.rpl_verify.specs.Fits.{before, scope_of}
-use Rattle.rpl_verify.specs.Notes.{words_kept}
-use Rattle.rpl_compile.specs.Operations.{code_kind, code_kinds}
-use Rattle.rpl_compile.specs.Site.{BoundName, Site, behind, names_in, parameters_from, start}
-use Rattle.rpl_compile.specs.Kinded.{AreKindedActs, IsKindedBody}
-use Rattle.rpl_compile.specs.Translate.{Callee, callee_heads, function_block, rule_block}
+use Rattle.rpl_compile.proofs.Common.{Acts, AreKindedActs, Block, BoundName, Callee, Costed, Draft, Head, Instruction, IsKindedBody, Kind, List}
+use Rattle.rpl_compile.proofs.Common.{Names, Parameter, Price, Scope, Site, Tree, ValueKind, [], acts_local_kinds, ap, arith, before, behind}
+use Rattle.rpl_compile.proofs.Common.{callee_heads, code_kind, code_kinds, costed_heads, function_block, height, height_of_acts, kind_of_type, length}
+use Rattle.rpl_compile.proofs.Common.{local_kinds, max, most, most_of_acts, most_of_body, names_in, param_kinds, param_names, parameters_from, refl}
+use Rattle.rpl_compile.proofs.Common.{rule_block, scope_of, start, subst, suc, sym, to_widen, tree_kind, weight, words_kept, ℕ, ◌+◌, ◌∙◌, ◌∷◌, ◌≡◌}
 use Rattle.rpl_compile.proofs.Sizes.{code-size}
 use Rattle.rpl_compile.proofs.LocalFacts.{Placed}
 use Rattle.rpl_compile.proofs.Placing.{HasAt, has_all, has_behind, has_front}

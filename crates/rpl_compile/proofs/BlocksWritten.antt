@@ -1,19 +1,13 @@
 -- The blocks of a ruleset, as they are written, are those that TRANSLATE gives.
-use Rattle.rw_base.proofs.Common.{◌≡◌, ◌+◌, ℕ, List, [], ◌∷◌, drop, length, length-map, Some, IsSome, refl, sym, ap, ◌∙◌, subst, arith, false≢true}
-use Rattle.rw_base.proofs.Common.{AllByRecursion, drop-append_seam}
-use Rattle.rw_model.proofs.Common.{Draft, IsBasin}
-use Rattle.rpl_code.specs.declared.block.BlockHead.TheVariants.{Rule, Function}
-use Rattle.rpl_tree.specs.Tree.{numeric, boolean, datetime, slot_type, numeric_list, slot_list}
-use Rattle.rpl_tree.specs.Value.{slots_kind}
-use Rattle.rpl_tree.proofs.Common.{Acts, Declared, Parameter, Tree, TypeName, function, rule, kind_of_type, local_kinds, numbers_kind, param_kinds}
-use Rattle.rpl_tree.proofs.Common.{param_names}
-use Rattle.rpl_compile.specs.Kinded.{AreKinded, AreKindedActs, AreKindedFrom, IsKinded, IsKindedBody}
-use Rattle.rpl_compile.specs.Operations.{code_kind, code_kinds}
-use Rattle.rpl_compile.specs.Rooms.{AreRoomy, HasListRoom, HaveRoom}
-use Rattle.rpl_compile.specs.Site.{bound, names_in, parameters_from, start}
-use Rattle.rpl_compile.specs.Translate.{Callee, blocks_from, callee_heads, function_block, kind_of_tree, predefined_callees, rule_block, translate}
-use Rattle.rpl_compile.specs.Written.{begun, begun_function, written_function, written_from, written_kind, written_parameters, written_rule}
-use Rattle.rpl_compile.specs.Written.{written_takes}
+use Rattle.rpl_compile.proofs.Common.{Acts, AllByRecursion, AreKinded, AreKindedActs, AreKindedFrom, AreRoomy, Callee, Declared, Draft, HasListRoom}
+use Rattle.rpl_compile.proofs.Common.{HaveRoom, IsBasin, IsKinded, IsKindedBody, IsSome, List, Parameter, Rule, Some, Tree, TypeName, [], ap, arith}
+use Rattle.rpl_compile.proofs.Common.{begun, begun_function, blocks_from, boolean, bound, callee_heads, code_kind, code_kinds, datetime, drop}
+use Rattle.rpl_compile.proofs.Common.{drop-append_seam, false≢true, function, function_block, kind_of_tree, kind_of_type, length, length-map}
+use Rattle.rpl_compile.proofs.Common.{local_kinds, names_in, numbers_kind, numeric, numeric_list, param_kinds, param_names, parameters_from}
+use Rattle.rpl_compile.proofs.Common.{predefined_callees, refl, rule, rule_block, slot_list, slot_type, slots_kind, start, subst, sym, translate}
+use Rattle.rpl_compile.proofs.Common.{written_from, written_function, written_kind, written_parameters, written_rule, written_takes, ℕ, ◌+◌, ◌∙◌, ◌∷◌}
+use Rattle.rpl_compile.proofs.Common.{◌≡◌}
+use Rattle.rpl_code.specs.declared.block.BlockHead.TheVariants.{Function}
 use Rattle.rpl_compile.proofs.ActClaims.{claim_acts}
 use Rattle.rpl_compile.proofs.Claims.{claim}
 use Rattle.rpl_compile.proofs.Plain.{IsSpelt, short_is}

@@ -1,23 +1,12 @@
 -- What calls come to: of a predefined function, and of one whose block has a budget.
-use Rattle.rw_base.proofs.Common.{◌≡◌, ◌≤◌, ◌<◌, ℕ, zero, suc, ◌+◌, ◌-◌, nat_le, Bool, true, false, ◌||◌, List, [], ◌∷◌, ◌++◌, length, bytes_eq}
-use Rattle.rw_base.proofs.Common.{Option, Some, None, refl, ap, ap₂, ◌∙◌, arith, IsTrue, list_any, if◌then◌else◌, slice_get}
-use Rattle.rw_model.specs.Objects.{numbered}
-use Rattle.rpl_code.specs.declared.instruction.Instruction.{Instruction}
+use Rattle.rpl_compile.proofs.Common.{Before, BlockHead, Bool, Budget, Callee, Costed, HasHead, Head, Instruction, IsTrue, Kind, List, None, Option}
+use Rattle.rpl_compile.proofs.Common.{Scope, Some, [], ap, ap₂, arith, bytes_eq, call_by, call_line, callee_heads, code_kinds, costed_heads, false}
+use Rattle.rpl_compile.proofs.Common.{if◌then◌else◌, length, list_any, looks_of, most_named, nat_le, numbered, numbered_is, part_of}
+use Rattle.rpl_compile.proofs.Common.{predefined_callees, predefined_costs, price_of_looks, price_of_puts, price_of_steps, puts_of, refl, slice_get}
+use Rattle.rpl_compile.proofs.Common.{suc, true, weights, words_at, words_kept, words_of_all, words_of_kind, words_of_parameters, zero, ℕ, ◌++◌, ◌+◌}
+use Rattle.rpl_compile.proofs.Common.{◌-◌, ◌<◌, ◌||◌, ◌∙◌, ◌∷◌, ◌≡◌, ◌≤◌}
 use Rattle.rpl_code.specs.declared.instruction.Instruction.TheVariants as I
-use Rattle.rpl_code.specs.declared.block.BlockHead.{BlockHead}
-use Rattle.rpl_tree.specs.Value.{Kind, weights}
-use Rattle.rpl_tree.specs.Kinds.{Head}
-use Rattle.rpl_tree.specs.Budget.{Budget}
-use Rattle.rpl_tree.specs.Cost.{Costed, costed_heads, most_named, predefined_costs, price_of_looks, price_of_puts, price_of_steps}
-use Rattle.rpl_verify.specs.Kinds.{words_of_all}
-use Rattle.rpl_verify.specs.Names.{Scope}
-use Rattle.rpl_verify.specs.Fits.{Before}
-use Rattle.rpl_verify.specs.Budget.{count_of, looks_of, part_of, puts_of, words_at, words_of_kind, words_of_parameters}
-use Rattle.rpl_verify.specs.Notes.{words_kept}
-use Rattle.rpl_verify.proofs.Accepted.{numbered_is}
-use Rattle.rpl_compile.specs.Operations.{code_kinds}
-use Rattle.rpl_compile.specs.Kinded.{HasHead}
-use Rattle.rpl_compile.specs.Translate.{Callee, call_by, call_line, callee_heads, predefined_callees}
+use Rattle.rpl_verify.specs.Budget.{count_of}
 use Rattle.rpl_compile.proofs.Counting.{IsUnit, Prices}
 use Rattle.rpl_compile.proofs.TreeCosts.{words_weight}
 use Rattle.rpl_compile.proofs.Calling.{AreCallable, IsCallable}

@@ -1,26 +1,16 @@
 -- A call finds the function that its type was found by: predefined ones and declared ones are looked up in different orders, but no two
 -- have one name.
-use Rattle.rw_base.proofs.Common.{◌≡◌, ◌==◌, inl, arith, nat_tests, subst, ℕ, ℤ, pos, int_le, unsigned_abs, Bool, true, false, ◌&&◌, ◌||◌, List, []}
-use Rattle.rw_base.proofs.Common.{◌∷◌, ◌++◌, length, map, replicate, bytes_eq, Option, Some, None, is_some, Ok, Err, refl, sym, ap, ap₂, ◌∙◌}
-use Rattle.rw_base.proofs.Common.{if◌then◌else◌, bytes_eq-Decides, codes}
-use Rattle.rw_base.specs.Dimension.{Dimension, times_per_of}
-use Rattle.rw_base.specs.Unit.{units, unit_in}
-use Rattle.std.specs.List.{list_any}
-use Rattle.rpl_tree.specs.declared.rpl_type.RplType.{RplType}
-use Rattle.rpl_tree.specs.declared.rpl_type.RplType.TheVariants.{Numeric, Boolean, Datetime, Slot, NumericList, SlotList}
-use Rattle.rpl_tree.specs.Value.{Kind, number_kind}
-use Rattle.rpl_tree.specs.Tree.{TypeName, numeric, boolean, datetime, slot_type, numeric_list, slot_list, Parameter}
-use Rattle.rpl_tree.specs.Kinds.{Head, Names, kind_of_type, result_named, takes_named}
-use Rattle.rpl_tree.specs.Cost.{param_names}
-use Rattle.rpl_tree.specs.Mean.{function_heads, param_kinds, predefined_functions}
-use Rattle.rpl_types.specs.declared.type_kind.TypeKind.TheVariants.{DuplicateName, ListTooLong, NotEarlier, UnknownName, WrongCount, WrongType}
-use Rattle.rpl_types.specs.Fits.{Typed, arguments_misfit, longest, misfit, misfit_among, misfit_in_places}
-use Rattle.rpl_types.specs.Forms.{TypeScope, a_dimension}
-use Rattle.rpl_types.specs.Functions.{Callable, Signature, call_type, called_type, count_named, declared_type, head_misfit, is_duplicate, made_by}
-use Rattle.rpl_types.specs.Functions.{measured_by, numbers_type, param_scope, predefined_count, product_over_type, refusal_in, repeats_name}
-use Rattle.rpl_types.specs.Functions.{signature, signature_named, type_here, type_or_plain, unknown_type, with_room, with_unit, written_type}
-use Rattle.rpl_types.specs.Judged.{head_refusal}
-use Rattle.rpl_compile.specs.Kinded.{FitsIn, HasHead}
+use Rattle.rpl_compile.proofs.Common.{Bool, Boolean, Callable, Datetime, Dimension, DuplicateName, Err, FitsIn, HasHead, Head, Kind, List}
+use Rattle.rpl_compile.proofs.Common.{ListTooLong, Names, None, NotEarlier, Numeric, NumericList, Ok, Option, Parameter, RplType, Signature, Slot}
+use Rattle.rpl_compile.proofs.Common.{SlotList, Some, TypeName, TypeScope, Typed, UnknownName, WrongCount, WrongType, [], a_dimension, ap, ap₂}
+use Rattle.rpl_compile.proofs.Common.{arguments_misfit, arith, boolean, bytes_eq, bytes_eq-Decides, call_type, called_type, codes, count_named}
+use Rattle.rpl_compile.proofs.Common.{datetime, declared_type, false, function_heads, head_misfit, head_refusal, if◌then◌else◌, inl, int_le}
+use Rattle.rpl_compile.proofs.Common.{is_duplicate, is_some, kind_of_type, length, list_any, longest, made_by, map, measured_by, misfit, misfit_among}
+use Rattle.rpl_compile.proofs.Common.{misfit_in_places, nat_tests, number_kind, numbers_type, numeric, numeric_list, param_kinds, param_names}
+use Rattle.rpl_compile.proofs.Common.{param_scope, pos, predefined_count, predefined_functions, product_over_type, refl, refusal_in, repeats_name}
+use Rattle.rpl_compile.proofs.Common.{replicate, result_named, signature, signature_named, slot_list, slot_type, subst, sym, takes_named}
+use Rattle.rpl_compile.proofs.Common.{times_per_of, true, type_here, type_or_plain, unit_in, units, unknown_type, unsigned_abs, with_room, with_unit}
+use Rattle.rpl_compile.proofs.Common.{written_type, ℕ, ℤ, ◌&&◌, ◌++◌, ◌==◌, ◌||◌, ◌∙◌, ◌∷◌, ◌≡◌}
 use Rattle.rpl_compile.proofs.TypeKinds.{AreAlike, kind_of_rpl_type, kinds_fit, measured, none_of_two, numbers_alike, same_kind, typed, unrefused}
 
 abbrev pub kinds_of_types : List RplType → List Kind

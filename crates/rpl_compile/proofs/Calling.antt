@@ -1,24 +1,14 @@
 -- Calls of functions that stand before a block fit in it.
-use Rattle.rw_base.proofs.Common.{◌≡◌, ◌<◌, ◌≤◌, ℕ, nat_lt, Bool, true, false, ◌||◌, List, [], ◌∷◌, ◌++◌, length, replicate, reverse, bytes_eq}
-use Rattle.rw_base.proofs.Common.{Option, Some, None, Ok, refl, sym, ap, ◌∙◌, arith, nat_tests, IsTrue, list_any, if◌then◌else◌, bytes_eq-Decides}
-use Rattle.rw_model.specs.Objects.{numbered}
-use Rattle.rpl_code.specs.declared.kind.ValueKind.{ValueKind}
+use Rattle.rpl_compile.proofs.Common.{Before, BlockHead, Bool, Callee, HasHead, Head, IsTrue, LaterCall, List, None, Ok, Open, Option, Predefined}
+use Rattle.rpl_compile.proofs.Common.{Scope, Some, ValueKind, VerifyKind, [], ap, arith, before, bytes_eq, bytes_eq-Decides, call_by, call_line}
+use Rattle.rpl_compile.proofs.Common.{call_misfit, call_row, callee_heads, code_kind, code_kinds, false, function_named, going_of, if◌then◌else◌}
+use Rattle.rpl_compile.proofs.Common.{invoke_row, judged_at, length, list_any, nat_lt, nat_tests, numbered, onward, predefined_callees}
+use Rattle.rpl_compile.proofs.Common.{predefined_functions, refl, replicate, result_named, reverse, sym, taken, takes_named, true, unless_misfit}
+use Rattle.rpl_compile.proofs.Common.{unless_there, ℕ, ◌++◌, ◌<◌, ◌||◌, ◌∙◌, ◌∷◌, ◌≡◌, ◌≤◌}
 use Rattle.rpl_code.specs.declared.kind.ValueKind.TheVariants as K
 use Rattle.rpl_code.specs.declared.instruction.Instruction.TheVariants as I
-use Rattle.rpl_code.specs.declared.block.BlockHead.{BlockHead}
 use Rattle.rpl_code.specs.declared.block.BlockHead.TheVariants.{Function}
-use Rattle.rpl_tree.specs.Kinds.{Head, result_named, takes_named}
-use Rattle.rpl_tree.specs.Mean.{Function as Predefined, predefined_functions}
-use Rattle.rpl_verify.specs.declared.verify_kind.VerifyKind.{VerifyKind}
-use Rattle.rpl_verify.specs.declared.verify_kind.VerifyKind.TheVariants.{LaterCall}
-use Rattle.rpl_verify.specs.Table.{call_row, function_named, invoke_row}
-use Rattle.rpl_verify.specs.Names.{Scope, call_misfit, unless_there}
-use Rattle.rpl_verify.specs.Fits.{Before, Open, before, judged_at, taken, unless_misfit}
-use Rattle.rpl_compile.specs.Operations.{code_kind, code_kinds}
-use Rattle.rpl_compile.specs.Kinded.{HasHead}
-use Rattle.rpl_compile.specs.Translate.{Callee, call_by, call_line, callee_heads, predefined_callees}
 use Rattle.rpl_compile.proofs.Going.{takes_kinds}
-use Rattle.rpl_verify.specs.Budget.{onward, going_of}
 
 -- in a block of this scope, a call of each function fits that there is
 abbrev pub LinesFit : Scope → List Callee → Type 0

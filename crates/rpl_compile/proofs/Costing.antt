@@ -1,23 +1,10 @@
 -- Where code of a declaration stands, and what it is told in.
-use Rattle.rw_base.proofs.Common.{max, ◌≡◌, ℕ, ◌+◌, List, [], ◌∷◌, ◌++◌, length, reverse, Some, Ok, refl, sym, ap, ◌∙◌, arith, slice_get}
-use Rattle.rpl_code.specs.declared.kind.ValueKind.{ValueKind}
-use Rattle.rpl_code.specs.declared.instruction.Instruction.{Instruction}
+use Rattle.rpl_compile.proofs.Common.{Before, Callee, Costed, HasHead, Head, Instruction, IsKinded, Kind, List, Names, Ok, Open, Price, Scope, Site}
+use Rattle.rpl_compile.proofs.Common.{Some, Tree, ValueKind, [], ap, arith, before, behind, call_line, callee_heads, code_kind, code_kinds, code_of}
+use Rattle.rpl_compile.proofs.Common.{costed_heads, going_of, height, judged_at, length, local_kinds, max, most, most_named, names_in, onward, refl}
+use Rattle.rpl_compile.proofs.Common.{result_named, reverse, slice_get, spots, sym, takes_named, to_widen, tree_kind, weight, words_kept, ℕ, ◌++◌}
+use Rattle.rpl_compile.proofs.Common.{◌+◌, ◌∙◌, ◌∷◌, ◌≡◌}
 use Rattle.rpl_code.specs.declared.instruction.Instruction.TheVariants as I
-use Rattle.rpl_tree.specs.Value.{Kind, weight}
-use Rattle.rpl_tree.specs.Tree.{Tree}
-use Rattle.rpl_tree.specs.Kinds.{Head, Names, result_named, takes_named, tree_kind}
-use Rattle.rpl_tree.specs.Locals.{local_kinds}
-use Rattle.rpl_verify.specs.Places.{spots}
-use Rattle.rpl_verify.specs.Budget.{onward, going_of}
-use Rattle.rpl_verify.specs.Notes.{words_kept}
-use Rattle.rpl_tree.specs.Cost.{Costed, Price, costed_heads, most, most_named, to_widen}
-use Rattle.rpl_tree.specs.Words.{height}
-use Rattle.rpl_verify.specs.Names.{Scope}
-use Rattle.rpl_verify.specs.Fits.{Before, Open, before, judged_at}
-use Rattle.rpl_compile.specs.Operations.{code_kind, code_kinds}
-use Rattle.rpl_compile.specs.Site.{Site, behind, names_in}
-use Rattle.rpl_compile.specs.Kinded.{HasHead, IsKinded}
-use Rattle.rpl_compile.specs.Translate.{Callee, call_line, callee_heads, code_of}
 use Rattle.rpl_compile.proofs.Sizes.{code-size}
 use Rattle.rpl_compile.proofs.LocalFacts.{Placed, kinds_back, kinds_front, locals_count}
 use Rattle.rpl_compile.proofs.Placing.{HasAt}

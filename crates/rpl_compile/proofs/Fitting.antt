@@ -1,21 +1,11 @@
 -- Compiled code fits: what is before each place of each block is found.
-use Rattle.rw_base.proofs.Common.{drop_all, map, bytes_eq, Bool, true, false, if◌then◌else◌, ◌≡◌, ℕ, suc, ◌+◌, List, [], ◌∷◌, length, drop, Some}
-use Rattle.rw_base.proofs.Common.{Result, Ok, refl, sym, ap, ◌∙◌, subst, arith, slice_get}
-use Rattle.rw_model.specs.Draft.{Draft}
-use Rattle.rpl_code.specs.declared.kind.ValueKind.{ValueKind}
-use Rattle.rpl_code.specs.declared.instruction.Instruction.{Instruction}
-use Rattle.rpl_code.specs.declared.block.Block.{Block}
-use Rattle.rpl_tree.specs.Value.{Kind}
-use Rattle.rpl_tree.specs.Tree.{Tree, Acts, Parameter}
-use Rattle.rpl_verify.specs.declared.verify_kind.VerifyKind.{VerifyKind}
-use Rattle.rpl_verify.specs.Names.{Scope}
-use Rattle.rpl_verify.specs.Fits.{Before, Misplaced, at_place, before, befores, end_kinds, judged_at, scope_of, then_do}
-use Rattle.rpl_verify.specs.Notes.{words_kept}
+use Rattle.rpl_compile.proofs.Common.{Acts, AreKindedActs, Before, Block, Bool, Callee, Costed, Draft, Instruction, IsKindedBody, Kind, List}
+use Rattle.rpl_compile.proofs.Common.{Misplaced, Ok, Parameter, Price, Result, Scope, Some, Tree, ValueKind, VerifyKind, [], ap, arith, at_place}
+use Rattle.rpl_compile.proofs.Common.{before, befores, bytes_eq, callee_heads, costed_heads, drop, drop_all, end_kinds, false, function_block}
+use Rattle.rpl_compile.proofs.Common.{if◌then◌else◌, judged_at, length, map, most_named, param_names, refl, rule_block, scope_of, slice_get, subst}
+use Rattle.rpl_compile.proofs.Common.{suc, sym, then_do, true, words_kept, ℕ, ◌+◌, ◌∙◌, ◌∷◌, ◌≡◌}
 use Rattle.rpl_verify.proofs.Loops.{drop_at}
 use Rattle.rpl_code.specs.declared.instruction.Instruction.TheVariants as I
-use Rattle.rpl_tree.specs.Cost.{Costed, Price, costed_heads, most_named, param_names}
-use Rattle.rpl_compile.specs.Kinded.{AreKindedActs, IsKindedBody}
-use Rattle.rpl_compile.specs.Translate.{Callee, callee_heads, function_block, rule_block}
 use Rattle.rpl_compile.proofs.Placing.{has_all}
 use Rattle.rpl_compile.proofs.Counting.{Account}
 use Rattle.rpl_compile.proofs.Going.{carries}

@@ -1,23 +1,12 @@
 -- The code of statements leads back to the operands that stand below it, and comes to what they cost: by recursion on them.
-use Rattle.rw_base.proofs.Common.{◌≤◌, ◌≡◌, ℕ, suc, ◌+◌, ℤ, unsigned_abs, List, ◌∷◌, ◌++◌, length, refl, sym, ap, ◌∙◌, subst, arith}
-use Rattle.rpl_code.specs.declared.kind.ValueKind.{ValueKind}
+use Rattle.rpl_compile.proofs.Common.{Act, Acts, AreKindedActs, Before, Instruction, IsKinded, IsKindedAct, Kind, List, Names, Open, Rule, Site, Tree}
+use Rattle.rpl_compile.proofs.Common.{ValueKind, act, act_code, act_local_kinds, acts_code, acts_local_kinds, ap, arith, assign, before, behind}
+use Rattle.rpl_compile.proofs.Common.{behind_act, behind_acts, bound, branch, code_kind, code_kinds, code_of, costed_heads, height_of_act}
+use Rattle.rpl_compile.proofs.Common.{height_of_acts, judged_at, keeping, knowing, length, local_kinds, most_of_act, most_of_acts, names_in, no_acts}
+use Rattle.rpl_compile.proofs.Common.{on, refl, size_of_acts, subst, suc, sym, tree_kind, unsigned_abs, weight, with_name, words_kept, ℕ, ℤ, ◌++◌}
+use Rattle.rpl_compile.proofs.Common.{◌+◌, ◌∙◌, ◌∷◌, ◌≡◌, ◌≤◌}
 use Rattle.rpl_code.specs.declared.kind.ValueKind.TheVariants as K
-use Rattle.rpl_code.specs.declared.block.BlockHead.TheVariants.{Rule}
-use Rattle.rpl_code.specs.declared.instruction.Instruction.{Instruction}
 use Rattle.rpl_code.specs.declared.instruction.Instruction.TheVariants as I
-use Rattle.rpl_tree.specs.Value.{Kind, weight}
-use Rattle.rpl_tree.specs.Tree.{Tree, Act, Acts, assign, branch, with_name, no_acts, act}
-use Rattle.rpl_tree.specs.Kinds.{Names, tree_kind}
-use Rattle.rpl_tree.specs.Locals.{act_local_kinds, acts_local_kinds, local_kinds}
-use Rattle.rpl_verify.specs.Notes.{words_kept}
-use Rattle.rpl_tree.specs.Cost.{costed_heads, most_of_act, most_of_acts}
-use Rattle.rpl_tree.specs.Words.{height_of_act, height_of_acts}
-use Rattle.rpl_verify.specs.Fits.{Before, Open, before, judged_at}
-use Rattle.rpl_compile.specs.Operations.{code_kind, code_kinds}
-use Rattle.rpl_compile.specs.Size.{size_of_acts}
-use Rattle.rpl_compile.specs.Site.{Site, behind, behind_act, behind_acts, bound, keeping, knowing, names_in, on}
-use Rattle.rpl_compile.specs.Kinded.{AreKindedActs, IsKinded, IsKindedAct}
-use Rattle.rpl_compile.specs.Translate.{act_code, acts_code, code_of}
 use Rattle.rpl_compile.proofs.Sizes.{act-size, acts-size, code-size}
 use Rattle.rpl_compile.proofs.LocalFacts.{Placed, act_locals_count, acts_locals_count, kinds_back, kinds_front, locals_count}
 use Rattle.rpl_compile.proofs.Placing.{HasAt}

@@ -1,21 +1,10 @@
 -- LET, FOR and MAP lead from the operands that stand below them to those and their value, and come to what they cost, where their parts do.
-use Rattle.rw_base.proofs.Common.{max, length-append, ◌*◌, ◌≤◌, ◌≡◌, ℕ, suc, ◌+◌, List, [], ◌∷◌, ◌++◌, length, append_assoc, Some, refl, sym, ap, ◌∙◌}
-use Rattle.rw_base.proofs.Common.{subst, arith, slice_get}
-use Rattle.rpl_code.specs.declared.kind.ValueKind.{ValueKind}
+use Rattle.rpl_compile.proofs.Common.{Head, Instruction, Kind, List, Names, Open, Site, Some, Tree, ValueKind, [], ap, append_assoc, arith, before}
+use Rattle.rpl_compile.proofs.Common.{behind, bind, bound, code_kind, code_kinds, code_of, costed_heads, each, element_of, keeping, knowing, length}
+use Rattle.rpl_compile.proofs.Common.{length-append, local_kinds, mapped, mapping, max, names_in, on, over, refl, room_lines, room_of, size}
+use Rattle.rpl_compile.proofs.Common.{slice_get, subst, suc, sym, tree_kind, visiting, weight, widening_size, ℕ, ◌*◌, ◌++◌, ◌+◌, ◌∙◌, ◌∷◌, ◌≡◌, ◌≤◌}
 use Rattle.rpl_code.specs.declared.kind.ValueKind.TheVariants as K
-use Rattle.rpl_code.specs.declared.instruction.Instruction.{Instruction}
 use Rattle.rpl_code.specs.declared.instruction.Instruction.TheVariants as I
-use Rattle.rpl_tree.specs.Value.{Kind, element_of, room_of, weight}
-use Rattle.rpl_tree.specs.Tree.{Tree, bind, each, mapped}
-use Rattle.rpl_tree.specs.Kinds.{Head, Names, tree_kind}
-use Rattle.rpl_tree.specs.Locals.{local_kinds}
-use Rattle.rpl_verify.specs.Places.{mapping, visiting}
-use Rattle.rpl_tree.specs.Cost.{costed_heads}
-use Rattle.rpl_verify.specs.Fits.{Open, before}
-use Rattle.rpl_compile.specs.Operations.{code_kind, code_kinds, widening_size}
-use Rattle.rpl_compile.specs.Size.{size}
-use Rattle.rpl_compile.specs.Site.{Site, behind, bound, keeping, knowing, names_in, on, over}
-use Rattle.rpl_compile.specs.Translate.{code_of, room_lines}
 use Rattle.rpl_compile.proofs.Sizes.{code-size, widening-size}
 use Rattle.rpl_compile.proofs.Placing.{HasAt}
 use Rattle.rpl_compile.proofs.Going.{goes_loop}

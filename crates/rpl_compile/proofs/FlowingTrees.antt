@@ -1,26 +1,14 @@
 -- The code of an expression leads from the operands that stand below it to those and its value, and comes to what the tree costs: by recursion
 -- on the tree.
-use Rattle.rw_base.proofs.Common.{max, ◌≡◌, ℕ, ◌+◌, List, [], ◌∷◌, ◌++◌, replicate, reverse, refl, sym, ap, ◌∙◌, arith}
-use Rattle.rpl_code.specs.declared.kind.ValueKind.{ValueKind}
+use Rattle.rpl_compile.proofs.Common.{And, AreArguments, AreOfKind, Before, Day, Head, Kind, Known, Length, List, Minus, Month, Names, Not, Open, Or}
+use Rattle.rpl_compile.proofs.Common.{Site, Tree, Trees, ValueKind, Year, [], all_code, all_local_kinds, ap, arguments_code, arith, at, before}
+use Rattle.rpl_compile.proofs.Common.{behind, bind, brackets, call, call_line, choice, code_kind, code_kinds, convert, costed_heads, count_of, each}
+use Rattle.rpl_compile.proofs.Common.{first_kind, height_of_all, height_of_arguments, kind_named, list, literal, local_named, mapped, max}
+use Rattle.rpl_compile.proofs.Common.{most_arguments, most_named, most_of, name, names_in, no_trees, now, number_line, on, one, over, refl, replicate}
+use Rattle.rpl_compile.proofs.Common.{result_named, reverse, sizes, sizes_of_arguments, slot, sym, takes_named, tree, tree_kind, truth, two, weight}
+use Rattle.rpl_compile.proofs.Common.{weights, widening_size, words_kept, words_of, ℕ, ◌++◌, ◌+◌, ◌∙◌, ◌∷◌, ◌≡◌}
 use Rattle.rpl_code.specs.declared.kind.ValueKind.TheVariants as K
 use Rattle.rpl_code.specs.declared.instruction.Instruction.TheVariants as I
-use Rattle.rpl_tree.specs.declared.words.OneWord.TheVariants.{Not, Minus, Known, Length, Month, Day, Year}
-use Rattle.rpl_tree.specs.declared.words.TwoWord.TheVariants.{Or, And}
-use Rattle.rpl_tree.specs.Value.{Kind, weight, weights}
-use Rattle.rpl_tree.specs.Tree.{Tree, Trees, literal, truth, now, slot, name, call, brackets, list, choice, bind, each, mapped, one, two, convert, at}
-use Rattle.rpl_tree.specs.Tree.{no_trees, tree}
-use Rattle.rpl_tree.specs.Kinds.{Head, Names, count_of, first_kind, kind_named, result_named, takes_named, tree_kind}
-use Rattle.rpl_tree.specs.Locals.{all_local_kinds}
-use Rattle.rpl_verify.specs.Notes.{words_kept}
-use Rattle.rpl_code.specs.Weight.{words_of}
-use Rattle.rpl_tree.specs.Cost.{costed_heads, most_arguments, most_named, most_of}
-use Rattle.rpl_tree.specs.Words.{height_of_all, height_of_arguments}
-use Rattle.rpl_verify.specs.Fits.{Before, Open, before}
-use Rattle.rpl_compile.specs.Operations.{code_kind, code_kinds, number_line, widening_size}
-use Rattle.rpl_compile.specs.Size.{sizes, sizes_of_arguments}
-use Rattle.rpl_compile.specs.Site.{Site, behind, local_named, names_in, on, over}
-use Rattle.rpl_compile.specs.Kinded.{AreArguments, AreOfKind}
-use Rattle.rpl_compile.specs.Translate.{all_code, arguments_code, call_line}
 use Rattle.rpl_compile.proofs.Sizes.{all-size, arguments-size, widening-size}
 use Rattle.rpl_compile.proofs.LocalFacts.{Placed, placed_name}
 use Rattle.rpl_compile.proofs.Placing.{HasAt}

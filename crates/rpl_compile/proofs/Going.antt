@@ -1,21 +1,13 @@
 -- Lines that lead from what is before their first place to what is before the place behind them, put together from single instructions.
-use Rattle.rw_base.proofs.Common.{◌≡◌, ℕ, suc, ◌+◌, ◌*◌, max, ◌≤◌, ◌<◌, nat_lt, Bool, true, false, List, [], ◌∷◌, ◌++◌, length, length-append, drop}
-use Rattle.rw_base.proofs.Common.{drop-append_seam, take, take-append_seam, reverse, reverse-reverse, Option, Some, Result, Ok, Err, refl, sym, ap}
-use Rattle.rw_base.proofs.Common.{ap₂, ◌∙◌, subst, arith, nat_tests, if◌then◌else◌, slice_get}
-use Rattle.rpl_code.specs.declared.kind.ValueKind.{ValueKind}
+use Rattle.rpl_compile.proofs.Common.{Before, Bool, Err, Instruction, List, MissingOperand, Ok, Open, OperandRow, Option, Price, Result, Scope, Some}
+use Rattle.rpl_compile.proofs.Common.{Spot, ValueKind, VerifyKind, WrongOperand, [], ap, ap₂, arith, before, carried, declared_at, drop}
+use Rattle.rpl_compile.proofs.Common.{drop-append_seam, entering, false, goes_by, going_of, if_fits, if◌then◌else◌, judged_at, left_of, length}
+use Rattle.rpl_compile.proofs.Common.{length-append, max, nat_lt, nat_tests, on_top_of, onward, operand_count, operand_row, operands_behind, or_wrong}
+use Rattle.rpl_compile.proofs.Common.{refl, restarted, reverse, reverse-reverse, room_on_top, same_kinds_refl, slice_get, spots, subst, suc, sym}
+use Rattle.rpl_compile.proofs.Common.{take, take-append_seam, taken, takes, then_do, true, turning, words_kept, ℕ, ◌*◌, ◌++◌, ◌+◌, ◌<◌, ◌∙◌, ◌∷◌, ◌≡◌}
+use Rattle.rpl_compile.proofs.Common.{◌≤◌}
 use Rattle.rpl_code.specs.declared.kind.ValueKind.TheVariants as K
-use Rattle.rpl_code.specs.declared.instruction.Instruction.{Instruction}
 use Rattle.rpl_code.specs.declared.instruction.Instruction.TheVariants as I
-use Rattle.rpl_verify.specs.declared.verify_kind.VerifyKind.{VerifyKind}
-use Rattle.rpl_verify.specs.declared.verify_kind.VerifyKind.TheVariants.{MissingOperand, WrongOperand}
-use Rattle.rpl_verify.specs.Places.{Spot, spots}
-use Rattle.rpl_verify.specs.Table.{OperandRow, goes_by, left_of, on_top_of, operand_count, operands_behind, or_wrong, operand_row, takes}
-use Rattle.rpl_verify.specs.Names.{Scope}
-use Rattle.rpl_verify.specs.Budget.{entering, onward, turning, going_of}
-use Rattle.rpl_verify.specs.Notes.{words_kept}
-use Rattle.rpl_tree.specs.Cost.{Price}
-use Rattle.rpl_verify.specs.Fits.{Before, Open, before, carried, declared_at, if_fits, judged_at, restarted, room_on_top, taken, then_do}
-use Rattle.rpl_verify.proofs.KindFacts.{same_kinds_refl}
 use Rattle.rpl_compile.proofs.Counting.{Account, IsInvoke, IsUnit}
 use Rattle.rpl_compile.proofs.Placing.{HasAt, declares_at, has_back, has_front, lands, level_on, openers_before, openers_of, opens_on}
 

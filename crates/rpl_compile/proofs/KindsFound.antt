@@ -1,18 +1,11 @@
 -- The kinds that are found and the locals that are kept, where an expression is kinded.
-use Rattle.rw_base.proofs.Common.{◌≡◌, ◌+◌, ◌⊎◌, ℕ, suc, List, ◌∷◌, ◌++◌, length, length-append, refl, ap, ap₂, ◌∙◌, arith, inl, inr}
-use Rattle.rw_model.proofs.Common.{Draft}
-use Rattle.rpl_tree.specs.declared.words.TwoWord.{TwoWord}
-use Rattle.rpl_tree.specs.declared.words.TwoWord.TheVariants.{Append}
-use Rattle.rpl_tree.specs.Value.{list_kind, slot_kind, slots_kind}
-use Rattle.rpl_tree.specs.Kinds.{join}
-use Rattle.rpl_tree.specs.Count.{act_locals, acts_locals, local_count, local_counts}
-use Rattle.rpl_tree.proofs.Common.{Head, Kind, Names, act_local_kinds, acts_local_kinds, all_local_kinds, count_of, element_of, first_kind}
-use Rattle.rpl_tree.proofs.Common.{local_kinds, number_kind, numbers_kind, room_of, tree_kind, two_kind, Tree, Trees, literal, truth, now, slot, name}
-use Rattle.rpl_tree.proofs.Common.{call, brackets, list, choice, bind, each, mapped, one, two, convert, at, no_trees, tree, Act, Acts, assign, branch}
-use Rattle.rpl_tree.proofs.Common.{with_name, no_acts, act}
-use Rattle.rpl_compile.specs.Kinded.{AreBoth, AreOfKind, CanAppend, IsKinded, TwoTakes}
-use Rattle.rpl_compile.specs.Translate.{Callee, callee_heads}
-use Rattle.rpl_compile.specs.Written.{first_ahead, kind_ahead, kind_of_two, short}
+use Rattle.rpl_compile.proofs.Common.{Act, Acts, Append, AreBoth, AreOfKind, Callee, CanAppend, Draft, Head, IsKinded, Kind, List, Names, Tree, Trees}
+use Rattle.rpl_compile.proofs.Common.{TwoTakes, TwoWord, act, act_local_kinds, act_locals, acts_local_kinds, acts_locals, all_local_kinds, ap, ap₂}
+use Rattle.rpl_compile.proofs.Common.{arith, assign, at, bind, brackets, branch, call, callee_heads, choice, convert, count_of, each, element_of}
+use Rattle.rpl_compile.proofs.Common.{first_ahead, first_kind, inl, inr, join, kind_ahead, kind_of_two, length, length-append, list, list_kind}
+use Rattle.rpl_compile.proofs.Common.{literal, local_count, local_counts, local_kinds, mapped, name, no_acts, no_trees, now, number_kind}
+use Rattle.rpl_compile.proofs.Common.{numbers_kind, one, refl, room_of, short, slot, slot_kind, slots_kind, suc, tree, tree_kind, truth, two}
+use Rattle.rpl_compile.proofs.Common.{two_kind, with_name, ℕ, ◌++◌, ◌+◌, ◌∙◌, ◌∷◌, ◌≡◌, ◌⊎◌}
 use Rattle.rpl_compile.proofs.Plain.{result_is, short_is}
 
 -- ---- kinds

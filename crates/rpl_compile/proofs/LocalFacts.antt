@@ -1,16 +1,10 @@
 -- The locals of a block: those that code has of its own, and those of the names that it uses.
-use Rattle.rw_base.proofs.Common.{◌≡◌, ℕ, zero, suc, ◌+◌, Bool, true, false, ◌||◌, List, [], ◌∷◌, ◌++◌, length, length-append, bytes_eq, Some, refl}
-use Rattle.rw_base.proofs.Common.{ap₂, ◌∙◌, subst, arith, IsTrue, list_any, if◌then◌else◌, slice_get}
-use Rattle.rpl_code.specs.declared.kind.ValueKind.{ValueKind}
-use Rattle.rpl_tree.specs.Value.{Kind}
-use Rattle.rpl_tree.specs.Tree.{Tree, Trees, literal, truth, now, slot, name, call, brackets, list, choice, bind, each, mapped, one, two, convert, at}
-use Rattle.rpl_tree.specs.Tree.{no_trees, tree, Act, Acts, assign, branch, with_name, no_acts, act}
-use Rattle.rpl_tree.specs.Kinds.{Head, Names, kind_named}
-use Rattle.rpl_tree.specs.Count.{act_locals, acts_locals, local_count, local_counts}
-use Rattle.rpl_tree.specs.Locals.{act_local_kinds, acts_local_kinds, all_local_kinds, local_kinds}
-use Rattle.rpl_compile.specs.Operations.{code_kind, code_kinds}
-use Rattle.rpl_compile.specs.Site.{BoundName, local_named, names_in}
-use Rattle.rpl_compile.specs.Kinded.{HasName}
+use Rattle.rpl_compile.proofs.Common.{Act, Acts, Bool, BoundName, HasName, Head, IsTrue, Kind, List, Names, Some, Tree, Trees, ValueKind, [], act}
+use Rattle.rpl_compile.proofs.Common.{act_local_kinds, act_locals, acts_local_kinds, acts_locals, all_local_kinds, ap₂, arith, assign, at, bind}
+use Rattle.rpl_compile.proofs.Common.{brackets, branch, bytes_eq, call, choice, code_kind, code_kinds, convert, each, false, if◌then◌else◌}
+use Rattle.rpl_compile.proofs.Common.{kind_named, length, length-append, list, list_any, literal, local_count, local_counts, local_kinds, local_named}
+use Rattle.rpl_compile.proofs.Common.{mapped, name, names_in, no_acts, no_trees, now, one, refl, slice_get, slot, subst, suc, tree, true, truth, two}
+use Rattle.rpl_compile.proofs.Common.{with_name, zero, ℕ, ◌++◌, ◌+◌, ◌||◌, ◌∙◌, ◌∷◌, ◌≡◌}
 use Rattle.rpl_compile.proofs.Placing.{HasAt}
 
 -- ---- locals of these kinds, from one on

@@ -1,11 +1,8 @@
 -- How many locals are kept for an expression or statement.
-use Rattle.rw_base.proofs.Common.{◌≡◌, List, ◌∷◌, length, refl, arith, length-append}
-use Rattle.rpl_tree.specs.Value.{element_of}
-use Rattle.rpl_tree.specs.Tree.{Tree, Trees, literal, truth, now, slot, name, call, brackets, list, choice, bind, each, mapped, one, two, convert, at}
-use Rattle.rpl_tree.specs.Tree.{no_trees, tree, Act, Acts, assign, branch, with_name, no_acts, act}
-use Rattle.rpl_tree.specs.Kinds.{Head, Names, tree_kind}
-use Rattle.rpl_tree.specs.Count.{act_locals, acts_locals, local_count, local_counts}
-use Rattle.rpl_tree.specs.Locals.{act_local_kinds, acts_local_kinds, all_local_kinds, local_kinds}
+use Rattle.rpl_compile.proofs.Common.{Act, Acts, Head, List, Names, Tree, Trees, act, act_local_kinds, act_locals, acts_local_kinds, acts_locals}
+use Rattle.rpl_compile.proofs.Common.{all_local_kinds, arith, assign, at, bind, brackets, branch, call, choice, convert, each, element_of, length}
+use Rattle.rpl_compile.proofs.Common.{length-append, list, literal, local_count, local_counts, local_kinds, mapped, name, no_acts, no_trees, now, one}
+use Rattle.rpl_compile.proofs.Common.{refl, slot, tree, tree_kind, truth, two, with_name, ◌∷◌, ◌≡◌}
 
 module _ (heads : List Head) where
   mutual

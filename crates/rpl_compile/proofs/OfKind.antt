@@ -1,15 +1,10 @@
 -- Values of a kind, and lists that stand in others from a place on.
-use Rattle.rw_base.proofs.Common.{◌≡◌, ℕ, zero, suc, ◌+◌, ◌<◌, ℤ, Bool, true, List, [], ◌∷◌, ◌++◌, length, drop, set, Some, refl, sym, ap, ap₂, ◌∙◌}
-use Rattle.rw_base.proofs.Common.{subst, arith, rules, append_assoc, append-nil, slice_get, drop-drop, take}
-use Rattle.rpl_code.specs.Weight.{words_of}
-use Rattle.rpl_code.specs.declared.kind.ValueKind.{ValueKind}
+use Rattle.rpl_compile.proofs.Common.{Bool, IsRoomy, Kind, List, Some, Value, ValueKind, [], a_date, a_number, a_slot, a_truth, ap, append-nil}
+use Rattle.rpl_compile.proofs.Common.{append_assoc, ap₂, arith, code_kind, code_kind_of, code_kinds, date_kind, drop, drop-drop, is_same_kind}
+use Rattle.rpl_compile.proofs.Common.{kind_of_value, kinds_of, length, number_kind, number_of, numbers, numbers_kind, refl, rules, set, slice_get}
+use Rattle.rpl_compile.proofs.Common.{slot_kind, slots, slots_kind, subst, suc, sym, take, true, truth_kind, truth_of, weight, weights, words_of}
+use Rattle.rpl_compile.proofs.Common.{words_of_all, zero, ℕ, ℤ, ◌++◌, ◌+◌, ◌<◌, ◌∙◌, ◌∷◌, ◌≡◌}
 use Rattle.rpl_code.specs.declared.kind.ValueKind.TheVariants as K
-use Rattle.rpl_tree.specs.Value.{Kind, number_kind, truth_kind, date_kind, slot_kind, numbers_kind, slots_kind, Value, a_number, a_truth, a_date}
-use Rattle.rpl_tree.specs.Value.{a_slot, numbers, slots, kind_of_value, is_same_kind, weight, weights}
-use Rattle.rpl_verify.specs.Kinds.{words_of_all}
-use Rattle.rpl_verify.specs.Operations.{kind_of as code_kind_of, kinds_of}
-use Rattle.rpl_verify.proofs.KindFacts.{IsRoomy, number_is as number_of, truth_is as truth_of}
-use Rattle.rpl_compile.specs.Operations.{code_kind, code_kinds}
 
 -- ---- kinds
 

@@ -1,15 +1,11 @@
 -- What stands from a place of a block on: its instructions, which loops are open, and where a jump may go.
-use Rattle.rw_base.proofs.Common.{◌≡◌, ℕ, zero, suc, ◌+◌, ◌<◌, nat_lt, Bool, true, false, List, [], ◌∷◌, ◌++◌, length, map, reverse, reverse-reverse}
-use Rattle.rw_base.proofs.Common.{Some, Ok, Err, refl, sym, ap, ap₂, ◌∙◌, subst, arith, nat_tests, if◌then◌else◌, slice_get}
-use Rattle.rpl_code.specs.declared.kind.ValueKind.{ValueKind}
-use Rattle.rpl_code.specs.declared.instruction.Instruction.{Instruction}
+use Rattle.rpl_compile.proofs.Common.{BackwardJump, Before, Bool, Bracket, Err, Instruction, JumpOutside, List, Loop, Ok, Open, Opener, Scope, Some}
+use Rattle.rpl_compile.proofs.Common.{Spot, ValueKind, [], ap, ap₂, arith, bracket, closed, closing, declared_by, false, found, if◌then◌else◌}
+use Rattle.rpl_compile.proofs.Common.{innermost, is_same_loop, is_same_place, judged_at, landing, length, level, map, nat_lt, nat_tests}
+use Rattle.rpl_compile.proofs.Common.{openers_behind, opening, refl, reverse, reverse-reverse, slice_get, spots, spots_from, start_of, subst, suc}
+use Rattle.rpl_compile.proofs.Common.{sym, true, zero, ℕ, ◌++◌, ◌+◌, ◌<◌, ◌∙◌, ◌∷◌, ◌≡◌}
 use Rattle.rpl_code.specs.declared.instruction.Instruction.TheVariants as I
-use Rattle.rpl_verify.specs.declared.verify_kind.VerifyKind.TheVariants.{BackwardJump, JumpOutside}
-use Rattle.rpl_verify.specs.Places.{Bracket, Loop, Opener, Spot, bracket, closed, closing, declared_by, is_same_loop, level, opening, openers_behind}
-use Rattle.rpl_verify.specs.Places.{spots, spots_from, start_of}
 use Rattle.rpl_verify.specs.Kinds.{top_of}
-use Rattle.rpl_verify.specs.Names.{Scope}
-use Rattle.rpl_verify.specs.Fits.{Before, Open, found, innermost, is_same_place, judged_at, landing}
 use Rattle.rpl_verify.proofs.Judged.{OpenRel, rel_of, same_loop_refl}
 
 -- ---- lists

@@ -1,21 +1,13 @@
 -- What is written where a ruleset is kinded is what TRANSLATE says: numbers, names, kinds and functions.
-use Rattle.rw_base.proofs.Common.{◌≡◌, ◌≤◌, ◌*ℤ◌, ℕ, ℤ, pos, unsigned_abs, Bool, true, false, List, [], ◌∷◌, nat_lt, Option, Some, None, IsSome}
-use Rattle.rw_base.proofs.Common.{IsTrue, IsUtf8, is_utf8, is_utf8-from_IsUtf8, refl, sym, ap, subst, arith, inl, inr, bytes_eq, bytes_eq-Decides}
-use Rattle.rw_base.proofs.Common.{cases_Bool, false≢true, ◌||◌, AllByRecursion, option_and_then, unwrap_or, if◌then◌else◌}
-use Rattle.std.proofs.lemmas.Bool.{lt-ltb}
-use Rattle.rw_base.specs.Dimension.{Dimension}
-use Rattle.rw_base.specs.Unit.{units, unit_in}
-use Rattle.rw_model.proofs.Common.{IsBasin, Draft, Object, slot_named}
+use Rattle.rpl_compile.proofs.Common.{AllByRecursion, Bool, Callee, Dimension, Draft, HasHead, IsBasin, IsLiteral, IsSome, IsTrue, IsUtf8, List, None}
+use Rattle.rpl_compile.proofs.Common.{Object, Option, Some, [], ap, arith, byte, bytes_eq, bytes_eq-Decides, call_by, call_instruction, call_line}
+use Rattle.rpl_compile.proofs.Common.{callee_heads, callee_named, cases_Bool, factor_of, false, false≢true, if◌then◌else◌, inl, inr, is_quantity}
+use Rattle.rpl_compile.proofs.Common.{is_utf8, is_utf8-from_IsUtf8, lt-ltb, nat_lt, number_in_units, object_at, option_and_then, pos, refl}
+use Rattle.rpl_compile.proofs.Common.{result_named, short, slot_named, spelt_name, subst, sym, table_in, table_named, takes_named, true, unit_in}
+use Rattle.rpl_compile.proofs.Common.{units, unsigned_abs, unwrap_or, within, ℕ, ℤ, ◌*ℤ◌, ◌||◌, ◌∷◌, ◌≡◌, ◌≤◌}
 use Rattle.rpl_code.specs.declared.instruction.Instruction.TheVariants as I
-use Rattle.rpl_tree.specs.Operators.{is_quantity}
-use Rattle.rw_model.specs.Objects.{object_at}
-use Rattle.rpl_tree.proofs.Common.{result_named, table_in, table_named, takes_named}
 use Rattle.rpl_types.proofs.Texts.{no_owner, no_slot}
-use Rattle.rpl_compile.specs.Kinded.{HasHead, IsLiteral}
 use Rattle.rpl_compile.proofs.Texts.{no_object}
-use Rattle.rpl_compile.specs.Operations.{factor_of}
-use Rattle.rpl_compile.specs.Translate.{Callee, call_by, call_line, callee_heads}
-use Rattle.rpl_compile.specs.Written.{byte, call_instruction, callee_named, number_in_units, short, spelt_name, within}
 
 -- ---- numbers
 

@@ -1,22 +1,11 @@
 -- A value is given the room of its place.
-use Rattle.rw_base.proofs.Common.{◌≡◌, ◌⊎◌, inl, inr, ℕ, ◌+◌, ◌<◌, ◌==◌, Bool, true, false, nat_lt, nat_le, nat_tests, List, [], ◌∷◌, ◌++◌, Some}
-use Rattle.rw_base.proofs.Common.{None, refl, sym, ap, ◌∙◌, subst, arith, slice_get, if◌then◌else◌}
+use Rattle.rpl_compile.proofs.Common.{Bool, Env, FitsIn, Frame, IsKinded, Kind, List, None, Running, Site, Some, Tree, Value, [], a_date, a_number}
+use Rattle.rpl_compile.proofs.Common.{a_slot, a_truth, ap, arith, code_of, false, gives, if◌then◌else◌, inl, inr, is_same_kind, is_stuck, kind_at}
+use Rattle.rpl_compile.proofs.Common.{kind_of_value, local_kinds, names_in, nat_le, nat_lt, nat_tests, numbers, numbers_kind, or_wrong, refl}
+use Rattle.rpl_compile.proofs.Common.{room_lines, roomier, size, slice_get, slots, slots_kind, subst, sym, true, value_of, widened, widening}
+use Rattle.rpl_compile.proofs.Common.{widening_size, ℕ, ◌++◌, ◌+◌, ◌<◌, ◌==◌, ◌>>=◌, ◌∙◌, ◌∷◌, ◌≡◌, ◌⊎◌}
 use Rattle.rpl_code.specs.declared.kind.ValueKind.TheVariants as K
 use Rattle.rpl_code.specs.declared.instruction.Instruction.TheVariants as I
-use Rattle.rpl_tree.specs.Value.{Kind, numbers_kind, slots_kind, Value, a_number, a_truth, a_date, a_slot, numbers, slots, kind_of_value}
-use Rattle.rpl_tree.specs.Value.{is_same_kind}
-use Rattle.rpl_tree.specs.Outcome.{gives, is_stuck, ◌>>=◌}
-use Rattle.rpl_tree.specs.Operators.{roomier, widened}
-use Rattle.rpl_tree.specs.Tree.{Tree}
-use Rattle.rpl_tree.specs.Mean.{Env, value_of}
-use Rattle.rpl_tree.specs.Locals.{local_kinds}
-use Rattle.rpl_verify.specs.Table.{or_wrong}
-use Rattle.rpl_verify.specs.Machine.{Frame, Running}
-use Rattle.rpl_compile.specs.Operations.{widening, widening_size}
-use Rattle.rpl_compile.specs.Size.{size}
-use Rattle.rpl_compile.specs.Site.{Site, kind_at, names_in}
-use Rattle.rpl_compile.specs.Translate.{code_of, room_lines}
-use Rattle.rpl_compile.specs.Kinded.{FitsIn, IsKinded}
 use Rattle.rpl_compile.proofs.Goes.{Goes, goes_none}
 use Rattle.rpl_compile.proofs.OfKind.{At, HasKind, at_back, at_front, at_head, same_kind_refl}
 use Rattle.rpl_compile.proofs.Sizes.{code-size}

@@ -1,21 +1,13 @@
 -- The kinds of expressions that are accepted can be spelt: lists have room for 1 to 4096 elements.
-use Rattle.rw_base.proofs.Common.{◌<◌, inl, inr, ◌⊎◌, ℕ, ◌+◌, nat_lt, Bool, true, false, List, [], ◌∷◌, ◌++◌, reverse, reverse-append, bytes_eq, sym}
-use Rattle.rw_base.proofs.Common.{subst, arith, AllByRecursion, if◌then◌else◌}
-use Rattle.rw_model.specs.Draft.{Draft}
-use Rattle.rpl_code.specs.Bounds.{AreKinds, IsCodeKind, IsLength}
-use Rattle.rpl_tree.specs.declared.words.TwoWord.{TwoWord}
-use Rattle.rpl_tree.specs.declared.words.OneWord.{OneWord}
-use Rattle.rpl_tree.specs.declared.words.OneWord.TheVariants.{Not, Minus, Known, Length, Month, Day, Year}
-use Rattle.rpl_tree.specs.declared.words.TwoWord.TheVariants.{Plus, Minus as Less_by, Append, Item}
-use Rattle.rpl_tree.specs.Value.{Kind, number_kind, date_kind, slot_kind, numbers_kind, slots_kind, element_of, list_kind, room_of}
-use Rattle.rpl_tree.specs.Tree.{Tree, Trees, literal, truth, now, slot, name, call, brackets, list, choice, bind, each, mapped, one, two, convert, at}
-use Rattle.rpl_tree.specs.Tree.{no_trees, tree, Act, Acts, assign, branch, with_name, no_acts, act}
-use Rattle.rpl_tree.specs.Kinds.{Head, Names, count_of, difference_kind, first_kind, kind_named, one_kind, result_named, takes_named, tree_kind}
-use Rattle.rpl_tree.specs.Kinds.{two_kind}
-use Rattle.rpl_tree.specs.Locals.{act_local_kinds, acts_local_kinds, all_local_kinds, local_kinds}
-use Rattle.rpl_compile.specs.Operations.{code_kind, code_kinds}
-use Rattle.rpl_compile.specs.Kinded.{AreArguments, AreBoth, AreKindedActs, AreOfKind, CanAppend, IsAnyList, IsElement, IsKinded, IsKindedAct}
-use Rattle.rpl_compile.specs.Kinded.{TwoTakes}
+use Rattle.rpl_compile.proofs.Common.{Act, Acts, AllByRecursion, Append, AreArguments, AreBoth, AreKindedActs, AreKinds, AreOfKind, Bool, CanAppend}
+use Rattle.rpl_compile.proofs.Common.{Day, Draft, Head, IsAnyList, IsCodeKind, IsElement, IsKinded, IsKindedAct, IsLength, Item, Kind, Known, Length}
+use Rattle.rpl_compile.proofs.Common.{Less_by, List, Minus, Month, Names, Not, OneWord, Plus, Tree, Trees, TwoTakes, TwoWord, Year, [], act}
+use Rattle.rpl_compile.proofs.Common.{act_local_kinds, acts_local_kinds, all_local_kinds, arith, assign, at, bind, brackets, branch, bytes_eq, call}
+use Rattle.rpl_compile.proofs.Common.{choice, code_kind, code_kinds, convert, count_of, date_kind, difference_kind, each, element_of, false}
+use Rattle.rpl_compile.proofs.Common.{first_kind, if◌then◌else◌, inl, inr, kind_named, list, list_kind, literal, local_kinds, mapped, name, nat_lt}
+use Rattle.rpl_compile.proofs.Common.{no_acts, no_trees, now, number_kind, numbers_kind, one, one_kind, result_named, reverse, reverse-append}
+use Rattle.rpl_compile.proofs.Common.{room_of, slot, slot_kind, slots_kind, subst, sym, takes_named, tree, tree_kind, true, truth, two, two_kind}
+use Rattle.rpl_compile.proofs.Common.{with_name, ℕ, ◌++◌, ◌+◌, ◌<◌, ◌∷◌, ◌⊎◌}
 use Rattle.rpl_compile.proofs.Lines.{of_lists}
 
 abbrev pub IsSpelt : Kind → Type 0

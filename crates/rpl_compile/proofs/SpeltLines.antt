@@ -1,33 +1,16 @@
 -- Each instruction of compiled code can be spelt: by recursion on the tree, a line or two for each form.
-use Rattle.rw_base.proofs.Common.{◌≡◌, ◌≢◌, ◌≤◌, inl, inr, ◌⊎◌, ℕ, ◌+◌, ◌*ℤ◌, ℤ, unsigned_abs, Bool, true, false, List, [], ◌∷◌, ◌++◌, Option, Some}
-use Rattle.rw_base.proofs.Common.{None, IsSome, IsSomeAnd, IsTrue, unwrap_or, bytes_eq, bytes_eq-Decides, list_any, ◌||◌, refl, sym, subst, arith}
-use Rattle.rw_base.proofs.Common.{AllByRecursion, if◌then◌else◌}
-use Rattle.rw_base.proofs.Tests.{Decides-from_to}
-use Rattle.rw_base.specs.Dimension.{Dimension}
+use Rattle.rpl_compile.proofs.Common.{AllByRecursion, And, Append, Bool, BoundName, Callee, ConvertWord, Day, Decides-from_to, Dimension, Divide}
+use Rattle.rpl_compile.proofs.Common.{Draft, ElevationToStorage, Equal, FitsIn, Greater, GreaterEqual, HasHead, Head, Instruction, IsBasin}
+use Rattle.rpl_compile.proofs.Common.{IsInstruction, IsLiteral, IsNumber, IsSome, IsSomeAnd, IsTarget, IsTrue, Item, Kind, Known, Length, Less}
+use Rattle.rpl_compile.proofs.Common.{LessEqual, Less_by, List, Minus, Month, None, Not, OneWord, Option, Or, Plus, Site, Some, StorageToElevation}
+use Rattle.rpl_compile.proofs.Common.{Times, TwoWord, Unequal, Year, [], arith, at_most_30, bytes_eq, bytes_eq-Decides, call_by, call_line}
+use Rattle.rpl_compile.proofs.Common.{callee_heads, can_set, choice_lines, code_kinds, convert_line, date_kind, difference_line, factor_of, false}
+use Rattle.rpl_compile.proofs.Common.{if◌then◌else◌, inl, inr, is_same_kind, list_any, local_named, names_in, number_kind, number_line, numbers_kind}
+use Rattle.rpl_compile.proofs.Common.{one_line, refl, room_of, slot_kind, slot_named, slots_kind, subst, sum_line, sym, target, test_line, true}
+use Rattle.rpl_compile.proofs.Common.{truth_kind, two_lines, unit_in, units, unsigned_abs, unwrap_or, widening, ℕ, ℤ, ◌*ℤ◌, ◌++◌, ◌+◌, ◌||◌, ◌∷◌, ◌≡◌}
+use Rattle.rpl_compile.proofs.Common.{◌≢◌, ◌≤◌, ◌⊎◌}
 use Rattle.rw_base.specs.Quantity.{IsQuantity}
-use Rattle.rw_base.specs.Unit.{units, unit_in}
-use Rattle.rw_model.specs.Basin.{IsBasin}
-use Rattle.rw_model.specs.Draft.{Draft}
-use Rattle.rw_model.specs.Objects.{slot_named}
-use Rattle.rpl_code.specs.Bounds.{IsInstruction, IsNumber}
-use Rattle.rpl_code.specs.declared.instruction.Instruction.{Instruction}
 use Rattle.rpl_code.specs.declared.instruction.Instruction.TheVariants as I
-use Rattle.rpl_tree.specs.declared.words.ConvertWord.{ConvertWord}
-use Rattle.rpl_tree.specs.declared.words.ConvertWord.TheVariants.{StorageToElevation, ElevationToStorage}
-use Rattle.rpl_tree.specs.declared.words.OneWord.{OneWord}
-use Rattle.rpl_tree.specs.declared.words.OneWord.TheVariants.{Not, Minus, Known, Length, Month, Day, Year}
-use Rattle.rpl_tree.specs.declared.words.TwoWord.{TwoWord}
-use Rattle.rpl_tree.specs.declared.words.TwoWord.TheVariants.{Or, And, Equal, Unequal, Less, LessEqual, Greater, GreaterEqual, Plus, Minus as Less_by}
-use Rattle.rpl_tree.specs.declared.words.TwoWord.TheVariants.{Times, Divide, Append, Item}
-use Rattle.rpl_tree.specs.Value.{Kind, number_kind, truth_kind, date_kind, slot_kind, numbers_kind, slots_kind, is_same_kind, room_of}
-use Rattle.rpl_tree.specs.World.{can_set}
-use Rattle.rpl_tree.specs.Kinds.{Head}
-use Rattle.rpl_tree.proofs.PutsAhead.{at_most_30}
-use Rattle.rpl_compile.specs.Operations.{code_kinds, convert_line, difference_line, factor_of, number_line, one_line, sum_line, target, test_line}
-use Rattle.rpl_compile.specs.Operations.{two_lines, widening}
-use Rattle.rpl_compile.specs.Site.{BoundName, Site, local_named, names_in}
-use Rattle.rpl_compile.specs.Kinded.{FitsIn, HasHead, IsLiteral, IsTarget}
-use Rattle.rpl_compile.specs.Translate.{Callee, call_by, call_line, callee_heads, choice_lines}
 use Rattle.rpl_compile.proofs.SpeltNames.{CanBeSpelt, slot_found}
 use Rattle.rpl_compile.proofs.SpeltKinds.{AreHeadsSpelt, AreNamesSpelt, AreSpelt, IsSpelt, all_reverse, both_all, kinds_of_code}
 

@@ -1,9 +1,10 @@
 -- What is found by name in a basin has a name that code can spell.
-use Rattle.rw_base.proofs.Common.{◌≡◌, ℕ, ◌+◌, ◌==◌, Bool, true, false, ◌&&◌, ◌||◌, not, List, [], ◌∷◌, length, map, nat_le, Option, Some, None}
-use Rattle.rw_base.proofs.Common.{IsSome, option_and_then, refl, sym, subst, bytes_eq, bytes_eq-Decides, list_all, AllByRecursion, recursion_from_All}
-use Rattle.rw_base.proofs.Common.{and_parts, if◌then◌else◌}
-use Rattle.rw_model.proofs.Common.{IsBasin, Draft, IsSound, IsKind, IsName, Object, Placed, all_slots, first_from, is_named, object_at, object_from}
-use Rattle.rw_model.proofs.Common.{object_named, placed_from, slot_named, slots_from, Slot, of_range, all_quantities, slots_of, where_chosen}
+use Rattle.rpl_compile.proofs.Common.{AllByRecursion, Bool, Draft, IsBasin, IsKind, IsName, IsSome, IsSound, List, None, Object, Option, Placed, Some}
+use Rattle.rpl_compile.proofs.Common.{[], all_quantities, all_slots, and_parts, bytes_eq, bytes_eq-Decides, false, first_from, if◌then◌else◌}
+use Rattle.rpl_compile.proofs.Common.{is_named, length, list_all, map, nat_le, not, object_at, object_from, object_named, of_range, option_and_then}
+use Rattle.rpl_compile.proofs.Common.{placed_from, recursion_from_All, refl, slot_named, slots_from, slots_of, subst, sym, table_in, table_named}
+use Rattle.rpl_compile.proofs.Common.{true, where_chosen, ℕ, ◌&&◌, ◌+◌, ◌==◌, ◌||◌, ◌∷◌, ◌≡◌}
+use Rattle.rw_model.proofs.Common.{Slot}
 use Rattle.rw_model.proofs.NameFacts.{Decides-name}
 use Rattle.rw_model.specs.Name as N
 use Rattle.rw_model.specs.declared.data_slots.DataSlot.{DataSlot}
@@ -13,7 +14,6 @@ use Rattle.rw_model.specs.declared.kind.Kind.TheVariants.{PowerReservoir, Routed
 use Rattle.rw_model.specs.declared.kind.Supply.TheVariants.{Request, Rule}
 use Rattle.rw_model.specs.declared.role.Role.TheVariants.{Neither}
 use Rattle.rpl_code.specs.Names as C
-use Rattle.rpl_tree.specs.World.{table_in, table_named}
 use Rattle.rpl_compile.proofs.SpeltKinds.{both_all}
 
 -- a name as code spells it

@@ -1,28 +1,18 @@
 -- One step of each instruction.
-use Rattle.rw_base.proofs.Common.{◌≡◌, ℕ, zero, suc, ◌+◌, ◌≤◌, Bool, true, false, nat_lt, nat_tests, List, [], ◌∷◌, ◌++◌, length, take, drop, set}
-use Rattle.rw_base.proofs.Common.{reverse, reverse-reverse, Option, Some, None, Result, Ok, Err, refl, sym, ap, ap₂, ◌∙◌, subst, arith, slice_get}
-use Rattle.rw_base.proofs.Common.{is_ok, if◌then◌else◌, option_and_then, length-append}
-use Rattle.rw_model.specs.Objects.{numbered}
-use Rattle.rpl_code.specs.declared.kind.ValueKind.{ValueKind}
-use Rattle.rpl_code.specs.declared.instruction.Instruction.{Instruction}
+use Rattle.rpl_compile.proofs.Common.{Answer, Block, Bool, Err, Frame, Instruction, IsOperation, Kind, List, MissingOperand, None, Ok, OperandRow}
+use Rattle.rpl_compile.proofs.Common.{Option, Outcome, Result, Running, Scope, Some, State, Trail, Value, ValueKind, VerifyKind, World, WrongOperand}
+use Rattle.rpl_compile.proofs.Common.{[], a_truth, ap, ap₂, are_declared, are_same_kinds, arith, code_kind, code_kind_of, code_kinds, declared_by}
+use Rattle.rpl_compile.proofs.Common.{drop, ended, false, gives, goes_on, if◌then◌else◌, is_ok, joined, jumped, kind_of_value, kinds_append}
+use Rattle.rpl_compile.proofs.Common.{kinds_length, kinds_of, left_of, length, length-append, load_row, loaded, locals_of, name_misfit, nat_lt}
+use Rattle.rpl_compile.proofs.Common.{nat_tests, numbered, on_top_of, operand_count, operands_behind, operated, operation, option_and_then, refl}
+use Rattle.rpl_compile.proofs.Common.{reverse, reverse-reverse, row_in, same_kinds_refl, scope_of, set, slice_get, spent, step, step_at, step_by}
+use Rattle.rpl_compile.proofs.Common.{step_in, store_row, stuck, subst, suc, sym, take, takes, target, true, value, weight, zero, ℕ, ◌++◌, ◌+◌, ◌>>=◌}
+use Rattle.rpl_compile.proofs.Common.{◌∙◌, ◌∷◌, ◌≡◌, ◌≤◌}
 use Rattle.rpl_code.specs.declared.instruction.Instruction.TheVariants as I
-use Rattle.rpl_code.specs.declared.block.Block.{Block}
-use Rattle.rpl_tree.specs.Value.{Kind, Value, a_truth, kind_of_value, weight}
-use Rattle.rpl_tree.specs.Outcome.{Answer, Outcome, Trail, ended, gives, goes_on, joined, spent, stuck, value, ◌>>=◌}
-use Rattle.rpl_tree.specs.World.{World}
-use Rattle.rpl_verify.specs.declared.verify_kind.VerifyKind.{VerifyKind}
-use Rattle.rpl_verify.specs.declared.verify_kind.VerifyKind.TheVariants.{MissingOperand, WrongOperand}
-use Rattle.rpl_verify.specs.Kinds.{are_same_kinds}
-use Rattle.rpl_verify.specs.Table.{OperandRow, left_of, load_row, on_top_of, operand_count, operands_behind, store_row, takes}
-use Rattle.rpl_verify.specs.Places.{declared_by}
-use Rattle.rpl_verify.specs.Names.{Scope, name_misfit}
-use Rattle.rpl_verify.specs.Fits.{locals_of, scope_of}
-use Rattle.rpl_verify.specs.Operations.{kind_of as code_kind_of, kinds_of, operation}
-use Rattle.rpl_verify.specs.Machine.{Frame, Running, State, are_declared, jumped, loaded, onward, operated, row_in, step, step_at, step_by, step_in}
-use Rattle.rpl_verify.proofs.KindFacts.{AreRoomy, same_kinds_refl, kinds_append, kinds_length}
+use Rattle.rpl_verify.specs.Machine.{onward}
+use Rattle.rpl_verify.proofs.KindFacts.{AreRoomy}
 use Rattle.rpl_verify.proofs.Operating.{MadeOn}
-use Rattle.rpl_verify.proofs.Operated.{IsOperation, operation_made}
-use Rattle.rpl_compile.specs.Operations.{code_kind, code_kinds, target}
+use Rattle.rpl_verify.proofs.Operated.{operation_made}
 use Rattle.rpl_compile.proofs.Goes.{Goes, Made, goes_as, goes_one, goes_weaker, nothing_last, same_outcome}
 use Rattle.rpl_compile.proofs.OfKind.{HasKind, kind_coded, kind_from_code, value_words, drop_front, take_front}
 use Rattle.rpl_compile.proofs.Setting.{Left, Setting, fr, left, same_kept}

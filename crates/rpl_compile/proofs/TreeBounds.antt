@@ -1,16 +1,10 @@
 -- Code has at most 8 lines for each node, and at most 2 locals.
-use Rattle.rw_base.proofs.Common.{◌≤◌, ℕ, ◌+◌, ◌*◌, Bool, true, false, List, [], ◌∷◌, arith, if◌then◌else◌}
-use Rattle.rpl_tree.specs.declared.words.OneWord.{OneWord}
-use Rattle.rpl_tree.specs.declared.words.OneWord.TheVariants.{Known}
-use Rattle.rpl_tree.specs.declared.words.TwoWord.{TwoWord}
-use Rattle.rpl_tree.specs.declared.words.TwoWord.TheVariants.{Or, And, Unequal, Greater, GreaterEqual}
-use Rattle.rpl_tree.specs.Value.{Kind, element_of, is_same_kind}
-use Rattle.rpl_tree.specs.Tree.{Tree, Trees, literal, truth, now, slot, name, call, brackets, list, choice, bind, each, mapped, one, two, convert, at}
-use Rattle.rpl_tree.specs.Tree.{no_trees, tree, Act, Acts, assign, branch, with_name, no_acts, act}
-use Rattle.rpl_tree.specs.Kinds.{Head, Names, takes_named, tree_kind}
-use Rattle.rpl_tree.specs.Count.{act_locals, act_nodes, acts_locals, acts_nodes, local_count, local_counts, node_count, node_counts}
-use Rattle.rpl_compile.specs.Operations.{one_size, two_size, widening_size}
-use Rattle.rpl_compile.specs.Size.{size, size_of_act, size_of_acts, sizes, sizes_of_arguments}
+use Rattle.rpl_compile.proofs.Common.{Act, Acts, And, Bool, Greater, GreaterEqual, Head, Kind, Known, List, Names, OneWord, Or, Tree, Trees, TwoWord}
+use Rattle.rpl_compile.proofs.Common.{Unequal, [], act, act_locals, act_nodes, acts_locals, acts_nodes, arith, assign, at, bind, brackets, branch}
+use Rattle.rpl_compile.proofs.Common.{call, choice, convert, each, element_of, false, if◌then◌else◌, is_same_kind, list, literal, local_count}
+use Rattle.rpl_compile.proofs.Common.{local_counts, mapped, name, no_acts, no_trees, node_count, node_counts, now, one, one_size, size, size_of_act}
+use Rattle.rpl_compile.proofs.Common.{size_of_acts, sizes, sizes_of_arguments, slot, takes_named, tree, tree_kind, true, truth, two, two_size}
+use Rattle.rpl_compile.proofs.Common.{widening_size, with_name, ℕ, ◌*◌, ◌+◌, ◌∷◌, ◌≤◌}
 
 pub widening_few : (place kind : Kind) → widening_size place kind ≤ 1
 widening_few place kind = by (is_same_kind place kind)

@@ -1,16 +1,9 @@
 -- What trees cost, in words that the proofs on their code use.
-use Rattle.rw_base.proofs.Common.{max, ◌≡◌, ℕ, zero, suc, ◌+◌, List, [], ◌∷◌, ◌++◌, replicate, reverse, reverse-append, append_assoc, inl, inr, refl}
-use Rattle.rw_base.proofs.Common.{sym, ap, ◌∙◌, subst, arith}
-use Rattle.rpl_code.specs.declared.kind.ValueKind.{ValueKind}
-use Rattle.rpl_code.specs.Weight.{words_of}
-use Rattle.rpl_tree.specs.declared.words.TwoWord.{TwoWord}
-use Rattle.rpl_tree.specs.declared.words.TwoWord.TheVariants.{Or, And}
-use Rattle.rpl_tree.specs.Value.{Kind, number_kind, truth_kind, date_kind, slot_kind, numbers_kind, slots_kind, list_kind, weight, weights}
-use Rattle.rpl_tree.specs.Cost.{Costed, Price, two_cost}
+use Rattle.rpl_compile.proofs.Common.{And, Costed, IsElement, Kind, List, Or, Price, TwoWord, ValueKind, [], ap, append_assoc, arith, code_kind}
+use Rattle.rpl_compile.proofs.Common.{code_kinds, date_kind, inl, inr, list_kind, max, number_kind, numbers_kind, refl, replicate, reverse}
+use Rattle.rpl_compile.proofs.Common.{reverse-append, slot_kind, slots_kind, subst, suc, sym, truth_kind, two_cost, weight, weights, words_of}
+use Rattle.rpl_compile.proofs.Common.{words_of_all, zero, ℕ, ◌++◌, ◌+◌, ◌∙◌, ◌∷◌, ◌≡◌}
 use Rattle.rpl_tree.specs.Words.{two_words}
-use Rattle.rpl_verify.specs.Kinds.{words_of_all}
-use Rattle.rpl_compile.specs.Operations.{code_kind, code_kinds}
-use Rattle.rpl_compile.specs.Kinded.{IsElement}
 use Rattle.rpl_compile.proofs.WordLines.{IsLine, two_step}
 
 pub again : (n : ℕ) (k : ValueKind) (ks : List ValueKind) → replicate n k ++ (k ∷ ks) ≡ replicate (n + 1) k ++ ks

@@ -1,26 +1,15 @@
 -- What types that fit say of kinds: for each form the kind that it has, and what it asks of the kinds of its parts.
-use Rattle.rw_base.proofs.Common.{◌≡◌, ◌≤◌, ◌<◌, inl, inr, ◌⊎◌, ℕ, ◌+◌, nat_le, nat_lt, max, Bool, true, false, ◌&&◌, List, [], ◌∷◌, length, Option}
-use Rattle.rw_base.proofs.Common.{Some, None, Ok, Err, refl, ap, ◌∙◌, arith, nat_tests, if◌then◌else◌}
+use Rattle.rpl_compile.proofs.Common.{And, Append, AreComparable, Bool, Boolean, ConvertWord, Datetime, Day, Dimension, Divide, Equal, Err, FitsIn}
+use Rattle.rpl_compile.proofs.Common.{Greater, GreaterEqual, IsAnyList, IsElement, Item, Kind, Known, Length, Less, LessEqual, Less_by, List}
+use Rattle.rpl_compile.proofs.Common.{ListTooLong, Minus, Month, None, Not, Numeric, NumericList, Ok, OneTakes, OneWord, Option, Or, Plus, RplType}
+use Rattle.rpl_compile.proofs.Common.{Slot, SlotList, Some, Times, TwoTakes, TwoWord, TypeKind, Typed, Unequal, Year, [], a_dimension, and_true}
+use Rattle.rpl_compile.proofs.Common.{answers, ap, append_type, arith, asks, compared_type, convert_type, date_kind, difference_type, element_of}
+use Rattle.rpl_compile.proofs.Common.{element_type, false, if◌then◌else◌, inl, inr, is_boolean, is_datetime, item_type, join, joined_type, length}
+use Rattle.rpl_compile.proofs.Common.{length_misfit, length_type, list_kind, list_type, longest, look_type, mapped_type, max, measured_in, misfit}
+use Rattle.rpl_compile.proofs.Common.{misfit_among, nat_le, nat_lt, nat_tests, negative_type, number_kind, numbers_kind, one_kind, one_type, only_if}
+use Rattle.rpl_compile.proofs.Common.{per_of, product_type, refl, refusal_order, room_of, slot_kind, slots_kind, sooner, sum_type, times_of, true}
+use Rattle.rpl_compile.proofs.Common.{truth_kind, two_kind, two_type, unit_misfit, ℕ, ◌&&◌, ◌+◌, ◌<◌, ◌∙◌, ◌∷◌, ◌≡◌, ◌≤◌, ◌⊎◌}
 use Rattle.rw_base.specs.Answers.{unless_refused}
-use Rattle.rw_base.specs.Dimension.{Dimension, per_of, times_of}
-use Rattle.rpl_tree.specs.declared.words.OneWord.{OneWord}
-use Rattle.rpl_tree.specs.declared.words.OneWord.TheVariants.{Not, Minus, Known, Length, Month, Day, Year}
-use Rattle.rpl_tree.specs.declared.words.TwoWord.{TwoWord}
-use Rattle.rpl_tree.specs.declared.words.TwoWord.TheVariants.{Or, And, Equal, Unequal, Less, LessEqual, Greater, GreaterEqual, Plus, Minus as Less_by}
-use Rattle.rpl_tree.specs.declared.words.TwoWord.TheVariants.{Times, Divide, Append, Item}
-use Rattle.rpl_tree.specs.declared.words.ConvertWord.{ConvertWord}
-use Rattle.rpl_tree.specs.declared.rpl_type.RplType.{RplType}
-use Rattle.rpl_tree.specs.declared.rpl_type.RplType.TheVariants.{Numeric, Boolean, Datetime, Slot, NumericList, SlotList}
-use Rattle.rpl_tree.specs.Value.{Kind, number_kind, truth_kind, date_kind, slot_kind, numbers_kind, slots_kind, element_of, list_kind, room_of}
-use Rattle.rpl_tree.specs.Kinds.{join, one_kind, two_kind}
-use Rattle.rpl_types.specs.declared.type_kind.TypeKind.{TypeKind}
-use Rattle.rpl_types.specs.declared.type_kind.TypeKind.TheVariants.{ListTooLong}
-use Rattle.rpl_types.specs.Fits.{Typed, joined_type, length_misfit, longest, misfit, misfit_among, refusal_order, sooner, unit_misfit}
-use Rattle.rpl_types.specs.Forms.{a_dimension, answers, append_type, asks, compared_type, convert_type, difference_type, element_type, is_boolean}
-use Rattle.rpl_types.specs.Forms.{is_datetime, item_type, length_type, list_type, look_type, mapped_type, measured_in, negative_type, one_type}
-use Rattle.rpl_types.specs.Forms.{only_if, product_type, sum_type, two_type}
-use Rattle.rpl_verify.proofs.KindFacts.{and_true}
-use Rattle.rpl_compile.specs.Kinded.{AreComparable, FitsIn, IsAnyList, IsElement, OneTakes, TwoTakes}
 
 abbrev pub kind_of_rpl_type : RplType → Kind
 kind_of_rpl_type (Numeric d) = number_kind

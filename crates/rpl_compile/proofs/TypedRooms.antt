@@ -1,20 +1,10 @@
 -- The types that an accepted ruleset declares have room for as many elements as code can say.
-use Rattle.rw_base.proofs.Common.{◌≡◌, ◌&&◌, ℕ, ◌+◌, ℤ, pos, negsuc, Bool, true, false, List, [], ◌∷◌, Option, None, Some, IsSome, Ok, Err, nat_le}
-use Rattle.rw_base.proofs.Common.{nat_lt, int_le, unsigned_abs, refl, subst, false≢true, and_parts, leb-true, if◌then◌else◌}
-use Rattle.rw_base.specs.Dimension.{Dimension}
-use Rattle.rw_base.specs.Unit.{units, unit_in}
-use Rattle.rw_model.proofs.Common.{Draft}
-use Rattle.rpl_code.specs.Bounds.{IsLength}
-use Rattle.rpl_tree.specs.Tree.{numeric, boolean, datetime, slot_type, numeric_list, slot_list}
-use Rattle.rpl_tree.specs.declared.rpl_type.RplType.{RplType}
-use Rattle.rpl_tree.specs.declared.rpl_type.RplType.TheVariants.{NumericList, SlotList}
-use Rattle.rpl_tree.proofs.Common.{Declared, Parameter, TypeName, function, rule}
-use Rattle.rpl_types.specs.declared.type_kind.TypeKind.{TypeKind}
-use Rattle.rpl_types.specs.declared.type_kind.TypeKind.TheVariants.{DuplicateName, ListTooLong}
-use Rattle.rpl_types.specs.Fits.{longest, refusal_order, sooner}
-use Rattle.rpl_types.specs.Functions.{Signature, head_misfit, is_duplicate, refusal_in, with_room, with_unit, written_type}
-use Rattle.rpl_types.specs.HasType.{AreDeclared, IsTyped}
-use Rattle.rpl_compile.specs.Rooms.{AreRoomy, HasListRoom, HaveRoom}
+use Rattle.rpl_compile.proofs.Common.{AreDeclared, AreRoomy, Bool, Declared, Dimension, Draft, DuplicateName, Err, HasListRoom, HaveRoom, IsLength}
+use Rattle.rpl_compile.proofs.Common.{IsSome, IsTyped, List, ListTooLong, None, NumericList, Ok, Option, Parameter, RplType, Signature, SlotList}
+use Rattle.rpl_compile.proofs.Common.{Some, TypeKind, TypeName, [], and_parts, boolean, datetime, false, false≢true, function, head_misfit}
+use Rattle.rpl_compile.proofs.Common.{if◌then◌else◌, int_le, is_duplicate, leb-true, longest, nat_le, nat_lt, negsuc, numeric, numeric_list, pos}
+use Rattle.rpl_compile.proofs.Common.{refl, refusal_in, refusal_order, rule, slot_list, slot_type, sooner, subst, true, unit_in, units, unsigned_abs}
+use Rattle.rpl_compile.proofs.Common.{with_room, with_unit, written_type, ℕ, ℤ, ◌&&◌, ◌+◌, ◌∷◌, ◌≡◌}
 
 no_some : {A : Type 0} (x : A) → Some x ≡ None → ⊥
 no_some x e = false≢true (subst IsSome e refl)
