@@ -1,14 +1,14 @@
 -- Where loops end: over the code of a tree no loop is closed that was open before it.
-use Rattle.rpl_compile.proofs.Common.{And, Append, Bool, Bracket, Callee, ConvertWord, Day, Divide, ElevationToStorage, Equal, Greater, GreaterEqual}
-use Rattle.rpl_compile.proofs.Common.{Instruction, Item, Kind, Known, Length, Less, LessEqual, Less_by, List, Loop, Minus, Month, None, Not, OneWord}
-use Rattle.rpl_compile.proofs.Common.{Option, Or, Plus, Site, Some, StorageToElevation, Times, Tree, Trees, TwoWord, Unequal, Year, [], after_room}
-use Rattle.rpl_compile.proofs.Common.{after_tree, all_code, ap, append_assoc, ap₂, arguments_code, arith, asked_code, at, bind, bound, bracket}
-use Rattle.rpl_compile.proofs.Common.{brackets, bytes_eq, call, call_by, call_line, choice, choice_lines, closing, code_of, convert, convert_line}
-use Rattle.rpl_compile.proofs.Common.{date_kind, difference_line, drop, each, element_of, ends_before, false, if◌then◌else◌, is_same_kind, keeping}
-use Rattle.rpl_compile.proofs.Common.{kind_of_tree, knowing, length, length-append, level, list, literal, loop_end, loop_ends, mapped, mapping, name}
-use Rattle.rpl_compile.proofs.Common.{no_trees, now, on, one, one_line, one_lines, opening, over, refl, rest_of, room_lines, room_of, slice_index}
-use Rattle.rpl_compile.proofs.Common.{slot, suc, sum_line, target, test_line, tree, true, truth, truth_kind, two, two_lines, visiting, widening, ℕ}
-use Rattle.rpl_compile.proofs.Common.{◌++◌, ◌+◌, ◌∙◌, ◌∷◌, ◌≡◌}
+use Rattle.rpl_compile.proofs.Common.{And, Append, Bool, Bracket, Callee, ConvertWord, Divide, ElevationToStorage, Equal, Greater, GreaterEqual}
+use Rattle.rpl_compile.proofs.Common.{Instruction, Item, Kind, Known, Less, LessEqual, Less_by, List, Loop, None, Not, OneWord, Option, Or, Plus}
+use Rattle.rpl_compile.proofs.Common.{Site, Some, StorageToElevation, Times, Tree, Trees, TwoWord, Unequal, [], after_room, after_tree, all_code, ap}
+use Rattle.rpl_compile.proofs.Common.{append_assoc, ap₂, arguments_code, arith, asked_code, at, bind, bound, bracket, brackets, bytes_eq, call}
+use Rattle.rpl_compile.proofs.Common.{call_by, call_line, choice, choice_lines, closing, code_of, convert, convert_line, date_kind, difference_line}
+use Rattle.rpl_compile.proofs.Common.{drop, each, element_of, ends_before, false, if◌then◌else◌, is_same_kind, keeping, kind_of_tree, knowing, length}
+use Rattle.rpl_compile.proofs.Common.{length-append, level, list, literal, loop_end, loop_ends, mapped, mapping, name, no_trees, now, on, one}
+use Rattle.rpl_compile.proofs.Common.{one_line, one_lines, opening, over, refl, rest_of, room_lines, room_of, slice_index, slot, suc, sum_line}
+use Rattle.rpl_compile.proofs.Common.{target, test_line, tree, true, truth, truth_kind, two, two_lines, visiting, widening, ℕ, ◌++◌, ◌+◌, ◌∙◌, ◌∷◌}
+use Rattle.rpl_compile.proofs.Common.{◌≡◌}
 use Rattle.rpl_code.specs.declared.instruction.Instruction.TheVariants as I
 use Rattle.rpl_compile.proofs.OfKind.{At}
 
@@ -90,7 +90,6 @@ sum_level k = refl
 
 difference_level : (k l : Kind) → bracket (difference_line k l) ≡ level
 difference_level date_kind date_kind = refl
-difference_level date_kind l = refl
 difference_level k l = refl
 
 operator_level : (word : TwoWord) (k l : Kind) → IsBalanced (two_lines word k l)
@@ -111,12 +110,7 @@ operator_level Item k l = one_level I.Item refl
 
 word_level : (word : OneWord) → bracket (one_line word) ≡ level
 word_level Not = refl
-word_level Minus = refl
-word_level Known = refl
-word_level Length = refl
-word_level Month = refl
-word_level Day = refl
-word_level Year = refl
+word_level word = refl
 
 convert_level : (word : ConvertWord) (o : List ℕ) → bracket (convert_line word o) ≡ level
 convert_level StorageToElevation o = refl
@@ -226,8 +220,7 @@ module _ (callees : List Callee) where
     all_balanced (tree t ts) site = both_balanced _ _ (code_balanced t site) (all_balanced ts _)
 
     arguments_balanced : (ts : Trees) (kinds : List Kind) (site : Site) → IsBalanced (arguments_code callees site kinds ts)
-    arguments_balanced no_trees [] site = no_lines
-    arguments_balanced no_trees (kind ∷ kinds) site = no_lines
-    arguments_balanced (tree t ts) [] site = no_lines
     arguments_balanced (tree t ts) (kind ∷ kinds) site = both_balanced _ _ (code_balanced t site)
         (both_balanced _ _ (room_level kind (kind_of_tree callees site t)) (arguments_balanced ts kinds (over kind (after_room callees kind site t))))
+    arguments_balanced ts [] site = no_lines
+    arguments_balanced no_trees (kind ∷ kinds) site = no_lines

@@ -1,12 +1,11 @@
 -- The blocks of a ruleset, as they are written, are those that TRANSLATE gives.
 use Rattle.rpl_compile.proofs.Common.{Acts, AllByRecursion, AreKinded, AreKindedActs, AreKindedFrom, AreRoomy, Callee, Declared, Draft, HasListRoom}
 use Rattle.rpl_compile.proofs.Common.{HaveRoom, IsBasin, IsKinded, IsKindedBody, IsSome, List, Parameter, Rule, Some, Tree, TypeName, [], ap, arith}
-use Rattle.rpl_compile.proofs.Common.{begun, begun_function, blocks_from, boolean, bound, callee_heads, code_kind, code_kinds, datetime, drop}
-use Rattle.rpl_compile.proofs.Common.{drop-append_seam, false≢true, function, function_block, kind_of_tree, kind_of_type, length, length-map}
-use Rattle.rpl_compile.proofs.Common.{local_kinds, names_in, numbers_kind, numeric, numeric_list, param_kinds, param_names, parameters_from}
-use Rattle.rpl_compile.proofs.Common.{predefined_callees, refl, rule, rule_block, slot_list, slot_type, slots_kind, start, subst, sym, translate}
-use Rattle.rpl_compile.proofs.Common.{written_from, written_function, written_kind, written_parameters, written_rule, written_takes, ℕ, ◌+◌, ◌∙◌, ◌∷◌}
-use Rattle.rpl_compile.proofs.Common.{◌≡◌}
+use Rattle.rpl_compile.proofs.Common.{begun, begun_function, blocks_from, bound, callee_heads, code_kind, code_kinds, drop, drop-append_seam}
+use Rattle.rpl_compile.proofs.Common.{false≢true, function, function_block, kind_of_tree, kind_of_type, length, length-map, local_kinds, names_in}
+use Rattle.rpl_compile.proofs.Common.{numbers_kind, numeric_list, param_kinds, param_names, parameters_from, predefined_callees, refl, rule}
+use Rattle.rpl_compile.proofs.Common.{rule_block, slot_list, slots_kind, start, subst, sym, translate, written_from, written_function, written_kind}
+use Rattle.rpl_compile.proofs.Common.{written_parameters, written_rule, written_takes, ℕ, ◌+◌, ◌∙◌, ◌∷◌, ◌≡◌}
 use Rattle.rpl_code.specs.declared.block.BlockHead.TheVariants.{Function}
 use Rattle.rpl_compile.proofs.ActClaims.{claim_acts}
 use Rattle.rpl_compile.proofs.Claims.{claim}
@@ -17,12 +16,9 @@ use Rattle.rpl_compile.proofs.Texts.{small_text}
 -- ---- types that are written
 
 kind_is : (written : TypeName) → HasListRoom written → written_kind written ≡ kind_of_type written
-kind_is (numeric unit) h = refl
-kind_is boolean h = refl
-kind_is datetime h = refl
-kind_is (slot_type unit) h = refl
 kind_is (numeric_list m unit) h = ap numbers_kind (short_is _ h.1)
 kind_is (slot_list m unit) h = ap slots_kind (short_is _ h.1)
+kind_is _ h = refl
 
 takes_are : (params : List Parameter) → HaveRoom params → written_takes params ≡ param_kinds params
 takes_are [] h = refl

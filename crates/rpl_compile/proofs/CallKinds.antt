@@ -2,15 +2,15 @@
 -- have one name.
 use Rattle.rpl_compile.proofs.Common.{Bool, Boolean, Callable, Datetime, Dimension, DuplicateName, Err, FitsIn, HasHead, Head, Kind, List}
 use Rattle.rpl_compile.proofs.Common.{ListTooLong, Names, None, NotEarlier, Numeric, NumericList, Ok, Option, Parameter, RplType, Signature, Slot}
-use Rattle.rpl_compile.proofs.Common.{SlotList, Some, TypeName, TypeScope, Typed, UnknownName, WrongCount, WrongType, [], a_dimension, ap, ap₂}
-use Rattle.rpl_compile.proofs.Common.{arguments_misfit, arith, boolean, bytes_eq, bytes_eq-Decides, call_type, called_type, codes, count_named}
-use Rattle.rpl_compile.proofs.Common.{datetime, declared_type, false, function_heads, head_misfit, head_refusal, if◌then◌else◌, inl, int_le}
-use Rattle.rpl_compile.proofs.Common.{is_duplicate, is_some, kind_of_type, length, list_any, longest, made_by, map, measured_by, misfit, misfit_among}
-use Rattle.rpl_compile.proofs.Common.{misfit_in_places, nat_tests, number_kind, numbers_type, numeric, numeric_list, param_kinds, param_names}
-use Rattle.rpl_compile.proofs.Common.{param_scope, pos, predefined_count, predefined_functions, product_over_type, refl, refusal_in, repeats_name}
-use Rattle.rpl_compile.proofs.Common.{replicate, result_named, signature, signature_named, slot_list, slot_type, subst, sym, takes_named}
-use Rattle.rpl_compile.proofs.Common.{times_per_of, true, type_here, type_or_plain, unit_in, units, unknown_type, unsigned_abs, with_room, with_unit}
-use Rattle.rpl_compile.proofs.Common.{written_type, ℕ, ℤ, ◌&&◌, ◌++◌, ◌==◌, ◌||◌, ◌∙◌, ◌∷◌, ◌≡◌}
+use Rattle.rpl_compile.proofs.Common.{SlotList, Some, TypeName, TypeScope, Typed, UnknownName, WrongCount, [], a_dimension, ap, ap₂, arguments_misfit}
+use Rattle.rpl_compile.proofs.Common.{arith, boolean, bytes_eq, bytes_eq-Decides, call_type, called_type, codes, count_named, datetime, declared_type}
+use Rattle.rpl_compile.proofs.Common.{false, function_heads, head_misfit, head_refusal, if◌then◌else◌, inl, int_le, is_duplicate, is_some}
+use Rattle.rpl_compile.proofs.Common.{kind_of_type, length, list_any, longest, made_by, map, measured_by, misfit, misfit_among, misfit_in_places}
+use Rattle.rpl_compile.proofs.Common.{nat_tests, number_kind, numbers_type, numeric, numeric_list, param_kinds, param_names, param_scope, pos}
+use Rattle.rpl_compile.proofs.Common.{predefined_count, predefined_functions, product_over_type, refl, refusal_in, repeats_name, replicate}
+use Rattle.rpl_compile.proofs.Common.{result_named, signature, signature_named, slot_list, slot_type, subst, sym, takes_named, times_per_of, true}
+use Rattle.rpl_compile.proofs.Common.{type_here, type_or_plain, unit_in, units, unknown_type, unsigned_abs, with_room, with_unit, written_type, ℕ, ℤ}
+use Rattle.rpl_compile.proofs.Common.{◌&&◌, ◌++◌, ◌==◌, ◌||◌, ◌∙◌, ◌∷◌, ◌≡◌}
 use Rattle.rpl_compile.proofs.TypeKinds.{AreAlike, kind_of_rpl_type, kinds_fit, measured, none_of_two, numbers_alike, same_kind, typed, unrefused}
 
 abbrev pub kinds_of_types : List RplType → List Kind
@@ -272,13 +272,7 @@ made_of_numbers made (_ ∷ ts) t h = absurd (cc h)
 
 made_of_product : (ts : List RplType) (t : RplType) → product_over_type ts ≡ Ok t → (number_kind ≡ kind_of_rpl_type t) × AreAlike number_kind ts
 made_of_product (Numeric a ∷ Numeric b ∷ Numeric c ∷ []) t h = (measured (a_dimension (times_per_of a b c)) t h, (refl, (refl, (refl, tt))))
-made_of_product [] t h = absurd (cc h)
-made_of_product (Numeric a ∷ []) t h = absurd (cc h)
-made_of_product (Numeric a ∷ Numeric b ∷ []) t h = absurd (cc h)
-made_of_product (Numeric a ∷ Numeric b ∷ Numeric c ∷ d ∷ ts) t h = absurd (cc h)
-made_of_product (Numeric a ∷ Numeric b ∷ _ ∷ ts) t h = absurd (cc h)
-made_of_product (Numeric a ∷ _ ∷ ts) t h = absurd (cc h)
-made_of_product (_ ∷ ts) t h = absurd (cc h)
+made_of_product _ t h = absurd (cc h)
 
 made_of_arguments : (f : List ℕ) (ts : List RplType) (t : RplType) → made_by f ts ≡ Ok t
     → (number_kind ≡ kind_of_rpl_type t) × AreAlike number_kind ts

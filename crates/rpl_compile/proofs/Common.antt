@@ -23,13 +23,13 @@ pub use Rattle.rpl_code.specs.declared.block.BlockHead.{BlockHead}
 pub use Rattle.rpl_code.specs.declared.block.BlockHead.TheVariants.{Rule}
 pub use Rattle.rpl_code.specs.declared.instruction.Instruction.{Instruction}
 pub use Rattle.rpl_code.specs.declared.kind.ValueKind.{ValueKind}
-pub use Rattle.rpl_code.specs.declared.kind.ValueKind.TheVariants.{B, D, N, NList, S, SList}
+pub use Rattle.rpl_code.specs.declared.kind.ValueKind.TheVariants.{B, N}
 pub use Rattle.rpl_tree.proofs.Common.{Act, Acts, Answer, Budget, Costed, Declared, Function, Function as Predefined, Head, Kind, Names, Outcome}
-pub use Rattle.rpl_tree.proofs.Common.{Parameter, Price, Trail, Tree, Trees, TypeName, Value, World, a_date, a_number, a_slot, a_truth, act}
-pub use Rattle.rpl_tree.proofs.Common.{act_local_kinds, act_nodes, acts_in, acts_local_kinds, acts_nodes, after, all_local_kinds, append_of, assign}
-pub use Rattle.rpl_tree.proofs.Common.{at, at_most_of, bind, bounds_at, brackets, branch, budget, budget_of, call, can_set, capped, choice, convert}
-pub use Rattle.rpl_tree.proofs.Common.{costed_heads, costs, costs_from, count_of, difference_of, each, element_of, elements_of, ended, equal_of}
-pub use Rattle.rpl_tree.proofs.Common.{fire_of, first_kind, function, gives, goes_on, height, height_of_act, height_of_acts, height_of_all}
+pub use Rattle.rpl_tree.proofs.Common.{Parameter, Price, Trail, Tree, Trees, TypeName, Value, World, a_number, a_slot, a_truth, act, act_local_kinds}
+pub use Rattle.rpl_tree.proofs.Common.{act_nodes, acts_in, acts_local_kinds, acts_nodes, after, all_local_kinds, append_of, assign, at, at_most_of}
+pub use Rattle.rpl_tree.proofs.Common.{bind, bounds_at, brackets, branch, budget, budget_of, call, can_set, capped, choice, convert, costed_heads}
+pub use Rattle.rpl_tree.proofs.Common.{costs, costs_from, count_of, difference_of, each, element_of, elements_of, ended, equal_of, fire_of}
+pub use Rattle.rpl_tree.proofs.Common.{first_kind, function, gives, goes_on, height, height_of_act, height_of_acts, height_of_all}
 pub use Rattle.rpl_tree.proofs.Common.{height_of_arguments, is_quantity, is_same_kind, is_stuck, is_within, item_of, joined, kind_named, kind_of_type}
 pub use Rattle.rpl_tree.proofs.Common.{known_of, less_of, limits, list, list_of, literal, local_kinds, mapped, most, most_arguments, most_named}
 pub use Rattle.rpl_tree.proofs.Common.{most_of, most_of_act, most_of_acts, most_of_body, name, no_acts, no_trees, node_count, node_counts, nodes_of}
@@ -70,7 +70,7 @@ pub use Rattle.rpl_types.specs.HasType.{AllStand, AreDeclared, HasType, HaveType
 pub use Rattle.rpl_types.specs.Judged.{and_function, cost_refusal, function_names, head_refusal, is_affordable, rules_judged}
 pub use Rattle.rpl_types.specs.declared.type_kind.TypeKind.{TypeKind}
 pub use Rattle.rpl_types.specs.declared.type_kind.TypeKind.TheVariants.{DuplicateName, ListTooLong, LiteralRange, NotEarlier, TooCostly, UnknownName}
-pub use Rattle.rpl_types.specs.declared.type_kind.TypeKind.TheVariants.{WrongCount, WrongType}
+pub use Rattle.rpl_types.specs.declared.type_kind.TypeKind.TheVariants.{WrongCount}
 pub use Rattle.rpl_verify.proofs.Common.{Accepted, Before, C, Frame, IsOperation, IsRoomy, Loop, Open, Running, Scope, State, W, and_true, answered}
 pub use Rattle.rpl_verify.proofs.Common.{appended, are_same_kinds, before, before_at, befores, begin, behind_loop, blank, call_misfit, call_row}
 pub use Rattle.rpl_verify.proofs.Common.{carried, element_kind as code_element_of, element_picked, end_kinds, end_of_list, entered, first_frame}

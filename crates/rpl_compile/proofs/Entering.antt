@@ -1,10 +1,10 @@
 -- Elements of a list, and the beginning and the turns of a loop over them.
-use Rattle.rpl_compile.proofs.Common.{Bool, Frame, IsAnyList, Kind, List, Loop, Ok, Outcome, Running, Some, Value, [], a_date, a_number, a_slot}
-use Rattle.rpl_compile.proofs.Common.{a_truth, ap, ap₂, arith, code_element_of, code_kind, code_kind_of, code_room_of, drop, element_of, elements_of}
-use Rattle.rpl_compile.proofs.Common.{entered, gives, goes_by, if◌then◌else◌, inl, inr, is_kind_refl, is_same_loop, is_that_kind, left_of, length}
-use Rattle.rpl_compile.proofs.Common.{length-map, loop_end, map, mapping, number_kind, numbers, numbers_kind, of_list, refl, room_of, slice_get}
-use Rattle.rpl_compile.proofs.Common.{slot_kind, slots, slots_kind, spent, step, stuck, subst, suc, sym, turned, value, visiting, with_elements}
-use Rattle.rpl_compile.proofs.Common.{with_left, with_made, ℕ, ℤ, ◌>>=◌, ◌∙◌, ◌∷◌, ◌≡◌, ◌≤◌, ◌⊎◌}
+use Rattle.rpl_compile.proofs.Common.{Bool, Frame, IsAnyList, Kind, List, Loop, Ok, Outcome, Running, Some, Value, [], a_number, a_slot, ap, ap₂}
+use Rattle.rpl_compile.proofs.Common.{arith, code_element_of, code_kind, code_kind_of, code_room_of, drop, element_of, elements_of, entered, gives}
+use Rattle.rpl_compile.proofs.Common.{goes_by, if◌then◌else◌, inl, inr, is_kind_refl, is_same_loop, is_that_kind, left_of, length, length-map}
+use Rattle.rpl_compile.proofs.Common.{loop_end, map, mapping, number_kind, numbers, numbers_kind, of_list, refl, room_of, slice_get, slot_kind, slots}
+use Rattle.rpl_compile.proofs.Common.{slots_kind, spent, step, stuck, subst, suc, sym, turned, value, visiting, with_elements, with_left, with_made}
+use Rattle.rpl_compile.proofs.Common.{ℕ, ℤ, ◌>>=◌, ◌∙◌, ◌∷◌, ◌≡◌, ◌≤◌, ◌⊎◌}
 use Rattle.rpl_code.specs.declared.instruction.Instruction.TheVariants as I
 use Rattle.rpl_compile.proofs.Goes.{nothing_last, same_outcome}
 use Rattle.rpl_compile.proofs.OfKind.{HasKind}
@@ -43,11 +43,7 @@ numbers_elements m (numbers n zs) h =
       room = e;
       row = refl;
     }
-numbers_elements m (a_number z) h = absurd (cc h.0)
-numbers_elements m (a_truth z) h = absurd (cc h.0)
-numbers_elements m (a_date z) h = absurd (cc h.0)
-numbers_elements m (a_slot z) h = absurd (cc h.0)
-numbers_elements m (slots n zs) h = absurd (cc h.0)
+numbers_elements m _ h = absurd (cc h.0)
 
 slots_elements : (m : ℕ) (v : Value) → HasKind (slots_kind m) v → Elements (slots_kind m) v
 slots_elements m (slots n ss) h =
@@ -61,11 +57,7 @@ slots_elements m (slots n ss) h =
       room = e;
       row = refl;
     }
-slots_elements m (a_number z) h = absurd (cc h.0)
-slots_elements m (a_truth z) h = absurd (cc h.0)
-slots_elements m (a_date z) h = absurd (cc h.0)
-slots_elements m (a_slot z) h = absurd (cc h.0)
-slots_elements m (numbers n zs) h = absurd (cc h.0)
+slots_elements m _ h = absurd (cc h.0)
 
 pub elements : (k : Kind) (v : Value) → IsAnyList k → HasKind k v → Elements k v
 elements k v l h = by l.0 l.1

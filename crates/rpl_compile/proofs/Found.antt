@@ -1,8 +1,8 @@
 -- Of the functions that have a name, the last of a list is the first of the list in reverse. The local of a name.
-use Rattle.rpl_compile.proofs.Common.{B, Bool, Callee, D, Kind, List, N, NList, Option, S, SList, Some, ValueKind, [], ap, bytes_eq, callee_named}
-use Rattle.rpl_compile.proofs.Common.{code_kind, code_kinds, false, if◌then◌else◌, kind_named, kind_seen, kinds_seen, length, length-map, local_named}
-use Rattle.rpl_compile.proofs.Common.{map, names_in, no_callee, parameter_of, refl, reverse, reverse-append, scope_seen, sym, true, unwrap_or, ℕ}
-use Rattle.rpl_compile.proofs.Common.{◌++◌, ◌∙◌, ◌∷◌, ◌≡◌}
+use Rattle.rpl_compile.proofs.Common.{B, Bool, Callee, Kind, List, N, Option, Some, ValueKind, [], ap, bytes_eq, callee_named, code_kind, code_kinds}
+use Rattle.rpl_compile.proofs.Common.{false, if◌then◌else◌, kind_named, kind_seen, kinds_seen, length, length-map, local_named, map, names_in}
+use Rattle.rpl_compile.proofs.Common.{no_callee, parameter_of, refl, reverse, reverse-append, scope_seen, sym, true, unwrap_or, ℕ, ◌++◌, ◌∙◌, ◌∷◌}
+use Rattle.rpl_compile.proofs.Common.{◌≡◌}
 use Rattle.rpl_scope.specs.Scope.{first_named as first_found}
 use Rattle.rpl_tree.specs.declared.rules.Param.{Param}
 use Rattle.rpl_compile.specs.declared.writing.Local.{Local}
@@ -61,11 +61,7 @@ module _ (x : List ℕ) where
 
 pub code_of_seen : (kind : ValueKind) → code_kind (kind_seen kind) ≡ kind
 code_of_seen N = refl
-code_of_seen B = refl
-code_of_seen D = refl
-code_of_seen S = refl
-code_of_seen (NList m) = refl
-code_of_seen (SList m) = refl
+code_of_seen kind = refl
 
 pub codes_of_seen : (kinds : List ValueKind) → code_kinds (kinds_seen kinds) ≡ kinds
 codes_of_seen [] = refl

@@ -1,12 +1,12 @@
 -- Lines that stand in the code of a form fit, where the operands are of the kinds that the form asks for.
 use Rattle.rpl_compile.proofs.Common.{Before, Decides-le, Instruction, IsAnyList, IsElement, IsList, IsSome, IsSomeAnd, IsTarget, IsTrue, Kind, List}
 use Rattle.rpl_compile.proofs.Common.{Loop, None, NotSettable, Ok, Open, Option, Result, Rule, Scope, Some, TargetStep, ValueKind, VerifyKind, [], ap}
-use Rattle.rpl_compile.proofs.Common.{ap₂, arith, before, can_set, code_kind, date_kind, element_of, element_on_top, goes_by, if_fits, if◌then◌else◌}
-use Rattle.rpl_compile.proofs.Common.{inl, inr, is_near, is_same_kind, judged_at, length-replicate, list_all, list_kind, listed, load_row, mapping}
-use Rattle.rpl_compile.proofs.Common.{number_kind, numbers_kind, of_list, opened, operand_row, option_map, put_misfit, refl, replicate, room_of}
-use Rattle.rpl_compile.proofs.Common.{room_on_top, rules, same_kind_refl, same_kinds_refl, shut, slice_get, slot_kind, slot_named, slots_kind}
-use Rattle.rpl_compile.proofs.Common.{store_row, subst, suc, sym, taken, then_do, true, truth_kind, unless_misfit, unless_there, unsigned_abs}
-use Rattle.rpl_compile.proofs.Common.{visiting, zero, ℕ, ℤ, ◌&&◌, ◌++◌, ◌∙◌, ◌∷◌, ◌≡◌, ◌≤◌}
+use Rattle.rpl_compile.proofs.Common.{ap₂, arith, before, can_set, code_kind, element_of, element_on_top, goes_by, if_fits, if◌then◌else◌, inl, inr}
+use Rattle.rpl_compile.proofs.Common.{is_near, is_same_kind, judged_at, length-replicate, list_all, list_kind, listed, load_row, mapping, number_kind}
+use Rattle.rpl_compile.proofs.Common.{numbers_kind, of_list, opened, operand_row, option_map, put_misfit, refl, replicate, room_of, room_on_top}
+use Rattle.rpl_compile.proofs.Common.{rules, same_kind_refl, same_kinds_refl, shut, slice_get, slot_named, slots_kind, store_row, subst, suc, sym}
+use Rattle.rpl_compile.proofs.Common.{taken, then_do, true, unless_misfit, unless_there, unsigned_abs, visiting, zero, ℕ, ℤ, ◌&&◌, ◌++◌, ◌∙◌, ◌∷◌}
+use Rattle.rpl_compile.proofs.Common.{◌≡◌, ◌≤◌}
 use Rattle.rpl_code.specs.declared.kind.ValueKind.TheVariants as K
 use Rattle.rpl_code.specs.declared.instruction.Instruction.TheVariants as I
 use Rattle.rpl_verify.specs.Kinds as V
@@ -16,20 +16,13 @@ use Rattle.rpl_compile.proofs.Going.{takes_by, takes_kinds}
 -- ---- kinds of code
 
 pub tree_same : (k : Kind) → is_same_kind k k ≡ true
-tree_same number_kind = refl
-tree_same truth_kind = refl
-tree_same date_kind = refl
-tree_same slot_kind = refl
 tree_same (numbers_kind m) = search rules
 tree_same (slots_kind m) = search rules
+tree_same k = refl
 
 pub room_code : (k : Kind) → V.list_room (code_kind k) ≡ room_of k
 room_code number_kind = refl
-room_code truth_kind = refl
-room_code date_kind = refl
-room_code slot_kind = refl
-room_code (numbers_kind m) = refl
-room_code (slots_kind m) = refl
+room_code k = refl
 
 -- what holds of each list of numbers and each of slots holds of any list
 pub of_lists : (P : Kind → Type 0) → ((m : ℕ) → P (numbers_kind m)) → ((m : ℕ) → P (slots_kind m)) → (k : Kind) → IsAnyList k → P k

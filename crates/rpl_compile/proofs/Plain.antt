@@ -4,7 +4,7 @@ use Rattle.rpl_compile.proofs.Common.{Object, Option, Some, [], ap, arith, byte,
 use Rattle.rpl_compile.proofs.Common.{callee_heads, callee_named, cases_Bool, factor_of, false, false≢true, if◌then◌else◌, inl, inr, is_quantity}
 use Rattle.rpl_compile.proofs.Common.{is_utf8, is_utf8-from_IsUtf8, lt-ltb, nat_lt, number_in_units, object_at, option_and_then, pos, refl}
 use Rattle.rpl_compile.proofs.Common.{result_named, short, slot_named, spelt_name, subst, sym, table_in, table_named, takes_named, true, unit_in}
-use Rattle.rpl_compile.proofs.Common.{units, unsigned_abs, unwrap_or, within, ℕ, ℤ, ◌*ℤ◌, ◌||◌, ◌∷◌, ◌≡◌, ◌≤◌}
+use Rattle.rpl_compile.proofs.Common.{units, unwrap_or, within, ℕ, ℤ, ◌*ℤ◌, ◌||◌, ◌∷◌, ◌≡◌, ◌≤◌}
 use Rattle.rpl_code.specs.declared.instruction.Instruction.TheVariants as I
 use Rattle.rpl_types.proofs.Texts.{no_owner, no_slot}
 use Rattle.rpl_compile.proofs.Texts.{no_object}

@@ -1,9 +1,9 @@
 -- A value is given the room of its place.
-use Rattle.rpl_compile.proofs.Common.{Bool, Env, FitsIn, Frame, IsKinded, Kind, List, None, Running, Site, Some, Tree, Value, [], a_date, a_number}
-use Rattle.rpl_compile.proofs.Common.{a_slot, a_truth, ap, arith, code_of, false, gives, if◌then◌else◌, inl, inr, is_same_kind, is_stuck, kind_at}
-use Rattle.rpl_compile.proofs.Common.{kind_of_value, local_kinds, names_in, nat_le, nat_lt, nat_tests, numbers, numbers_kind, or_wrong, refl}
-use Rattle.rpl_compile.proofs.Common.{room_lines, roomier, size, slice_get, slots, slots_kind, subst, sym, true, value_of, widened, widening}
-use Rattle.rpl_compile.proofs.Common.{widening_size, ℕ, ◌++◌, ◌+◌, ◌<◌, ◌==◌, ◌>>=◌, ◌∙◌, ◌∷◌, ◌≡◌, ◌⊎◌}
+use Rattle.rpl_compile.proofs.Common.{Bool, Env, FitsIn, Frame, IsKinded, Kind, List, None, Running, Site, Some, Tree, Value, [], ap, arith, code_of}
+use Rattle.rpl_compile.proofs.Common.{false, gives, if◌then◌else◌, inl, inr, is_same_kind, is_stuck, kind_at, kind_of_value, local_kinds, names_in}
+use Rattle.rpl_compile.proofs.Common.{nat_le, nat_lt, nat_tests, numbers, numbers_kind, or_wrong, refl, room_lines, roomier, size, slice_get, slots}
+use Rattle.rpl_compile.proofs.Common.{slots_kind, subst, sym, true, value_of, widened, widening, widening_size, ℕ, ◌++◌, ◌+◌, ◌<◌, ◌==◌, ◌>>=◌, ◌∙◌}
+use Rattle.rpl_compile.proofs.Common.{◌∷◌, ◌≡◌, ◌⊎◌}
 use Rattle.rpl_code.specs.declared.kind.ValueKind.TheVariants as K
 use Rattle.rpl_code.specs.declared.instruction.Instruction.TheVariants as I
 use Rattle.rpl_compile.proofs.Goes.{Goes, goes_none}
@@ -63,11 +63,7 @@ module _ (g : Setting) where
       (ap (λ (t : Bool). if t then gives (numbers m zs) (m + 1) else is_stuck) (up ∙ sym (ap (λ j. nat_lt j m) e ∙ lower m n lt)))
       (operates g (numbers_kind m) free q us (numbers k zs ∷ []) ops lo rest (I.Widen m) tt refl line (hv.1, tt) refl
       (ap (λ (t : Bool). or_wrong (if t then Some (K.NList m ∷ []) else None)) up)))
-  numbers_wider m n lt free q us ops lo rest (a_number z) at hv = absurd (cc hv.0)
-  numbers_wider m n lt free q us ops lo rest (a_truth z) at hv = absurd (cc hv.0)
-  numbers_wider m n lt free q us ops lo rest (a_date z) at hv = absurd (cc hv.0)
-  numbers_wider m n lt free q us ops lo rest (a_slot z) at hv = absurd (cc hv.0)
-  numbers_wider m n lt free q us ops lo rest (slots k zs) at hv = absurd (cc hv.0)
+  numbers_wider m n lt free q us ops lo rest _ at hv = absurd (cc hv.0)
 
   slots_wider : (m n : ℕ) → n < m → Widens (slots_kind m) (slots_kind n)
   slots_wider m n lt free q us ops lo rest (slots k zs) at hv =
@@ -79,11 +75,7 @@ module _ (g : Setting) where
       (ap (λ (t : Bool). if t then gives (slots m zs) (m + 1) else is_stuck) (up ∙ sym (ap (λ j. nat_lt j m) e ∙ lower m n lt)))
       (operates g (slots_kind m) free q us (slots k zs ∷ []) ops lo rest (I.Widen m) tt refl line (hv.1, tt) refl
       (ap (λ (t : Bool). or_wrong (if t then Some (K.SList m ∷ []) else None)) up)))
-  slots_wider m n lt free q us ops lo rest (a_number z) at hv = absurd (cc hv.0)
-  slots_wider m n lt free q us ops lo rest (a_truth z) at hv = absurd (cc hv.0)
-  slots_wider m n lt free q us ops lo rest (a_date z) at hv = absurd (cc hv.0)
-  slots_wider m n lt free q us ops lo rest (a_slot z) at hv = absurd (cc hv.0)
-  slots_wider m n lt free q us ops lo rest (numbers k zs) at hv = absurd (cc hv.0)
+  slots_wider m n lt free q us ops lo rest _ at hv = absurd (cc hv.0)
 
   by_wider : (place kind : Kind) (m n : ℕ) → n < m
       → (((place ≡ numbers_kind m) × (kind ≡ numbers_kind n)) ⊎ ((place ≡ slots_kind m) × (kind ≡ slots_kind n))) → Widens place kind

@@ -2,13 +2,12 @@
 use Rattle.rpl_compile.proofs.Common.{AreDeclared, Bool, Budget, Costed, Decides-int_le, Decides-le, Declared, Dimension, Draft, DuplicateName, Err}
 use Rattle.rpl_compile.proofs.Common.{IsLength, IsTyped, Kind, List, ListTooLong, None, NumericList, Ok, Option, Parameter, RplType, Signature}
 use Rattle.rpl_compile.proofs.Common.{SlotList, Some, TooCostly, TypeName, Typed, [], acts_local_kinds, and_function, and_parts, ap, append_assoc}
-use Rattle.rpl_compile.proofs.Common.{arith, boolean, budget_of, cost_refusal, costed_heads, datetime, false, function, get_or-append_seam}
-use Rattle.rpl_compile.proofs.Common.{head_misfit, head_refusal, height, height_of_acts, if◌then◌else◌, int_le, ints, is_affordable, is_duplicate}
-use Rattle.rpl_compile.proofs.Common.{kind_of_type, length, length-append, limits, local_kinds, longest, max, min, nat_le, negsuc, numbers_kind}
-use Rattle.rpl_compile.proofs.Common.{numeric, numeric_list, param_kinds, param_names, pos, predefined_costs, refl, refusal_in, rule, slice_index}
-use Rattle.rpl_compile.proofs.Common.{slot_list, slot_type, slots_kind, spared, subst, suc, sym, true, unit_in, units, unsigned_abs, weight, weights}
-use Rattle.rpl_compile.proofs.Common.{with_room, with_unit, words_from, words_of_rules, written_type, ℕ, ℤ, ◌&&◌, ◌++◌, ◌+◌, ◌-◌, ◌∙◌, ◌∷◌, ◌≡◌, ◌≤ℤ◌}
-use Rattle.rpl_compile.proofs.Common.{◌≤◌}
+use Rattle.rpl_compile.proofs.Common.{arith, budget_of, cost_refusal, costed_heads, false, function, get_or-append_seam, head_misfit, head_refusal}
+use Rattle.rpl_compile.proofs.Common.{height, height_of_acts, if◌then◌else◌, int_le, ints, is_affordable, is_duplicate, kind_of_type, length}
+use Rattle.rpl_compile.proofs.Common.{length-append, limits, local_kinds, longest, max, min, nat_le, negsuc, numbers_kind, numeric_list, param_kinds}
+use Rattle.rpl_compile.proofs.Common.{param_names, pos, predefined_costs, refl, refusal_in, rule, slice_index, slot_list, slots_kind, spared, subst}
+use Rattle.rpl_compile.proofs.Common.{suc, sym, true, unit_in, units, unsigned_abs, weight, weights, with_room, with_unit, words_from, words_of_rules}
+use Rattle.rpl_compile.proofs.Common.{written_type, ℕ, ℤ, ◌&&◌, ◌++◌, ◌+◌, ◌-◌, ◌∙◌, ◌∷◌, ◌≡◌, ◌≤ℤ◌, ◌≤◌}
 use Rattle.rpl_compile.proofs.TypeKinds.{none_of_two}
 use Rattle.rpl_compile.proofs.SpeltKinds.{AreSpelt, IsSpelt}
 
@@ -39,14 +38,11 @@ unit_known None made h = absurd (cc h)
 unit_known (Some unit) made h = (unit.0, h)
 
 pub written_spelt : (w : TypeName) → refusal_in (written_type w) ≡ None → IsSpelt (kind_of_type w)
-written_spelt (numeric unit) h = tt
-written_spelt boolean h = tt
-written_spelt datetime h = tt
-written_spelt (slot_type unit) h = tt
 written_spelt (numeric_list m unit) h =
     let q = unit_known (unit_in units unit) (λ d. with_room m (λ n. NumericList n d)) h in room_spelt m (λ n. NumericList n q.0) q.1
 written_spelt (slot_list m unit) h =
     let q = unit_known (unit_in units unit) (λ d. with_room m (λ n. SlotList n d)) h in room_spelt m (λ n. SlotList n q.0) q.1
+written_spelt _ h = tt
 
 -- ---- heads
 

@@ -1,13 +1,12 @@
 -- The kinds of expressions that are accepted can be spelt: lists have room for 1 to 4096 elements.
 use Rattle.rpl_compile.proofs.Common.{Act, Acts, AllByRecursion, Append, AreArguments, AreBoth, AreKindedActs, AreKinds, AreOfKind, Bool, CanAppend}
-use Rattle.rpl_compile.proofs.Common.{Day, Draft, Head, IsAnyList, IsCodeKind, IsElement, IsKinded, IsKindedAct, IsLength, Item, Kind, Known, Length}
-use Rattle.rpl_compile.proofs.Common.{Less_by, List, Minus, Month, Names, Not, OneWord, Plus, Tree, Trees, TwoTakes, TwoWord, Year, [], act}
-use Rattle.rpl_compile.proofs.Common.{act_local_kinds, acts_local_kinds, all_local_kinds, arith, assign, at, bind, brackets, branch, bytes_eq, call}
-use Rattle.rpl_compile.proofs.Common.{choice, code_kind, code_kinds, convert, count_of, date_kind, difference_kind, each, element_of, false}
-use Rattle.rpl_compile.proofs.Common.{first_kind, if◌then◌else◌, inl, inr, kind_named, list, list_kind, literal, local_kinds, mapped, name, nat_lt}
-use Rattle.rpl_compile.proofs.Common.{no_acts, no_trees, now, number_kind, numbers_kind, one, one_kind, result_named, reverse, reverse-append}
-use Rattle.rpl_compile.proofs.Common.{room_of, slot, slot_kind, slots_kind, subst, sym, takes_named, tree, tree_kind, true, truth, two, two_kind}
-use Rattle.rpl_compile.proofs.Common.{with_name, ℕ, ◌++◌, ◌+◌, ◌<◌, ◌∷◌, ◌⊎◌}
+use Rattle.rpl_compile.proofs.Common.{Draft, Head, IsAnyList, IsCodeKind, IsElement, IsKinded, IsKindedAct, IsLength, Item, Kind, Less_by, List}
+use Rattle.rpl_compile.proofs.Common.{Names, Not, OneWord, Plus, Tree, Trees, TwoTakes, TwoWord, [], act, act_local_kinds, acts_local_kinds}
+use Rattle.rpl_compile.proofs.Common.{all_local_kinds, arith, assign, at, bind, brackets, branch, bytes_eq, call, choice, code_kind, code_kinds}
+use Rattle.rpl_compile.proofs.Common.{convert, count_of, date_kind, difference_kind, each, element_of, false, first_kind, if◌then◌else◌, inl, inr}
+use Rattle.rpl_compile.proofs.Common.{kind_named, list, list_kind, literal, local_kinds, mapped, name, nat_lt, no_acts, no_trees, now, number_kind}
+use Rattle.rpl_compile.proofs.Common.{numbers_kind, one, one_kind, result_named, reverse, reverse-append, room_of, slot, slot_kind, slots_kind, subst}
+use Rattle.rpl_compile.proofs.Common.{sym, takes_named, tree, tree_kind, true, truth, two, two_kind, with_name, ℕ, ◌++◌, ◌+◌, ◌<◌, ◌∷◌, ◌⊎◌}
 use Rattle.rpl_compile.proofs.Lines.{of_lists}
 
 abbrev pub IsSpelt : Kind → Type 0
@@ -70,12 +69,7 @@ listed_spelt n kind (inr e) h = subst (λ k. IsSpelt (list_kind n k)) (sym e) h
 
 one_spelt : (word : OneWord) → IsSpelt (one_kind word)
 one_spelt Not = tt
-one_spelt Minus = tt
-one_spelt Known = tt
-one_spelt Length = tt
-one_spelt Month = tt
-one_spelt Day = tt
-one_spelt Year = tt
+one_spelt _ = tt
 
 difference_spelt : (k l : Kind) → IsSpelt (difference_kind k l)
 difference_spelt date_kind number_kind = tt

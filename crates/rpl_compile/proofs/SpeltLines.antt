@@ -1,14 +1,13 @@
 -- Each instruction of compiled code can be spelt: by recursion on the tree, a line or two for each form.
-use Rattle.rpl_compile.proofs.Common.{AllByRecursion, And, Append, Bool, BoundName, Callee, ConvertWord, Day, Decides-from_to, Dimension, Divide}
-use Rattle.rpl_compile.proofs.Common.{Draft, ElevationToStorage, Equal, FitsIn, Greater, GreaterEqual, HasHead, Head, Instruction, IsBasin}
-use Rattle.rpl_compile.proofs.Common.{IsInstruction, IsLiteral, IsNumber, IsSome, IsSomeAnd, IsTarget, IsTrue, Item, Kind, Known, Length, Less}
-use Rattle.rpl_compile.proofs.Common.{LessEqual, Less_by, List, Minus, Month, None, Not, OneWord, Option, Or, Plus, Site, Some, StorageToElevation}
-use Rattle.rpl_compile.proofs.Common.{Times, TwoWord, Unequal, Year, [], arith, at_most_30, bytes_eq, bytes_eq-Decides, call_by, call_line}
-use Rattle.rpl_compile.proofs.Common.{callee_heads, can_set, choice_lines, code_kinds, convert_line, date_kind, difference_line, factor_of, false}
-use Rattle.rpl_compile.proofs.Common.{if◌then◌else◌, inl, inr, is_same_kind, list_any, local_named, names_in, number_kind, number_line, numbers_kind}
-use Rattle.rpl_compile.proofs.Common.{one_line, refl, room_of, slot_kind, slot_named, slots_kind, subst, sum_line, sym, target, test_line, true}
-use Rattle.rpl_compile.proofs.Common.{truth_kind, two_lines, unit_in, units, unsigned_abs, unwrap_or, widening, ℕ, ℤ, ◌*ℤ◌, ◌++◌, ◌+◌, ◌||◌, ◌∷◌, ◌≡◌}
-use Rattle.rpl_compile.proofs.Common.{◌≢◌, ◌≤◌, ◌⊎◌}
+use Rattle.rpl_compile.proofs.Common.{AllByRecursion, And, Bool, BoundName, Callee, ConvertWord, Decides-from_to, Dimension, Draft}
+use Rattle.rpl_compile.proofs.Common.{ElevationToStorage, Equal, FitsIn, Greater, GreaterEqual, HasHead, Head, Instruction, IsBasin, IsInstruction}
+use Rattle.rpl_compile.proofs.Common.{IsLiteral, IsNumber, IsSome, IsSomeAnd, IsTarget, IsTrue, Kind, Less, LessEqual, Less_by, List, None, Not}
+use Rattle.rpl_compile.proofs.Common.{OneWord, Option, Or, Plus, Site, Some, StorageToElevation, TwoWord, Unequal, [], arith, at_most_30, bytes_eq}
+use Rattle.rpl_compile.proofs.Common.{bytes_eq-Decides, call_by, call_line, callee_heads, can_set, choice_lines, code_kinds, convert_line, date_kind}
+use Rattle.rpl_compile.proofs.Common.{difference_line, factor_of, false, if◌then◌else◌, inl, inr, is_same_kind, list_any, local_named, names_in}
+use Rattle.rpl_compile.proofs.Common.{number_kind, number_line, numbers_kind, one_line, refl, room_of, slot_kind, slot_named, slots_kind, subst}
+use Rattle.rpl_compile.proofs.Common.{sum_line, target, test_line, true, truth_kind, two_lines, unit_in, units, unsigned_abs, unwrap_or, widening, ℕ}
+use Rattle.rpl_compile.proofs.Common.{ℤ, ◌*ℤ◌, ◌++◌, ◌+◌, ◌||◌, ◌∷◌, ◌≡◌, ◌≢◌, ◌≤◌, ◌⊎◌}
 use Rattle.rw_base.specs.Quantity.{IsQuantity}
 use Rattle.rpl_code.specs.declared.instruction.Instruction.TheVariants as I
 use Rattle.rpl_compile.proofs.SpeltNames.{CanBeSpelt, slot_found}
@@ -34,12 +33,7 @@ number_spelt n unit h = by (unit_in units (unwrap_or unit [])) h
 
 pub one_line_spelt : (word : OneWord) → IsInstruction (one_line word)
 one_line_spelt Not = tt
-one_line_spelt Minus = tt
-one_line_spelt Known = tt
-one_line_spelt Length = tt
-one_line_spelt Month = tt
-one_line_spelt Day = tt
-one_line_spelt Year = tt
+one_line_spelt _ = tt
 
 test_spelt : (k : Kind) (i j : Instruction) → IsInstruction i → IsInstruction j → IsInstruction (test_line k i j)
 test_spelt date_kind i j h g = g
@@ -51,7 +45,6 @@ sum_spelt _ = tt
 
 difference_line_spelt : (k l : Kind) → IsInstruction (difference_line k l)
 difference_line_spelt date_kind date_kind = tt
-difference_line_spelt date_kind _ = tt
 difference_line_spelt _ _ = tt
 
 pub two_lines_spelt : (word : TwoWord) (k l : Kind) → AreLines (two_lines word k l)
@@ -65,10 +58,7 @@ two_lines_spelt Greater k l = (test_spelt k I.Le I.Dle tt tt, (tt, tt))
 two_lines_spelt GreaterEqual k l = (test_spelt k I.Lt I.Dlt tt tt, (tt, tt))
 two_lines_spelt Plus k l = (sum_spelt k, tt)
 two_lines_spelt Less_by k l = (difference_line_spelt k l, tt)
-two_lines_spelt Times k l = (tt, tt)
-two_lines_spelt Divide k l = (tt, tt)
-two_lines_spelt Append k l = (tt, tt)
-two_lines_spelt Item k l = (tt, tt)
+two_lines_spelt _ k l = (tt, tt)
 
 pub convert_spelt : (word : ConvertWord) (o : List ℕ) → CanBeSpelt o → IsInstruction (convert_line word o)
 convert_spelt StorageToElevation o h = h

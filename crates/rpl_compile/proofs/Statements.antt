@@ -4,7 +4,7 @@ use Rattle.rpl_compile.proofs.Common.{Outcome, Running, Site, Some, State, Tree,
 use Rattle.rpl_compile.proofs.Common.{act_locals, acts_code, acts_done, acts_local_kinds, acts_locals, after_act, after_acts, after_tree, ap, ap₂}
 use Rattle.rpl_compile.proofs.Common.{arith, assign, bound, bounds_at, branch, chosen, code_kinds, code_of, false, gives, if◌then◌else◌, is_stuck}
 use Rattle.rpl_compile.proofs.Common.{is_within, keeping, kind_at, kinds_of, knowing, local_count, local_kinds, names_in, never_behind, no_acts, on}
-use Rattle.rpl_compile.proofs.Common.{pos, put_of, refl, size, size_of_act, size_of_acts, slot_named, subst, suc, sym, true, unsigned_abs, value_of}
+use Rattle.rpl_compile.proofs.Common.{put_of, refl, size, size_of_act, size_of_acts, slot_named, subst, suc, sym, true, unsigned_abs, value_of}
 use Rattle.rpl_compile.proofs.Common.{with_name, within_or_end, ℕ, ℤ, ◌&&◌, ◌++◌, ◌+◌, ◌>>=◌, ◌∙◌, ◌∷◌, ◌≡◌, ◌≤◌}
 use Rattle.rpl_code.specs.declared.instruction.Instruction.TheVariants as I
 use Rattle.rpl_compile.proofs.Goes.{Goes, Made, goes_as, goes_bind, goes_none, goes_weaker}

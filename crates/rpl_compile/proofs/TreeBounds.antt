@@ -79,8 +79,7 @@ module _ (heads : List Head) where
         omega (arith, h, g)
 
     few_for_arguments : (names : Names) (kinds : List Kind) (ts : Trees) → sizes_of_arguments heads names kinds ts ≤ 8 * node_counts ts
-    few_for_arguments names [] no_trees = omega arith
-    few_for_arguments names [] (tree t ts) = omega arith
+    few_for_arguments names [] ts = omega arith
     few_for_arguments names (kind ∷ kinds) no_trees = omega arith
     few_for_arguments names (kind ∷ kinds) (tree t ts) =
         let h = few_lines names t in

@@ -1,8 +1,7 @@
 -- What trees cost, in words that the proofs on their code use.
 use Rattle.rpl_compile.proofs.Common.{And, Costed, IsElement, Kind, List, Or, Price, TwoWord, ValueKind, [], ap, append_assoc, arith, code_kind}
-use Rattle.rpl_compile.proofs.Common.{code_kinds, date_kind, inl, inr, list_kind, max, number_kind, numbers_kind, refl, replicate, reverse}
-use Rattle.rpl_compile.proofs.Common.{reverse-append, slot_kind, slots_kind, subst, suc, sym, truth_kind, two_cost, weight, weights, words_of}
-use Rattle.rpl_compile.proofs.Common.{words_of_all, zero, ℕ, ◌++◌, ◌+◌, ◌∙◌, ◌∷◌, ◌≡◌}
+use Rattle.rpl_compile.proofs.Common.{code_kinds, inl, inr, list_kind, max, number_kind, refl, replicate, reverse, reverse-append, subst, suc, sym}
+use Rattle.rpl_compile.proofs.Common.{two_cost, weight, weights, words_of, words_of_all, zero, ℕ, ◌++◌, ◌+◌, ◌∙◌, ◌∷◌, ◌≡◌}
 use Rattle.rpl_tree.specs.Words.{two_words}
 use Rattle.rpl_compile.proofs.WordLines.{IsLine, two_step}
 
@@ -23,11 +22,7 @@ turned k ks ls = sym (append_assoc (reverse ks) (k ∷ []) ls) ∙ ap (λ l. l +
 
 pub words_weight : (k : Kind) → words_of (code_kind k) ≡ weight k
 words_weight number_kind = refl
-words_weight truth_kind = refl
-words_weight date_kind = refl
-words_weight slot_kind = refl
-words_weight (numbers_kind m) = refl
-words_weight (slots_kind m) = refl
+words_weight k = refl
 
 pub words_added : (ks ls : List ValueKind) → words_of_all (ks ++ ls) ≡ words_of_all ks + words_of_all ls
 words_added [] ls = omega arith

@@ -1,14 +1,14 @@
 -- What types that fit say of kinds: for each form the kind that it has, and what it asks of the kinds of its parts.
-use Rattle.rpl_compile.proofs.Common.{And, Append, AreComparable, Bool, Boolean, ConvertWord, Datetime, Day, Dimension, Divide, Equal, Err, FitsIn}
-use Rattle.rpl_compile.proofs.Common.{Greater, GreaterEqual, IsAnyList, IsElement, Item, Kind, Known, Length, Less, LessEqual, Less_by, List}
-use Rattle.rpl_compile.proofs.Common.{ListTooLong, Minus, Month, None, Not, Numeric, NumericList, Ok, OneTakes, OneWord, Option, Or, Plus, RplType}
-use Rattle.rpl_compile.proofs.Common.{Slot, SlotList, Some, Times, TwoTakes, TwoWord, TypeKind, Typed, Unequal, Year, [], a_dimension, and_true}
-use Rattle.rpl_compile.proofs.Common.{answers, ap, append_type, arith, asks, compared_type, convert_type, date_kind, difference_type, element_of}
-use Rattle.rpl_compile.proofs.Common.{element_type, false, if◌then◌else◌, inl, inr, is_boolean, is_datetime, item_type, join, joined_type, length}
-use Rattle.rpl_compile.proofs.Common.{length_misfit, length_type, list_kind, list_type, longest, look_type, mapped_type, max, measured_in, misfit}
-use Rattle.rpl_compile.proofs.Common.{misfit_among, nat_le, nat_lt, nat_tests, negative_type, number_kind, numbers_kind, one_kind, one_type, only_if}
-use Rattle.rpl_compile.proofs.Common.{per_of, product_type, refl, refusal_order, room_of, slot_kind, slots_kind, sooner, sum_type, times_of, true}
-use Rattle.rpl_compile.proofs.Common.{truth_kind, two_kind, two_type, unit_misfit, ℕ, ◌&&◌, ◌+◌, ◌<◌, ◌∙◌, ◌∷◌, ◌≡◌, ◌≤◌, ◌⊎◌}
+use Rattle.rpl_compile.proofs.Common.{And, Append, AreComparable, Bool, Boolean, ConvertWord, Datetime, Dimension, Divide, Err, FitsIn, IsAnyList}
+use Rattle.rpl_compile.proofs.Common.{IsElement, Item, Kind, Known, Length, Less_by, List, ListTooLong, Minus, None, Not, Numeric, NumericList, Ok}
+use Rattle.rpl_compile.proofs.Common.{OneTakes, OneWord, Option, Or, Plus, RplType, Slot, SlotList, Some, Times, TwoTakes, TwoWord, TypeKind, Typed}
+use Rattle.rpl_compile.proofs.Common.{[], a_dimension, and_true, answers, ap, append_type, arith, asks, compared_type, convert_type, date_kind}
+use Rattle.rpl_compile.proofs.Common.{difference_type, element_of, element_type, false, if◌then◌else◌, inl, inr, is_boolean, is_datetime, item_type}
+use Rattle.rpl_compile.proofs.Common.{join, joined_type, length, length_misfit, length_type, list_kind, list_type, longest, look_type, mapped_type}
+use Rattle.rpl_compile.proofs.Common.{max, measured_in, misfit, misfit_among, nat_le, nat_lt, nat_tests, negative_type, number_kind, numbers_kind}
+use Rattle.rpl_compile.proofs.Common.{one_kind, one_type, only_if, per_of, product_type, refl, refusal_order, room_of, slot_kind, slots_kind, sooner}
+use Rattle.rpl_compile.proofs.Common.{sum_type, times_of, true, truth_kind, two_kind, two_type, unit_misfit, ℕ, ◌&&◌, ◌+◌, ◌<◌, ◌∙◌, ◌∷◌, ◌≡◌, ◌≤◌}
+use Rattle.rpl_compile.proofs.Common.{◌⊎◌}
 use Rattle.rw_base.specs.Answers.{unless_refused}
 
 abbrev pub kind_of_rpl_type : RplType → Kind
@@ -156,9 +156,7 @@ one_takes Not looks part t p h = let q = only (is_boolean part) Boolean t h in (
 one_takes Minus looks part t p h = negative part t h
 one_takes Known looks part t p h = absurd p
 one_takes Length looks part t p h = counted part t h
-one_takes Month looks part t p h = let q = only (is_datetime part) _ t h in (q.1, date_is part q.0)
-one_takes Day looks part t p h = let q = only (is_datetime part) _ t h in (q.1, date_is part q.0)
-one_takes Year looks part t p h = let q = only (is_datetime part) _ t h in (q.1, date_is part q.0)
+one_takes _ looks part t p h = let q = only (is_datetime part) _ t h in (q.1, date_is part q.0)
 
 pub known_takes : (looks : Bool) (part t : RplType) → one_type Known looks part ≡ Ok t → (looks ≡ true) × (truth_kind ≡ kind_of_rpl_type t)
 known_takes looks part t h = only looks Boolean t h
@@ -219,18 +217,13 @@ picked _ _ t h = absurd (cc h)
 pub two_takes : (word : TwoWord) (a b t : RplType) → two_type word a b ≡ Ok t → TakesTwo word a b t
 two_takes Or a b t h = truths a b t h
 two_takes And a b t h = truths a b t h
-two_takes Equal a b t h = compared a b t h
-two_takes Unequal a b t h = compared a b t h
-two_takes Less a b t h = compared a b t h
-two_takes LessEqual a b t h = compared a b t h
-two_takes Greater a b t h = compared a b t h
-two_takes GreaterEqual a b t h = compared a b t h
 two_takes Plus a b t h = summed a b t h
 two_takes Less_by a b t h = parted a b t h
 two_takes Times a b t h = multiplied times_of a b t h
 two_takes Divide a b t h = multiplied per_of a b t h
 two_takes Append a b t h = appended a b t h
 two_takes Item a b t h = picked a b t h
+two_takes _ a b t h = compared a b t h
 
 -- ---- looks, tables, lists
 

@@ -8,7 +8,7 @@ use Rattle.rpl_compile.proofs.Common.{act, and_function, ap, ap₂, arith, assig
 use Rattle.rpl_compile.proofs.Common.{count_of, each, element_of, false, found_slot_type, found_target_misfit, function, function_heads}
 use Rattle.rpl_compile.proofs.Common.{function_names, if◌then◌else◌, is_look, is_quantity, is_some, join, kind_named, kind_of_type, length, list}
 use Rattle.rpl_compile.proofs.Common.{list_any, list_kind, literal, literal_in_unit, mapped, misfit, name, name_type, no_acts, no_trees, now}
-use Rattle.rpl_compile.proofs.Common.{number_kind, numbers_kind, object_named, one, param_scope, pos, predefined_functions, refl, room_of, rule, slot}
+use Rattle.rpl_compile.proofs.Common.{number_kind, numbers_kind, object_named, one, param_scope, predefined_functions, refl, room_of, rule, slot}
 use Rattle.rpl_compile.proofs.Common.{slot_kind, slot_named, subst, sym, table_named, takes_named, tree, tree_kind, true, truth, two, two_kind}
 use Rattle.rpl_compile.proofs.Common.{type_here, unit_in, units, unwrap_or, with_name, ℕ, ℤ, ◌*ℤ◌, ◌+◌, ◌||◌, ◌∙◌, ◌∷◌, ◌≡◌}
 use Rattle.rw_model.specs.Links.{dim_of}
@@ -60,13 +60,8 @@ target_found basin (Some s) ahead t h = by (can_set basin s) (can_put_ahead basi
 -- ---- words
 
 asked_always : (word : OneWord) (e : Tree) → IsPlain word → IsAsked word e
-asked_always Not e h = tt
-asked_always Minus e h = tt
 asked_always Known e h = absurd h
-asked_always Length e h = tt
-asked_always Month e h = tt
-asked_always Day e h = tt
-asked_always Year e h = tt
+asked_always _ e h = tt
 
 fit_first : (a b c d : Kind) → a ≡ c → b ≡ d → FitsIn (join c d) c → FitsIn (join a b) a
 fit_first a b c d e f h = subst (λ x. FitsIn (join x b) x) (sym e) (subst (λ y. FitsIn (join c y) c) (sym f) h)

@@ -1,10 +1,10 @@
 -- The types that an accepted ruleset declares have room for as many elements as code can say.
 use Rattle.rpl_compile.proofs.Common.{AreDeclared, AreRoomy, Bool, Declared, Dimension, Draft, DuplicateName, Err, HasListRoom, HaveRoom, IsLength}
 use Rattle.rpl_compile.proofs.Common.{IsSome, IsTyped, List, ListTooLong, None, NumericList, Ok, Option, Parameter, RplType, Signature, SlotList}
-use Rattle.rpl_compile.proofs.Common.{Some, TypeKind, TypeName, [], and_parts, boolean, datetime, false, false≢true, function, head_misfit}
-use Rattle.rpl_compile.proofs.Common.{if◌then◌else◌, int_le, is_duplicate, leb-true, longest, nat_le, nat_lt, negsuc, numeric, numeric_list, pos}
-use Rattle.rpl_compile.proofs.Common.{refl, refusal_in, refusal_order, rule, slot_list, slot_type, sooner, subst, true, unit_in, units, unsigned_abs}
-use Rattle.rpl_compile.proofs.Common.{with_room, with_unit, written_type, ℕ, ℤ, ◌&&◌, ◌+◌, ◌∷◌, ◌≡◌}
+use Rattle.rpl_compile.proofs.Common.{Some, TypeKind, TypeName, [], and_parts, false, false≢true, function, head_misfit, if◌then◌else◌, int_le}
+use Rattle.rpl_compile.proofs.Common.{is_duplicate, leb-true, longest, nat_le, nat_lt, negsuc, numeric_list, pos, refl, refusal_in, refusal_order}
+use Rattle.rpl_compile.proofs.Common.{rule, slot_list, sooner, subst, true, unit_in, units, unsigned_abs, with_room, with_unit, written_type, ℕ, ℤ}
+use Rattle.rpl_compile.proofs.Common.{◌&&◌, ◌+◌, ◌∷◌, ◌≡◌}
 
 no_some : {A : Type 0} (x : A) → Some x ≡ None → ⊥
 no_some x e = false≢true (subst IsSome e refl)
@@ -24,12 +24,9 @@ list_room None m made h = absurd (no_some _ h)
 list_room (Some unit) m made h = room_by _ m (made unit.0 (unsigned_abs m)) refl h
 
 type_room : (written : TypeName) → refusal_in (written_type written) ≡ None → HasListRoom written
-type_room (numeric unit) h = tt
-type_room boolean h = tt
-type_room datetime h = tt
-type_room (slot_type unit) h = tt
 type_room (numeric_list m unit) h = list_room (unit_in units unit) m (λ d n. NumericList n d) h
 type_room (slot_list m unit) h = list_room (unit_in units unit) m (λ d n. SlotList n d) h
+type_room _ h = tt
 
 one_of : (b : Bool) (x y : TypeKind) → (if b then Some x else Some y) ≡ None → ⊥
 one_of true x y = no_some x
