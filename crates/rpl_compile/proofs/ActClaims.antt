@@ -9,10 +9,10 @@ use Rattle.rpl_compile.proofs.Common.{with_name, ℕ, ℤ, ◌++◌, ◌+◌, �
 use Rattle.rpl_code.specs.declared.instruction.Instruction.TheVariants as I
 use Rattle.rpl_compile.proofs.Claims.{claim}
 use Rattle.rpl_compile.proofs.Forms.{behind_one, branch_lines, three_more, two_more, value_lines}
-use Rattle.rpl_compile.proofs.KindsFound.{act_counted, acts_counted}
 use Rattle.rpl_compile.proofs.Plain.{IsSpelt, byte_is, owner_spelt, slot_spelt}
 use Rattle.rpl_compile.proofs.Sizes.{act-size, acts-size}
 use Rattle.rpl_compile.proofs.AtSites.{At, as_long, end_at, kind_at, line_at, lines_as, local_at, locals_as, longer, name_at, second_at}
+use Rattle.rpl_compile.proofs.LocalSizes.{act_locals_size, acts_locals_size}
 
 -- places and numbers follow
 left_at : {w : Written} {s : Site} {ls : List ValueKind} {is : List Instruction} (r : Written) (kinds : List Kind) (code : List Instruction) (m n : ℕ)
@@ -58,7 +58,7 @@ module _ (basin : Draft) (callees : List Callee) (spelled : AllByRecursion IsSpe
       (is ++ act_code callees s a)
   act_ended {w} {s} {ls} {is} a start h scope below locals lines =
       left_at (compiled_act callees w a) (act_local_kinds (callee_heads callees) (names_in s.scope) a) (act_code callees s a) (act_locals a)
-      (size_of_act (callee_heads callees) (names_in s.scope) a) start (act_counted (callee_heads callees) (names_in s.scope) a)
+      (size_of_act (callee_heads callees) (names_in s.scope) a) start (act_locals_size (callee_heads callees) a (names_in s.scope))
       (act-size basin callees s a h) scope below locals lines
 
   on_assign : (o x : List ℕ) (ahead : ℤ) (e : Tree) → ClaimAct (assign o x ahead e)
@@ -122,7 +122,7 @@ module _ (basin : Draft) (callees : List Callee) (spelled : AllByRecursion IsSpe
       let others = claim_rest _ (after_act callees a s) _ _ first h.1 in
       left_at (compiled_acts callees w (act a rest)) (acts_local_kinds heads names (act a rest)) (acts_code callees s (act a rest)) (acts_locals
       (act a rest))
-      (size_of_acts heads names (act a rest)) start (acts_counted heads names (act a rest)) (acts-size basin callees s
+      (size_of_acts heads names (act a rest)) start (acts_locals_size heads (act a rest) names) (acts-size basin callees s
       (act a rest) h) others.scope others.below
       (others.locals ∙ two_more ls (act_local_kinds heads names a) (acts_local_kinds heads names rest))
       (others.lines ∙ append_assoc is (act_code callees s a) (acts_code callees (after_act callees a s) rest))

@@ -1,16 +1,16 @@
 -- Where loops end: over the code of a tree no loop is closed that was open before it.
 use Rattle.rpl_compile.proofs.Common.{And, Append, Bool, Bracket, Callee, ConvertWord, Divide, ElevationToStorage, Equal, Greater, GreaterEqual}
-use Rattle.rpl_compile.proofs.Common.{Instruction, Item, Kind, Known, Less, LessEqual, Less_by, List, Loop, None, Not, OneWord, Option, Or, Plus}
-use Rattle.rpl_compile.proofs.Common.{Site, Some, StorageToElevation, Times, Tree, Trees, TwoWord, Unequal, [], after_room, after_tree, all_code, ap}
-use Rattle.rpl_compile.proofs.Common.{append_assoc, ap₂, arguments_code, arith, asked_code, at, bind, bound, bracket, brackets, bytes_eq, call}
-use Rattle.rpl_compile.proofs.Common.{call_by, call_line, choice, choice_lines, closing, code_of, convert, convert_line, date_kind, difference_line}
-use Rattle.rpl_compile.proofs.Common.{drop, each, element_of, ends_before, false, if◌then◌else◌, is_same_kind, keeping, kind_of_tree, knowing, length}
-use Rattle.rpl_compile.proofs.Common.{length-append, level, list, literal, loop_end, loop_ends, mapped, mapping, name, no_trees, now, on, one}
-use Rattle.rpl_compile.proofs.Common.{one_line, one_lines, opening, over, refl, rest_of, room_lines, room_of, slice_index, slot, suc, sum_line}
-use Rattle.rpl_compile.proofs.Common.{target, test_line, tree, true, truth, truth_kind, two, two_lines, visiting, widening, ℕ, ◌++◌, ◌+◌, ◌∙◌, ◌∷◌}
-use Rattle.rpl_compile.proofs.Common.{◌≡◌}
+use Rattle.rpl_compile.proofs.Common.{Instruction, Item, Kind, Known, Less, LessEqual, Less_by, List, Loop, Not, OneWord, Or, Plus, Site}
+use Rattle.rpl_compile.proofs.Common.{StorageToElevation, Times, Tree, Trees, TwoWord, Unequal, [], after_room, after_tree, all_code, ap}
+use Rattle.rpl_compile.proofs.Common.{append_assoc, ap₂, arguments_code, arith, asked_code, at, bind, bound, bracket, brackets, call, call_line}
+use Rattle.rpl_compile.proofs.Common.{choice, choice_lines, closing, code_of, cond_both, convert, convert_line, date_kind, difference_line, drop}
+use Rattle.rpl_compile.proofs.Common.{each, element_of, ends_before, false, keeping, kind_of_tree, knowing, length, length-append, level, list}
+use Rattle.rpl_compile.proofs.Common.{loop_end, loop_ends, mapped, mapping, no_trees, on, one, one_line, one_lines, opening, over, refl, rest_of}
+use Rattle.rpl_compile.proofs.Common.{room_lines, room_of, slice_index, suc, sum_line, target, test_line, tree, true, truth_kind, two, two_lines}
+use Rattle.rpl_compile.proofs.Common.{visiting, widening, ℕ, ◌++◌, ◌+◌, ◌∙◌, ◌∷◌, ◌≡◌}
 use Rattle.rpl_code.specs.declared.instruction.Instruction.TheVariants as I
 use Rattle.rpl_compile.proofs.OfKind.{At}
+use Rattle.rpl_compile.proofs.Calling.{each_call}
 
 -- the loops that are open behind these lines are those that are open before them
 pub record IsBalanced (is : List Instruction) : Type 0 where
@@ -117,23 +117,10 @@ convert_level StorageToElevation o = refl
 convert_level ElevationToStorage o = refl
 
 call_level : (callees : List Callee) (f : List ℕ) → bracket (call_line callees f) ≡ level
-call_level [] f = refl
-call_level (c ∷ callees) f = by (bytes_eq c.head.name f) (call_level callees f)
-  where
-    by : (t : Bool) → bracket (call_line callees f) ≡ level → bracket (if t then call_by f c.block else call_line callees f) ≡ level
-    by true later = called c.block
-      where
-        called : (o : Option ℕ) → bracket (call_by f o) ≡ level
-        called None = refl
-        called (Some n) = refl
-    by false later = later
+call_level callees f = each_call (λ i. bracket i ≡ level) f refl (λ n. refl) callees
 
 pub room_level : (place kind : Kind) → IsBalanced (widening place kind)
-room_level place kind = by (is_same_kind place kind)
-  where
-    by : (t : Bool) → IsBalanced (if t then [] else I.Widen (room_of place) ∷ [])
-    by true = no_lines
-    by false = one_level (I.Widen (room_of place)) refl
+room_level place kind = cond_both _ _ _ IsBalanced (λ e. no_lines) (λ e. one_level (I.Widen (room_of place)) refl)
 
 word_balanced : (word : OneWord) (e asked : List Instruction) → IsBalanced e → IsBalanced asked → IsBalanced (one_lines word e asked)
 word_balanced Known e asked b a = both_balanced asked _ a (one_level I.Known refl)
@@ -166,11 +153,6 @@ module _ (callees : List Callee) where
 
   mutual
     pub code_balanced : (t : Tree) (site : Site) → IsBalanced (code_of callees site t)
-    code_balanced (literal n unit) site = one_level _ refl
-    code_balanced (truth b) site = one_level _ refl
-    code_balanced now site = one_level _ refl
-    code_balanced (slot o s) site = one_level _ refl
-    code_balanced (name x) site = one_level _ refl
     code_balanced (call f ts) site = both_balanced _ _ (arguments_balanced ts _ site) (one_level _ (call_level callees f))
     code_balanced (brackets t) site = code_balanced t site
     code_balanced (list ts) site = both_balanced _ _ (all_balanced ts site) (one_level _ refl)
@@ -210,6 +192,7 @@ module _ (callees : List Callee) where
         (both_balanced _ _ (code_balanced r _) (operator_level word (kind_of_tree callees site l) (kind_of_tree callees site r)))
     code_balanced (convert word o e) site = both_balanced _ _ (code_balanced e site) (one_level _ (convert_level word o))
     code_balanced (at s d) site = both_balanced _ _ (code_balanced s site) (both_balanced _ _ (code_balanced d _) (one_level I.Read refl))
+    code_balanced t site = one_level _ refl
 
     asked_balanced : (t : Tree) (site : Site) → IsBalanced (asked_code callees site t)
     asked_balanced (at s d) site = both_balanced _ _ (code_balanced s site) (code_balanced d _)

@@ -13,9 +13,11 @@ use Rattle.rpl_compile.proofs.Costing.{CallsFit}
 use Rattle.rpl_compile.proofs.TreeCosts.{words_added}
 use Rattle.rpl_compile.proofs.Calling.{AreCallable, IsCallable, call_onward, calls_fit}
 use Rattle.rpl_compile.proofs.CallCosts.{AreCosted, CallCost, call_count, call_part, called_cost, costed_same, count_prices, counts_call, looks_call}
-use Rattle.rpl_compile.proofs.CallCosts.{looks_prices, puts_call, puts_prices, words_above, words_call, words_of_kinds}
-use Rattle.rpl_compile.proofs.BlockWays.{function_goes, parameter_names, rule_goes}
+use Rattle.rpl_compile.proofs.CallCosts.{looks_prices, puts_call, puts_prices, words_above, words_call}
+use Rattle.rpl_compile.proofs.BlockWays.{function_goes, rule_goes}
 use Rattle.rpl_compile.proofs.Paying.{paying_account, whole}
+use Rattle.rpl_compile.proofs.OfKind.{all_words_coded}
+use Rattle.rpl_compile.proofs.LocalFacts.{parameter_names}
 
 -- what the functions cost that can be called, in each of the four measures
 pub record AllCosted (budgets : List Budget) (callees : List Callee) (steps looks puts deep : List Costed) : Type 0 where
@@ -109,7 +111,7 @@ module _ (basin : Draft) (all : List Block) (number : ℕ) (callees : List Calle
       (most_of_acts price_of_puts puts [] body) high (before [] [])
       (g3.go (has_all lines) refl).0 g3.tall in
       let own : words_of_all scope.locals ≡ weights (acts_local_kinds (costed_heads deep) [] body) =
-      words_of_kinds (acts_local_kinds (callee_heads callees) [] body) ∙ ap (λ hs. weights (acts_local_kinds hs [] body)) deep_heads in
+      all_words_coded (acts_local_kinds (callee_heads callees) [] body) ∙ ap (λ hs. weights (acts_local_kinds hs [] body)) deep_heads in
       let last = w1.1 in
       record { by_count = w1.0; by_looks = w2.0; by_puts = w3.0; by_words = omega (arith, last, own) }
 
@@ -159,7 +161,7 @@ module _ (basin : Draft) (all : List Block) (number : ℕ) (callees : List Calle
       let bound_names : Names = names_in (parameters_from 0 params) in
       let own : words_of_all scope.locals ≡ weights (param_kinds params) + weights (local_kinds (costed_heads deep) names body) =
       words_added given (code_kinds (local_kinds (callee_heads callees) bound_names body))
-      ∙ ap₂ (λ m n. m + n) (words_of_kinds (param_kinds params)) (words_of_kinds (local_kinds (callee_heads callees) bound_names body)
+      ∙ ap₂ (λ m n. m + n) (all_words_coded (param_kinds params)) (all_words_coded (local_kinds (callee_heads callees) bound_names body)
       ∙ ap₂ (λ hs ns. weights (local_kinds hs ns body)) deep_heads (parameter_names 0 params)) in
       let last = w1.1 in
       record { by_count = w1.0; by_looks = w2.0; by_puts = w3.0; by_words = omega (arith, last, own) }

@@ -1,6 +1,6 @@
 -- Functions that can be called: the predefined ones, and one more.
 use Rattle.rpl_compile.proofs.Common.{Block, Bool, Callee, Function, HasHead, Head, IsTrue, Kind, List, None, Ok, Some, State, Value, World, [], ap}
-use Rattle.rpl_compile.proofs.Common.{ap₂, bytes_eq, call_by, call_line, call_row, called, callee_heads, code_kind, false, function_heads}
+use Rattle.rpl_compile.proofs.Common.{ap₂, bytes_eq, call_by, call_line, call_row, called, callee_heads, code_kind, cond_both, false, function_heads}
 use Rattle.rpl_compile.proofs.Common.{function_named, if◌then◌else◌, kinds_of, left_of, length, length-replicate, length-reverse, list_any, locals_of}
 use Rattle.rpl_compile.proofs.Common.{map, number_kind, numbered, of_function, operand_count, or_wrong, predefined_callees, predefined_functions}
 use Rattle.rpl_compile.proofs.Common.{refl, replicate, result_named, reverse, reverse-reverse, same_kinds_refl, subst, suc, sym, takes_named, true}
@@ -60,12 +60,9 @@ all_numeric = ((refl, refl), ((refl, refl), ((refl, refl), ((refl, refl), ((refl
 
 named_numeric : (fs : List Function) (f : List ℕ) (known : Function) → AreNumeric fs → function_named fs f ≡ Some known → IsNumeric known
 named_numeric [] f known all h = absurd (cc h)
-named_numeric (fn ∷ fs) f known all h = by (bytes_eq fn.head.name f) h (named_numeric fs f known all.1)
-  where
-    by : (t : Bool) → (if t then Some fn else function_named fs f) ≡ Some known → (function_named fs f ≡ Some known → IsNumeric known)
-        → IsNumeric known
-    by true h later = let q : fn ≡ known = cc h in subst IsNumeric q all.0
-    by false h later = later h
+named_numeric (fn ∷ fs) f known all h =
+    cond_both (bytes_eq fn.head.name f) (Some fn) (function_named fs f) (λ found. found ≡ Some known → IsNumeric known)
+    (λ e h. let q : fn ≡ known = cc h in subst IsNumeric q all.0) (λ e. named_numeric fs f known all.1) h
 
 all_have : (n : ℕ) (k : Kind) (vs : List Value) → HaveKinds (replicate n k) vs → AllHave k vs × (length vs ≡ n)
 all_have zero k [] h = (tt, refl)

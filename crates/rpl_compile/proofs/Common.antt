@@ -1,15 +1,15 @@
 -- The names that proofs cite, passed on from one place. Declares nothing.
 pub use Rattle.rw_base.proofs.Common.{AllByRecursion, Bool, Err, IsAscii, IsAscii-cons, IsAscii-nil, IsOk, IsSome, IsSomeAnd, IsTrue, IsUtf8}
 pub use Rattle.rw_base.proofs.Common.{IsUtf8-from_ascii, IsUtf8-from_is_utf8, List, None, Ok, Option, Result, Some, [], and_parts, ap, append-nil}
-pub use Rattle.rw_base.proofs.Common.{append_assoc, ap₂, arith, bytes_eq, bytes_eq-Decides, cases_Bool, codes, drop, drop-append_seam, drop-drop}
+pub use Rattle.rw_base.proofs.Common.{append_assoc, ap₂, arith, bytes_eq, bytes_eq-Decides, cases_Bool, cond_both, drop, drop-append_seam, drop-drop}
 pub use Rattle.rw_base.proofs.Common.{drop_all, eq-eqb, false, false≢true, get_or-append_seam, if◌then◌else◌, inl, inr, int_le, ints, is_ok, is_some}
-pub use Rattle.rw_base.proofs.Common.{is_utf8, is_utf8-from_IsUtf8, leb-true, length, length-append, length-map, length-replicate, length-reverse}
-pub use Rattle.rw_base.proofs.Common.{list_all, list_any, lt-ltb, ltb-true, map, map-append, max, min, nat_le, nat_lt, nat_tests, negsuc, not}
-pub use Rattle.rw_base.proofs.Common.{option_and_then, option_map, pos, recursion_from_All, refl, replicate, reverse, reverse-append, reverse-reverse}
-pub use Rattle.rw_base.proofs.Common.{reverse_aux, rules, set, set-append_seam, slice_get, slice_get-map, slice_get_within, slice_index, subst, suc}
-pub use Rattle.rw_base.proofs.Common.{sym, take, take-append_seam, true, unsigned_abs, unwrap_or, zero, ℕ, ℤ, ◌&&◌, ◌*ℤ◌, ◌*◌, ◌++◌, ◌+◌, ◌-◌, ◌<◌}
-pub use Rattle.rw_base.proofs.Common.{◌==◌, ◌||◌, ◌∙◌, ◌∷◌, ◌≡◌, ◌≢◌, ◌≤ℤ◌, ◌≤◌, ◌⊎◌}
-pub use Rattle.rw_base.proofs.Tests.{Decides-from_to, Decides-int_le, Decides-le, spared}
+pub use Rattle.rw_base.proofs.Common.{is_utf8, is_utf8-from_IsUtf8, length, length-append, length-map, length-replicate, length-reverse, list_all}
+pub use Rattle.rw_base.proofs.Common.{list_any, lt-ltb, ltb-true, map, map-append, max, min, nat_le, nat_lt, nat_tests, negsuc, not, option_and_then}
+pub use Rattle.rw_base.proofs.Common.{option_map, pos, recursion_from_All, refl, replicate, reverse, reverse-append, reverse-reverse, reverse_aux}
+pub use Rattle.rw_base.proofs.Common.{rules, set, set-append_seam, slice_get, slice_get-map, slice_get_within, slice_index, subst, suc, sym, take}
+pub use Rattle.rw_base.proofs.Common.{take-append_seam, true, unsigned_abs, unwrap_or, zero, ℕ, ℤ, ◌&&◌, ◌*ℤ◌, ◌*◌, ◌++◌, ◌+◌, ◌-◌, ◌<◌, ◌==◌, ◌||◌}
+pub use Rattle.rw_base.proofs.Common.{◌∙◌, ◌∷◌, ◌≡◌, ◌≢◌, ◌≤ℤ◌, ◌≤◌, ◌⊎◌}
+pub use Rattle.rw_base.proofs.Tests.{Decides-from_to, Decides-int_le, Decides-le, spared, unless, where-true}
 pub use Rattle.rw_base.specs.Dimension.{Dimension, per_of, times_of, times_per_of}
 pub use Rattle.rw_base.specs.Unit.{unit_in, units}
 pub use Rattle.rw_base.specs.declared.number.Cell.{Cell}

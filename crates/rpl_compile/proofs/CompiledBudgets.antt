@@ -9,8 +9,8 @@ use Rattle.rpl_compile.proofs.Common.{height_of_acts, if◌then◌else◌, in_bl
 use Rattle.rpl_compile.proofs.Common.{local_kinds, max, most_of_acts, most_of_body, nat_le, nat_lt, nat_tests, numbered, numbered_by, param_kinds}
 use Rattle.rpl_compile.proofs.Common.{param_names, part_of, predefined_callees, predefined_costs, price_of_looks, price_of_puts, price_of_steps, refl}
 use Rattle.rpl_compile.proofs.Common.{rule, rule_block, rule_count, ruling, scope_of, slice_get, slice_index, subst, suc, sym, then_do, translate}
-use Rattle.rpl_compile.proofs.Common.{true, verified, weight, weights, with_budgets, within_limits, words_from, words_of_rules, ℕ, ◌&&◌, ◌++◌, ◌+◌}
-use Rattle.rpl_compile.proofs.Common.{◌-◌, ◌∙◌, ◌∷◌, ◌≡◌, ◌≤◌}
+use Rattle.rpl_compile.proofs.Common.{true, unless, verified, weight, weights, with_budgets, within_limits, words_from, words_of_rules, ℕ, ◌&&◌, ◌++◌}
+use Rattle.rpl_compile.proofs.Common.{◌+◌, ◌-◌, ◌∙◌, ◌∷◌, ◌≡◌, ◌≤◌}
 use Rattle.rpl_compile.proofs.Placing.{has_behind}
 use Rattle.rpl_compile.proofs.TypedKinds.{typed_is_kinded}
 use Rattle.rpl_compile.proofs.Calling.{AreCallable, calls_fit}
@@ -47,20 +47,12 @@ limited b h =
       words = at_most b.words limits.words one.1;
     }
 
-abbrev answered : Budget → Result Budget VerifyKind
-answered b = Ok b
-
 passes_limits : (b : Budget) → IsWithinLimits b → within_limits b ≡ Ok b
 passes_limits b h =
-    ap (λ t. if t then Err Costly else
-    (if nat_lt limits.looks b.looks then Err TooManyReads else
-    (if nat_lt limits.puts b.puts then Err TooManyPuts else (if nat_lt limits.words b.words then Err TooDeep else answered b))))
-    (not_above b.count limits.count h.count)
-    ∙ ap (λ t. if t then Err TooManyReads else
-    (if nat_lt limits.puts b.puts then Err TooManyPuts else (if nat_lt limits.words b.words then Err TooDeep else answered b)))
-    (not_above b.looks limits.looks h.looks)
-    ∙ ap (λ t. if t then Err TooManyPuts else (if nat_lt limits.words b.words then Err TooDeep else answered b)) (not_above b.puts limits.puts h.puts)
-    ∙ ap (λ t. if t then Err TooDeep else answered b) (not_above b.words limits.words h.words)
+    unless (nat_lt limits.count b.count) (Err Costly) _ (not_above b.count limits.count h.count)
+    ∙ unless (nat_lt limits.looks b.looks) (Err TooManyReads) _ (not_above b.looks limits.looks h.looks)
+    ∙ unless (nat_lt limits.puts b.puts) (Err TooManyPuts) _ (not_above b.puts limits.puts h.puts)
+    ∙ unless (nat_lt limits.words b.words) (Err TooDeep) _ (not_above b.words limits.words h.words)
 
 -- ---- on the way through a ruleset
 

@@ -6,12 +6,13 @@ use Rattle.rpl_compile.proofs.Common.{result_named, reverse, slice_get, spots, s
 use Rattle.rpl_compile.proofs.Common.{◌+◌, ◌∙◌, ◌∷◌, ◌≡◌}
 use Rattle.rpl_code.specs.declared.instruction.Instruction.TheVariants as I
 use Rattle.rpl_compile.proofs.Sizes.{code-size}
-use Rattle.rpl_compile.proofs.LocalFacts.{Placed, kinds_back, kinds_front, locals_count}
+use Rattle.rpl_compile.proofs.LocalFacts.{Placed, kinds_back, kinds_front}
 use Rattle.rpl_compile.proofs.Placing.{HasAt}
 use Rattle.rpl_compile.proofs.Counting.{Account, IsInvoke}
 use Rattle.rpl_compile.proofs.Going.{Goes, goes_as, goes_line, goes_then, goes_to}
 use Rattle.rpl_compile.proofs.Lines.{load_fits, store_fits}
-use Rattle.rpl_compile.proofs.TreeCosts.{words_weight}
+use Rattle.rpl_compile.proofs.OfKind.{words_coded}
+use Rattle.rpl_compile.proofs.LocalSizes.{locals_size}
 
 -- in a block of this scope, a call of each function that there is fits, and comes to what the function costs
 pub record CallFits (scope : Scope) (lines : List Instruction) (pays : Price) (account : Account scope lines pays) (callees : List Callee)
@@ -90,14 +91,14 @@ module _ (costing : Costing) where
       → Leads (I.Store n ∷ []) p (before (code_kind k ∷ ls) os) (before ls os) (costing.pays.step (weight k)) (kept (before (code_kind k ∷ ls) os))
   stores p n k ls os h =
       told (line (store_fits costing.scope p n (code_kind k) ls os h) refl (λ x. x)
-      (costing.account.prices.store (before (code_kind k ∷ ls) os) n (code_kind k) h ∙ ap costing.pays.step (words_weight k)))
+      (costing.account.prices.store (before (code_kind k ∷ ls) os) n (code_kind k) h ∙ ap costing.pays.step (words_coded k)))
       refl (omega arith)
 
   pub loads : (p n : ℕ) (k : Kind) (ls : List ValueKind) (os : List Open) → slice_get costing.scope.locals n ≡ Some (code_kind k)
       → Leads (I.Load n ∷ []) p (before ls os) (before (code_kind k ∷ ls) os) (costing.pays.step (weight k)) (kept (before (code_kind k ∷ ls) os))
   loads p n k ls os h =
       told (line (load_fits costing.scope p n (code_kind k) ls os h) refl (λ x. x)
-      (costing.account.prices.load (before ls os) n (code_kind k) h ∙ ap costing.pays.step (words_weight k))) refl (omega arith)
+      (costing.account.prices.load (before ls os) n (code_kind k) h ∙ ap costing.pays.step (words_coded k))) refl (omega arith)
 
   abbrev pub kind_of_code : Site → Tree → Kind
   kind_of_code site t = tree_kind heads (names_in site.scope) t
@@ -141,7 +142,7 @@ module _ (costing : Costing) where
       → HasAt costing.scope.locals site.free (code_kinds (local_kinds heads (names_in site.scope) t ++ ks))
       → HasAt costing.scope.locals (behind heads t site).free (code_kinds ks)
   own_back site t ks h = kinds_back costing.scope.locals site.free _ (local_kinds heads (names_in site.scope) t) ks
-      (locals_count heads t (names_in site.scope)) h
+      (locals_size heads t (names_in site.scope)) h
 
   pub own_front : (site : Site) (t : Tree) (ks : List Kind)
       → HasAt costing.scope.locals site.free (code_kinds (local_kinds heads (names_in site.scope) t ++ ks)) → Own site t

@@ -1,9 +1,9 @@
 -- Compiled code fits: what is before each place of each block is found.
-use Rattle.rpl_compile.proofs.Common.{Acts, AreKindedActs, Before, Block, Bool, Callee, Costed, Draft, Instruction, IsKindedBody, Kind, List}
-use Rattle.rpl_compile.proofs.Common.{Misplaced, Ok, Parameter, Price, Result, Scope, Some, Tree, ValueKind, VerifyKind, [], ap, arith, at_place}
-use Rattle.rpl_compile.proofs.Common.{before, befores, bytes_eq, callee_heads, costed_heads, drop, drop_all, end_kinds, false, function_block}
-use Rattle.rpl_compile.proofs.Common.{if◌then◌else◌, judged_at, length, map, most_named, param_names, refl, rule_block, scope_of, slice_get, subst}
-use Rattle.rpl_compile.proofs.Common.{suc, sym, then_do, true, words_kept, ℕ, ◌+◌, ◌∙◌, ◌∷◌, ◌≡◌}
+use Rattle.rpl_compile.proofs.Common.{Acts, AreKindedActs, Before, Block, Callee, Costed, Draft, Instruction, IsKindedBody, Kind, List, Misplaced, Ok}
+use Rattle.rpl_compile.proofs.Common.{Parameter, Price, Result, Scope, Some, Tree, ValueKind, VerifyKind, [], ap, arith, at_place, before, befores}
+use Rattle.rpl_compile.proofs.Common.{callee_heads, cond_both, costed_heads, drop, drop_all, end_kinds, function_block, judged_at, length, map}
+use Rattle.rpl_compile.proofs.Common.{most_named, param_names, refl, rule_block, scope_of, slice_get, subst, suc, sym, then_do, words_kept, ℕ, ◌+◌}
+use Rattle.rpl_compile.proofs.Common.{◌∙◌, ◌∷◌, ◌≡◌}
 use Rattle.rpl_verify.proofs.Loops.{drop_at}
 use Rattle.rpl_code.specs.declared.instruction.Instruction.TheVariants as I
 use Rattle.rpl_compile.proofs.Placing.{has_all}
@@ -103,11 +103,7 @@ free_heads (c ∷ callees) = ap (λ hs. c.head ∷ hs) (free_heads callees)
 
 costs_nothing : (callees : List Callee) (f : List ℕ) → 0 ≡ most_named (free_functions callees) f
 costs_nothing [] f = refl
-costs_nothing (c ∷ callees) f = by (bytes_eq c.head.name f) (costs_nothing callees f)
-  where
-    by : (t : Bool) → 0 ≡ most_named (free_functions callees) f → 0 ≡ (if t then 0 else most_named (free_functions callees) f)
-    by true e = refl
-    by false e = e
+costs_nothing (c ∷ callees) f = cond_both _ _ _ (λ n. 0 ≡ n) (λ e. refl) (λ e. costs_nothing callees f)
 
 free_calls : (scope : Scope) (lines : List Instruction) (callees : List Callee) → LinesFit scope callees
     → CallsFit scope lines no_price (fitting_account scope lines) callees (free_functions callees) (free_functions callees)

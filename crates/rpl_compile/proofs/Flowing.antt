@@ -13,10 +13,11 @@ use Rattle.rpl_compile.proofs.Sizes.{beside, code-size, widening-size}
 use Rattle.rpl_compile.proofs.LocalFacts.{Placed}
 use Rattle.rpl_compile.proofs.Counting.{IsInvoke, IsUnit}
 use Rattle.rpl_compile.proofs.Going.{choosing, goes_choice, takes_kinds}
-use Rattle.rpl_compile.proofs.TreeCosts.{two_costs, two_heights, words_weight}
+use Rattle.rpl_compile.proofs.TreeCosts.{two_costs, two_heights}
 use Rattle.rpl_compile.proofs.WordLines.{IsLine, one_goes, two_goes, two_step, widen_goes}
 use Rattle.rpl_compile.proofs.Costing.{Claim, Leads, Own, Costing, cost, deep_kind, far, heads, here, kept, kind_of_code, line, names_at, own_back}
 use Rattle.rpl_compile.proofs.Costing.{own_front, room_cost, same_kind, seq, tall_of, to, told, with_one}
+use Rattle.rpl_compile.proofs.OfKind.{words_coded}
 
 module _ (costing : Costing) where
   -- ---- leaves
@@ -104,7 +105,7 @@ module _ (costing : Costing) where
       let a = first site os h.0 pl (own_front costing site l (local_kinds (heads costing) names r) lo) in
       let b = second above os h.1 pl (own_back costing site l (local_kinds (heads costing) names r) lo) in
       let low = b.tall in
-      let w = words_weight kl in
+      let w = words_coded kl in
       let sum : cost costing names (two word l r) ≡ cost costing names l + (cost costing names r + costing.pays.step (two_step word kl)) =
       two_costs costing.pays costing.functions word (cost costing names l) (cost costing names r)
       (tree_kind (costed_heads costing.functions) names l) plain
@@ -167,7 +168,7 @@ module _ (costing : Costing) where
   with_room place t part site os h fit pl lo =
       let way = part site os h pl lo in
       let low = way.tall in
-      let w = words_weight place in
+      let w = words_coded place in
       told costing (seq costing (far costing site t h) way
       (widen_goes costing.scope costing.lines costing.spots_are costing.pays costing.account place (kind_of_code costing site t) fit
       (behind (heads costing) t site).place (code_kinds site.below) os))

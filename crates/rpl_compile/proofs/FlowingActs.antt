@@ -8,13 +8,14 @@ use Rattle.rpl_compile.proofs.Common.{◌+◌, ◌∙◌, ◌∷◌, ◌≡◌, 
 use Rattle.rpl_code.specs.declared.kind.ValueKind.TheVariants as K
 use Rattle.rpl_code.specs.declared.instruction.Instruction.TheVariants as I
 use Rattle.rpl_compile.proofs.Sizes.{act-size, acts-size, code-size}
-use Rattle.rpl_compile.proofs.LocalFacts.{Placed, act_locals_count, acts_locals_count, kinds_back, kinds_front, locals_count}
+use Rattle.rpl_compile.proofs.LocalFacts.{Placed, kinds_back, kinds_front}
 use Rattle.rpl_compile.proofs.Placing.{HasAt}
 use Rattle.rpl_compile.proofs.Going.{goes_choice, goes_none}
 use Rattle.rpl_compile.proofs.Lines.{put_fits, store_fits}
-use Rattle.rpl_compile.proofs.TreeCosts.{words_weight}
 use Rattle.rpl_compile.proofs.FlowingTrees.{flows}
 use Rattle.rpl_compile.proofs.Costing.{Leads, Costing, cost, heads, here, kept, line, seq, tall_of, to, told}
+use Rattle.rpl_compile.proofs.OfKind.{words_coded}
+use Rattle.rpl_compile.proofs.LocalSizes.{locals_size, act_locals_size, acts_locals_size}
 
 module _ (costing : Costing) (in_rule : costing.scope.head ≡ Rule) where
   abbrev own_kinds : Site → Tree → List Kind
@@ -36,7 +37,7 @@ module _ (costing : Costing) (in_rule : costing.scope.head ≡ Rule) where
       → HasAt costing.scope.locals site.free (code_kinds (own_kinds site t ++ ks)) → Value t site os ks
   value t site os ks h pl lo = record {
     way = flows costing t site os h pl (kinds_front costing.scope.locals site.free (own_kinds site t) ks lo);
-    own = kinds_back costing.scope.locals site.free _ (own_kinds site t) ks (locals_count (heads costing) t (names_in site.scope)) lo;
+    own = kinds_back costing.scope.locals site.free _ (own_kinds site t) ks (locals_size (heads costing) t (names_in site.scope)) lo;
     far = ap (λ n. site.place + n) (sym (code-size costing.scope.basin costing.callees site t h));
   }
 
@@ -80,7 +81,7 @@ module _ (costing : Costing) (in_rule : costing.scope.head ≡ Rule) where
       let ys : List Instruction = acts_code costing.callees later second in
       let test = value c site os (own_of_acts site first ++ own_of_acts site second) h.0 pl lo in
       let own_second = kinds_back costing.scope.locals ahead.free _ (own_of_acts site first) (own_of_acts site second)
-      (acts_locals_count (heads costing) first (names_in site.scope)) test.own in
+      (acts_locals_size (heads costing) first (names_in site.scope)) test.own in
       let long_x : length xs ≡ size_of_acts (heads costing) (names_in site.scope) first =
       acts-size costing.scope.basin costing.callees ahead first h.2 in
       let long_y : length ys ≡ size_of_acts (heads costing) (names_in site.scope) second =
@@ -118,7 +119,7 @@ module _ (costing : Costing) (in_rule : costing.scope.head ≡ Rule) where
       ap (λ hs. height_of_acts costing.deep ((x, tree_kind hs names e) ∷ names) body) costing.deep_heads in
       told costing (seq costing v.far v.way (seq costing refl
       (line costing (store_fits costing.scope (behind (heads costing) e first).place site.free (code_kind kind) ls os lo.0) refl (λ x. x)
-      (costing.account.prices.store b site.free (code_kind kind) lo.0 ∙ ap costing.pays.step (words_weight kind)))
+      (costing.account.prices.store b site.free (code_kind kind) lo.0 ∙ ap costing.pays.step (words_coded kind)))
       (rest inside os h.1 (lo.0, pl) v.own))) (omega (arith, sum)) (omega (arith, low, high))
 
   flow_act : (a : Act) (rest : Acts) → Claim a → ClaimAll rest → ClaimAll (act a rest)
@@ -128,7 +129,7 @@ module _ (costing : Costing) (in_rule : costing.scope.head ≡ Rule) where
       told costing (seq costing (ap (λ n. site.place + n) (sym (act-size costing.scope.basin costing.callees site a h.0)))
       (first site os h.0 pl (kinds_front costing.scope.locals site.free own_a own_rest lo))
       (others (behind_act (heads costing) a site) os h.1 pl
-      (kinds_back costing.scope.locals site.free _ own_a own_rest (act_locals_count (heads costing) a (names_in site.scope)) lo))) refl
+      (kinds_back costing.scope.locals site.free _ own_a own_rest (act_locals_size (heads costing) a (names_in site.scope)) lo))) refl
       (omega arith)
 
   mutual

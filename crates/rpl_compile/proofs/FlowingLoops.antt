@@ -9,10 +9,10 @@ use Rattle.rpl_compile.proofs.Sizes.{code-size, widening-size}
 use Rattle.rpl_compile.proofs.Placing.{HasAt}
 use Rattle.rpl_compile.proofs.Going.{goes_loop}
 use Rattle.rpl_compile.proofs.Lines.{foreach_fits, loop_at, map_fits, next_fits, yield_fits, room_code}
-use Rattle.rpl_compile.proofs.TreeCosts.{words_weight}
 use Rattle.rpl_compile.proofs.Costing.{Claim, Leads, Costing, cost, deep_kind, far, heads, kept, kind_of_code, loads, own_back, own_front, room_cost}
 use Rattle.rpl_compile.proofs.Costing.{same_kind, seq, stores, tall_of, to, told}
 use Rattle.rpl_compile.proofs.Flowing.{with_room}
+use Rattle.rpl_compile.proofs.OfKind.{words_coded}
 
 module _ (costing : Costing) where
   -- ---- names
@@ -100,8 +100,8 @@ module _ (costing : Costing) where
       let way_b = with_room costing total b body inside (o ∷ os) h.3 h.4 (in_total, (lo.0, pl)) own_b in
       let low_l = way_l.tall in
       let low_f = way_f.tall in
-      let w_all = words_weight all in
-      let w_total = words_weight total in
+      let w_all = words_coded all in
+      let w_total = words_coded total in
       let n_b : length body_lines ≡ size (heads costing) inner_names b = code-size costing.scope.basin costing.callees inside b h.3 in
       let n_room : length room ≡ widening_size total turn_kind = widening-size total turn_kind in
       let n_both = length-append body_lines room in

@@ -14,12 +14,13 @@ use Rattle.rpl_compile.proofs.LocalFacts.{Placed, placed_name}
 use Rattle.rpl_compile.proofs.Placing.{HasAt}
 use Rattle.rpl_compile.proofs.Going.{goes_none, goes_one, takes_kinds}
 use Rattle.rpl_compile.proofs.Lines.{list_fits, slot_fits}
-use Rattle.rpl_compile.proofs.TreeCosts.{again, element_words, turned, words_turned, words_weight}
+use Rattle.rpl_compile.proofs.TreeCosts.{again, element_words, turned, words_turned}
 use Rattle.rpl_compile.proofs.WordLines.{widen_goes}
 use Rattle.rpl_compile.proofs.Costing.{Claim, Leads, Costing, far, heads, here, kept, kind_of_code, line, loads, own_back, own_front, room_cost}
 use Rattle.rpl_compile.proofs.Costing.{same_kind, seq, to, told}
 use Rattle.rpl_compile.proofs.Flowing.{leaf, flow_convert, flow_plain, flow_two, flow_at, flow_known, flow_choice, flow_or, flow_and}
 use Rattle.rpl_compile.proofs.FlowingLoops.{flow_bind, flow_each, flow_mapped}
+use Rattle.rpl_compile.proofs.OfKind.{words_coded}
 
 module _ (costing : Costing) where
   -- ---- several expressions
@@ -89,7 +90,7 @@ module _ (costing : Costing) where
       let above : Site = over kind (on (widening_size kind (kind_of_code costing site t)) (behind (heads costing) t site)) in
       let way = first site os h.0 pl (own_front costing site t (all_local_kinds (heads costing) names ts) lo) in
       let low = way.tall in
-      let w = words_weight kind in
+      let w = words_coded kind in
       let sum : room_cost costing kind (kind_of_code costing site t) ≡ room_cost costing kind (tree_kind (costed_heads costing.functions) names t) =
       ap (room_cost costing kind) (same_kind costing names t) in
       told costing (seq costing (far costing site t h.0) way
@@ -116,7 +117,7 @@ module _ (costing : Costing) where
       let way = all site os kinds h.1 pl lo in
       let low = way.tall in
       let turned_words = words_turned kinds ls in
-      let w = words_weight result in
+      let w = words_coded result in
       let sum : most_arguments costing.pays costing.functions names kinds ts
       ≡ most_arguments costing.pays costing.functions names (takes_named (costed_heads costing.functions) f) ts =
       ap (λ hs. most_arguments costing.pays costing.functions names (takes_named hs f) ts) costing.same_heads in
@@ -142,7 +143,7 @@ module _ (costing : Costing) where
         (slot_fits costing.scope site.place o s (code_kinds site.below) os h) refl (λ x. x) tt
     flows (name x) = λ site os h pl lo.
         let kind : Kind = kind_named (names_in site.scope) x in
-        let w = words_weight kind in
+        let w = words_coded kind in
         told costing (loads costing site.place (local_named site.scope x) kind (code_kinds site.below) os
         (placed_name costing.scope.locals site.scope x pl h)) refl (omega (arith, w))
     flows (call f ts) = flow_call f ts (flows_arguments ts)

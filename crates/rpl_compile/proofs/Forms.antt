@@ -8,10 +8,11 @@ use Rattle.rpl_compile.proofs.Common.{written, written_step, written_with_two, �
 use Rattle.rpl_code.specs.declared.instruction.Instruction.TheVariants as I
 use Rattle.rpl_tree.specs.declared.words.OneWord.TheVariants as One
 use Rattle.rpl_tree.specs.declared.words.TwoWord.TheVariants as Two
-use Rattle.rpl_compile.proofs.KindsFound.{ahead_is, kind_of_two_is, locals_counted}
+use Rattle.rpl_compile.proofs.KindsFound.{ahead_is, kind_of_two_is}
 use Rattle.rpl_compile.proofs.Sizes.{code-size}
 use Rattle.rpl_compile.proofs.AtSites.{At, kind_at, line_at, lines_as, local_at, locals_as, longer, as_long, name_at, operand_at, room_at, second_at}
 use Rattle.rpl_compile.proofs.AtSites.{taken_at, value_end_at}
+use Rattle.rpl_compile.proofs.LocalSizes.{locals_size}
 
 -- ---- lists
 
@@ -123,7 +124,7 @@ module _ (basin : Draft) (callees : List Callee) where
           locals = locals;
           lines = lines;
           free = longer ls (code_kinds kinds) start.free
-              ∙ ap (λ n. s.free + n) (length-map kinds code_kind ∙ locals_counted (callee_heads callees) (names_in s.scope) t);
+              ∙ ap (λ n. s.free + n) (length-map kinds code_kind ∙ locals_size (callee_heads callees) t (names_in s.scope));
           place = longer is (code_of callees s t) start.place ∙ ap (λ n. s.place + n) (code-size basin callees s t h);
         };
       }

@@ -36,7 +36,7 @@ module _ (x : List ℕ) where
 
 -- ---- names
 
-by_test : {A B : Type 0} (f : A → B) (b : Bool) (a other : A) (y : B) → f other ≡ y → f (if b then a else other) ≡ (if b then f a else y)
+pub by_test : {A B : Type 0} (f : A → B) (b : Bool) (a other : A) (y : B) → f other ≡ y → f (if b then a else other) ≡ (if b then f a else y)
 by_test f true a other y same = refl
 by_test f false a other y same = same
 

@@ -4,8 +4,7 @@ use Rattle.rpl_compile.proofs.Common.{Spot, ValueKind, VerifyKind, WrongOperand,
 use Rattle.rpl_compile.proofs.Common.{drop-append_seam, entering, false, goes_by, going_of, if_fits, if◌then◌else◌, judged_at, left_of, length}
 use Rattle.rpl_compile.proofs.Common.{length-append, max, nat_lt, nat_tests, on_top_of, onward, operand_count, operand_row, operands_behind, or_wrong}
 use Rattle.rpl_compile.proofs.Common.{refl, restarted, reverse, reverse-reverse, room_on_top, same_kinds_refl, slice_get, spots, subst, suc, sym}
-use Rattle.rpl_compile.proofs.Common.{take, take-append_seam, taken, takes, then_do, true, turning, words_kept, ℕ, ◌*◌, ◌++◌, ◌+◌, ◌<◌, ◌∙◌, ◌∷◌, ◌≡◌}
-use Rattle.rpl_compile.proofs.Common.{◌≤◌}
+use Rattle.rpl_compile.proofs.Common.{take, take-append_seam, taken, takes, then_do, turning, words_kept, ℕ, ◌*◌, ◌++◌, ◌+◌, ◌<◌, ◌∙◌, ◌∷◌, ◌≡◌, ◌≤◌}
 use Rattle.rpl_code.specs.declared.kind.ValueKind.TheVariants as K
 use Rattle.rpl_code.specs.declared.instruction.Instruction.TheVariants as I
 use Rattle.rpl_compile.proofs.Counting.{Account, IsInvoke, IsUnit}
@@ -18,16 +17,12 @@ enough ks ls = let e = length-append ks ls in grind (arith, nat_tests, e)
 
 behind_row : (r : OperandRow) (ks left ls : List ValueKind) → operand_count r ≡ length ks → left_of r ks ≡ Ok left
     → operands_behind r (ks ++ ls) ≡ Ok (left ++ ls)
-behind_row r ks left ls n h = by (nat_lt (length (ks ++ ls)) (operand_count r)) (ap (nat_lt (length (ks ++ ls))) n ∙ enough ks ls)
-  where
-    by : (t : Bool) → t ≡ false
-        → (if t then Err MissingOperand else on_top_of (drop (operand_count r) (ks ++ ls)) (left_of r (take (operand_count r) (ks ++ ls))))
-        ≡ Ok (left ++ ls)
-    by true e = absurd (cc e)
-    by false e =
-        ap₂ (λ d t. on_top_of d (left_of r t)) (ap (λ m. drop m (ks ++ ls)) n ∙ drop-append_seam ks ls)
-        (ap (λ m. take m (ks ++ ls)) n ∙ take-append_seam ks ls)
-        ∙ ap (on_top_of ls) h
+behind_row r ks left ls n h =
+    ap (λ (t : Bool). if t then Err MissingOperand else on_top_of (drop (operand_count r) (ks ++ ls)) (left_of r (take (operand_count r) (ks
+    ++ ls)))) (ap (nat_lt (length (ks ++ ls))) n ∙ enough ks ls)
+    ∙ ap₂ (λ d t. on_top_of d (left_of r t)) (ap (λ m. drop m (ks ++ ls)) n ∙ drop-append_seam ks ls)
+    (ap (λ m. take m (ks ++ ls)) n ∙ take-append_seam ks ls)
+    ∙ ap (on_top_of ls) h
 
 taken_kinds : (ks left : List ValueKind) → left_of (takes ks left) ks ≡ Ok left
 taken_kinds ks left = ap (λ t. if t then Ok left else Err WrongOperand) (same_kinds_refl ks)

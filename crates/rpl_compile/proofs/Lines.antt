@@ -2,11 +2,10 @@
 use Rattle.rpl_compile.proofs.Common.{Before, Decides-le, Instruction, IsAnyList, IsElement, IsList, IsSome, IsSomeAnd, IsTarget, IsTrue, Kind, List}
 use Rattle.rpl_compile.proofs.Common.{Loop, None, NotSettable, Ok, Open, Option, Result, Rule, Scope, Some, TargetStep, ValueKind, VerifyKind, [], ap}
 use Rattle.rpl_compile.proofs.Common.{ap₂, arith, before, can_set, code_kind, element_of, element_on_top, goes_by, if_fits, if◌then◌else◌, inl, inr}
-use Rattle.rpl_compile.proofs.Common.{is_near, is_same_kind, judged_at, length-replicate, list_all, list_kind, listed, load_row, mapping, number_kind}
-use Rattle.rpl_compile.proofs.Common.{numbers_kind, of_list, opened, operand_row, option_map, put_misfit, refl, replicate, room_of, room_on_top}
-use Rattle.rpl_compile.proofs.Common.{rules, same_kind_refl, same_kinds_refl, shut, slice_get, slot_named, slots_kind, store_row, subst, suc, sym}
-use Rattle.rpl_compile.proofs.Common.{taken, then_do, true, unless_misfit, unless_there, unsigned_abs, visiting, zero, ℕ, ℤ, ◌&&◌, ◌++◌, ◌∙◌, ◌∷◌}
-use Rattle.rpl_compile.proofs.Common.{◌≡◌, ◌≤◌}
+use Rattle.rpl_compile.proofs.Common.{is_near, judged_at, length-replicate, list_all, list_kind, listed, load_row, mapping, number_kind, numbers_kind}
+use Rattle.rpl_compile.proofs.Common.{of_list, opened, operand_row, option_map, put_misfit, refl, replicate, room_of, room_on_top, same_kind_refl}
+use Rattle.rpl_compile.proofs.Common.{same_kinds_refl, shut, slice_get, slot_named, slots_kind, store_row, subst, suc, sym, taken, then_do, true}
+use Rattle.rpl_compile.proofs.Common.{unless_misfit, unless_there, unsigned_abs, visiting, zero, ℕ, ℤ, ◌&&◌, ◌++◌, ◌∙◌, ◌∷◌, ◌≡◌, ◌≤◌}
 use Rattle.rpl_code.specs.declared.kind.ValueKind.TheVariants as K
 use Rattle.rpl_code.specs.declared.instruction.Instruction.TheVariants as I
 use Rattle.rpl_verify.specs.Kinds as V
@@ -14,11 +13,6 @@ use Rattle.rpl_verify.specs.Names.{put_step_misfit}
 use Rattle.rpl_compile.proofs.Going.{takes_by, takes_kinds}
 
 -- ---- kinds of code
-
-pub tree_same : (k : Kind) → is_same_kind k k ≡ true
-tree_same (numbers_kind m) = search rules
-tree_same (slots_kind m) = search rules
-tree_same k = refl
 
 pub room_code : (k : Kind) → V.list_room (code_kind k) ≡ room_of k
 room_code number_kind = refl

@@ -81,11 +81,7 @@ coded_kinds (k ∷ ks) = let r = coded_kinds ks in (plain_kind k ∷ r.0, ap₂ 
   where
     by : (k : ValueKind) → k ≡ code_kind (plain_kind k)
     by K.N = refl
-    by K.B = refl
-    by K.D = refl
-    by K.S = refl
-    by (K.NList m) = refl
-    by (K.SList m) = refl
+    by k = refl
 
 -- ---- what stands in a list from a place on
 

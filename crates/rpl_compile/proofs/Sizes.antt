@@ -3,9 +3,9 @@ use Rattle.rpl_compile.proofs.Common.{Act, Acts, And, AreArguments, AreKindedAct
 use Rattle.rpl_compile.proofs.Common.{Kind, Known, List, Names, Or, Site, Tree, Trees, [], act, act_code, acts_code, after_tree, all_code, ap₂}
 use Rattle.rpl_compile.proofs.Common.{arguments_code, arith, assign, at, bind, brackets, branch, call, callee_heads, choice, choice_lines}
 use Rattle.rpl_compile.proofs.Common.{choice_size, code_of, convert, each, element_of, false, if◌then◌else◌, is_same_kind, kind_of_tree, length}
-use Rattle.rpl_compile.proofs.Common.{length-append, list, literal, mapped, name, names_in, no_acts, no_trees, now, on, one, refl, size, size_of_act}
-use Rattle.rpl_compile.proofs.Common.{size_of_acts, sizes, sizes_of_arguments, slot, suc, tree, tree_kind, true, truth, truth_kind, two, widening}
-use Rattle.rpl_compile.proofs.Common.{widening_size, with_name, ℕ, ◌++◌, ◌+◌, ◌∙◌, ◌∷◌, ◌≡◌}
+use Rattle.rpl_compile.proofs.Common.{length-append, list, mapped, names_in, no_acts, no_trees, on, one, refl, size, size_of_act, size_of_acts, sizes}
+use Rattle.rpl_compile.proofs.Common.{sizes_of_arguments, suc, tree, tree_kind, true, truth_kind, two, widening, widening_size, with_name, ℕ, ◌++◌}
+use Rattle.rpl_compile.proofs.Common.{◌+◌, ◌∙◌, ◌∷◌, ◌≡◌}
 use Rattle.rpl_code.specs.declared.instruction.Instruction.TheVariants as I
 
 pub beside : (a b : List Instruction) {m n : ℕ} → length a ≡ m → length b ≡ n → length (a ++ b) ≡ m + n
@@ -35,11 +35,6 @@ module _ (basin : Draft) (callees : List Callee) where
   mutual
     pub code-size : (site : Site) (t : Tree) → IsKinded basin (callee_heads callees) (names_in site.scope) t
         → length (code_of callees site t) ≡ size (callee_heads callees) (names_in site.scope) t
-    code-size site (literal n unit) h = refl
-    code-size site (truth b) h = refl
-    code-size site now h = refl
-    code-size site (slot o s) h = refl
-    code-size site (name x) h = refl
     code-size site (call f ts) h = beside _ _ (arguments-size site _ ts h.1) refl
     code-size site (brackets t) h = code-size site t h
     code-size site (list ts) h = beside _ _ (all-size site _ ts h.3) refl
@@ -69,6 +64,7 @@ module _ (basin : Draft) (callees : List Callee) where
     code-size site (two word l r) h = beside _ _ (code-size site l h.0) (beside _ _ (code-size _ r h.1) refl)
     code-size site (convert word o e) h = beside _ _ (code-size site e h.1) refl
     code-size site (at s d) h = beside _ _ (code-size site s h.0) (beside _ _ (code-size _ d h.2) refl)
+    code-size site t h = refl
 
     pub all-size : (site : Site) (kind : Kind) (ts : Trees) → AreOfKind basin (callee_heads callees) (names_in site.scope) kind ts
         → length (all_code callees site ts) ≡ sizes (callee_heads callees) (names_in site.scope) ts

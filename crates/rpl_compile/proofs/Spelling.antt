@@ -7,7 +7,7 @@ use Rattle.rpl_compile.proofs.Common.{param_kinds, param_names, parameters_from,
 use Rattle.rpl_compile.proofs.Common.{size, size_of_acts, start, subst, suc, sym, translate, tree_kind, widening_size, ℕ, ◌*◌, ◌+◌, ◌∷◌, ◌≡◌, ◌≤◌}
 use Rattle.rpl_compile.proofs.Sizes.{acts-size, beside, code-size, widening-size}
 use Rattle.rpl_compile.proofs.TypedKinds.{typed_is_kinded}
-use Rattle.rpl_compile.proofs.BlockWays.{parameter_names}
+use Rattle.rpl_compile.proofs.LocalFacts.{parameter_names}
 use Rattle.rpl_compile.proofs.TreeBounds.{few_acts_locals, few_for_acts, few_lines, few_locals, widening_few}
 use Rattle.rpl_compile.proofs.SpeltKinds.{AreSpelt, acts_locals_spelt, kinds_of_code, locals_spelt}
 use Rattle.rpl_compile.proofs.SpeltLines.{AreBoundSpelt, AreCalleesSpelt, behind, callees_known, names_known, widening_spelt}

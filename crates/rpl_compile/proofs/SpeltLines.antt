@@ -3,11 +3,11 @@ use Rattle.rpl_compile.proofs.Common.{AllByRecursion, And, Bool, BoundName, Call
 use Rattle.rpl_compile.proofs.Common.{ElevationToStorage, Equal, FitsIn, Greater, GreaterEqual, HasHead, Head, Instruction, IsBasin, IsInstruction}
 use Rattle.rpl_compile.proofs.Common.{IsLiteral, IsNumber, IsSome, IsSomeAnd, IsTarget, IsTrue, Kind, Less, LessEqual, Less_by, List, None, Not}
 use Rattle.rpl_compile.proofs.Common.{OneWord, Option, Or, Plus, Site, Some, StorageToElevation, TwoWord, Unequal, [], arith, at_most_30, bytes_eq}
-use Rattle.rpl_compile.proofs.Common.{bytes_eq-Decides, call_by, call_line, callee_heads, can_set, choice_lines, code_kinds, convert_line, date_kind}
-use Rattle.rpl_compile.proofs.Common.{difference_line, factor_of, false, if◌then◌else◌, inl, inr, is_same_kind, list_any, local_named, names_in}
-use Rattle.rpl_compile.proofs.Common.{number_kind, number_line, numbers_kind, one_line, refl, room_of, slot_kind, slot_named, slots_kind, subst}
-use Rattle.rpl_compile.proofs.Common.{sum_line, target, test_line, true, truth_kind, two_lines, unit_in, units, unsigned_abs, unwrap_or, widening, ℕ}
-use Rattle.rpl_compile.proofs.Common.{ℤ, ◌*ℤ◌, ◌++◌, ◌+◌, ◌||◌, ◌∷◌, ◌≡◌, ◌≢◌, ◌≤◌, ◌⊎◌}
+use Rattle.rpl_compile.proofs.Common.{bytes_eq-Decides, call_by, call_line, callee_heads, can_set, choice_lines, code_kinds, cond_both, convert_line}
+use Rattle.rpl_compile.proofs.Common.{date_kind, difference_line, factor_of, false, false≢true, if◌then◌else◌, inl, inr, is_same_kind, list_any}
+use Rattle.rpl_compile.proofs.Common.{local_named, names_in, number_kind, number_line, numbers_kind, one_line, refl, slot_kind, slot_named}
+use Rattle.rpl_compile.proofs.Common.{slots_kind, subst, sum_line, sym, target, test_line, true, truth_kind, two_lines, unit_in, units, unsigned_abs}
+use Rattle.rpl_compile.proofs.Common.{unwrap_or, widening, ℕ, ℤ, ◌*ℤ◌, ◌++◌, ◌+◌, ◌||◌, ◌∙◌, ◌∷◌, ◌≡◌, ◌≢◌, ◌≤◌, ◌⊎◌}
 use Rattle.rw_base.specs.Quantity.{IsQuantity}
 use Rattle.rpl_code.specs.declared.instruction.Instruction.TheVariants as I
 use Rattle.rpl_compile.proofs.SpeltNames.{CanBeSpelt, slot_found}
@@ -84,11 +84,8 @@ target_spelt kinds h = all_reverse _ (code_kinds kinds) (kinds_of_code kinds h)
 plain : (place kind : Kind) → is_same_kind place place ≡ true → ((m : ℕ) → place ≢ numbers_kind m) → ((m : ℕ) → place ≢ slots_kind m)
     → FitsIn place kind
     → AreLines (widening place kind)
-plain place kind same n s (inl e) = subst (λ k. AreLines (widening place k)) e (by (is_same_kind place place) same)
-  where
-    by : (t : Bool) → t ≡ true → AreLines (if t then [] else I.Widen (room_of place) ∷ [])
-    by true h = tt
-    by false h = absurd (cc h)
+plain place kind same n s (inl e) =
+    subst (λ k. AreLines (widening place k)) e (cond_both _ _ _ AreLines (λ e. tt) (λ e. absurd (false≢true (sym e ∙ same))))
 plain place kind same n s (inr h) = by h.3
   where
     by : ((place ≡ numbers_kind h.0) × (kind ≡ numbers_kind h.1)) ⊎ ((place ≡ slots_kind h.0) × (kind ≡ slots_kind h.1))
@@ -97,16 +94,10 @@ plain place kind same n s (inr h) = by h.3
     by (inr e) = absurd (s h.0 e.0)
 
 pub widening_spelt : (place kind : Kind) → FitsIn place kind → IsSpelt place → AreLines (widening place kind)
-widening_spelt (numbers_kind m) kind h s = by (is_same_kind (numbers_kind m) kind)
-  where
-    by : (t : Bool) → AreLines (if t then [] else I.Widen m ∷ [])
-    by true = tt
-    by false = (s, tt)
-widening_spelt (slots_kind m) kind h s = by (is_same_kind (slots_kind m) kind)
-  where
-    by : (t : Bool) → AreLines (if t then [] else I.Widen m ∷ [])
-    by true = tt
-    by false = (s, tt)
+widening_spelt (numbers_kind m) kind h s =
+    cond_both (is_same_kind (numbers_kind m) kind) [] (I.Widen m ∷ []) AreLines (λ e. tt) (λ e. (s, tt))
+widening_spelt (slots_kind m) kind h s =
+    cond_both (is_same_kind (slots_kind m) kind) [] (I.Widen m ∷ []) AreLines (λ e. tt) (λ e. (s, tt))
 widening_spelt number_kind kind h s = plain number_kind kind refl (λ m e. absurd (cc e)) (λ m e. absurd (cc e)) h
 widening_spelt truth_kind kind h s = plain truth_kind kind refl (λ m e. absurd (cc e)) (λ m e. absurd (cc e)) h
 widening_spelt date_kind kind h s = plain date_kind kind refl (λ m e. absurd (cc e)) (λ m e. absurd (cc e)) h
@@ -154,11 +145,7 @@ names_known (b ∷ scope) h = (h.0, names_known scope h.2)
 
 pub local_spelt : (scope : List BoundName) (x : List ℕ) → AreBoundSpelt scope → IsNumber (local_named scope x)
 local_spelt [] x h = omega arith
-local_spelt (b ∷ scope) x h = by (bytes_eq b.name x) (local_spelt scope x h.2)
-  where
-    by : (t : Bool) → IsNumber (local_named scope x) → IsNumber (if t then b.local else local_named scope x)
-    by true later = h.1
-    by false later = later
+local_spelt (b ∷ scope) x h = cond_both _ _ _ IsNumber (λ e. h.1) (λ e. local_spelt scope x h.2)
 
 -- ---- an IF
 

@@ -120,16 +120,13 @@ module _ (g : Setting) where
 
   -- ---- locals
 
-  kinds_at : (n : ℕ) (k : Kind) → slice_get g.kinds n ≡ Some k → slice_get (locals_of g.block) n ≡ Some (code_kind k)
-  kinds_at n k h = ap (λ l. slice_get l n) g.locals_are ∙ by g.kinds n h
+  pub local_kind : (n : ℕ) (k : Kind) → slice_get g.kinds n ≡ Some k → slice_get (locals_of g.block) n ≡ Some (code_kind k)
+  local_kind n k h = ap (λ l. slice_get l n) g.locals_are ∙ by g.kinds n h
     where
       by : (ks : List Kind) (n : ℕ) → slice_get ks n ≡ Some k → slice_get (code_kinds ks) n ≡ Some (code_kind k)
       by [] n h = absurd (cc h)
       by (l ∷ ks) zero h = let e : l ≡ k = cc h in ap (λ k. Some (code_kind k)) e
       by (l ∷ ks) (suc n) h = by ks n h
-
-  pub local_kind : (n : ℕ) (k : Kind) → slice_get g.kinds n ≡ Some k → slice_get (locals_of g.block) n ≡ Some (code_kind k)
-  local_kind n k h = kinds_at n k h
 
   pub loads : (K : Kind) (free p n : ℕ) (ls ops : List Value) (lo : List Running) (rest : List Frame) (v : Value) (k : Kind)
       → slice_get g.block.lines p ≡ Some (I.Load n) → slice_get g.kinds n ≡ Some k → slice_get ls n ≡ Some v → HasKind K v
@@ -137,8 +134,8 @@ module _ (g : Setting) where
   loads K free p n ls ops lo rest v k at has holds hv =
       goes_one g.code g.world (fr g p ls ops lo) rest (fr g (suc p) ls (v ∷ ops) lo ∷ rest) (spent (weight (kind_of_value v))) v
       (Left g K free (p + 1) ls ops lo rest)
-      (step_does p ls [] ops lo rest (I.Load n) (code_kind k ∷ []) at (ap (λ o. operand_count (load_row o)) (sym (kinds_at n k has)))
-      (ap (λ o. left_of (load_row o) []) (kinds_at n k has))
+      (step_does p ls [] ops lo rest (I.Load n) (code_kind k ∷ []) at (ap (λ o. operand_count (load_row o)) (sym (local_kind n k has)))
+      (ap (λ o. left_of (load_row o) []) (local_kind n k has))
       ∙ ap (λ o. loaded o (fr g p ls ops lo) >>= (λ h. gives (h ∷ rest) 0)) holds
       ∙ same_outcome (value (fr g (suc p) ls (v ∷ ops) lo ∷ rest)) _ _ (nothing_last (spent _) ∙ ap spent (value_words v)))
       (left g K free (p + 1) (suc p) ls ls ops lo rest v (omega arith) hv (same_kept free ls))
@@ -147,8 +144,8 @@ module _ (g : Setting) where
       → slice_get g.block.lines p ≡ Some (I.Store n) → slice_get g.kinds n ≡ Some k → HasKind k v
       → step g.code g.world (fr g p us (v ∷ ops) lo) rest ≡ gives (fr g (suc p) (set us n v) ops lo ∷ rest) (weight (kind_of_value v))
   stores p n us ops lo rest v k at has hv =
-      step_does p us (v ∷ []) ops lo rest (I.Store n) [] at (ap (λ o. operand_count (store_row o)) (sym (kinds_at n k has)))
-      (ap (λ o. left_of (store_row o) (code_kind_of v ∷ [])) (kinds_at n k has)
+      step_does p us (v ∷ []) ops lo rest (I.Store n) [] at (ap (λ o. operand_count (store_row o)) (sym (local_kind n k has)))
+      (ap (λ o. left_of (store_row o) (code_kind_of v ∷ [])) (local_kind n k has)
       ∙ ap (λ l. left_of (takes (code_kind k ∷ []) []) (l ∷ [])) (kind_coded k v hv)
       ∙ ap (λ (t : Bool). if t then Ok [] else Err WrongOperand) (same_kinds_refl (code_kind k ∷ [])))
       ∙ same_outcome (value (fr g (suc p) (set us n v) ops lo ∷ rest)) _ _ (nothing_last (spent _) ∙ ap spent (value_words v))

@@ -2,13 +2,13 @@
 use Rattle.rpl_compile.proofs.Common.{And, Append, AreComparable, Bool, Boolean, ConvertWord, Datetime, Dimension, Divide, Err, FitsIn, IsAnyList}
 use Rattle.rpl_compile.proofs.Common.{IsElement, Item, Kind, Known, Length, Less_by, List, ListTooLong, Minus, None, Not, Numeric, NumericList, Ok}
 use Rattle.rpl_compile.proofs.Common.{OneTakes, OneWord, Option, Or, Plus, RplType, Slot, SlotList, Some, Times, TwoTakes, TwoWord, TypeKind, Typed}
-use Rattle.rpl_compile.proofs.Common.{[], a_dimension, and_true, answers, ap, append_type, arith, asks, compared_type, convert_type, date_kind}
-use Rattle.rpl_compile.proofs.Common.{difference_type, element_of, element_type, false, if◌then◌else◌, inl, inr, is_boolean, is_datetime, item_type}
-use Rattle.rpl_compile.proofs.Common.{join, joined_type, length, length_misfit, length_type, list_kind, list_type, longest, look_type, mapped_type}
-use Rattle.rpl_compile.proofs.Common.{max, measured_in, misfit, misfit_among, nat_le, nat_lt, nat_tests, negative_type, number_kind, numbers_kind}
-use Rattle.rpl_compile.proofs.Common.{one_kind, one_type, only_if, per_of, product_type, refl, refusal_order, room_of, slot_kind, slots_kind, sooner}
-use Rattle.rpl_compile.proofs.Common.{sum_type, times_of, true, truth_kind, two_kind, two_type, unit_misfit, ℕ, ◌&&◌, ◌+◌, ◌<◌, ◌∙◌, ◌∷◌, ◌≡◌, ◌≤◌}
-use Rattle.rpl_compile.proofs.Common.{◌⊎◌}
+use Rattle.rpl_compile.proofs.Common.{[], a_dimension, and_true, answers, ap, append_type, arith, asks, compared_type, cond_both, convert_type}
+use Rattle.rpl_compile.proofs.Common.{date_kind, difference_type, element_of, element_type, false, if◌then◌else◌, inl, inr, is_boolean, is_datetime}
+use Rattle.rpl_compile.proofs.Common.{item_type, join, joined_type, length, length_misfit, length_type, list_kind, list_type, longest, look_type}
+use Rattle.rpl_compile.proofs.Common.{mapped_type, max, measured_in, misfit, misfit_among, nat_le, nat_lt, nat_tests, negative_type, number_kind}
+use Rattle.rpl_compile.proofs.Common.{numbers_kind, one_kind, one_type, only_if, per_of, product_type, refl, refusal_order, room_of, slot_kind}
+use Rattle.rpl_compile.proofs.Common.{slots_kind, sooner, sum_type, times_of, true, truth_kind, two_kind, two_type, unit_misfit, ℕ, ◌&&◌, ◌+◌, ◌<◌}
+use Rattle.rpl_compile.proofs.Common.{◌∙◌, ◌∷◌, ◌≡◌, ◌≤◌, ◌⊎◌}
 use Rattle.rw_base.specs.Answers.{unless_refused}
 
 abbrev pub kind_of_rpl_type : RplType → Kind
@@ -42,22 +42,17 @@ unrefused (Some kind) own t h = absurd (cc h)
 pub none_of_two : (a b : Option TypeKind) → sooner a b ≡ None → (a ≡ None) × (b ≡ None)
 none_of_two None b h = (refl, h)
 none_of_two (Some a) None h = absurd (cc h)
-none_of_two (Some a) (Some b) h = by (nat_lt (refusal_order b) (refusal_order a)) h
-  where
-    by : (t : Bool) → (if t then Some b else Some a) ≡ None → (Some a ≡ None) × (Some b ≡ None)
-    by true h = absurd (cc h)
-    by false h = absurd (cc h)
+none_of_two (Some a) (Some b) h =
+    cond_both (nat_lt (refusal_order b) (refusal_order a)) (Some b) (Some a) (λ found. found ≡ None → (Some a ≡ None) × (Some b ≡ None))
+    (λ e h. absurd (cc h)) (λ e h. absurd (cc h)) h
 
 only : (test : Bool) (own t : RplType) → only_if test own ≡ Ok t → (test ≡ true) × (kind_of_rpl_type own ≡ kind_of_rpl_type t)
 only true own t h = (refl, same_kind own t h)
 only false own t h = absurd (cc h)
 
 few : (n most : ℕ) → length_misfit n most ≡ None → n ≤ most
-few n most h = by (nat_le n most) refl h
-  where
-    by : (t : Bool) → nat_le n most ≡ t → (if t then None else Some ListTooLong) ≡ None → n ≤ most
-    by true e h = grind (arith, nat_tests, e)
-    by false e h = absurd (cc h)
+few n most h =
+    cond_both (nat_le n most) None (Some ListTooLong) (λ found. found ≡ None → n ≤ most) (λ e h. grind (arith, nat_tests, e)) (λ e h. absurd (cc h)) h
 
 truth_is : (t : RplType) → is_boolean t ≡ true → kind_of_rpl_type t ≡ truth_kind
 truth_is Boolean h = refl

@@ -13,7 +13,8 @@ use Rattle.rpl_verify.specs.Kinds as V
 use Rattle.rpl_compile.proofs.TypeKinds.{IsPlain}
 use Rattle.rpl_compile.proofs.Counting.{Account, IsInvoke, IsUnit}
 use Rattle.rpl_compile.proofs.Going.{Goes, goes_as, goes_line, goes_none, goes_then, takes_by, takes_kinds}
-use Rattle.rpl_compile.proofs.Lines.{of_lists, tree_same}
+use Rattle.rpl_compile.proofs.OfKind.{same_kind_refl}
+use Rattle.rpl_compile.proofs.Lines.{of_lists}
 
 -- a word that isn't an IF
 abbrev pub IsLine : TwoWord → Type 0
@@ -245,7 +246,7 @@ module _ (scope : Scope) (lines : List Instruction) (spots_are : scope.spots ≡
   same_room k p ls os =
       let b : Before = before (code_kind k ∷ ls) os in
       subst (λ t. Leads (if t then [] else I.Widen (room_of k) ∷ []) p b b (if t then 0 else pays.step (weight k)) (max (kept b) (kept b)))
-      (sym (tree_same k))
+      (sym (same_kind_refl k))
       (told (goes_none scope lines spots_are pays account p b) refl (omega arith))
 
   filling : (m n : ℕ) (make : ℕ → ValueKind) → widened_list m (make n ∷ []) ≡ Some (make m ∷ []) → (p : ℕ) (ls : List ValueKind) (os : List Open)
