@@ -1,26 +1,18 @@
 -- The lines of statements are those that TRANSLATE gives.
-use Rattle.rw_base.proofs.Common.{◌≡◌, ℕ, ◌+◌, ℤ, List, [], ◌∷◌, ◌++◌, length, length-map, reverse, Option, None, Some, IsSome, IsSomeAnd}
-use Rattle.rw_base.proofs.Common.{unsigned_abs, refl, sym, ap, ◌∙◌, AllByRecursion, append-nil, append_assoc, arith}
-use Rattle.rw_model.proofs.Common.{Draft, IsBasin, slot_named}
-use Rattle.rpl_code.specs.declared.kind.ValueKind.{ValueKind}
-use Rattle.rpl_code.specs.declared.kind.ValueKind.TheVariants.{N}
-use Rattle.rpl_code.specs.declared.instruction.Instruction.{Instruction}
+use Rattle.rpl_compile.proofs.Common.{Act, Acts, AllByRecursion, AreKindedActs, Callee, Draft, Instruction, IsBasin, IsKindedAct, IsSome, IsSomeAnd}
+use Rattle.rpl_compile.proofs.Common.{Kind, List, N, None, Option, Site, Some, Tree, ValueKind, Written, [], act, act_code, act_local_kinds}
+use Rattle.rpl_compile.proofs.Common.{act_locals, acts_code, acts_local_kinds, acts_locals, after_act, after_acts, after_tree, ap, append-nil}
+use Rattle.rpl_compile.proofs.Common.{append_assoc, arith, assign, at_most_30, bound, branch, callee_heads, code_kind, code_kinds, code_of, compiled}
+use Rattle.rpl_compile.proofs.Common.{compiled_act, compiled_acts, keeping, kind_of_tree, knowing, length, length-map, local_kinds, names_in, no_acts}
+use Rattle.rpl_compile.proofs.Common.{on, outer, refl, reverse, size_of_act, size_of_acts, slot_named, sym, target, unsigned_abs, with_local}
+use Rattle.rpl_compile.proofs.Common.{with_name, ℕ, ℤ, ◌++◌, ◌+◌, ◌∙◌, ◌∷◌, ◌≡◌}
 use Rattle.rpl_code.specs.declared.instruction.Instruction.TheVariants as I
-use Rattle.rpl_tree.specs.Count.{act_locals, acts_locals}
-use Rattle.rpl_tree.proofs.Common.{Kind, act_local_kinds, acts_local_kinds, local_kinds, Tree, Act, Acts, assign, branch, with_name, no_acts, act}
-use Rattle.rpl_tree.proofs.PutsAhead.{at_most_30}
-use Rattle.rpl_compile.specs.Kinded.{AreKindedActs, IsKindedAct}
-use Rattle.rpl_compile.specs.Operations.{code_kind, code_kinds, target}
-use Rattle.rpl_compile.specs.Site.{Site, bound, keeping, knowing, names_in, on}
-use Rattle.rpl_compile.specs.Size.{size_of_act, size_of_acts}
-use Rattle.rpl_compile.specs.Translate.{Callee, act_code, acts_code, after_act, after_acts, after_tree, callee_heads, code_of, kind_of_tree}
-use Rattle.rpl_compile.specs.Written.{Written, compiled, compiled_act, compiled_acts, outer, with_local}
 use Rattle.rpl_compile.proofs.Claims.{claim}
 use Rattle.rpl_compile.proofs.Forms.{behind_one, branch_lines, three_more, two_more, value_lines}
-use Rattle.rpl_compile.proofs.KindsFound.{act_counted, acts_counted}
 use Rattle.rpl_compile.proofs.Plain.{IsSpelt, byte_is, owner_spelt, slot_spelt}
 use Rattle.rpl_compile.proofs.Sizes.{act-size, acts-size}
 use Rattle.rpl_compile.proofs.AtSites.{At, as_long, end_at, kind_at, line_at, lines_as, local_at, locals_as, longer, name_at, second_at}
+use Rattle.rpl_compile.proofs.LocalSizes.{act_locals_size, acts_locals_size}
 
 -- places and numbers follow
 left_at : {w : Written} {s : Site} {ls : List ValueKind} {is : List Instruction} (r : Written) (kinds : List Kind) (code : List Instruction) (m n : ℕ)
@@ -66,7 +58,7 @@ module _ (basin : Draft) (callees : List Callee) (spelled : AllByRecursion IsSpe
       (is ++ act_code callees s a)
   act_ended {w} {s} {ls} {is} a start h scope below locals lines =
       left_at (compiled_act callees w a) (act_local_kinds (callee_heads callees) (names_in s.scope) a) (act_code callees s a) (act_locals a)
-      (size_of_act (callee_heads callees) (names_in s.scope) a) start (act_counted (callee_heads callees) (names_in s.scope) a)
+      (size_of_act (callee_heads callees) (names_in s.scope) a) start (act_locals_size (callee_heads callees) a (names_in s.scope))
       (act-size basin callees s a h) scope below locals lines
 
   on_assign : (o x : List ℕ) (ahead : ℤ) (e : Tree) → ClaimAct (assign o x ahead e)
@@ -130,7 +122,7 @@ module _ (basin : Draft) (callees : List Callee) (spelled : AllByRecursion IsSpe
       let others = claim_rest _ (after_act callees a s) _ _ first h.1 in
       left_at (compiled_acts callees w (act a rest)) (acts_local_kinds heads names (act a rest)) (acts_code callees s (act a rest)) (acts_locals
       (act a rest))
-      (size_of_acts heads names (act a rest)) start (acts_counted heads names (act a rest)) (acts-size basin callees s
+      (size_of_acts heads names (act a rest)) start (acts_locals_size heads (act a rest) names) (acts-size basin callees s
       (act a rest) h) others.scope others.below
       (others.locals ∙ two_more ls (act_local_kinds heads names a) (acts_local_kinds heads names rest))
       (others.lines ∙ append_assoc is (act_code callees s a) (acts_code callees (after_act callees a s) rest))

@@ -1,8 +1,6 @@
 -- Statements with others inside, written one after the other.
-use Rattle.rw_base.proofs.Common.{◌≡◌, ℕ, List, length, refl}
-use Rattle.rpl_tree.proofs.Common.{Tree, Acts, branch}
-use Rattle.rpl_compile.specs.Translate.{Callee}
-use Rattle.rpl_compile.specs.Written.{Written, compiled, compiled_act, compiled_acts, with_branch, with_end, with_second}
+use Rattle.rpl_compile.proofs.Common.{Acts, Callee, List, Tree, Written, branch, compiled, compiled_act, compiled_acts, length, refl, with_branch}
+use Rattle.rpl_compile.proofs.Common.{with_end, with_second, ℕ, ◌≡◌}
 
 pub branch_written : (callees : List Callee) (w a b c d : Written) (t : Tree) (ys ns : Acts) (place jump : ℕ)
     → a ≡ with_branch (compiled callees w t).on → place ≡ length (compiled callees w t).on.lines → b ≡ compiled_acts callees a ys

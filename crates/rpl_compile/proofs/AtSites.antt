@@ -1,15 +1,12 @@
 -- What is written at a site: each step leads on to the next one.
-use Rattle.rw_base.proofs.Common.{◌≡◌, ℕ, ◌+◌, ◌-◌, Bool, true, false, List, [], ◌∷◌, ◌++◌, length, take, reverse, refl, sym, ap, ◌∙◌, subst, arith}
-use Rattle.rw_base.proofs.Common.{if◌then◌else◌, append-nil, append_assoc, length-append, reverse-append, set-append_seam, take-append_seam}
-use Rattle.rpl_code.specs.declared.kind.ValueKind.{ValueKind}
-use Rattle.rpl_code.specs.declared.kind.ValueKind.TheVariants.{N}
-use Rattle.rpl_code.specs.declared.instruction.Instruction.{Instruction}
+use Rattle.rpl_compile.proofs.Common.{Bool, BoundName, Instruction, Kind, List, N, Site, ValueKind, Written, [], ap, append-nil, append_assoc, arith}
+use Rattle.rpl_compile.proofs.Common.{at_line, bound, code_kind, code_kinds, false, if◌then◌else◌, is_same_kind, keeping, knowing, length}
+use Rattle.rpl_compile.proofs.Common.{length-append, on, outer, over, refl, reverse, reverse-append, room_of, set-append_seam, subst, sym, take}
+use Rattle.rpl_compile.proofs.Common.{take-append_seam, target, true, widening, widening_size, with_end, with_kind, with_line, with_local}
+use Rattle.rpl_compile.proofs.Common.{with_operand, with_second, with_value_end, without_name, without_operands, written_step, written_with_room, ℕ}
+use Rattle.rpl_compile.proofs.Common.{◌++◌, ◌+◌, ◌-◌, ◌∙◌, ◌∷◌, ◌≡◌}
 use Rattle.rpl_code.specs.declared.instruction.Instruction.TheVariants as I
-use Rattle.rpl_tree.specs.Value.{Kind, is_same_kind, room_of}
-use Rattle.rpl_compile.specs.Operations.{code_kind, code_kinds, target, widening, widening_size}
-use Rattle.rpl_compile.specs.Site.{BoundName, Site, bound, keeping, knowing, on, over}
-use Rattle.rpl_compile.specs.Written.{Written, at_line, outer, written_step, with_end, with_kind, with_line, with_local, with_name, with_operand}
-use Rattle.rpl_compile.specs.Written.{written_with_room, with_second, with_value_end, without_name, without_operands}
+use Rattle.rpl_compile.specs.Written.{with_name}
 
 -- with these locals and these lines so far
 pub record At (w : Written) (s : Site) (ls : List ValueKind) (is : List Instruction) : Type 0 where

@@ -1,24 +1,16 @@
 -- Where loops end: over the code of a tree no loop is closed that was open before it.
-use Rattle.rw_base.proofs.Common.{◌≡◌, ℕ, suc, ◌+◌, Bool, true, false, List, [], ◌∷◌, ◌++◌, length, drop, Option, Some, None, refl, ap, ap₂, ◌∙◌}
-use Rattle.rw_base.proofs.Common.{arith, append_assoc, length-append, bytes_eq, slice_index, if◌then◌else◌}
-use Rattle.rpl_code.specs.declared.instruction.Instruction.{Instruction}
+use Rattle.rpl_compile.proofs.Common.{And, Append, Bool, Bracket, Callee, ConvertWord, Divide, ElevationToStorage, Equal, Greater, GreaterEqual}
+use Rattle.rpl_compile.proofs.Common.{Instruction, Item, Kind, Known, Less, LessEqual, Less_by, List, Loop, Not, OneWord, Or, Plus, Site}
+use Rattle.rpl_compile.proofs.Common.{StorageToElevation, Times, Tree, Trees, TwoWord, Unequal, [], after_room, after_tree, all_code, ap}
+use Rattle.rpl_compile.proofs.Common.{append_assoc, ap₂, arguments_code, arith, asked_code, at, bind, bound, bracket, brackets, call, call_line}
+use Rattle.rpl_compile.proofs.Common.{choice, choice_lines, closing, code_of, cond_both, convert, convert_line, date_kind, difference_line, drop}
+use Rattle.rpl_compile.proofs.Common.{each, element_of, ends_before, false, keeping, kind_of_tree, knowing, length, length-append, level, list}
+use Rattle.rpl_compile.proofs.Common.{loop_end, loop_ends, mapped, mapping, no_trees, on, one, one_line, one_lines, opening, over, refl, rest_of}
+use Rattle.rpl_compile.proofs.Common.{room_lines, room_of, slice_index, suc, sum_line, target, test_line, tree, true, truth_kind, two, two_lines}
+use Rattle.rpl_compile.proofs.Common.{visiting, widening, ℕ, ◌++◌, ◌+◌, ◌∙◌, ◌∷◌, ◌≡◌}
 use Rattle.rpl_code.specs.declared.instruction.Instruction.TheVariants as I
-use Rattle.rpl_tree.specs.declared.words.OneWord.{OneWord}
-use Rattle.rpl_tree.specs.declared.words.OneWord.TheVariants.{Not, Minus, Known, Length, Month, Day, Year}
-use Rattle.rpl_tree.specs.declared.words.TwoWord.{TwoWord}
-use Rattle.rpl_tree.specs.declared.words.TwoWord.TheVariants.{Or, And, Equal, Unequal, Less, LessEqual, Greater, GreaterEqual, Plus, Minus as Less_by}
-use Rattle.rpl_tree.specs.declared.words.TwoWord.TheVariants.{Times, Divide, Append, Item}
-use Rattle.rpl_tree.specs.declared.words.ConvertWord.{ConvertWord}
-use Rattle.rpl_tree.specs.declared.words.ConvertWord.TheVariants.{StorageToElevation, ElevationToStorage}
-use Rattle.rpl_tree.specs.Value.{Kind, truth_kind, date_kind, is_same_kind, element_of, room_of}
-use Rattle.rpl_tree.specs.Tree.{Tree, Trees, literal, truth, now, slot, name, call, brackets, list, choice, bind, each, mapped, one, two, convert, at}
-use Rattle.rpl_tree.specs.Tree.{no_trees, tree}
-use Rattle.rpl_verify.specs.Places.{Loop, visiting, mapping, Bracket, closing, level, opening, bracket, ends_before, loop_end, loop_ends, rest_of}
-use Rattle.rpl_compile.specs.Operations.{convert_line, difference_line, one_line, sum_line, target, test_line, two_lines, widening}
-use Rattle.rpl_compile.specs.Site.{Site, bound, keeping, knowing, on, over}
-use Rattle.rpl_compile.specs.Translate.{Callee, after_room, after_tree, kind_of_tree, room_lines, all_code, arguments_code, asked_code, call_by}
-use Rattle.rpl_compile.specs.Translate.{call_line, choice_lines, code_of, one_lines}
 use Rattle.rpl_compile.proofs.OfKind.{At}
+use Rattle.rpl_compile.proofs.Calling.{each_call}
 
 -- the loops that are open behind these lines are those that are open before them
 pub record IsBalanced (is : List Instruction) : Type 0 where
@@ -98,7 +90,6 @@ sum_level k = refl
 
 difference_level : (k l : Kind) → bracket (difference_line k l) ≡ level
 difference_level date_kind date_kind = refl
-difference_level date_kind l = refl
 difference_level k l = refl
 
 operator_level : (word : TwoWord) (k l : Kind) → IsBalanced (two_lines word k l)
@@ -119,35 +110,17 @@ operator_level Item k l = one_level I.Item refl
 
 word_level : (word : OneWord) → bracket (one_line word) ≡ level
 word_level Not = refl
-word_level Minus = refl
-word_level Known = refl
-word_level Length = refl
-word_level Month = refl
-word_level Day = refl
-word_level Year = refl
+word_level word = refl
 
 convert_level : (word : ConvertWord) (o : List ℕ) → bracket (convert_line word o) ≡ level
 convert_level StorageToElevation o = refl
 convert_level ElevationToStorage o = refl
 
 call_level : (callees : List Callee) (f : List ℕ) → bracket (call_line callees f) ≡ level
-call_level [] f = refl
-call_level (c ∷ callees) f = by (bytes_eq c.head.name f) (call_level callees f)
-  where
-    by : (t : Bool) → bracket (call_line callees f) ≡ level → bracket (if t then call_by f c.block else call_line callees f) ≡ level
-    by true later = called c.block
-      where
-        called : (o : Option ℕ) → bracket (call_by f o) ≡ level
-        called None = refl
-        called (Some n) = refl
-    by false later = later
+call_level callees f = each_call (λ i. bracket i ≡ level) f refl (λ n. refl) callees
 
 pub room_level : (place kind : Kind) → IsBalanced (widening place kind)
-room_level place kind = by (is_same_kind place kind)
-  where
-    by : (t : Bool) → IsBalanced (if t then [] else I.Widen (room_of place) ∷ [])
-    by true = no_lines
-    by false = one_level (I.Widen (room_of place)) refl
+room_level place kind = cond_both _ _ _ IsBalanced (λ e. no_lines) (λ e. one_level (I.Widen (room_of place)) refl)
 
 word_balanced : (word : OneWord) (e asked : List Instruction) → IsBalanced e → IsBalanced asked → IsBalanced (one_lines word e asked)
 word_balanced Known e asked b a = both_balanced asked _ a (one_level I.Known refl)
@@ -180,11 +153,6 @@ module _ (callees : List Callee) where
 
   mutual
     pub code_balanced : (t : Tree) (site : Site) → IsBalanced (code_of callees site t)
-    code_balanced (literal n unit) site = one_level _ refl
-    code_balanced (truth b) site = one_level _ refl
-    code_balanced now site = one_level _ refl
-    code_balanced (slot o s) site = one_level _ refl
-    code_balanced (name x) site = one_level _ refl
     code_balanced (call f ts) site = both_balanced _ _ (arguments_balanced ts _ site) (one_level _ (call_level callees f))
     code_balanced (brackets t) site = code_balanced t site
     code_balanced (list ts) site = both_balanced _ _ (all_balanced ts site) (one_level _ refl)
@@ -224,6 +192,7 @@ module _ (callees : List Callee) where
         (both_balanced _ _ (code_balanced r _) (operator_level word (kind_of_tree callees site l) (kind_of_tree callees site r)))
     code_balanced (convert word o e) site = both_balanced _ _ (code_balanced e site) (one_level _ (convert_level word o))
     code_balanced (at s d) site = both_balanced _ _ (code_balanced s site) (both_balanced _ _ (code_balanced d _) (one_level I.Read refl))
+    code_balanced t site = one_level _ refl
 
     asked_balanced : (t : Tree) (site : Site) → IsBalanced (asked_code callees site t)
     asked_balanced (at s d) site = both_balanced _ _ (code_balanced s site) (code_balanced d _)
@@ -234,8 +203,7 @@ module _ (callees : List Callee) where
     all_balanced (tree t ts) site = both_balanced _ _ (code_balanced t site) (all_balanced ts _)
 
     arguments_balanced : (ts : Trees) (kinds : List Kind) (site : Site) → IsBalanced (arguments_code callees site kinds ts)
-    arguments_balanced no_trees [] site = no_lines
-    arguments_balanced no_trees (kind ∷ kinds) site = no_lines
-    arguments_balanced (tree t ts) [] site = no_lines
     arguments_balanced (tree t ts) (kind ∷ kinds) site = both_balanced _ _ (code_balanced t site)
         (both_balanced _ _ (room_level kind (kind_of_tree callees site t)) (arguments_balanced ts kinds (over kind (after_room callees kind site t))))
+    arguments_balanced ts [] site = no_lines
+    arguments_balanced no_trees (kind ∷ kinds) site = no_lines

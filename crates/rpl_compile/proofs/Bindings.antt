@@ -1,19 +1,9 @@
 -- A value that is kept in a local, with a name.
-use Rattle.rw_base.proofs.Common.{◌≡◌, ℕ, suc, ◌+◌, ◌<◌, ◌≤◌, List, ◌∷◌, ◌++◌, length, set, Some, refl, ◌∙◌, subst, arith, slice_get}
-use Rattle.rw_base.proofs.Common.{slice_get_within}
-use Rattle.rpl_code.specs.declared.instruction.Instruction.{Instruction}
+use Rattle.rpl_compile.proofs.Common.{Env, Frame, Instruction, IsKinded, Kind, List, Outcome, Running, Site, Some, State, Tree, Value, after}
+use Rattle.rpl_compile.proofs.Common.{after_tree, arith, bind, bound, code_of, keeping, kind_at, kind_of_value, knowing, length, local_count}
+use Rattle.rpl_compile.proofs.Common.{local_kinds, names_in, on, refl, set, size, slice_get, slice_get_within, spent, subst, suc, value_of, weight, ℕ}
+use Rattle.rpl_compile.proofs.Common.{◌++◌, ◌+◌, ◌<◌, ◌>>=◌, ◌∙◌, ◌∷◌, ◌≡◌, ◌≤◌}
 use Rattle.rpl_code.specs.declared.instruction.Instruction.TheVariants as I
-use Rattle.rpl_tree.specs.Value.{Kind, Value, kind_of_value, weight}
-use Rattle.rpl_tree.specs.Outcome.{Outcome, after, spent, ◌>>=◌}
-use Rattle.rpl_tree.specs.Tree.{Tree, bind}
-use Rattle.rpl_tree.specs.Mean.{Env, value_of}
-use Rattle.rpl_tree.specs.Count.{local_count}
-use Rattle.rpl_tree.specs.Locals.{local_kinds}
-use Rattle.rpl_verify.specs.Machine.{Frame, Running, State}
-use Rattle.rpl_compile.specs.Size.{size}
-use Rattle.rpl_compile.specs.Site.{Site, bound, keeping, kind_at, knowing, names_in, on}
-use Rattle.rpl_compile.specs.Translate.{after_tree, code_of}
-use Rattle.rpl_compile.specs.Kinded.{IsKinded}
 use Rattle.rpl_compile.proofs.Goes.{Goes, goes_first}
 use Rattle.rpl_compile.proofs.OfKind.{At, HasKind, at_back, at_front, at_head, at_tail, set_before, set_here, set_long}
 use Rattle.rpl_compile.proofs.Sizes.{code-size}

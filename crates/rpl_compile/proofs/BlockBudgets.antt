@@ -1,36 +1,23 @@
 -- The budget of a declaration's block is what the declaration costs.
-use Rattle.rw_base.proofs.Common.{◌≡◌, ℕ, ◌+◌, ◌-◌, max, List, [], ◌∷◌, ◌++◌, reverse, Option, Ok, refl, ap, ap₂, ◌∙◌, arith}
-use Rattle.rw_model.specs.Draft.{Draft}
-use Rattle.rpl_code.specs.declared.instruction.Instruction.{Instruction}
-use Rattle.rpl_code.specs.declared.block.Block.{Block}
-use Rattle.rpl_tree.specs.Value.{Kind, weight, weights}
-use Rattle.rpl_tree.specs.Tree.{Tree, Acts, Parameter}
-use Rattle.rpl_tree.specs.Kinds.{Head, Names, takes_named}
-use Rattle.rpl_tree.specs.Budget.{Budget, budget, capped, limits}
-use Rattle.rpl_tree.specs.Cost.{Costed, Price, costed_heads, most_of_acts, most_of_body, param_names, price_of_looks, price_of_puts, price_of_steps}
-use Rattle.rpl_tree.specs.Words.{height, height_of_acts}
-use Rattle.rpl_tree.specs.Mean.{param_kinds}
-use Rattle.rpl_tree.specs.Locals.{acts_local_kinds, local_kinds}
-use Rattle.rpl_verify.specs.Kinds.{words_of_all}
-use Rattle.rpl_verify.specs.Places.{spots}
-use Rattle.rpl_verify.specs.Names.{Scope}
-use Rattle.rpl_verify.specs.Fits.{Before, before, befores, heads_of, scope_of}
-use Rattle.rpl_verify.specs.Budget.{budget_by, count_of, looks_of, puts_of, words_at}
-use Rattle.rpl_verify.specs.Notes.{words_kept}
-use Rattle.rpl_verify.proofs.Costs.{C, W}
-use Rattle.rpl_compile.specs.Operations.{code_kind, code_kinds}
-use Rattle.rpl_compile.specs.Site.{names_in, parameters_from}
-use Rattle.rpl_compile.specs.Kinded.{AreKindedActs, IsKindedBody}
-use Rattle.rpl_compile.specs.Translate.{Callee, call_by, callee_heads, function_block, rule_block}
+use Rattle.rpl_compile.proofs.Common.{Acts, AreKindedActs, Before, Block, Budget, C, Callee, Costed, Draft, Head, Instruction, IsKindedBody, Kind}
+use Rattle.rpl_compile.proofs.Common.{List, Names, Ok, Option, Parameter, Price, Scope, Tree, W, [], acts_local_kinds, ap, ap₂, arith, before}
+use Rattle.rpl_compile.proofs.Common.{befores, budget, budget_by, call_by, callee_heads, capped, code_kind, code_kinds, costed_heads, function_block}
+use Rattle.rpl_compile.proofs.Common.{heads_of, height, height_of_acts, limits, local_kinds, looks_of, max, most_of_acts, most_of_body, names_in}
+use Rattle.rpl_compile.proofs.Common.{param_kinds, param_names, parameters_from, price_of_looks, price_of_puts, price_of_steps, puts_of, refl}
+use Rattle.rpl_compile.proofs.Common.{reverse, rule_block, scope_of, spots, takes_named, weight, weights, words_at, words_kept, words_of_all, ℕ, ◌++◌}
+use Rattle.rpl_compile.proofs.Common.{◌+◌, ◌-◌, ◌∙◌, ◌∷◌, ◌≡◌}
+use Rattle.rpl_verify.specs.Budget.{count_of}
 use Rattle.rpl_compile.proofs.Placing.{has_all}
 use Rattle.rpl_compile.proofs.Counting.{Prices}
 use Rattle.rpl_compile.proofs.Costing.{CallsFit}
 use Rattle.rpl_compile.proofs.TreeCosts.{words_added}
 use Rattle.rpl_compile.proofs.Calling.{AreCallable, IsCallable, call_onward, calls_fit}
 use Rattle.rpl_compile.proofs.CallCosts.{AreCosted, CallCost, call_count, call_part, called_cost, costed_same, count_prices, counts_call, looks_call}
-use Rattle.rpl_compile.proofs.CallCosts.{looks_prices, puts_call, puts_prices, words_above, words_call, words_of_kinds}
-use Rattle.rpl_compile.proofs.BlockWays.{function_goes, parameter_names, rule_goes}
+use Rattle.rpl_compile.proofs.CallCosts.{looks_prices, puts_call, puts_prices, words_above, words_call}
+use Rattle.rpl_compile.proofs.BlockWays.{function_goes, rule_goes}
 use Rattle.rpl_compile.proofs.Paying.{paying_account, whole}
+use Rattle.rpl_compile.proofs.OfKind.{all_words_coded}
+use Rattle.rpl_compile.proofs.LocalFacts.{parameter_names}
 
 -- what the functions cost that can be called, in each of the four measures
 pub record AllCosted (budgets : List Budget) (callees : List Callee) (steps looks puts deep : List Costed) : Type 0 where
@@ -124,7 +111,7 @@ module _ (basin : Draft) (all : List Block) (number : ℕ) (callees : List Calle
       (most_of_acts price_of_puts puts [] body) high (before [] [])
       (g3.go (has_all lines) refl).0 g3.tall in
       let own : words_of_all scope.locals ≡ weights (acts_local_kinds (costed_heads deep) [] body) =
-      words_of_kinds (acts_local_kinds (callee_heads callees) [] body) ∙ ap (λ hs. weights (acts_local_kinds hs [] body)) deep_heads in
+      all_words_coded (acts_local_kinds (callee_heads callees) [] body) ∙ ap (λ hs. weights (acts_local_kinds hs [] body)) deep_heads in
       let last = w1.1 in
       record { by_count = w1.0; by_looks = w2.0; by_puts = w3.0; by_words = omega (arith, last, own) }
 
@@ -174,7 +161,7 @@ module _ (basin : Draft) (all : List Block) (number : ℕ) (callees : List Calle
       let bound_names : Names = names_in (parameters_from 0 params) in
       let own : words_of_all scope.locals ≡ weights (param_kinds params) + weights (local_kinds (costed_heads deep) names body) =
       words_added given (code_kinds (local_kinds (callee_heads callees) bound_names body))
-      ∙ ap₂ (λ m n. m + n) (words_of_kinds (param_kinds params)) (words_of_kinds (local_kinds (callee_heads callees) bound_names body)
+      ∙ ap₂ (λ m n. m + n) (all_words_coded (param_kinds params)) (all_words_coded (local_kinds (callee_heads callees) bound_names body)
       ∙ ap₂ (λ hs ns. weights (local_kinds hs ns body)) deep_heads (parameter_names 0 params)) in
       let last = w1.1 in
       record { by_count = w1.0; by_looks = w2.0; by_puts = w3.0; by_words = omega (arith, last, own) }

@@ -1,33 +1,19 @@
 -- The code of a declaration leads from nothing to what its block leaves, and comes to what the declaration costs.
-use Rattle.rw_base.proofs.Common.{◌≡◌, ℕ, suc, ◌+◌, max, List, [], ◌∷◌, length, refl, sym, ap, ◌∙◌, subst, arith}
-use Rattle.rw_model.specs.Draft.{Draft}
-use Rattle.rpl_code.specs.declared.kind.ValueKind.{ValueKind}
-use Rattle.rpl_code.specs.declared.instruction.Instruction.{Instruction}
-use Rattle.rpl_code.specs.declared.block.Block.{Block}
-use Rattle.rpl_tree.specs.Value.{Kind, weight}
-use Rattle.rpl_tree.specs.Tree.{Tree, Acts, Parameter}
-use Rattle.rpl_tree.specs.Kinds.{Head, Names, kind_of_type, tree_kind}
-use Rattle.rpl_tree.specs.Cost.{Costed, Price, costed_heads, most, most_of_acts, most_of_body, param_names, to_widen}
-use Rattle.rpl_tree.specs.Words.{height, height_of_acts}
-use Rattle.rpl_tree.specs.Mean.{param_kinds}
-use Rattle.rpl_tree.specs.Locals.{acts_local_kinds, local_kinds}
-use Rattle.rpl_verify.specs.Names.{Scope}
-use Rattle.rpl_verify.specs.Fits.{before, scope_of}
-use Rattle.rpl_verify.specs.Notes.{words_kept}
-use Rattle.rpl_compile.specs.Operations.{code_kind, code_kinds}
-use Rattle.rpl_compile.specs.Site.{BoundName, Site, behind, names_in, parameters_from, start}
-use Rattle.rpl_compile.specs.Kinded.{AreKindedActs, IsKindedBody}
-use Rattle.rpl_compile.specs.Translate.{Callee, callee_heads, function_block, rule_block}
+use Rattle.rpl_compile.proofs.Common.{Acts, AreKindedActs, Block, BoundName, Callee, Costed, Draft, Head, Instruction, IsKindedBody, Kind, List}
+use Rattle.rpl_compile.proofs.Common.{Names, Parameter, Price, Scope, Site, Tree, ValueKind, [], acts_local_kinds, ap, arith, before, behind}
+use Rattle.rpl_compile.proofs.Common.{callee_heads, code_kind, code_kinds, costed_heads, function_block, height, height_of_acts, length, local_kinds}
+use Rattle.rpl_compile.proofs.Common.{max, most, most_of_acts, most_of_body, names_in, param_kinds, param_names, parameters_from, refl, rule_block}
+use Rattle.rpl_compile.proofs.Common.{scope_of, start, subst, suc, sym, to_widen, tree_kind, weight, words_kept, ℕ, ◌+◌, ◌∙◌, ◌∷◌, ◌≡◌}
 use Rattle.rpl_compile.proofs.Sizes.{code-size}
-use Rattle.rpl_compile.proofs.LocalFacts.{Placed}
+use Rattle.rpl_compile.proofs.LocalFacts.{Placed, parameter_names}
 use Rattle.rpl_compile.proofs.Placing.{HasAt, has_all, has_behind, has_front}
 use Rattle.rpl_compile.proofs.Counting.{Account}
 use Rattle.rpl_compile.proofs.Going.{Goes, goes_as, goes_then}
 use Rattle.rpl_compile.proofs.WordLines.{widen_goes}
-use Rattle.rpl_compile.proofs.TreeCosts.{words_weight}
 use Rattle.rpl_compile.proofs.FlowingTrees.{flows}
 use Rattle.rpl_compile.proofs.Costing.{CallsFit, Costing}
 use Rattle.rpl_compile.proofs.FlowingActs.{flows_acts}
+use Rattle.rpl_compile.proofs.OfKind.{words_coded}
 
 -- ---- parameters
 
@@ -37,10 +23,6 @@ parameters_placed locals n [] h = tt
 parameters_placed locals n (p ∷ ps) h =
     let z : suc n ≡ n + 1 = omega arith in
     (h.0, parameters_placed locals (n + 1) ps (subst (λ m. HasAt locals m (code_kinds (param_kinds ps))) z h.1))
-
-pub parameter_names : (n : ℕ) (ps : List Parameter) → names_in (parameters_from n ps) ≡ param_names ps
-parameter_names n [] = refl
-parameter_names n (p ∷ ps) = ap (λ (names : Names). (p.name, kind_of_type p.of_type) ∷ names) (parameter_names (n + 1) ps)
 
 pub parameter_count : (ps : List Parameter) → length (code_kinds (param_kinds ps)) ≡ length ps
 parameter_count [] = refl
@@ -119,7 +101,7 @@ module _ (basin : Draft) (all : List Block) (number : ℕ) (callees : List Calle
       } in
       let g = flows costing body site [] kinded.0 placed own_there in
       let low = g.tall in
-      let w = words_weight result in
+      let w = words_coded result in
       let sum : most_by result body heads (names_in bounds) ≡ most_by result body (costed_heads functions) (param_names params) =
       ap (λ hs. most_by result body hs (names_in bounds)) same_heads ∙ ap (most_by result body (costed_heads functions)) (parameter_names 0 params) in
       let high : height deep (names_in bounds) body ≡ height deep (param_names params) body =

@@ -1,34 +1,25 @@
 -- The blocks of a ruleset, as they are written, are those that TRANSLATE gives.
-use Rattle.rw_base.proofs.Common.{◌≡◌, ◌+◌, ℕ, List, [], ◌∷◌, drop, length, length-map, Some, IsSome, refl, sym, ap, ◌∙◌, subst, arith, false≢true}
-use Rattle.rw_base.proofs.Common.{AllByRecursion, drop-append_seam}
-use Rattle.rw_model.proofs.Common.{Draft, IsBasin}
-use Rattle.rpl_code.specs.declared.block.BlockHead.TheVariants.{Rule, Function}
-use Rattle.rpl_tree.specs.Tree.{numeric, boolean, datetime, slot_type, numeric_list, slot_list}
-use Rattle.rpl_tree.specs.Value.{slots_kind}
-use Rattle.rpl_tree.proofs.Common.{Acts, Declared, Parameter, Tree, TypeName, function, rule, kind_of_type, local_kinds, numbers_kind, param_kinds}
-use Rattle.rpl_tree.proofs.Common.{param_names}
-use Rattle.rpl_compile.specs.Kinded.{AreKinded, AreKindedActs, AreKindedFrom, IsKinded, IsKindedBody}
-use Rattle.rpl_compile.specs.Operations.{code_kind, code_kinds}
-use Rattle.rpl_compile.specs.Rooms.{AreRoomy, HasListRoom, HaveRoom}
-use Rattle.rpl_compile.specs.Site.{bound, names_in, parameters_from, start}
-use Rattle.rpl_compile.specs.Translate.{Callee, blocks_from, callee_heads, function_block, kind_of_tree, predefined_callees, rule_block, translate}
-use Rattle.rpl_compile.specs.Written.{begun, begun_function, written_function, written_from, written_kind, written_parameters, written_rule}
-use Rattle.rpl_compile.specs.Written.{written_takes}
+use Rattle.rpl_compile.proofs.Common.{Acts, AllByRecursion, AreKinded, AreKindedActs, AreKindedFrom, AreRoomy, Callee, Declared, Draft, HasListRoom}
+use Rattle.rpl_compile.proofs.Common.{HaveRoom, IsBasin, IsKinded, IsKindedBody, IsSome, List, Parameter, Rule, Some, Tree, TypeName, [], ap, begun}
+use Rattle.rpl_compile.proofs.Common.{begun_function, blocks_from, bound, callee_heads, code_kind, code_kinds, drop, drop-append_seam, false≢true}
+use Rattle.rpl_compile.proofs.Common.{function, function_block, kind_of_tree, kind_of_type, length, length-map, local_kinds, names_in, numbers_kind}
+use Rattle.rpl_compile.proofs.Common.{numeric_list, param_kinds, param_names, parameters_from, predefined_callees, refl, rule, rule_block, slot_list}
+use Rattle.rpl_compile.proofs.Common.{slots_kind, start, subst, sym, translate, written_from, written_function, written_kind, written_parameters}
+use Rattle.rpl_compile.proofs.Common.{written_rule, written_takes, ℕ, ◌+◌, ◌∙◌, ◌∷◌, ◌≡◌}
+use Rattle.rpl_code.specs.declared.block.BlockHead.TheVariants.{Function}
 use Rattle.rpl_compile.proofs.ActClaims.{claim_acts}
 use Rattle.rpl_compile.proofs.Claims.{claim}
 use Rattle.rpl_compile.proofs.Plain.{IsSpelt, short_is}
 use Rattle.rpl_compile.proofs.AtSites.{At, room_at}
 use Rattle.rpl_compile.proofs.Texts.{small_text}
+use Rattle.rpl_compile.proofs.LocalFacts.{parameter_names, many_params}
 
 -- ---- types that are written
 
 kind_is : (written : TypeName) → HasListRoom written → written_kind written ≡ kind_of_type written
-kind_is (numeric unit) h = refl
-kind_is boolean h = refl
-kind_is datetime h = refl
-kind_is (slot_type unit) h = refl
 kind_is (numeric_list m unit) h = ap numbers_kind (short_is _ h.1)
 kind_is (slot_list m unit) h = ap slots_kind (short_is _ h.1)
+kind_is _ h = refl
 
 takes_are : (params : List Parameter) → HaveRoom params → written_takes params ≡ param_kinds params
 takes_are [] h = refl
@@ -37,14 +28,6 @@ takes_are (p ∷ ps) h = λ i. kind_is p.of_type h.0 i ∷ takes_are ps h.1 i
 parameters_are : (n : ℕ) (params : List Parameter) → HaveRoom params → written_parameters n params ≡ parameters_from n params
 parameters_are n [] h = refl
 parameters_are n (p ∷ ps) h = λ i. bound p.name (kind_is p.of_type h.0 i) n ∷ parameters_are (n + 1) ps h.1 i
-
-names_are : (n : ℕ) (params : List Parameter) → names_in (parameters_from n params) ≡ param_names params
-names_are n [] = refl
-names_are n (p ∷ ps) = ap (λ names. (p.name, kind_of_type p.of_type) ∷ names) (names_are (n + 1) ps)
-
-takes_long : (params : List Parameter) → length (param_kinds params) ≡ length params
-takes_long [] = refl
-takes_long (p ∷ ps) = let rest = takes_long ps in omega (arith, rest)
 
 predefined_spelt : AllByRecursion IsSpelt predefined_callees
 predefined_spelt = (
@@ -81,7 +64,7 @@ module _ (basin : Draft) (valid : IsBasin basin) where
       let site = start scope (length params) in
       let takes = code_kinds (param_kinds params) in
       let kind = kind_is result room in
-      let long : length takes ≡ length params = length-map (param_kinds params) code_kind ∙ takes_long params in
+      let long : length takes ≡ length params = length-map (param_kinds params) code_kind ∙ many_params params in
       let begin : At (begun_function params) site takes [] = record {
         scope = parameters_are 0 params rooms;
         below = refl;
@@ -91,7 +74,7 @@ module _ (basin : Draft) (valid : IsBasin basin) where
         place = refl;
       } in
       let inside : IsKinded basin (callee_heads callees) (names_in scope) body =
-      subst (λ names. IsKinded basin (callee_heads callees) names body) (sym (names_are 0 params)) h.0 in
+      subst (λ names. IsKinded basin (callee_heads callees) names body) (sym (parameter_names 0 params)) h.0 in
       let own = claim basin callees spelled valid body _ site _ _ begin inside in
       let left = room_at _ _ (kind_of_type result) (kind_of_tree callees site body) kind own.kind own.on in
       let kept = code_kinds (local_kinds (callee_heads callees) (names_in scope) body) in

@@ -1,32 +1,16 @@
 -- A function of the ruleset: its block does what its body means, and a call of it does what the function does.
-use Rattle.rw_base.proofs.Common.{◌≡◌, ℕ, suc, ◌+◌, ◌-◌, ◌≤◌, Bool, true, false, nat_le, List, [], ◌∷◌, ◌++◌, length, map, reverse, reverse-reverse}
-use Rattle.rw_base.proofs.Common.{length-reverse, length-append, map-append, Some, None, Ok, Err, refl, sym, ap, ap₂, ◌∙◌, subst, arith, slice_get}
-use Rattle.rw_base.proofs.Common.{slice_get-map, option_map, if◌then◌else◌, eq-eqb, length-map}
-use Rattle.rw_model.specs.Objects.{numbered}
+use Rattle.rpl_compile.proofs.Common.{Block, Bool, BoundName, Callee, Env, Err, FitsIn, Frame, Function, IsKinded, IsKindedBody, Kind, List, None, Ok}
+use Rattle.rpl_compile.proofs.Common.{Outcome, Parameter, Site, Some, Tree, Value, World, WrongOperand, [], ap, ap₂, are_same_kinds, arith, begin}
+use Rattle.rpl_compile.proofs.Common.{blank, block_heads, callee_heads, code_kind, code_kinds, code_of, end_kinds, eq-eqb, false, function_block}
+use Rattle.rpl_compile.proofs.Common.{function_heads, function_of, gives, handed_back, if◌then◌else◌, invoke_row, invoked, is_stuck, kind_at}
+use Rattle.rpl_compile.proofs.Common.{kind_of_type, kinds_of, left_of, length, length-append, length-map, length-reverse, local_kinds, map}
+use Rattle.rpl_compile.proofs.Common.{map-append, names_in, nat_le, numbered, operand_count, option_map, param_kinds, param_names, parameters_from}
+use Rattle.rpl_compile.proofs.Common.{refl, returned, reverse, reverse-reverse, room_lines, row_in, same_kinds_refl, size, slice_get, slice_get-map}
+use Rattle.rpl_compile.proofs.Common.{spent, start, step, step_at, step_in, subst, suc, sym, tree_kind, true, value_of, weights, widened}
+use Rattle.rpl_compile.proofs.Common.{widening_size, with_arguments, words_of_all, ℕ, ◌++◌, ◌+◌, ◌-◌, ◌>>=◌, ◌∙◌, ◌∷◌, ◌≡◌, ◌≤◌}
 use Rattle.rpl_code.specs.declared.instruction.Instruction.TheVariants as I
-use Rattle.rpl_code.specs.declared.block.Block.{Block}
-use Rattle.rpl_tree.specs.Value.{Kind, Value, weights}
-use Rattle.rpl_tree.specs.Outcome.{Outcome, gives, is_stuck, spent, ◌>>=◌}
-use Rattle.rpl_tree.specs.World.{World}
-use Rattle.rpl_tree.specs.Operators.{widened}
-use Rattle.rpl_tree.specs.Tree.{Tree, Parameter}
-use Rattle.rpl_tree.specs.Kinds.{Names, kind_of_type, tree_kind}
-use Rattle.rpl_tree.specs.Cost.{param_names}
-use Rattle.rpl_tree.specs.Mean.{Env, Function, function_of, function_heads, param_kinds, value_of, with_arguments}
-use Rattle.rpl_tree.specs.Locals.{local_kinds}
-use Rattle.rpl_verify.specs.declared.verify_kind.VerifyKind.TheVariants.{WrongOperand}
-use Rattle.rpl_verify.specs.Kinds.{are_same_kinds, words_of_all}
-use Rattle.rpl_verify.specs.Table.{invoke_row, left_of, operand_count}
-use Rattle.rpl_verify.specs.Fits.{end_kinds, heads_of as block_heads}
-use Rattle.rpl_verify.specs.Operations.{blank, kinds_of}
-use Rattle.rpl_verify.specs.Machine.{Frame, at_place, begin, handed_back, invoked, onward, returned, row_in, step, step_at, step_in}
-use Rattle.rpl_verify.proofs.KindFacts.{same_kinds_refl}
+use Rattle.rpl_verify.specs.Machine.{at_place, onward}
 use Rattle.rpl_verify.proofs.Stepping.{kinds_turned}
-use Rattle.rpl_compile.specs.Operations.{code_kind, code_kinds, widening_size}
-use Rattle.rpl_compile.specs.Size.{size}
-use Rattle.rpl_compile.specs.Site.{BoundName, Site, kind_at, names_in, parameters_from, start}
-use Rattle.rpl_compile.specs.Translate.{Callee, callee_heads, code_of, function_block, room_lines}
-use Rattle.rpl_compile.specs.Kinded.{FitsIn, IsKinded, IsKindedBody}
 use Rattle.rpl_compile.proofs.Goes.{Goes, goes_first, goes_free}
 use Rattle.rpl_compile.proofs.OfKind.{At, HasKind, HaveKinds, all_words_coded, as_many, at_all, at_back, at_front, at_head, at_moved, at_tail}
 use Rattle.rpl_compile.proofs.OfKind.{kind_coded, kinds_are, drop_front, take_front}
@@ -36,6 +20,7 @@ use Rattle.rpl_compile.proofs.Steps.{does}
 use Rattle.rpl_compile.proofs.Room.{in_room}
 use Rattle.rpl_compile.proofs.Trees.{tree_goes}
 use Rattle.std.proofs.lemmas.Option.{slice_get_past}
+use Rattle.rpl_compile.proofs.LocalFacts.{parameter_names, many_params}
 
 -- ---- lists
 
@@ -47,14 +32,6 @@ numbered_heads code n x h = by (nat_le 1 n) h
     by false h = absurd (cc h)
 
 -- ---- parameters
-
-scope_names : (n : ℕ) (params : List Parameter) → names_in (parameters_from n params) ≡ param_names params
-scope_names n [] = refl
-scope_names n (p ∷ ps) = ap (λ (l : Names). (p.name, kind_of_type p.of_type) ∷ l) (scope_names (n + 1) ps)
-
-many_params : (params : List Parameter) → length (param_kinds params) ≡ length params
-many_params [] = refl
-many_params (p ∷ ps) = ap suc (many_params ps)
 
 -- the parameters stand for the arguments
 holds_arguments : (kinds : List Kind) (n : ℕ) (params : List Parameter) (args ls : List Value) (free : ℕ) → At ls n args
@@ -119,10 +96,10 @@ module _ (code : List Block) (world : World) where
     }
 
     body_kinded : IsKinded world.basin (callee_heads callees) (names_in scope) body
-    body_kinded = subst (λ names. IsKinded world.basin (callee_heads callees) names body) (sym (scope_names 0 params)) kinded.0
+    body_kinded = subst (λ names. IsKinded world.basin (callee_heads callees) names body) (sym (parameter_names 0 params)) kinded.0
 
     body_fits : FitsIn result (kind_at (callee_heads callees) site body)
-    body_fits = subst (λ names. FitsIn result (tree_kind (callee_heads callees) names body)) (sym (scope_names 0 params)) kinded.1
+    body_fits = subst (λ names. FitsIn result (tree_kind (callee_heads callees) names body)) (sym (parameter_names 0 params)) kinded.1
 
     abbrev end : ℕ
     end = 0 + (size (callee_heads callees) (names_in scope) body + widening_size result (kind_at (callee_heads callees) site body))

@@ -1,26 +1,15 @@
 -- What calls come to: of a predefined function, and of one whose block has a budget.
-use Rattle.rw_base.proofs.Common.{◌≡◌, ◌≤◌, ◌<◌, ℕ, zero, suc, ◌+◌, ◌-◌, nat_le, Bool, true, false, ◌||◌, List, [], ◌∷◌, ◌++◌, length, bytes_eq}
-use Rattle.rw_base.proofs.Common.{Option, Some, None, refl, ap, ap₂, ◌∙◌, arith, IsTrue, list_any, if◌then◌else◌, slice_get}
-use Rattle.rw_model.specs.Objects.{numbered}
-use Rattle.rpl_code.specs.declared.instruction.Instruction.{Instruction}
+use Rattle.rpl_compile.proofs.Common.{Before, BlockHead, Bool, Budget, Callee, Costed, HasHead, Head, Instruction, IsTrue, List, None, Option, Scope}
+use Rattle.rpl_compile.proofs.Common.{Some, [], ap, ap₂, arith, bytes_eq, call_by, call_line, callee_heads, costed_heads, false, if◌then◌else◌}
+use Rattle.rpl_compile.proofs.Common.{length, list_any, looks_of, most_named, nat_le, numbered, numbered_is, part_of, predefined_callees}
+use Rattle.rpl_compile.proofs.Common.{predefined_costs, price_of_looks, price_of_puts, price_of_steps, puts_of, refl, slice_get, suc, true, weights}
+use Rattle.rpl_compile.proofs.Common.{words_at, words_kept, words_of_kind, words_of_parameters, zero, ℕ, ◌++◌, ◌+◌, ◌-◌, ◌<◌, ◌||◌, ◌∙◌, ◌∷◌, ◌≡◌}
+use Rattle.rpl_compile.proofs.Common.{◌≤◌}
 use Rattle.rpl_code.specs.declared.instruction.Instruction.TheVariants as I
-use Rattle.rpl_code.specs.declared.block.BlockHead.{BlockHead}
-use Rattle.rpl_tree.specs.Value.{Kind, weights}
-use Rattle.rpl_tree.specs.Kinds.{Head}
-use Rattle.rpl_tree.specs.Budget.{Budget}
-use Rattle.rpl_tree.specs.Cost.{Costed, costed_heads, most_named, predefined_costs, price_of_looks, price_of_puts, price_of_steps}
-use Rattle.rpl_verify.specs.Kinds.{words_of_all}
-use Rattle.rpl_verify.specs.Names.{Scope}
-use Rattle.rpl_verify.specs.Fits.{Before}
-use Rattle.rpl_verify.specs.Budget.{count_of, looks_of, part_of, puts_of, words_at, words_of_kind, words_of_parameters}
-use Rattle.rpl_verify.specs.Notes.{words_kept}
-use Rattle.rpl_verify.proofs.Accepted.{numbered_is}
-use Rattle.rpl_compile.specs.Operations.{code_kinds}
-use Rattle.rpl_compile.specs.Kinded.{HasHead}
-use Rattle.rpl_compile.specs.Translate.{Callee, call_by, call_line, callee_heads, predefined_callees}
+use Rattle.rpl_verify.specs.Budget.{count_of}
 use Rattle.rpl_compile.proofs.Counting.{IsUnit, Prices}
-use Rattle.rpl_compile.proofs.TreeCosts.{words_weight}
-use Rattle.rpl_compile.proofs.Calling.{AreCallable, IsCallable}
+use Rattle.rpl_compile.proofs.Calling.{AreCallable, IsCallable, each_call}
+use Rattle.rpl_compile.proofs.OfKind.{all_words_coded}
 
 -- ---- prices
 
@@ -130,17 +119,13 @@ called_cost all number cost price f at (c ∷ callees) (g ∷ functions) a h has
     by true has later = at c.head c.block a.0 ∙ h.1
     by false has later = later has
 
-pub words_of_kinds : (ks : List Kind) → words_of_all (code_kinds ks) ≡ weights ks
-words_of_kinds [] = refl
-words_of_kinds (k ∷ ks) = let e = words_of_kinds ks in let w = words_weight k in omega (arith, e, w)
-
 module _ (scope : Scope) (budgets : List Budget) (b : Before) (f : List ℕ) where
   pub counts_call : (head : Head) (block : Option ℕ) → IsCallable scope.heads scope.number head block
       → count_of scope budgets b (call_by f block) ≡ call_count budgets head block
   counts_call head None h = refl
   counts_call head (Some n) h =
       let w : words_of_parameters (numbered scope.heads n) ≡ weights head.takes =
-      ap words_of_parameters h.there ∙ words_of_kinds head.takes in omega (arith, w)
+      ap words_of_parameters h.there ∙ all_words_coded head.takes in omega (arith, w)
 
   pub looks_call : (head : Head) (block : Option ℕ) → IsCallable scope.heads scope.number head block
       → looks_of scope budgets b (call_by f block) ≡ call_part (λ (b : Budget). b.looks) budgets head block
@@ -159,14 +144,8 @@ module _ (scope : Scope) (budgets : List Budget) (b : Before) (f : List ℕ) whe
   words_call head (Some n) h = omega arith
 
   pub words_above : (callees : List Callee) → words_kept scope.locals b ≤ words_at scope budgets b (call_line callees f)
-  words_above [] = omega arith
-  words_above (c ∷ callees) = by (bytes_eq c.head.name f) c.block (words_above callees)
-    where
-      by : (t : Bool) (block : Option ℕ) → words_kept scope.locals b ≤ words_at scope budgets b (call_line callees f)
-          → words_kept scope.locals b ≤ words_at scope budgets b (if t then call_by f block else call_line callees f)
-      by true None h = omega arith
-      by true (Some n) h = omega arith
-      by false block h = h
+  words_above callees =
+      each_call (λ i. words_kept scope.locals b ≤ words_at scope budgets b i) f (omega arith) (λ n. omega arith) callees
 
 -- ---- predefined functions
 

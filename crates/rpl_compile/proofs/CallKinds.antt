@@ -1,26 +1,16 @@
 -- A call finds the function that its type was found by: predefined ones and declared ones are looked up in different orders, but no two
 -- have one name.
-use Rattle.rw_base.proofs.Common.{◌≡◌, ◌==◌, inl, arith, nat_tests, subst, ℕ, ℤ, pos, int_le, unsigned_abs, Bool, true, false, ◌&&◌, ◌||◌, List, []}
-use Rattle.rw_base.proofs.Common.{◌∷◌, ◌++◌, length, map, replicate, bytes_eq, Option, Some, None, is_some, Ok, Err, refl, sym, ap, ap₂, ◌∙◌}
-use Rattle.rw_base.proofs.Common.{if◌then◌else◌, bytes_eq-Decides, codes}
-use Rattle.rw_base.specs.Dimension.{Dimension, times_per_of}
-use Rattle.rw_base.specs.Unit.{units, unit_in}
-use Rattle.std.specs.List.{list_any}
-use Rattle.rpl_tree.specs.declared.rpl_type.RplType.{RplType}
-use Rattle.rpl_tree.specs.declared.rpl_type.RplType.TheVariants.{Numeric, Boolean, Datetime, Slot, NumericList, SlotList}
-use Rattle.rpl_tree.specs.Value.{Kind, number_kind}
-use Rattle.rpl_tree.specs.Tree.{TypeName, numeric, boolean, datetime, slot_type, numeric_list, slot_list, Parameter}
-use Rattle.rpl_tree.specs.Kinds.{Head, Names, kind_of_type, result_named, takes_named}
-use Rattle.rpl_tree.specs.Cost.{param_names}
-use Rattle.rpl_tree.specs.Mean.{function_heads, param_kinds, predefined_functions}
-use Rattle.rpl_types.specs.declared.type_kind.TypeKind.TheVariants.{DuplicateName, ListTooLong, NotEarlier, UnknownName, WrongCount, WrongType}
-use Rattle.rpl_types.specs.Fits.{Typed, arguments_misfit, longest, misfit, misfit_among, misfit_in_places}
-use Rattle.rpl_types.specs.Forms.{TypeScope, a_dimension}
-use Rattle.rpl_types.specs.Functions.{Callable, Signature, call_type, called_type, count_named, declared_type, head_misfit, is_duplicate, made_by}
-use Rattle.rpl_types.specs.Functions.{measured_by, numbers_type, param_scope, predefined_count, product_over_type, refusal_in, repeats_name}
-use Rattle.rpl_types.specs.Functions.{signature, signature_named, type_here, type_or_plain, unknown_type, with_room, with_unit, written_type}
-use Rattle.rpl_types.specs.Judged.{head_refusal}
-use Rattle.rpl_compile.specs.Kinded.{FitsIn, HasHead}
+use Rattle.rpl_compile.proofs.Common.{Bool, Boolean, Callable, Datetime, Dimension, DuplicateName, Err, FitsIn, HasHead, Head, Kind, List}
+use Rattle.rpl_compile.proofs.Common.{ListTooLong, Names, None, NotEarlier, Numeric, NumericList, Ok, Option, Parameter, RplType, Signature, Slot}
+use Rattle.rpl_compile.proofs.Common.{SlotList, Some, TypeName, TypeScope, Typed, UnknownName, WrongCount, [], a_dimension, ap, ap₂, arguments_misfit}
+use Rattle.rpl_compile.proofs.Common.{arith, boolean, bytes_eq, bytes_eq-Decides, call_type, called_type, cond_both, count_named, datetime}
+use Rattle.rpl_compile.proofs.Common.{declared_type, false, function_heads, head_misfit, head_refusal, if◌then◌else◌, inl, int_le, is_duplicate}
+use Rattle.rpl_compile.proofs.Common.{is_some, kind_of_type, length, list_any, longest, made_by, map, measured_by, misfit, misfit_among}
+use Rattle.rpl_compile.proofs.Common.{misfit_in_places, nat_tests, number_kind, numbers_type, numeric, numeric_list, param_kinds, param_names}
+use Rattle.rpl_compile.proofs.Common.{param_scope, pos, predefined_count, predefined_functions, product_over_type, refl, refusal_in, repeats_name}
+use Rattle.rpl_compile.proofs.Common.{replicate, result_named, signature, signature_named, slot_list, slot_type, subst, sym, takes_named}
+use Rattle.rpl_compile.proofs.Common.{times_per_of, true, type_here, type_or_plain, unit_in, units, unknown_type, unsigned_abs, with_room, with_unit}
+use Rattle.rpl_compile.proofs.Common.{written_type, ℕ, ℤ, ◌&&◌, ◌++◌, ◌==◌, ◌||◌, ◌∙◌, ◌∷◌, ◌≡◌}
 use Rattle.rpl_compile.proofs.TypeKinds.{AreAlike, kind_of_rpl_type, kinds_fit, measured, none_of_two, numbers_alike, same_kind, typed, unrefused}
 
 abbrev pub kinds_of_types : List RplType → List Kind
@@ -155,12 +145,10 @@ unit_found None made t h = absurd (cc h)
 unit_found (Some unit) made t h = (unit.0, h)
 
 room_found : (m : ℤ) (made : ℕ → RplType) (t : RplType) → with_room m made ≡ Ok t → kind_of_rpl_type (made (unsigned_abs m)) ≡ kind_of_rpl_type t
-room_found m made t h = by (int_le (pos 1) m && int_le m (pos longest)) h
-  where
-    by : (test : Bool) → (if test then typed (made (unsigned_abs m)) else Err ListTooLong) ≡ Ok t
-        → kind_of_rpl_type (made (unsigned_abs m)) ≡ kind_of_rpl_type t
-    by true h = same_kind (made (unsigned_abs m)) t h
-    by false h = absurd (cc h)
+room_found m made t h =
+    cond_both (int_le (pos 1) m && int_le m (pos longest)) (typed (made (unsigned_abs m))) (Err ListTooLong)
+    (λ judged. judged ≡ Ok t → kind_of_rpl_type (made (unsigned_abs m)) ≡ kind_of_rpl_type t)
+    (λ e. same_kind (made (unsigned_abs m)) t) (λ e h. absurd (cc h)) h
 
 written_kind : (w : TypeName) (t : RplType) → written_type w ≡ Ok t → kind_of_type w ≡ kind_of_rpl_type t
 written_kind (numeric unit) t h = let q = unit_found (unit_in units unit) (λ d. Ok (Numeric d)) t h in same_kind (Numeric q.0) t q.1
@@ -282,22 +270,13 @@ made_of_numbers made (_ ∷ ts) t h = absurd (cc h)
 
 made_of_product : (ts : List RplType) (t : RplType) → product_over_type ts ≡ Ok t → (number_kind ≡ kind_of_rpl_type t) × AreAlike number_kind ts
 made_of_product (Numeric a ∷ Numeric b ∷ Numeric c ∷ []) t h = (measured (a_dimension (times_per_of a b c)) t h, (refl, (refl, (refl, tt))))
-made_of_product [] t h = absurd (cc h)
-made_of_product (Numeric a ∷ []) t h = absurd (cc h)
-made_of_product (Numeric a ∷ Numeric b ∷ []) t h = absurd (cc h)
-made_of_product (Numeric a ∷ Numeric b ∷ Numeric c ∷ d ∷ ts) t h = absurd (cc h)
-made_of_product (Numeric a ∷ Numeric b ∷ _ ∷ ts) t h = absurd (cc h)
-made_of_product (Numeric a ∷ _ ∷ ts) t h = absurd (cc h)
-made_of_product (_ ∷ ts) t h = absurd (cc h)
+made_of_product _ t h = absurd (cc h)
 
 made_of_arguments : (f : List ℕ) (ts : List RplType) (t : RplType) → made_by f ts ≡ Ok t
     → (number_kind ≡ kind_of_rpl_type t) × AreAlike number_kind ts
-made_of_arguments f ts t h = by (bytes_eq (codes "MulDiv") f) h
-  where
-    by : (test : Bool) → (if test then product_over_type ts else numbers_type (measured_by f) ts) ≡ Ok t
-        → (number_kind ≡ kind_of_rpl_type t) × AreAlike number_kind ts
-    by true h = made_of_product ts t h
-    by false h = made_of_numbers (measured_by f) ts t h
+made_of_arguments f ts t h =
+    cond_both _ _ _ (λ made. made ≡ Ok t → (number_kind ≡ kind_of_rpl_type t) × AreAlike number_kind ts) (λ e. made_of_product ts t)
+    (λ e. made_of_numbers (measured_by f) ts t) h
 
 pub call_takes : (callable : Callable) (heads : List Head) (f : List ℕ) (ts : List RplType) (t : RplType) → Matches callable.earlier heads
     → call_type callable f ts ≡ Ok t

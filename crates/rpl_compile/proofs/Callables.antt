@@ -1,24 +1,12 @@
 -- Functions that can be called: the predefined ones, and one more.
-use Rattle.rw_base.proofs.Common.{◌≡◌, ℕ, zero, suc, Bool, true, false, ◌||◌, List, [], ◌∷◌, ◌++◌, length, map, reverse, reverse-reverse}
-use Rattle.rw_base.proofs.Common.{length-reverse, replicate, Some, None, Ok, IsTrue, refl, sym, ap, ap₂, ◌∙◌, subst, bytes_eq, list_any}
-use Rattle.rw_base.proofs.Common.{if◌then◌else◌, length-replicate}
-use Rattle.rw_model.specs.Objects.{numbered}
+use Rattle.rpl_compile.proofs.Common.{Block, Bool, Callee, Function, HasHead, Head, IsTrue, Kind, List, None, Ok, Some, State, Value, World, [], ap}
+use Rattle.rpl_compile.proofs.Common.{ap₂, bytes_eq, call_by, call_line, call_row, called, callee_heads, code_kind, cond_both, false, function_heads}
+use Rattle.rpl_compile.proofs.Common.{function_named, if◌then◌else◌, kinds_of, left_of, length, length-replicate, length-reverse, list_any, locals_of}
+use Rattle.rpl_compile.proofs.Common.{map, number_kind, numbered, of_function, operand_count, or_wrong, predefined_callees, predefined_functions}
+use Rattle.rpl_compile.proofs.Common.{refl, replicate, result_named, reverse, reverse-reverse, same_kinds_refl, subst, suc, sym, takes_named, true}
+use Rattle.rpl_compile.proofs.Common.{unless_there, zero, ℕ, ◌++◌, ◌||◌, ◌∙◌, ◌∷◌, ◌≡◌}
 use Rattle.rpl_code.specs.declared.kind.ValueKind.TheVariants as K
 use Rattle.rpl_code.specs.declared.instruction.Instruction.TheVariants as I
-use Rattle.rpl_code.specs.declared.block.Block.{Block}
-use Rattle.rpl_tree.specs.Value.{Kind, number_kind, Value}
-use Rattle.rpl_tree.specs.World.{World}
-use Rattle.rpl_tree.specs.Kinds.{Head, result_named, takes_named}
-use Rattle.rpl_tree.specs.Mean.{Function, called, function_heads, predefined_functions}
-use Rattle.rpl_verify.specs.Table.{call_row, function_named, left_of, operand_count, or_wrong}
-use Rattle.rpl_verify.specs.Names.{unless_there}
-use Rattle.rpl_verify.specs.Fits.{locals_of}
-use Rattle.rpl_verify.specs.Operations.{kinds_of, of_function}
-use Rattle.rpl_verify.specs.Machine.{State}
-use Rattle.rpl_verify.proofs.KindFacts.{same_kinds_refl}
-use Rattle.rpl_compile.specs.Operations.{code_kind}
-use Rattle.rpl_compile.specs.Kinded.{HasHead}
-use Rattle.rpl_compile.specs.Translate.{Callee, call_by, call_line, callee_heads, predefined_callees}
 use Rattle.rpl_compile.proofs.Goes.{Goes}
 use Rattle.rpl_compile.proofs.OfKind.{HasKind, HaveKinds, coded_kinds, kind_coded}
 use Rattle.rpl_compile.proofs.Rows.{AllHave, all_turned, all_roomy}
@@ -72,12 +60,9 @@ all_numeric = ((refl, refl), ((refl, refl), ((refl, refl), ((refl, refl), ((refl
 
 named_numeric : (fs : List Function) (f : List ℕ) (known : Function) → AreNumeric fs → function_named fs f ≡ Some known → IsNumeric known
 named_numeric [] f known all h = absurd (cc h)
-named_numeric (fn ∷ fs) f known all h = by (bytes_eq fn.head.name f) h (named_numeric fs f known all.1)
-  where
-    by : (t : Bool) → (if t then Some fn else function_named fs f) ≡ Some known → (function_named fs f ≡ Some known → IsNumeric known)
-        → IsNumeric known
-    by true h later = let q : fn ≡ known = cc h in subst IsNumeric q all.0
-    by false h later = later h
+named_numeric (fn ∷ fs) f known all h =
+    cond_both (bytes_eq fn.head.name f) (Some fn) (function_named fs f) (λ found. found ≡ Some known → IsNumeric known)
+    (λ e h. let q : fn ≡ known = cc h in subst IsNumeric q all.0) (λ e. named_numeric fs f known all.1) h
 
 all_have : (n : ℕ) (k : Kind) (vs : List Value) → HaveKinds (replicate n k) vs → AllHave k vs × (length vs ≡ n)
 all_have zero k [] h = (tt, refl)

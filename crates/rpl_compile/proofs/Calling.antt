@@ -1,24 +1,14 @@
 -- Calls of functions that stand before a block fit in it.
-use Rattle.rw_base.proofs.Common.{◌≡◌, ◌<◌, ◌≤◌, ℕ, nat_lt, Bool, true, false, ◌||◌, List, [], ◌∷◌, ◌++◌, length, replicate, reverse, bytes_eq}
-use Rattle.rw_base.proofs.Common.{Option, Some, None, Ok, refl, sym, ap, ◌∙◌, arith, nat_tests, IsTrue, list_any, if◌then◌else◌, bytes_eq-Decides}
-use Rattle.rw_model.specs.Objects.{numbered}
-use Rattle.rpl_code.specs.declared.kind.ValueKind.{ValueKind}
+use Rattle.rpl_compile.proofs.Common.{Before, BlockHead, Bool, Callee, HasHead, Head, Instruction, IsTrue, LaterCall, List, None, Ok, Open, Option}
+use Rattle.rpl_compile.proofs.Common.{Predefined, Scope, Some, ValueKind, VerifyKind, [], ap, arith, before, bytes_eq, bytes_eq-Decides, call_by}
+use Rattle.rpl_compile.proofs.Common.{call_line, call_misfit, call_row, callee_heads, code_kind, code_kinds, cond_both, false, function_named}
+use Rattle.rpl_compile.proofs.Common.{going_of, if◌then◌else◌, invoke_row, judged_at, length, list_any, nat_lt, nat_tests, numbered, onward}
+use Rattle.rpl_compile.proofs.Common.{predefined_callees, predefined_functions, refl, replicate, result_named, reverse, sym, taken, takes_named, true}
+use Rattle.rpl_compile.proofs.Common.{unless_misfit, unless_there, ℕ, ◌++◌, ◌<◌, ◌||◌, ◌∙◌, ◌∷◌, ◌≡◌, ◌≤◌}
 use Rattle.rpl_code.specs.declared.kind.ValueKind.TheVariants as K
 use Rattle.rpl_code.specs.declared.instruction.Instruction.TheVariants as I
-use Rattle.rpl_code.specs.declared.block.BlockHead.{BlockHead}
 use Rattle.rpl_code.specs.declared.block.BlockHead.TheVariants.{Function}
-use Rattle.rpl_tree.specs.Kinds.{Head, result_named, takes_named}
-use Rattle.rpl_tree.specs.Mean.{Function as Predefined, predefined_functions}
-use Rattle.rpl_verify.specs.declared.verify_kind.VerifyKind.{VerifyKind}
-use Rattle.rpl_verify.specs.declared.verify_kind.VerifyKind.TheVariants.{LaterCall}
-use Rattle.rpl_verify.specs.Table.{call_row, function_named, invoke_row}
-use Rattle.rpl_verify.specs.Names.{Scope, call_misfit, unless_there}
-use Rattle.rpl_verify.specs.Fits.{Before, Open, before, judged_at, taken, unless_misfit}
-use Rattle.rpl_compile.specs.Operations.{code_kind, code_kinds}
-use Rattle.rpl_compile.specs.Kinded.{HasHead}
-use Rattle.rpl_compile.specs.Translate.{Callee, call_by, call_line, callee_heads, predefined_callees}
 use Rattle.rpl_compile.proofs.Going.{takes_kinds}
-use Rattle.rpl_verify.specs.Budget.{onward, going_of}
 
 -- in a block of this scope, a call of each function fits that there is
 abbrev pub LinesFit : Scope → List Callee → Type 0
@@ -27,15 +17,18 @@ LinesFit scope callees =
     → judged_at scope p (before (reverse (code_kinds (takes_named (callee_heads callees) f)) ++ ls) os) (call_line callees f)
     ≡ Ok (before (code_kind (result_named (callee_heads callees) f) ∷ ls) os)
 
-pub call_onward : (callees : List Callee) (f : List ℕ) → going_of (call_line callees f) ≡ onward
-call_onward [] f = refl
-call_onward (c ∷ callees) f = by (bytes_eq c.head.name f) c.block (call_onward callees f)
+-- what holds of a call by name and of one of each block holds of each call
+pub each_call : (P : Instruction → Type 0) (f : List ℕ) → P (I.Call f) → ((n : ℕ) → P (I.Invoke n)) → (callees : List Callee)
+    → P (call_line callees f)
+each_call P f named of_block [] = named
+each_call P f named of_block (c ∷ callees) = cond_both _ _ _ P (λ e. by c.block) (λ e. each_call P f named of_block callees)
   where
-    by : (t : Bool) (block : Option ℕ) → going_of (call_line callees f) ≡ onward
-        → going_of (if t then call_by f block else call_line callees f) ≡ onward
-    by true None h = refl
-    by true (Some n) h = refl
-    by false block h = h
+    by : (block : Option ℕ) → P (call_by f block)
+    by None = named
+    by (Some n) = of_block n
+
+pub call_onward : (callees : List Callee) (f : List ℕ) → going_of (call_line callees f) ≡ onward
+call_onward callees f = each_call (λ i. going_of i ≡ onward) f refl (λ n. refl) callees
 
 -- a predefined function of that head, which takes numbers and answers one
 pub record IsPredefined (head : Head) : Type 0 where

@@ -1,24 +1,10 @@
 -- IF, and OR and AND, which stand for an IF each.
-use Rattle.rw_base.proofs.Common.{◌≡◌, ℕ, suc, ◌+◌, ◌≤◌, Bool, true, false, List, [], ◌∷◌, ◌++◌, length, Some, refl, sym, ap, ap₂, ◌∙◌, subst, arith}
-use Rattle.rw_base.proofs.Common.{slice_get}
-use Rattle.rpl_code.specs.declared.instruction.Instruction.{Instruction}
+use Rattle.rpl_compile.proofs.Common.{And, Bool, Env, Frame, Instruction, IsKinded, Kind, List, Or, Outcome, Running, Site, Some, State, Tree, Value}
+use Rattle.rpl_compile.proofs.Common.{[], a_truth, after, after_room, after_tree, ap, ap₂, arith, choice, choice_lines, chosen, code_kinds, code_of}
+use Rattle.rpl_compile.proofs.Common.{false, gives, keeping, kind_at, kind_in, kinds_of, length, local_count, local_kinds, names_in, on, refl}
+use Rattle.rpl_compile.proofs.Common.{room_lines, size, slice_get, spent, subst, suc, sym, target, tree_kind, true, truth_kind, two, value_of}
+use Rattle.rpl_compile.proofs.Common.{widened, widening_size, ℕ, ◌++◌, ◌+◌, ◌>>=◌, ◌∙◌, ◌∷◌, ◌≡◌, ◌≤◌}
 use Rattle.rpl_code.specs.declared.instruction.Instruction.TheVariants as I
-use Rattle.rpl_tree.specs.declared.words.TwoWord.TheVariants.{Or, And}
-use Rattle.rpl_tree.specs.Value.{Kind, truth_kind, Value, a_truth}
-use Rattle.rpl_tree.specs.Outcome.{Outcome, after, gives, spent, ◌>>=◌}
-use Rattle.rpl_tree.specs.Operators.{chosen, widened}
-use Rattle.rpl_tree.specs.Tree.{Tree, choice, two}
-use Rattle.rpl_tree.specs.Kinds.{tree_kind}
-use Rattle.rpl_tree.specs.Mean.{Env, kind_in, value_of}
-use Rattle.rpl_tree.specs.Count.{local_count}
-use Rattle.rpl_tree.specs.Locals.{local_kinds}
-use Rattle.rpl_verify.specs.Operations.{kinds_of}
-use Rattle.rpl_verify.specs.Machine.{Frame, Running, State}
-use Rattle.rpl_compile.specs.Operations.{code_kinds, target, widening_size}
-use Rattle.rpl_compile.specs.Size.{size}
-use Rattle.rpl_compile.specs.Site.{Site, keeping, kind_at, names_in, on}
-use Rattle.rpl_compile.specs.Translate.{after_room, after_tree, choice_lines, code_of, room_lines}
-use Rattle.rpl_compile.specs.Kinded.{IsKinded}
 use Rattle.rpl_compile.proofs.Goes.{Goes, after_after, goes_bind, goes_first, goes_none, goes_one, goes_weaker}
 use Rattle.rpl_compile.proofs.OfKind.{At, HasKind, at_back, at_front, at_head, at_moved, at_second, at_tail, kind_coded, truth_is}
 use Rattle.rpl_compile.proofs.Sizes.{beside, code-size, widening-size}

@@ -1,26 +1,15 @@
 -- The lines of expressions are those that TRANSLATE gives: loops, lists, calls, and all expressions.
-use Rattle.rw_base.proofs.Common.{◌≡◌, ℕ, ◌+◌, ◌-◌, List, [], ◌∷◌, ◌++◌, length, length-map, take, refl, sym, ap, ◌∙◌, subst, arith, AllByRecursion}
-use Rattle.rw_base.proofs.Common.{append-nil, append_assoc}
-use Rattle.rw_model.proofs.Common.{Draft, IsBasin}
-use Rattle.rpl_code.specs.declared.kind.ValueKind.{ValueKind}
-use Rattle.rpl_code.specs.declared.kind.ValueKind.TheVariants.{N}
-use Rattle.rpl_code.specs.declared.instruction.Instruction.{Instruction}
+use Rattle.rpl_compile.proofs.Common.{AllByRecursion, AreArguments, AreOfKind, Callee, Draft, Instruction, IsBasin, Kind, List, N, Site, Tree, Trees}
+use Rattle.rpl_compile.proofs.Common.{ValueKind, Written, [], after_room, after_tree, all_code, all_local_kinds, ap, append-nil, append_assoc}
+use Rattle.rpl_compile.proofs.Common.{arguments_code, arith, at, bind, bound, brackets, call, call_line, callee_heads, callee_named, choice}
+use Rattle.rpl_compile.proofs.Common.{code_kind, code_kinds, code_of, compiled, compiled_all, compiled_arguments, convert, convert_line, count_of}
+use Rattle.rpl_compile.proofs.Common.{date_kind, each, element_of, first_ahead, first_kind, keeping, kind_named, kind_of_tree, knowing, length}
+use Rattle.rpl_compile.proofs.Common.{length-map, list, list_kind, literal, local_count, local_kinds, local_named, mapped, name, names_in, no_trees}
+use Rattle.rpl_compile.proofs.Common.{now, number_in_units, number_kind, number_line, on, one, one_kind, one_line, over, refl, room_lines, size, slot}
+use Rattle.rpl_compile.proofs.Common.{slot_kind, spelt_name, subst, sym, take, tree, truth, truth_kind, two, ℕ, ◌++◌, ◌+◌, ◌-◌, ◌∙◌, ◌∷◌, ◌≡◌}
 use Rattle.rpl_code.specs.declared.instruction.Instruction.TheVariants as I
 use Rattle.rpl_tree.specs.declared.words.OneWord.TheVariants as One
 use Rattle.rpl_tree.specs.declared.words.TwoWord.TheVariants as Two
-use Rattle.rpl_tree.specs.Count.{local_count}
-use Rattle.rpl_tree.specs.Kinds.{one_kind}
-use Rattle.rpl_tree.specs.Value.{date_kind, list_kind, slot_kind, truth_kind}
-use Rattle.rpl_tree.proofs.Common.{Kind, all_local_kinds, count_of, element_of, first_kind, kind_named, local_kinds, number_kind, Tree, Trees}
-use Rattle.rpl_tree.proofs.Common.{literal, truth, now, slot, name, call, brackets, list, choice, bind, each, mapped, one, two, convert, at, no_trees}
-use Rattle.rpl_tree.proofs.Common.{tree}
-use Rattle.rpl_compile.specs.Kinded.{AreArguments, AreOfKind}
-use Rattle.rpl_compile.specs.Operations.{code_kind, code_kinds, convert_line, number_line, one_line}
-use Rattle.rpl_compile.specs.Site.{Site, bound, keeping, knowing, local_named, names_in, on, over}
-use Rattle.rpl_compile.specs.Size.{size}
-use Rattle.rpl_compile.specs.Translate.{Callee, after_room, after_tree, all_code, arguments_code, call_line, callee_heads, code_of, kind_of_tree}
-use Rattle.rpl_compile.specs.Translate.{room_lines}
-use Rattle.rpl_compile.specs.Written.{Written, callee_named, compiled, compiled_all, compiled_arguments, first_ahead, number_in_units, spelt_name}
 use Rattle.rpl_compile.proofs.Forms.{Claim, codes_append, ended, gathered_twice, on_and, on_at, on_bind, on_choice, on_known, on_leaf, on_mapped}
 use Rattle.rpl_compile.proofs.Forms.{on_one, on_or, on_two, two_more}
 use Rattle.rpl_compile.proofs.KindsFound.{first_is}

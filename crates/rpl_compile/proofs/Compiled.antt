@@ -1,17 +1,8 @@
 -- What a ruleset that was accepted gives the call that compiles it.
-use Rattle.rw_base.proofs.Common.{◌≡◌, ◌∙◌, List, Result, Ok, Err, IsOk, refl, sym, ap, subst}
-use Rattle.rw_model.specs.Draft.{Draft}
-use Rattle.rpl_tree.specs.Seen.{rules_of}
+use Rattle.rpl_compile.proofs.Common.{AreLimited, Block, Draft, Err, IsOk, IsTyped, List, Ok, Refusal, Result, accepted_code, ap, refl, rules_judged}
+use Rattle.rpl_compile.proofs.Common.{rules_of, subst, sym, translate, verified, ◌∙◌, ◌≡◌}
 use Rattle.rpl_tree.specs.declared.rules.ParsedRules.{ParsedRules}
-use Rattle.rpl_types.specs.HasType.{IsTyped}
-use Rattle.rpl_types.specs.Judged.{rules_judged}
 use Rattle.rpl_types.proofs.Accepted.{accepted}
-use Rattle.rpl_code.specs.declared.block.Block.{Block}
-use Rattle.rpl_parse.specs.Bounds.{AreLimited}
-use Rattle.rpl_verify.specs.Fits.{Refusal}
-use Rattle.rpl_verify.specs.Verified.{verified}
-use Rattle.rpl_compile.specs.Budgets.{accepted_code}
-use Rattle.rpl_compile.specs.Translate.{translate}
 use Rattle.rpl_compile.proofs.CompiledBudgets.{compiled_code_is_accepted}
 
 is_answer : {A E : Type 0} (r : Result A E) → IsOk r → (x : A) × (r ≡ Ok x)

@@ -1,35 +1,16 @@
 -- Code of a ruleset that is accepted is accepted, with the budgets of its declarations.
-use Rattle.rw_base.proofs.Common.{max, ◌≡◌, ◌≤◌, ℕ, suc, ◌+◌, ◌-◌, nat_le, nat_lt, Bool, true, false, ◌&&◌, List, [], ◌∷◌, ◌++◌, length, slice_index}
-use Rattle.rw_base.proofs.Common.{Option, Some, None, Result, Ok, Err, refl, sym, ap, ap₂, ◌∙◌, subst, arith, nat_tests, append_assoc, append-nil}
-use Rattle.rw_base.proofs.Common.{length-append, if◌then◌else◌, slice_get}
-use Rattle.rw_model.specs.Draft.{Draft}
-use Rattle.rw_model.specs.Objects.{numbered}
-use Rattle.rpl_code.specs.declared.block.Block.{Block}
-use Rattle.rpl_code.specs.declared.block.BlockHead.{BlockHead}
-use Rattle.rpl_tree.specs.Value.{weight, weights}
-use Rattle.rpl_tree.specs.Tree.{Tree, Acts, Parameter, TypeName, Declared, rule, function}
-use Rattle.rpl_tree.specs.Kinds.{Head, kind_of_type}
-use Rattle.rpl_tree.specs.Mean.{param_kinds}
-use Rattle.rpl_tree.specs.Budget.{Budget, budget, budget_of, capped, limits}
-use Rattle.rpl_tree.specs.Cost.{Costed, Price, costed_heads, costs, costs_from, most_of_acts, most_of_body, param_names, predefined_costs}
-use Rattle.rpl_tree.specs.Cost.{price_of_looks, price_of_puts, price_of_steps}
-use Rattle.rpl_tree.specs.Words.{height, height_of_acts, words_of_rules, words_from}
-use Rattle.rpl_tree.specs.Locals.{acts_local_kinds, local_kinds}
-use Rattle.rpl_parse.specs.Bounds.{function_count, rule_count}
-use Rattle.rpl_types.specs.declared.type_kind.TypeKind.TheVariants.{TooCostly}
-use Rattle.rpl_types.specs.Functions.{Signature}
-use Rattle.rpl_types.specs.HasType.{AreDeclared, IsTyped}
-use Rattle.rpl_types.specs.Judged.{and_function, cost_refusal, is_affordable}
-use Rattle.rpl_verify.specs.declared.verify_kind.VerifyKind.{VerifyKind}
-use Rattle.rpl_verify.specs.declared.verify_kind.VerifyKind.TheVariants.{TooCostly as Costly, TooDeep, TooManyPuts, TooManyReads}
-use Rattle.rpl_verify.specs.Fits.{Before, Misplaced, at_place, each_block, heads_of, in_block, scope_of, then_do}
-use Rattle.rpl_verify.specs.Budget.{IsWithinLimits, block_ruling, budget_by, part_of, ruling, within_limits}
-use Rattle.rpl_verify.specs.Verified.{verified, with_budgets}
-use Rattle.rpl_verify.proofs.KindFacts.{and_true}
-use Rattle.rpl_verify.proofs.Accepted.{numbered_by}
-use Rattle.rpl_compile.specs.Budgets.{accepted_code, budgets_from, code_budgets_of}
-use Rattle.rpl_compile.specs.Kinded.{AreKindedFrom}
-use Rattle.rpl_compile.specs.Translate.{Callee, blocks_from, callee_heads, function_block, predefined_callees, rule_block, translate}
+use Rattle.rpl_compile.proofs.Common.{Acts, AreDeclared, AreKindedFrom, Before, Block, BlockHead, Bool, Budget, Callee, Costed, Costly, Declared}
+use Rattle.rpl_compile.proofs.Common.{Draft, Err, Head, IsTyped, IsWithinLimits, List, Misplaced, None, Ok, Option, Parameter, Price, Result}
+use Rattle.rpl_compile.proofs.Common.{Signature, Some, TooCostly, TooDeep, TooManyPuts, TooManyReads, Tree, TypeName, VerifyKind, [], accepted_code}
+use Rattle.rpl_compile.proofs.Common.{acts_local_kinds, and_function, and_true, ap, append-nil, append_assoc, ap₂, arith, at_place, block_ruling}
+use Rattle.rpl_compile.proofs.Common.{blocks_from, budget, budget_by, budget_of, budgets_from, callee_heads, capped, code_budgets_of, cost_refusal}
+use Rattle.rpl_compile.proofs.Common.{costed_heads, costs, costs_from, each_block, false, function, function_block, function_count, heads_of, height}
+use Rattle.rpl_compile.proofs.Common.{height_of_acts, if◌then◌else◌, in_block, is_affordable, kind_of_type, length, length-append, limits}
+use Rattle.rpl_compile.proofs.Common.{local_kinds, max, most_of_acts, most_of_body, nat_le, nat_lt, nat_tests, numbered, numbered_by, param_kinds}
+use Rattle.rpl_compile.proofs.Common.{param_names, part_of, predefined_callees, predefined_costs, price_of_looks, price_of_puts, price_of_steps, refl}
+use Rattle.rpl_compile.proofs.Common.{rule, rule_block, rule_count, ruling, scope_of, slice_get, slice_index, subst, suc, sym, then_do, translate}
+use Rattle.rpl_compile.proofs.Common.{true, unless, verified, weight, weights, with_budgets, within_limits, words_from, words_of_rules, ℕ, ◌&&◌, ◌++◌}
+use Rattle.rpl_compile.proofs.Common.{◌+◌, ◌-◌, ◌∙◌, ◌∷◌, ◌≡◌, ◌≤◌}
 use Rattle.rpl_compile.proofs.Placing.{has_behind}
 use Rattle.rpl_compile.proofs.TypedKinds.{typed_is_kinded}
 use Rattle.rpl_compile.proofs.Calling.{AreCallable, calls_fit}
@@ -66,20 +47,12 @@ limited b h =
       words = at_most b.words limits.words one.1;
     }
 
-abbrev answered : Budget → Result Budget VerifyKind
-answered b = Ok b
-
 passes_limits : (b : Budget) → IsWithinLimits b → within_limits b ≡ Ok b
 passes_limits b h =
-    ap (λ t. if t then Err Costly else
-    (if nat_lt limits.looks b.looks then Err TooManyReads else
-    (if nat_lt limits.puts b.puts then Err TooManyPuts else (if nat_lt limits.words b.words then Err TooDeep else answered b))))
-    (not_above b.count limits.count h.count)
-    ∙ ap (λ t. if t then Err TooManyReads else
-    (if nat_lt limits.puts b.puts then Err TooManyPuts else (if nat_lt limits.words b.words then Err TooDeep else answered b)))
-    (not_above b.looks limits.looks h.looks)
-    ∙ ap (λ t. if t then Err TooManyPuts else (if nat_lt limits.words b.words then Err TooDeep else answered b)) (not_above b.puts limits.puts h.puts)
-    ∙ ap (λ t. if t then Err TooDeep else answered b) (not_above b.words limits.words h.words)
+    unless (nat_lt limits.count b.count) (Err Costly) _ (not_above b.count limits.count h.count)
+    ∙ unless (nat_lt limits.looks b.looks) (Err TooManyReads) _ (not_above b.looks limits.looks h.looks)
+    ∙ unless (nat_lt limits.puts b.puts) (Err TooManyPuts) _ (not_above b.puts limits.puts h.puts)
+    ∙ unless (nat_lt limits.words b.words) (Err TooDeep) _ (not_above b.words limits.words h.words)
 
 -- ---- on the way through a ruleset
 

@@ -1,22 +1,12 @@
 -- Code of a ruleset fits the basin, where the ruleset is of the kinds that are asked for and has no more declarations than there may be.
-use Rattle.rw_base.proofs.Common.{◌≡◌, ◌<◌, ◌≤◌, ℕ, suc, ◌+◌, ◌-◌, nat_lt, Bool, true, false, List, [], ◌∷◌, ◌++◌, length, Some, option_map, Result}
-use Rattle.rw_base.proofs.Common.{Ok, Err, refl, sym, ap, ◌∙◌, arith, nat_tests, append_assoc, length-append, if◌then◌else◌, slice_get, slice_get-map}
-use Rattle.rw_model.specs.Draft.{Draft}
-use Rattle.rw_model.specs.Objects.{numbered}
-use Rattle.rpl_code.specs.declared.kind.ValueKind.{ValueKind}
-use Rattle.rpl_code.specs.declared.block.Block.{Block}
-use Rattle.rpl_code.specs.declared.block.BlockHead.{BlockHead}
-use Rattle.rpl_code.specs.declared.block.BlockHead.TheVariants.{Rule, Function}
-use Rattle.rpl_tree.specs.Tree.{Tree, Acts, Parameter, TypeName, Declared, rule, function}
-use Rattle.rpl_tree.specs.Kinds.{kind_of_type}
-use Rattle.rpl_tree.specs.Mean.{param_kinds}
-use Rattle.rpl_parse.specs.Bounds.{function_count, rule_count}
-use Rattle.rpl_verify.specs.declared.verify_kind.VerifyKind.TheVariants.{TooMany}
-use Rattle.rpl_verify.specs.Fits.{AreFit, Before, Misplaced, Refusal, before, befores, block_befores, count_alike, each_block, heads_of, in_block}
-use Rattle.rpl_verify.specs.Fits.{is_alike, refusal_in_result, scope_of}
-use Rattle.rpl_verify.proofs.Accepted.{numbered_by}
-use Rattle.rpl_compile.specs.Kinded.{AreKinded, AreKindedFrom}
-use Rattle.rpl_compile.specs.Translate.{Callee, blocks_from, callee_heads, function_block, predefined_callees, rule_block, translate}
+use Rattle.rpl_compile.proofs.Common.{Acts, AreFit, AreKinded, AreKindedFrom, Before, Block, BlockHead, Bool, Callee, Declared, Draft, Err, List}
+use Rattle.rpl_compile.proofs.Common.{Misplaced, Ok, Parameter, Refusal, Result, Rule, Some, TooMany, Tree, TypeName, ValueKind, [], ap, append_assoc}
+use Rattle.rpl_compile.proofs.Common.{arith, before, befores, block_befores, blocks_from, callee_heads, count_alike, each_block, false, function}
+use Rattle.rpl_compile.proofs.Common.{function_block, function_count, heads_of, if◌then◌else◌, in_block, is_alike, kind_of_type, length}
+use Rattle.rpl_compile.proofs.Common.{length-append, nat_lt, nat_tests, numbered, numbered_by, option_map, param_kinds, predefined_callees, refl}
+use Rattle.rpl_compile.proofs.Common.{refusal_in_result, rule, rule_block, rule_count, scope_of, slice_get, slice_get-map, suc, sym, translate, true}
+use Rattle.rpl_compile.proofs.Common.{ℕ, ◌++◌, ◌+◌, ◌-◌, ◌<◌, ◌∙◌, ◌∷◌, ◌≡◌, ◌≤◌}
+use Rattle.rpl_code.specs.declared.block.BlockHead.TheVariants.{Function}
 use Rattle.rpl_compile.proofs.Placing.{has_behind}
 use Rattle.rpl_compile.proofs.Calling.{AreCallable, callable_later, calls_fit, predefined_callable}
 use Rattle.rpl_compile.proofs.Fitting.{BlockFits, function_fits, rule_fits}

@@ -1,30 +1,18 @@
 -- Where code of a declaration stands, and what it is told in.
-use Rattle.rw_base.proofs.Common.{max, ◌≡◌, ℕ, ◌+◌, List, [], ◌∷◌, ◌++◌, length, reverse, Some, Ok, refl, sym, ap, ◌∙◌, arith, slice_get}
-use Rattle.rpl_code.specs.declared.kind.ValueKind.{ValueKind}
-use Rattle.rpl_code.specs.declared.instruction.Instruction.{Instruction}
+use Rattle.rpl_compile.proofs.Common.{Before, Callee, Costed, HasHead, Head, Instruction, IsKinded, Kind, List, Names, Ok, Open, Price, Scope, Site}
+use Rattle.rpl_compile.proofs.Common.{Some, Tree, ValueKind, [], ap, arith, before, behind, call_line, callee_heads, code_kind, code_kinds, code_of}
+use Rattle.rpl_compile.proofs.Common.{costed_heads, going_of, height, judged_at, length, local_kinds, max, most, most_named, names_in, onward, refl}
+use Rattle.rpl_compile.proofs.Common.{result_named, reverse, slice_get, spots, sym, takes_named, to_widen, tree_kind, weight, words_kept, ℕ, ◌++◌}
+use Rattle.rpl_compile.proofs.Common.{◌+◌, ◌∙◌, ◌∷◌, ◌≡◌}
 use Rattle.rpl_code.specs.declared.instruction.Instruction.TheVariants as I
-use Rattle.rpl_tree.specs.Value.{Kind, weight}
-use Rattle.rpl_tree.specs.Tree.{Tree}
-use Rattle.rpl_tree.specs.Kinds.{Head, Names, result_named, takes_named, tree_kind}
-use Rattle.rpl_tree.specs.Locals.{local_kinds}
-use Rattle.rpl_verify.specs.Places.{spots}
-use Rattle.rpl_verify.specs.Budget.{onward, going_of}
-use Rattle.rpl_verify.specs.Notes.{words_kept}
-use Rattle.rpl_tree.specs.Cost.{Costed, Price, costed_heads, most, most_named, to_widen}
-use Rattle.rpl_tree.specs.Words.{height}
-use Rattle.rpl_verify.specs.Names.{Scope}
-use Rattle.rpl_verify.specs.Fits.{Before, Open, before, judged_at}
-use Rattle.rpl_compile.specs.Operations.{code_kind, code_kinds}
-use Rattle.rpl_compile.specs.Site.{Site, behind, names_in}
-use Rattle.rpl_compile.specs.Kinded.{HasHead, IsKinded}
-use Rattle.rpl_compile.specs.Translate.{Callee, call_line, callee_heads, code_of}
 use Rattle.rpl_compile.proofs.Sizes.{code-size}
-use Rattle.rpl_compile.proofs.LocalFacts.{Placed, kinds_back, kinds_front, locals_count}
+use Rattle.rpl_compile.proofs.LocalFacts.{Placed, kinds_back, kinds_front}
 use Rattle.rpl_compile.proofs.Placing.{HasAt}
 use Rattle.rpl_compile.proofs.Counting.{Account, IsInvoke}
 use Rattle.rpl_compile.proofs.Going.{Goes, goes_as, goes_line, goes_then, goes_to}
 use Rattle.rpl_compile.proofs.Lines.{load_fits, store_fits}
-use Rattle.rpl_compile.proofs.TreeCosts.{words_weight}
+use Rattle.rpl_compile.proofs.OfKind.{words_coded}
+use Rattle.rpl_compile.proofs.LocalSizes.{locals_size}
 
 -- in a block of this scope, a call of each function that there is fits, and comes to what the function costs
 pub record CallFits (scope : Scope) (lines : List Instruction) (pays : Price) (account : Account scope lines pays) (callees : List Callee)
@@ -103,14 +91,14 @@ module _ (costing : Costing) where
       → Leads (I.Store n ∷ []) p (before (code_kind k ∷ ls) os) (before ls os) (costing.pays.step (weight k)) (kept (before (code_kind k ∷ ls) os))
   stores p n k ls os h =
       told (line (store_fits costing.scope p n (code_kind k) ls os h) refl (λ x. x)
-      (costing.account.prices.store (before (code_kind k ∷ ls) os) n (code_kind k) h ∙ ap costing.pays.step (words_weight k)))
+      (costing.account.prices.store (before (code_kind k ∷ ls) os) n (code_kind k) h ∙ ap costing.pays.step (words_coded k)))
       refl (omega arith)
 
   pub loads : (p n : ℕ) (k : Kind) (ls : List ValueKind) (os : List Open) → slice_get costing.scope.locals n ≡ Some (code_kind k)
       → Leads (I.Load n ∷ []) p (before ls os) (before (code_kind k ∷ ls) os) (costing.pays.step (weight k)) (kept (before (code_kind k ∷ ls) os))
   loads p n k ls os h =
       told (line (load_fits costing.scope p n (code_kind k) ls os h) refl (λ x. x)
-      (costing.account.prices.load (before ls os) n (code_kind k) h ∙ ap costing.pays.step (words_weight k))) refl (omega arith)
+      (costing.account.prices.load (before ls os) n (code_kind k) h ∙ ap costing.pays.step (words_coded k))) refl (omega arith)
 
   abbrev pub kind_of_code : Site → Tree → Kind
   kind_of_code site t = tree_kind heads (names_in site.scope) t
@@ -154,7 +142,7 @@ module _ (costing : Costing) where
       → HasAt costing.scope.locals site.free (code_kinds (local_kinds heads (names_in site.scope) t ++ ks))
       → HasAt costing.scope.locals (behind heads t site).free (code_kinds ks)
   own_back site t ks h = kinds_back costing.scope.locals site.free _ (local_kinds heads (names_in site.scope) t) ks
-      (locals_count heads t (names_in site.scope)) h
+      (locals_size heads t (names_in site.scope)) h
 
   pub own_front : (site : Site) (t : Tree) (ks : List Kind)
       → HasAt costing.scope.locals site.free (code_kinds (local_kinds heads (names_in site.scope) t ++ ks)) → Own site t

@@ -1,7 +1,6 @@
 -- How many elements a list of trees has.
-use Rattle.rw_base.proofs.Common.{◌≡◌, List, [], ◌∷◌, length, refl, arith}
+use Rattle.rpl_compile.proofs.Common.{List, [], arith, count_of, length, refl, trees_in, ◌∷◌, ◌≡◌}
 use Rattle.rpl_tree.specs.declared.expression.Expr.{Expr}
-use Rattle.rpl_tree.proofs.Common.{count_of, trees_in}
 
 pub count_is : (es : List Expr) → count_of (trees_in es) ≡ length es
 count_is [] = refl

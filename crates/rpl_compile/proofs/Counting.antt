@@ -1,15 +1,7 @@
 -- What is told of a way through lines: what it comes to, and the most words that are kept on it. One account serves each reading.
-use Rattle.rw_base.proofs.Common.{◌≡◌, ◌≤◌, ◌<◌, ℕ, suc, ◌+◌, ◌*◌, max, List, ◌∷◌, Some, Ok, slice_get}
-use Rattle.rpl_code.specs.Weight.{words_of}
-use Rattle.rpl_code.specs.declared.kind.ValueKind.{ValueKind}
-use Rattle.rpl_code.specs.declared.instruction.Instruction.{Instruction}
+use Rattle.rpl_compile.proofs.Common.{Before, Instruction, List, Ok, Open, Price, Scope, Some, ValueKind, entering, going_of, judged_at, max, onward}
+use Rattle.rpl_compile.proofs.Common.{rest_of, room_on_top, slice_get, suc, turning, words_kept, words_of, ℕ, ◌*◌, ◌+◌, ◌<◌, ◌∷◌, ◌≡◌, ◌≤◌}
 use Rattle.rpl_code.specs.declared.instruction.Instruction.TheVariants as I
-use Rattle.rpl_tree.specs.Cost.{Price}
-use Rattle.rpl_verify.specs.Places.{rest_of}
-use Rattle.rpl_verify.specs.Names.{Scope}
-use Rattle.rpl_verify.specs.Fits.{Before, Open, judged_at, room_on_top}
-use Rattle.rpl_verify.specs.Budget.{entering, onward, turning, going_of}
-use Rattle.rpl_verify.specs.Notes.{words_kept}
 
 -- an instruction that counts 1, and neither looks nor puts nor calls a block
 abbrev pub IsUnit : Instruction → Type 0

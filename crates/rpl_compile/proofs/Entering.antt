@@ -1,20 +1,11 @@
 -- Elements of a list, and the beginning and the turns of a loop over them.
-use Rattle.rw_base.proofs.Common.{◌≡◌, ◌⊎◌, inl, inr, ℕ, suc, ◌≤◌, ℤ, Bool, List, [], ◌∷◌, length, map, drop, Some, Ok, refl, sym, ap, ap₂, ◌∙◌}
-use Rattle.rw_base.proofs.Common.{subst, arith, slice_get, if◌then◌else◌, length-map}
+use Rattle.rpl_compile.proofs.Common.{Bool, Frame, IsAnyList, Kind, List, Loop, Ok, Outcome, Running, Some, Value, [], a_number, a_slot, ap, ap₂}
+use Rattle.rpl_compile.proofs.Common.{arith, code_element_of, code_kind, code_kind_of, code_room_of, drop, element_of, elements_of, entered, gives}
+use Rattle.rpl_compile.proofs.Common.{goes_by, if◌then◌else◌, inl, inr, is_kind_refl, is_same_loop, is_that_kind, left_of, length, length-map}
+use Rattle.rpl_compile.proofs.Common.{loop_end, map, mapping, number_kind, numbers, numbers_kind, of_list, refl, room_of, slice_get, slot_kind, slots}
+use Rattle.rpl_compile.proofs.Common.{slots_kind, spent, step, stuck, subst, suc, sym, turned, value, visiting, with_elements, with_left, with_made}
+use Rattle.rpl_compile.proofs.Common.{ℕ, ℤ, ◌>>=◌, ◌∙◌, ◌∷◌, ◌≡◌, ◌≤◌, ◌⊎◌}
 use Rattle.rpl_code.specs.declared.instruction.Instruction.TheVariants as I
-use Rattle.rpl_tree.specs.Value.{Kind, number_kind, slot_kind, numbers_kind, slots_kind, Value, a_number, a_truth, a_date, a_slot, numbers, slots}
-use Rattle.rpl_tree.specs.Value.{element_of, room_of}
-use Rattle.rpl_tree.specs.Outcome.{Outcome, gives, spent, stuck, value, ◌>>=◌}
-use Rattle.rpl_tree.specs.Operators.{elements_of}
-use Rattle.rpl_tree.specs.Mean.{with_elements}
-use Rattle.rpl_verify.specs.Kinds.{element_kind as code_element_of, is_that_kind, list_room as code_room_of}
-use Rattle.rpl_verify.specs.Table.{goes_by, left_of, of_list}
-use Rattle.rpl_verify.specs.Places.{Loop, visiting, mapping, is_same_loop, loop_end}
-use Rattle.rpl_verify.specs.Operations.{kind_of as code_kind_of}
-use Rattle.rpl_verify.specs.Machine.{Frame, Running, entered, step, turned, with_left, with_made}
-use Rattle.rpl_verify.proofs.KindFacts.{is_kind_refl}
-use Rattle.rpl_compile.specs.Operations.{code_kind}
-use Rattle.rpl_compile.specs.Kinded.{IsAnyList}
 use Rattle.rpl_compile.proofs.Goes.{nothing_last, same_outcome}
 use Rattle.rpl_compile.proofs.OfKind.{HasKind}
 use Rattle.rpl_compile.proofs.Rows.{AllHave}
@@ -52,11 +43,7 @@ numbers_elements m (numbers n zs) h =
       room = e;
       row = refl;
     }
-numbers_elements m (a_number z) h = absurd (cc h.0)
-numbers_elements m (a_truth z) h = absurd (cc h.0)
-numbers_elements m (a_date z) h = absurd (cc h.0)
-numbers_elements m (a_slot z) h = absurd (cc h.0)
-numbers_elements m (slots n zs) h = absurd (cc h.0)
+numbers_elements m _ h = absurd (cc h.0)
 
 slots_elements : (m : ℕ) (v : Value) → HasKind (slots_kind m) v → Elements (slots_kind m) v
 slots_elements m (slots n ss) h =
@@ -70,11 +57,7 @@ slots_elements m (slots n ss) h =
       room = e;
       row = refl;
     }
-slots_elements m (a_number z) h = absurd (cc h.0)
-slots_elements m (a_truth z) h = absurd (cc h.0)
-slots_elements m (a_date z) h = absurd (cc h.0)
-slots_elements m (a_slot z) h = absurd (cc h.0)
-slots_elements m (numbers n zs) h = absurd (cc h.0)
+slots_elements m _ h = absurd (cc h.0)
 
 pub elements : (k : Kind) (v : Value) → IsAnyList k → HasKind k v → Elements k v
 elements k v l h = by l.0 l.1

@@ -1,25 +1,12 @@
 -- A firing of a rule by its code: with enough steps, and with as many as a firing has where the code is accepted.
-use Rattle.rw_base.proofs.Common.{◌≡◌, ℕ, zero, suc, ◌+◌, ℤ, List, [], ◌∷◌, Option, Some, IsSome, Result, Ok, Err, refl, sym, ap, ◌∙◌, subst, arith}
-use Rattle.rw_base.proofs.Common.{option_and_then, option_map}
-use Rattle.rw_base.specs.declared.number.Cell.{Cell}
-use Rattle.rw_model.specs.Draft.{Draft}
-use Rattle.rw_model.specs.Objects.{numbered}
+use Rattle.rpl_compile.proofs.Common.{Accepted, Answer, AreKinded, Block, Budget, Cell, Declared, Draft, Err, IsSome, List, Ok, Option, Outcome}
+use Rattle.rpl_compile.proofs.Common.{Refusal, Result, Some, State, Trail, World, [], after, answered, ap, arith, begin, ended, fire_of, first_frame}
+use Rattle.rpl_compile.proofs.Common.{gives, goes_on, joined, mean, most_steps, numbered, option_and_then, option_map, predefined_callees}
+use Rattle.rpl_compile.proofs.Common.{predefined_functions, refl, rule_done, ruling, run, spent, step, stuck, subst, suc, sym, translate, value}
+use Rattle.rpl_compile.proofs.Common.{verified, with_budgets, zero, ℕ, ℤ, ◌+◌, ◌>>=◌, ◌∙◌, ◌∷◌, ◌≡◌}
 use Rattle.rw_series.specs.Fire.{Fire}
-use Rattle.rpl_code.specs.declared.block.Block.{Block}
-use Rattle.rpl_tree.specs.Outcome.{Answer, Outcome, Trail, after, ended, gives, goes_on, joined, spent, stuck, value, ◌>>=◌}
-use Rattle.rpl_tree.specs.World.{World}
-use Rattle.rpl_tree.specs.Tree.{Declared}
-use Rattle.rpl_tree.specs.Mean.{fire_of, mean, predefined_functions, rule_done}
-use Rattle.rpl_verify.specs.Machine.{State, begin, first_frame, most_steps, run, step}
-use Rattle.rpl_tree.specs.Budget.{Budget}
-use Rattle.rpl_verify.specs.Budget.{ruling}
-use Rattle.rpl_verify.specs.Fits.{Refusal}
-use Rattle.rpl_verify.specs.Verified.{Accepted, verified, with_budgets}
 use Rattle.rpl_verify.proofs.Accepted.{safe}
-use Rattle.rpl_verify.proofs.VerifiedFacts.{answered}
 use Rattle.rpl_verify.specs.Safety.{AreSafe, IsSafe}
-use Rattle.rpl_compile.specs.Translate.{predefined_callees, translate}
-use Rattle.rpl_compile.specs.Kinded.{AreKinded}
 use Rattle.rpl_compile.specs.Fires.{EndsAlike, FiresAlike, HasRule, fired_in}
 use Rattle.rpl_compile.proofs.Goes.{GoesOn, after_nothing, nothing_last, same_outcome}
 use Rattle.rpl_compile.proofs.OfKind.{at_all}

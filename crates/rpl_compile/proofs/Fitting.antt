@@ -1,21 +1,11 @@
 -- Compiled code fits: what is before each place of each block is found.
-use Rattle.rw_base.proofs.Common.{drop_all, map, bytes_eq, Bool, true, false, if◌then◌else◌, ◌≡◌, ℕ, suc, ◌+◌, List, [], ◌∷◌, length, drop, Some}
-use Rattle.rw_base.proofs.Common.{Result, Ok, refl, sym, ap, ◌∙◌, subst, arith, slice_get}
-use Rattle.rw_model.specs.Draft.{Draft}
-use Rattle.rpl_code.specs.declared.kind.ValueKind.{ValueKind}
-use Rattle.rpl_code.specs.declared.instruction.Instruction.{Instruction}
-use Rattle.rpl_code.specs.declared.block.Block.{Block}
-use Rattle.rpl_tree.specs.Value.{Kind}
-use Rattle.rpl_tree.specs.Tree.{Tree, Acts, Parameter}
-use Rattle.rpl_verify.specs.declared.verify_kind.VerifyKind.{VerifyKind}
-use Rattle.rpl_verify.specs.Names.{Scope}
-use Rattle.rpl_verify.specs.Fits.{Before, Misplaced, at_place, before, befores, end_kinds, judged_at, scope_of, then_do}
-use Rattle.rpl_verify.specs.Notes.{words_kept}
+use Rattle.rpl_compile.proofs.Common.{Acts, AreKindedActs, Before, Block, Callee, Costed, Draft, Instruction, IsKindedBody, Kind, List, Misplaced, Ok}
+use Rattle.rpl_compile.proofs.Common.{Parameter, Price, Result, Scope, Some, Tree, ValueKind, VerifyKind, [], ap, arith, at_place, before, befores}
+use Rattle.rpl_compile.proofs.Common.{callee_heads, cond_both, costed_heads, drop, drop_all, end_kinds, function_block, judged_at, length, map}
+use Rattle.rpl_compile.proofs.Common.{most_named, param_names, refl, rule_block, scope_of, slice_get, subst, suc, sym, then_do, words_kept, ℕ, ◌+◌}
+use Rattle.rpl_compile.proofs.Common.{◌∙◌, ◌∷◌, ◌≡◌}
 use Rattle.rpl_verify.proofs.Loops.{drop_at}
 use Rattle.rpl_code.specs.declared.instruction.Instruction.TheVariants as I
-use Rattle.rpl_tree.specs.Cost.{Costed, Price, costed_heads, most_named, param_names}
-use Rattle.rpl_compile.specs.Kinded.{AreKindedActs, IsKindedBody}
-use Rattle.rpl_compile.specs.Translate.{Callee, callee_heads, function_block, rule_block}
 use Rattle.rpl_compile.proofs.Placing.{has_all}
 use Rattle.rpl_compile.proofs.Counting.{Account}
 use Rattle.rpl_compile.proofs.Going.{carries}
@@ -113,11 +103,7 @@ free_heads (c ∷ callees) = ap (λ hs. c.head ∷ hs) (free_heads callees)
 
 costs_nothing : (callees : List Callee) (f : List ℕ) → 0 ≡ most_named (free_functions callees) f
 costs_nothing [] f = refl
-costs_nothing (c ∷ callees) f = by (bytes_eq c.head.name f) (costs_nothing callees f)
-  where
-    by : (t : Bool) → 0 ≡ most_named (free_functions callees) f → 0 ≡ (if t then 0 else most_named (free_functions callees) f)
-    by true e = refl
-    by false e = e
+costs_nothing (c ∷ callees) f = cond_both _ _ _ (λ n. 0 ≡ n) (λ e. refl) (λ e. costs_nothing callees f)
 
 free_calls : (scope : Scope) (lines : List Instruction) (callees : List Callee) → LinesFit scope callees
     → CallsFit scope lines no_price (fitting_account scope lines) callees (free_functions callees) (free_functions callees)

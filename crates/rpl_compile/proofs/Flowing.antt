@@ -1,41 +1,23 @@
 -- Forms that open no loop lead from the operands that stand below them to those and their value, and come to what they cost, where their parts do.
-use Rattle.rw_base.proofs.Common.{max, ◌≤◌, ◌≡◌, ℕ, ◌+◌, true, false, List, [], ◌∷◌, ◌++◌, length, append_assoc, Option, Some, None, IsSome, Ok, refl}
-use Rattle.rw_base.proofs.Common.{sym, ap, ap₂, ◌∙◌, subst, arith}
+use Rattle.rpl_compile.proofs.Common.{And, Before, ConvertWord, ElevationToStorage, FitsIn, Instruction, IsKinded, IsSome, Kind, Known, List, Names}
+use Rattle.rpl_compile.proofs.Common.{None, Ok, OneWord, Open, Option, Or, Site, Some, StorageToElevation, Tree, TwoWord, ValueKind, [], ap}
+use Rattle.rpl_compile.proofs.Common.{append_assoc, ap₂, arith, at, before, behind, choice, code_kind, code_kinds, code_of, convert, convert_line}
+use Rattle.rpl_compile.proofs.Common.{costed_heads, false, going_of, join, judged_at, length, local_kinds, max, names_in, on, one, one_line, onward}
+use Rattle.rpl_compile.proofs.Common.{over, refl, room_lines, size, subst, sym, table_named, taken, to_widen, tree_kind, true, truth_kind, two}
+use Rattle.rpl_compile.proofs.Common.{two_lines, unless_misfit, unless_there, weight, widening_size, words_of, ℕ, ◌++◌, ◌+◌, ◌∙◌, ◌∷◌, ◌≡◌, ◌≤◌}
 use Rattle.rw_table.specs.Table.{Row}
-use Rattle.rpl_code.specs.declared.kind.ValueKind.{ValueKind}
 use Rattle.rpl_code.specs.declared.kind.ValueKind.TheVariants as K
-use Rattle.rpl_code.specs.declared.instruction.Instruction.{Instruction}
 use Rattle.rpl_code.specs.declared.instruction.Instruction.TheVariants as I
-use Rattle.rpl_tree.specs.declared.words.OneWord.{OneWord}
-use Rattle.rpl_tree.specs.declared.words.OneWord.TheVariants.{Known}
-use Rattle.rpl_tree.specs.declared.words.TwoWord.{TwoWord}
-use Rattle.rpl_tree.specs.declared.words.TwoWord.TheVariants.{Or, And}
-use Rattle.rpl_tree.specs.declared.words.ConvertWord.{ConvertWord}
-use Rattle.rpl_tree.specs.declared.words.ConvertWord.TheVariants.{StorageToElevation, ElevationToStorage}
-use Rattle.rpl_tree.specs.Value.{Kind, truth_kind, weight}
-use Rattle.rpl_tree.specs.Tree.{Tree, choice, one, two, convert, at}
-use Rattle.rpl_tree.specs.Kinds.{Names, join, tree_kind}
-use Rattle.rpl_tree.specs.Locals.{local_kinds}
-use Rattle.rpl_tree.specs.World.{table_named}
-use Rattle.rpl_verify.specs.Budget.{onward, going_of}
-use Rattle.rpl_code.specs.Weight.{words_of}
-use Rattle.rpl_tree.specs.Cost.{costed_heads, to_widen}
-use Rattle.rpl_verify.specs.Names.{unless_there}
-use Rattle.rpl_verify.specs.Fits.{Before, Open, before, judged_at, taken, unless_misfit}
-use Rattle.rpl_compile.specs.Operations.{code_kind, code_kinds, convert_line, one_line, two_lines, widening_size}
-use Rattle.rpl_compile.specs.Size.{size}
-use Rattle.rpl_compile.specs.Site.{Site, behind, names_in, on, over}
-use Rattle.rpl_compile.specs.Kinded.{FitsIn, IsKinded}
-use Rattle.rpl_compile.specs.Translate.{code_of, room_lines}
 use Rattle.rpl_compile.proofs.TypeKinds.{IsPlain}
 use Rattle.rpl_compile.proofs.Sizes.{beside, code-size, widening-size}
 use Rattle.rpl_compile.proofs.LocalFacts.{Placed}
 use Rattle.rpl_compile.proofs.Counting.{IsInvoke, IsUnit}
 use Rattle.rpl_compile.proofs.Going.{choosing, goes_choice, takes_kinds}
-use Rattle.rpl_compile.proofs.TreeCosts.{two_costs, two_heights, words_weight}
+use Rattle.rpl_compile.proofs.TreeCosts.{two_costs, two_heights}
 use Rattle.rpl_compile.proofs.WordLines.{IsLine, one_goes, two_goes, two_step, widen_goes}
 use Rattle.rpl_compile.proofs.Costing.{Claim, Leads, Own, Costing, cost, deep_kind, far, heads, here, kept, kind_of_code, line, names_at, own_back}
 use Rattle.rpl_compile.proofs.Costing.{own_front, room_cost, same_kind, seq, tall_of, to, told, with_one}
+use Rattle.rpl_compile.proofs.OfKind.{words_coded}
 
 module _ (costing : Costing) where
   -- ---- leaves
@@ -123,7 +105,7 @@ module _ (costing : Costing) where
       let a = first site os h.0 pl (own_front costing site l (local_kinds (heads costing) names r) lo) in
       let b = second above os h.1 pl (own_back costing site l (local_kinds (heads costing) names r) lo) in
       let low = b.tall in
-      let w = words_weight kl in
+      let w = words_coded kl in
       let sum : cost costing names (two word l r) ≡ cost costing names l + (cost costing names r + costing.pays.step (two_step word kl)) =
       two_costs costing.pays costing.functions word (cost costing names l) (cost costing names r)
       (tree_kind (costed_heads costing.functions) names l) plain
@@ -186,7 +168,7 @@ module _ (costing : Costing) where
   with_room place t part site os h fit pl lo =
       let way = part site os h pl lo in
       let low = way.tall in
-      let w = words_weight place in
+      let w = words_coded place in
       told costing (seq costing (far costing site t h) way
       (widen_goes costing.scope costing.lines costing.spots_are costing.pays costing.account place (kind_of_code costing site t) fit
       (behind (heads costing) t site).place (code_kinds site.below) os))

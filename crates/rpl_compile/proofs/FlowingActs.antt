@@ -1,31 +1,21 @@
 -- The code of statements leads back to the operands that stand below it, and comes to what they cost: by recursion on them.
-use Rattle.rw_base.proofs.Common.{◌≤◌, ◌≡◌, ℕ, suc, ◌+◌, ℤ, unsigned_abs, List, ◌∷◌, ◌++◌, length, refl, sym, ap, ◌∙◌, subst, arith}
-use Rattle.rpl_code.specs.declared.kind.ValueKind.{ValueKind}
+use Rattle.rpl_compile.proofs.Common.{Act, Acts, AreKindedActs, Before, Instruction, IsKinded, IsKindedAct, Kind, List, Names, Open, Rule, Site, Tree}
+use Rattle.rpl_compile.proofs.Common.{ValueKind, act, act_code, act_local_kinds, acts_code, acts_local_kinds, ap, arith, assign, before, behind}
+use Rattle.rpl_compile.proofs.Common.{behind_act, behind_acts, bound, branch, code_kind, code_kinds, code_of, costed_heads, height_of_act}
+use Rattle.rpl_compile.proofs.Common.{height_of_acts, judged_at, keeping, knowing, length, local_kinds, most_of_act, most_of_acts, names_in, no_acts}
+use Rattle.rpl_compile.proofs.Common.{on, refl, size_of_acts, subst, suc, sym, tree_kind, unsigned_abs, weight, with_name, words_kept, ℕ, ℤ, ◌++◌}
+use Rattle.rpl_compile.proofs.Common.{◌+◌, ◌∙◌, ◌∷◌, ◌≡◌, ◌≤◌}
 use Rattle.rpl_code.specs.declared.kind.ValueKind.TheVariants as K
-use Rattle.rpl_code.specs.declared.block.BlockHead.TheVariants.{Rule}
-use Rattle.rpl_code.specs.declared.instruction.Instruction.{Instruction}
 use Rattle.rpl_code.specs.declared.instruction.Instruction.TheVariants as I
-use Rattle.rpl_tree.specs.Value.{Kind, weight}
-use Rattle.rpl_tree.specs.Tree.{Tree, Act, Acts, assign, branch, with_name, no_acts, act}
-use Rattle.rpl_tree.specs.Kinds.{Names, tree_kind}
-use Rattle.rpl_tree.specs.Locals.{act_local_kinds, acts_local_kinds, local_kinds}
-use Rattle.rpl_verify.specs.Notes.{words_kept}
-use Rattle.rpl_tree.specs.Cost.{costed_heads, most_of_act, most_of_acts}
-use Rattle.rpl_tree.specs.Words.{height_of_act, height_of_acts}
-use Rattle.rpl_verify.specs.Fits.{Before, Open, before, judged_at}
-use Rattle.rpl_compile.specs.Operations.{code_kind, code_kinds}
-use Rattle.rpl_compile.specs.Size.{size_of_acts}
-use Rattle.rpl_compile.specs.Site.{Site, behind, behind_act, behind_acts, bound, keeping, knowing, names_in, on}
-use Rattle.rpl_compile.specs.Kinded.{AreKindedActs, IsKinded, IsKindedAct}
-use Rattle.rpl_compile.specs.Translate.{act_code, acts_code, code_of}
 use Rattle.rpl_compile.proofs.Sizes.{act-size, acts-size, code-size}
-use Rattle.rpl_compile.proofs.LocalFacts.{Placed, act_locals_count, acts_locals_count, kinds_back, kinds_front, locals_count}
+use Rattle.rpl_compile.proofs.LocalFacts.{Placed, kinds_back, kinds_front}
 use Rattle.rpl_compile.proofs.Placing.{HasAt}
 use Rattle.rpl_compile.proofs.Going.{goes_choice, goes_none}
 use Rattle.rpl_compile.proofs.Lines.{put_fits, store_fits}
-use Rattle.rpl_compile.proofs.TreeCosts.{words_weight}
 use Rattle.rpl_compile.proofs.FlowingTrees.{flows}
 use Rattle.rpl_compile.proofs.Costing.{Leads, Costing, cost, heads, here, kept, line, seq, tall_of, to, told}
+use Rattle.rpl_compile.proofs.OfKind.{words_coded}
+use Rattle.rpl_compile.proofs.LocalSizes.{locals_size, act_locals_size, acts_locals_size}
 
 module _ (costing : Costing) (in_rule : costing.scope.head ≡ Rule) where
   abbrev own_kinds : Site → Tree → List Kind
@@ -47,7 +37,7 @@ module _ (costing : Costing) (in_rule : costing.scope.head ≡ Rule) where
       → HasAt costing.scope.locals site.free (code_kinds (own_kinds site t ++ ks)) → Value t site os ks
   value t site os ks h pl lo = record {
     way = flows costing t site os h pl (kinds_front costing.scope.locals site.free (own_kinds site t) ks lo);
-    own = kinds_back costing.scope.locals site.free _ (own_kinds site t) ks (locals_count (heads costing) t (names_in site.scope)) lo;
+    own = kinds_back costing.scope.locals site.free _ (own_kinds site t) ks (locals_size (heads costing) t (names_in site.scope)) lo;
     far = ap (λ n. site.place + n) (sym (code-size costing.scope.basin costing.callees site t h));
   }
 
@@ -91,7 +81,7 @@ module _ (costing : Costing) (in_rule : costing.scope.head ≡ Rule) where
       let ys : List Instruction = acts_code costing.callees later second in
       let test = value c site os (own_of_acts site first ++ own_of_acts site second) h.0 pl lo in
       let own_second = kinds_back costing.scope.locals ahead.free _ (own_of_acts site first) (own_of_acts site second)
-      (acts_locals_count (heads costing) first (names_in site.scope)) test.own in
+      (acts_locals_size (heads costing) first (names_in site.scope)) test.own in
       let long_x : length xs ≡ size_of_acts (heads costing) (names_in site.scope) first =
       acts-size costing.scope.basin costing.callees ahead first h.2 in
       let long_y : length ys ≡ size_of_acts (heads costing) (names_in site.scope) second =
@@ -129,7 +119,7 @@ module _ (costing : Costing) (in_rule : costing.scope.head ≡ Rule) where
       ap (λ hs. height_of_acts costing.deep ((x, tree_kind hs names e) ∷ names) body) costing.deep_heads in
       told costing (seq costing v.far v.way (seq costing refl
       (line costing (store_fits costing.scope (behind (heads costing) e first).place site.free (code_kind kind) ls os lo.0) refl (λ x. x)
-      (costing.account.prices.store b site.free (code_kind kind) lo.0 ∙ ap costing.pays.step (words_weight kind)))
+      (costing.account.prices.store b site.free (code_kind kind) lo.0 ∙ ap costing.pays.step (words_coded kind)))
       (rest inside os h.1 (lo.0, pl) v.own))) (omega (arith, sum)) (omega (arith, low, high))
 
   flow_act : (a : Act) (rest : Acts) → Claim a → ClaimAll rest → ClaimAll (act a rest)
@@ -139,7 +129,7 @@ module _ (costing : Costing) (in_rule : costing.scope.head ≡ Rule) where
       told costing (seq costing (ap (λ n. site.place + n) (sym (act-size costing.scope.basin costing.callees site a h.0)))
       (first site os h.0 pl (kinds_front costing.scope.locals site.free own_a own_rest lo))
       (others (behind_act (heads costing) a site) os h.1 pl
-      (kinds_back costing.scope.locals site.free _ own_a own_rest (act_locals_count (heads costing) a (names_in site.scope)) lo))) refl
+      (kinds_back costing.scope.locals site.free _ own_a own_rest (act_locals_size (heads costing) a (names_in site.scope)) lo))) refl
       (omega arith)
 
   mutual

@@ -1,29 +1,18 @@
 -- LET, FOR and MAP lead from the operands that stand below them to those and their value, and come to what they cost, where their parts do.
-use Rattle.rw_base.proofs.Common.{max, length-append, ◌*◌, ◌≤◌, ◌≡◌, ℕ, suc, ◌+◌, List, [], ◌∷◌, ◌++◌, length, append_assoc, Some, refl, sym, ap, ◌∙◌}
-use Rattle.rw_base.proofs.Common.{subst, arith, slice_get}
-use Rattle.rpl_code.specs.declared.kind.ValueKind.{ValueKind}
+use Rattle.rpl_compile.proofs.Common.{Head, Instruction, Kind, List, Names, Open, Site, Some, Tree, ValueKind, [], ap, append_assoc, arith, before}
+use Rattle.rpl_compile.proofs.Common.{behind, bind, bound, code_kind, code_kinds, code_of, costed_heads, each, element_of, keeping, knowing, length}
+use Rattle.rpl_compile.proofs.Common.{length-append, local_kinds, mapped, mapping, max, names_in, on, over, refl, room_lines, room_of, size}
+use Rattle.rpl_compile.proofs.Common.{slice_get, subst, suc, sym, tree_kind, visiting, weight, widening_size, ℕ, ◌*◌, ◌++◌, ◌+◌, ◌∙◌, ◌∷◌, ◌≡◌, ◌≤◌}
 use Rattle.rpl_code.specs.declared.kind.ValueKind.TheVariants as K
-use Rattle.rpl_code.specs.declared.instruction.Instruction.{Instruction}
 use Rattle.rpl_code.specs.declared.instruction.Instruction.TheVariants as I
-use Rattle.rpl_tree.specs.Value.{Kind, element_of, room_of, weight}
-use Rattle.rpl_tree.specs.Tree.{Tree, bind, each, mapped}
-use Rattle.rpl_tree.specs.Kinds.{Head, Names, tree_kind}
-use Rattle.rpl_tree.specs.Locals.{local_kinds}
-use Rattle.rpl_verify.specs.Places.{mapping, visiting}
-use Rattle.rpl_tree.specs.Cost.{costed_heads}
-use Rattle.rpl_verify.specs.Fits.{Open, before}
-use Rattle.rpl_compile.specs.Operations.{code_kind, code_kinds, widening_size}
-use Rattle.rpl_compile.specs.Size.{size}
-use Rattle.rpl_compile.specs.Site.{Site, behind, bound, keeping, knowing, names_in, on, over}
-use Rattle.rpl_compile.specs.Translate.{code_of, room_lines}
 use Rattle.rpl_compile.proofs.Sizes.{code-size, widening-size}
 use Rattle.rpl_compile.proofs.Placing.{HasAt}
 use Rattle.rpl_compile.proofs.Going.{goes_loop}
 use Rattle.rpl_compile.proofs.Lines.{foreach_fits, loop_at, map_fits, next_fits, yield_fits, room_code}
-use Rattle.rpl_compile.proofs.TreeCosts.{words_weight}
 use Rattle.rpl_compile.proofs.Costing.{Claim, Leads, Costing, cost, deep_kind, far, heads, kept, kind_of_code, loads, own_back, own_front, room_cost}
 use Rattle.rpl_compile.proofs.Costing.{same_kind, seq, stores, tall_of, to, told}
 use Rattle.rpl_compile.proofs.Flowing.{with_room}
+use Rattle.rpl_compile.proofs.OfKind.{words_coded}
 
 module _ (costing : Costing) where
   -- ---- names
@@ -111,8 +100,8 @@ module _ (costing : Costing) where
       let way_b = with_room costing total b body inside (o ∷ os) h.3 h.4 (in_total, (lo.0, pl)) own_b in
       let low_l = way_l.tall in
       let low_f = way_f.tall in
-      let w_all = words_weight all in
-      let w_total = words_weight total in
+      let w_all = words_coded all in
+      let w_total = words_coded total in
       let n_b : length body_lines ≡ size (heads costing) inner_names b = code-size costing.scope.basin costing.callees inside b h.3 in
       let n_room : length room ≡ widening_size total turn_kind = widening-size total turn_kind in
       let n_both = length-append body_lines room in

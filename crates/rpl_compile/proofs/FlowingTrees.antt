@@ -1,37 +1,26 @@
 -- The code of an expression leads from the operands that stand below it to those and its value, and comes to what the tree costs: by recursion
 -- on the tree.
-use Rattle.rw_base.proofs.Common.{max, ◌≡◌, ℕ, ◌+◌, List, [], ◌∷◌, ◌++◌, replicate, reverse, refl, sym, ap, ◌∙◌, arith}
-use Rattle.rpl_code.specs.declared.kind.ValueKind.{ValueKind}
+use Rattle.rpl_compile.proofs.Common.{And, AreArguments, AreOfKind, Before, Day, Head, Kind, Known, Length, List, Minus, Month, Names, Not, Open, Or}
+use Rattle.rpl_compile.proofs.Common.{Site, Tree, Trees, ValueKind, Year, [], all_code, all_local_kinds, ap, arguments_code, arith, at, before}
+use Rattle.rpl_compile.proofs.Common.{behind, bind, brackets, call, call_line, choice, code_kind, code_kinds, convert, costed_heads, count_of, each}
+use Rattle.rpl_compile.proofs.Common.{first_kind, height_of_all, height_of_arguments, kind_named, list, literal, local_named, mapped, max}
+use Rattle.rpl_compile.proofs.Common.{most_arguments, most_named, most_of, name, names_in, no_trees, now, number_line, on, one, over, refl, replicate}
+use Rattle.rpl_compile.proofs.Common.{result_named, reverse, sizes, sizes_of_arguments, slot, sym, takes_named, tree, tree_kind, truth, two, weight}
+use Rattle.rpl_compile.proofs.Common.{weights, widening_size, words_kept, words_of, ℕ, ◌++◌, ◌+◌, ◌∙◌, ◌∷◌, ◌≡◌}
 use Rattle.rpl_code.specs.declared.kind.ValueKind.TheVariants as K
 use Rattle.rpl_code.specs.declared.instruction.Instruction.TheVariants as I
-use Rattle.rpl_tree.specs.declared.words.OneWord.TheVariants.{Not, Minus, Known, Length, Month, Day, Year}
-use Rattle.rpl_tree.specs.declared.words.TwoWord.TheVariants.{Or, And}
-use Rattle.rpl_tree.specs.Value.{Kind, weight, weights}
-use Rattle.rpl_tree.specs.Tree.{Tree, Trees, literal, truth, now, slot, name, call, brackets, list, choice, bind, each, mapped, one, two, convert, at}
-use Rattle.rpl_tree.specs.Tree.{no_trees, tree}
-use Rattle.rpl_tree.specs.Kinds.{Head, Names, count_of, first_kind, kind_named, result_named, takes_named, tree_kind}
-use Rattle.rpl_tree.specs.Locals.{all_local_kinds}
-use Rattle.rpl_verify.specs.Notes.{words_kept}
-use Rattle.rpl_code.specs.Weight.{words_of}
-use Rattle.rpl_tree.specs.Cost.{costed_heads, most_arguments, most_named, most_of}
-use Rattle.rpl_tree.specs.Words.{height_of_all, height_of_arguments}
-use Rattle.rpl_verify.specs.Fits.{Before, Open, before}
-use Rattle.rpl_compile.specs.Operations.{code_kind, code_kinds, number_line, widening_size}
-use Rattle.rpl_compile.specs.Size.{sizes, sizes_of_arguments}
-use Rattle.rpl_compile.specs.Site.{Site, behind, local_named, names_in, on, over}
-use Rattle.rpl_compile.specs.Kinded.{AreArguments, AreOfKind}
-use Rattle.rpl_compile.specs.Translate.{all_code, arguments_code, call_line}
 use Rattle.rpl_compile.proofs.Sizes.{all-size, arguments-size, widening-size}
 use Rattle.rpl_compile.proofs.LocalFacts.{Placed, placed_name}
 use Rattle.rpl_compile.proofs.Placing.{HasAt}
 use Rattle.rpl_compile.proofs.Going.{goes_none, goes_one, takes_kinds}
 use Rattle.rpl_compile.proofs.Lines.{list_fits, slot_fits}
-use Rattle.rpl_compile.proofs.TreeCosts.{again, element_words, turned, words_turned, words_weight}
+use Rattle.rpl_compile.proofs.TreeCosts.{again, element_words, turned, words_turned}
 use Rattle.rpl_compile.proofs.WordLines.{widen_goes}
 use Rattle.rpl_compile.proofs.Costing.{Claim, Leads, Costing, far, heads, here, kept, kind_of_code, line, loads, own_back, own_front, room_cost}
 use Rattle.rpl_compile.proofs.Costing.{same_kind, seq, to, told}
 use Rattle.rpl_compile.proofs.Flowing.{leaf, flow_convert, flow_plain, flow_two, flow_at, flow_known, flow_choice, flow_or, flow_and}
 use Rattle.rpl_compile.proofs.FlowingLoops.{flow_bind, flow_each, flow_mapped}
+use Rattle.rpl_compile.proofs.OfKind.{words_coded}
 
 module _ (costing : Costing) where
   -- ---- several expressions
@@ -101,7 +90,7 @@ module _ (costing : Costing) where
       let above : Site = over kind (on (widening_size kind (kind_of_code costing site t)) (behind (heads costing) t site)) in
       let way = first site os h.0 pl (own_front costing site t (all_local_kinds (heads costing) names ts) lo) in
       let low = way.tall in
-      let w = words_weight kind in
+      let w = words_coded kind in
       let sum : room_cost costing kind (kind_of_code costing site t) ≡ room_cost costing kind (tree_kind (costed_heads costing.functions) names t) =
       ap (room_cost costing kind) (same_kind costing names t) in
       told costing (seq costing (far costing site t h.0) way
@@ -128,7 +117,7 @@ module _ (costing : Costing) where
       let way = all site os kinds h.1 pl lo in
       let low = way.tall in
       let turned_words = words_turned kinds ls in
-      let w = words_weight result in
+      let w = words_coded result in
       let sum : most_arguments costing.pays costing.functions names kinds ts
       ≡ most_arguments costing.pays costing.functions names (takes_named (costed_heads costing.functions) f) ts =
       ap (λ hs. most_arguments costing.pays costing.functions names (takes_named hs f) ts) costing.same_heads in
@@ -154,7 +143,7 @@ module _ (costing : Costing) where
         (slot_fits costing.scope site.place o s (code_kinds site.below) os h) refl (λ x. x) tt
     flows (name x) = λ site os h pl lo.
         let kind : Kind = kind_named (names_in site.scope) x in
-        let w = words_weight kind in
+        let w = words_coded kind in
         told costing (loads costing site.place (local_named site.scope x) kind (code_kinds site.below) os
         (placed_name costing.scope.locals site.scope x pl h)) refl (omega (arith, w))
     flows (call f ts) = flow_call f ts (flows_arguments ts)

@@ -1,27 +1,18 @@
 -- The lines of expressions, written one after the other, are those that TRANSLATE gives: what each form writes, over its parts.
-use Rattle.rw_base.proofs.Common.{◌≡◌, ℕ, ◌+◌, true, false, List, [], ◌∷◌, ◌++◌, length, length-map, reverse, refl, sym, ap, ◌∙◌, arith, append-nil}
-use Rattle.rw_base.proofs.Common.{append_assoc}
-use Rattle.rw_model.proofs.Common.{Draft}
-use Rattle.rpl_code.specs.declared.kind.ValueKind.{ValueKind}
-use Rattle.rpl_code.specs.declared.kind.ValueKind.TheVariants.{N}
-use Rattle.rpl_code.specs.declared.instruction.Instruction.{Instruction}
+use Rattle.rpl_compile.proofs.Common.{Callee, Draft, Instruction, IsKinded, Kind, List, N, Site, Tree, TwoWord, ValueKind, Written, WrittenStep, []}
+use Rattle.rpl_compile.proofs.Common.{after_room, after_tree, ap, append-nil, append_assoc, arith, at, bind, bound, callee_heads, choice, code_kind}
+use Rattle.rpl_compile.proofs.Common.{code_kinds, code_of, compiled, element_of, false, join, keeping, kind_ahead, kind_of_tree, kind_of_two, knowing}
+use Rattle.rpl_compile.proofs.Common.{length, length-map, local_kinds, mapped, names_in, numbers_kind, on, one, outer, over, refl, reverse, room_of}
+use Rattle.rpl_compile.proofs.Common.{sym, target, test_line, true, truth_kind, two, two_lines, with_line, with_local, with_operand, without_operands}
+use Rattle.rpl_compile.proofs.Common.{written, written_step, written_with_two, ℕ, ◌++◌, ◌+◌, ◌∙◌, ◌∷◌, ◌≡◌}
 use Rattle.rpl_code.specs.declared.instruction.Instruction.TheVariants as I
 use Rattle.rpl_tree.specs.declared.words.OneWord.TheVariants as One
-use Rattle.rpl_tree.specs.declared.words.TwoWord.{TwoWord}
 use Rattle.rpl_tree.specs.declared.words.TwoWord.TheVariants as Two
-use Rattle.rpl_tree.specs.Kinds.{join}
-use Rattle.rpl_tree.proofs.Common.{Kind, element_of, local_kinds, room_of, Tree, choice, bind, mapped, one, two, at}
-use Rattle.rpl_tree.specs.Value.{truth_kind, numbers_kind}
-use Rattle.rpl_compile.specs.Kinded.{IsKinded}
-use Rattle.rpl_compile.specs.Operations.{code_kind, code_kinds, target, test_line, two_lines}
-use Rattle.rpl_compile.specs.Site.{Site, bound, keeping, knowing, names_in, on, over}
-use Rattle.rpl_compile.specs.Translate.{Callee, after_room, after_tree, callee_heads, code_of, kind_of_tree}
-use Rattle.rpl_compile.specs.Written.{WrittenStep, Written, compiled, kind_ahead, kind_of_two, outer, written_step, with_line, with_local}
-use Rattle.rpl_compile.specs.Written.{with_operand, written_with_two, without_operands, written}
-use Rattle.rpl_compile.proofs.KindsFound.{ahead_is, kind_of_two_is, locals_counted}
+use Rattle.rpl_compile.proofs.KindsFound.{ahead_is, kind_of_two_is}
 use Rattle.rpl_compile.proofs.Sizes.{code-size}
 use Rattle.rpl_compile.proofs.AtSites.{At, kind_at, line_at, lines_as, local_at, locals_as, longer, as_long, name_at, operand_at, room_at, second_at}
 use Rattle.rpl_compile.proofs.AtSites.{taken_at, value_end_at}
+use Rattle.rpl_compile.proofs.LocalSizes.{locals_size}
 
 -- ---- lists
 
@@ -133,7 +124,7 @@ module _ (basin : Draft) (callees : List Callee) where
           locals = locals;
           lines = lines;
           free = longer ls (code_kinds kinds) start.free
-              ∙ ap (λ n. s.free + n) (length-map kinds code_kind ∙ locals_counted (callee_heads callees) (names_in s.scope) t);
+              ∙ ap (λ n. s.free + n) (length-map kinds code_kind ∙ locals_size (callee_heads callees) t (names_in s.scope));
           place = longer is (code_of callees s t) start.place ∙ ap (λ n. s.place + n) (code-size basin callees s t h);
         };
       }

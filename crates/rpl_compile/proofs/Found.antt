@@ -1,17 +1,11 @@
 -- Of the functions that have a name, the last of a list is the first of the list in reverse. The local of a name.
-use Rattle.rw_base.proofs.Common.{◌≡◌, ℕ, Bool, List, [], ◌∷◌, ◌++◌, Option, true, false, reverse, Some, bytes_eq, unwrap_or, refl, sym, ap, ◌∙◌}
-use Rattle.rw_base.proofs.Common.{if◌then◌else◌, reverse-append, length, length-map, map}
-use Rattle.rpl_code.specs.declared.kind.ValueKind.{ValueKind}
-use Rattle.rpl_code.specs.declared.kind.ValueKind.TheVariants.{N, B, D, S, NList, SList}
+use Rattle.rpl_compile.proofs.Common.{B, Bool, Callee, Kind, List, N, Option, Some, ValueKind, [], ap, bytes_eq, callee_named, code_kind, code_kinds}
+use Rattle.rpl_compile.proofs.Common.{false, if◌then◌else◌, kind_named, kind_seen, kinds_seen, length, length-map, local_named, map, names_in}
+use Rattle.rpl_compile.proofs.Common.{no_callee, parameter_of, refl, reverse, reverse-append, scope_seen, sym, true, unwrap_or, ℕ, ◌++◌, ◌∙◌, ◌∷◌}
+use Rattle.rpl_compile.proofs.Common.{◌≡◌}
 use Rattle.rpl_scope.specs.Scope.{first_named as first_found}
 use Rattle.rpl_tree.specs.declared.rules.Param.{Param}
-use Rattle.rpl_tree.proofs.Common.{Kind, kind_named, parameter_of}
 use Rattle.rpl_compile.specs.declared.writing.Local.{Local}
-use Rattle.rpl_compile.specs.Operations.{code_kind, code_kinds}
-use Rattle.rpl_compile.specs.Seen.{kind_seen, kinds_seen, scope_seen}
-use Rattle.rpl_compile.specs.Site.{local_named, names_in}
-use Rattle.rpl_compile.specs.Translate.{Callee}
-use Rattle.rpl_compile.specs.Written.{callee_named, no_callee}
 
 module _ (x : List ℕ) where
   abbrev pub last_named : Callee → List Callee → Callee
@@ -42,7 +36,7 @@ module _ (x : List ℕ) where
 
 -- ---- names
 
-by_test : {A B : Type 0} (f : A → B) (b : Bool) (a other : A) (y : B) → f other ≡ y → f (if b then a else other) ≡ (if b then f a else y)
+pub by_test : {A B : Type 0} (f : A → B) (b : Bool) (a other : A) (y : B) → f other ≡ y → f (if b then a else other) ≡ (if b then f a else y)
 by_test f true a other y same = refl
 by_test f false a other y same = same
 
@@ -67,11 +61,7 @@ module _ (x : List ℕ) where
 
 pub code_of_seen : (kind : ValueKind) → code_kind (kind_seen kind) ≡ kind
 code_of_seen N = refl
-code_of_seen B = refl
-code_of_seen D = refl
-code_of_seen S = refl
-code_of_seen (NList m) = refl
-code_of_seen (SList m) = refl
+code_of_seen kind = refl
 
 pub codes_of_seen : (kinds : List ValueKind) → code_kinds (kinds_seen kinds) ≡ kinds
 codes_of_seen [] = refl

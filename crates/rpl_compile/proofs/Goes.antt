@@ -1,11 +1,8 @@
 -- The machine does what an outcome says.
-use Rattle.rw_base.proofs.Common.{◌≡◌, ℕ, suc, List, ◌∷◌, refl, sym, ap, ◌∙◌, arith, append_assoc, append-nil}
-use Rattle.rw_base.specs.declared.number.Cell.{Cell}
+use Rattle.rpl_compile.proofs.Common.{Answer, Block, Cell, Frame, List, Outcome, State, Trail, World, after, ap, append-nil, append_assoc, arith}
+use Rattle.rpl_compile.proofs.Common.{ended, gives, goes_on, joined, refl, run, spent, step, stuck, suc, sym, value, ℕ, ◌>>=◌, ◌∙◌, ◌∷◌, ◌≡◌}
 use Rattle.rw_series.specs.declared.fire.FireEnd.{FireEnd}
 use Rattle.rw_series.specs.declared.fire.RulePut.{RulePut}
-use Rattle.rpl_code.specs.declared.block.Block.{Block}
-use Rattle.rpl_tree.proofs.Common.{Answer, Outcome, Trail, after, ended, gives, goes_on, joined, spent, stuck, value, ◌>>=◌, World}
-use Rattle.rpl_verify.specs.Machine.{Frame, State, run, step}
 
 -- ---- trails
 

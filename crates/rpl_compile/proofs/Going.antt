@@ -1,21 +1,12 @@
 -- Lines that lead from what is before their first place to what is before the place behind them, put together from single instructions.
-use Rattle.rw_base.proofs.Common.{◌≡◌, ℕ, suc, ◌+◌, ◌*◌, max, ◌≤◌, ◌<◌, nat_lt, Bool, true, false, List, [], ◌∷◌, ◌++◌, length, length-append, drop}
-use Rattle.rw_base.proofs.Common.{drop-append_seam, take, take-append_seam, reverse, reverse-reverse, Option, Some, Result, Ok, Err, refl, sym, ap}
-use Rattle.rw_base.proofs.Common.{ap₂, ◌∙◌, subst, arith, nat_tests, if◌then◌else◌, slice_get}
-use Rattle.rpl_code.specs.declared.kind.ValueKind.{ValueKind}
+use Rattle.rpl_compile.proofs.Common.{Before, Bool, Err, Instruction, List, MissingOperand, Ok, Open, OperandRow, Option, Price, Result, Scope, Some}
+use Rattle.rpl_compile.proofs.Common.{Spot, ValueKind, VerifyKind, WrongOperand, [], ap, ap₂, arith, before, carried, declared_at, drop}
+use Rattle.rpl_compile.proofs.Common.{drop-append_seam, entering, false, goes_by, going_of, if_fits, if◌then◌else◌, judged_at, left_of, length}
+use Rattle.rpl_compile.proofs.Common.{length-append, max, nat_lt, nat_tests, on_top_of, onward, operand_count, operand_row, operands_behind, or_wrong}
+use Rattle.rpl_compile.proofs.Common.{refl, restarted, reverse, reverse-reverse, room_on_top, same_kinds_refl, slice_get, spots, subst, suc, sym}
+use Rattle.rpl_compile.proofs.Common.{take, take-append_seam, taken, takes, then_do, turning, words_kept, ℕ, ◌*◌, ◌++◌, ◌+◌, ◌<◌, ◌∙◌, ◌∷◌, ◌≡◌, ◌≤◌}
 use Rattle.rpl_code.specs.declared.kind.ValueKind.TheVariants as K
-use Rattle.rpl_code.specs.declared.instruction.Instruction.{Instruction}
 use Rattle.rpl_code.specs.declared.instruction.Instruction.TheVariants as I
-use Rattle.rpl_verify.specs.declared.verify_kind.VerifyKind.{VerifyKind}
-use Rattle.rpl_verify.specs.declared.verify_kind.VerifyKind.TheVariants.{MissingOperand, WrongOperand}
-use Rattle.rpl_verify.specs.Places.{Spot, spots}
-use Rattle.rpl_verify.specs.Table.{OperandRow, goes_by, left_of, on_top_of, operand_count, operands_behind, or_wrong, operand_row, takes}
-use Rattle.rpl_verify.specs.Names.{Scope}
-use Rattle.rpl_verify.specs.Budget.{entering, onward, turning, going_of}
-use Rattle.rpl_verify.specs.Notes.{words_kept}
-use Rattle.rpl_tree.specs.Cost.{Price}
-use Rattle.rpl_verify.specs.Fits.{Before, Open, before, carried, declared_at, if_fits, judged_at, restarted, room_on_top, taken, then_do}
-use Rattle.rpl_verify.proofs.KindFacts.{same_kinds_refl}
 use Rattle.rpl_compile.proofs.Counting.{Account, IsInvoke, IsUnit}
 use Rattle.rpl_compile.proofs.Placing.{HasAt, declares_at, has_back, has_front, lands, level_on, openers_before, openers_of, opens_on}
 
@@ -26,16 +17,12 @@ enough ks ls = let e = length-append ks ls in grind (arith, nat_tests, e)
 
 behind_row : (r : OperandRow) (ks left ls : List ValueKind) → operand_count r ≡ length ks → left_of r ks ≡ Ok left
     → operands_behind r (ks ++ ls) ≡ Ok (left ++ ls)
-behind_row r ks left ls n h = by (nat_lt (length (ks ++ ls)) (operand_count r)) (ap (nat_lt (length (ks ++ ls))) n ∙ enough ks ls)
-  where
-    by : (t : Bool) → t ≡ false
-        → (if t then Err MissingOperand else on_top_of (drop (operand_count r) (ks ++ ls)) (left_of r (take (operand_count r) (ks ++ ls))))
-        ≡ Ok (left ++ ls)
-    by true e = absurd (cc e)
-    by false e =
-        ap₂ (λ d t. on_top_of d (left_of r t)) (ap (λ m. drop m (ks ++ ls)) n ∙ drop-append_seam ks ls)
-        (ap (λ m. take m (ks ++ ls)) n ∙ take-append_seam ks ls)
-        ∙ ap (on_top_of ls) h
+behind_row r ks left ls n h =
+    ap (λ (t : Bool). if t then Err MissingOperand else on_top_of (drop (operand_count r) (ks ++ ls)) (left_of r (take (operand_count r) (ks
+    ++ ls)))) (ap (nat_lt (length (ks ++ ls))) n ∙ enough ks ls)
+    ∙ ap₂ (λ d t. on_top_of d (left_of r t)) (ap (λ m. drop m (ks ++ ls)) n ∙ drop-append_seam ks ls)
+    (ap (λ m. take m (ks ++ ls)) n ∙ take-append_seam ks ls)
+    ∙ ap (on_top_of ls) h
 
 taken_kinds : (ks left : List ValueKind) → left_of (takes ks left) ks ≡ Ok left
 taken_kinds ks left = ap (λ t. if t then Ok left else Err WrongOperand) (same_kinds_refl ks)

@@ -1,20 +1,10 @@
 -- Literals, words and names.
-use Rattle.rw_base.proofs.Common.{◌≡◌, ℕ, ◌+◌, ℤ, ◌*ℤ◌, Bool, true, false, ◌||◌, List, [], ◌∷◌, IsTrue, Option, Some, None, IsSome, refl, sym, ap}
-use Rattle.rw_base.proofs.Common.{◌∙◌, subst, bytes_eq, slice_get, unwrap_or, if◌then◌else◌, list_any}
-use Rattle.rw_base.specs.Dimension.{Dimension}
-use Rattle.rw_base.specs.Unit.{units, unit_in}
-use Rattle.rw_model.specs.Objects.{slot_named}
+use Rattle.rpl_compile.proofs.Common.{Bool, BoundName, Dimension, Env, Frame, HasName, IsLiteral, IsSome, IsTrue, Kind, List, None, Option, Running}
+use Rattle.rpl_compile.proofs.Common.{Some, Tree, Value, [], a_number, ap, brackets, bytes_eq, date_kind, factor_of, false, gives, if◌then◌else◌}
+use Rattle.rpl_compile.proofs.Common.{is_stuck, kind_named, kind_of_value, list_any, literal, local_named, name, named, names_in, now, number_kind}
+use Rattle.rpl_compile.proofs.Common.{quantity_or_stuck, refl, slice_get, slot, slot_kind, slot_named, subst, sym, true, truth, truth_kind, unit_in}
+use Rattle.rpl_compile.proofs.Common.{units, unless_there, unwrap_or, weight, ℕ, ℤ, ◌*ℤ◌, ◌+◌, ◌||◌, ◌∙◌, ◌∷◌, ◌≡◌}
 use Rattle.rpl_code.specs.declared.instruction.Instruction.TheVariants as I
-use Rattle.rpl_tree.specs.Value.{Kind, number_kind, truth_kind, date_kind, slot_kind, Value, a_number, kind_of_value, weight}
-use Rattle.rpl_tree.specs.Outcome.{gives, is_stuck}
-use Rattle.rpl_tree.specs.Tree.{literal, truth, now, slot, name, brackets, Tree}
-use Rattle.rpl_tree.specs.Kinds.{kind_named}
-use Rattle.rpl_tree.specs.Mean.{Env, named, quantity_or_stuck}
-use Rattle.rpl_verify.specs.Names.{unless_there}
-use Rattle.rpl_verify.specs.Machine.{Frame, Running}
-use Rattle.rpl_compile.specs.Operations.{factor_of}
-use Rattle.rpl_compile.specs.Site.{BoundName, local_named, names_in}
-use Rattle.rpl_compile.specs.Kinded.{HasName, IsLiteral}
 use Rattle.rpl_compile.proofs.Goes.{Goes}
 use Rattle.rpl_compile.proofs.OfKind.{HasKind, at_head}
 use Rattle.rpl_compile.proofs.Setting.{Claim, Holds, Left, Setting, fr}

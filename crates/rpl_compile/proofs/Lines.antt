@@ -1,47 +1,22 @@
 -- Lines that stand in the code of a form fit, where the operands are of the kinds that the form asks for.
-use Rattle.rw_base.proofs.Common.{◌≡◌, ◌≤◌, inl, inr, ℕ, zero, suc, ℤ, unsigned_abs, true, ◌&&◌, List, [], ◌∷◌, ◌++◌, replicate, length-replicate}
-use Rattle.rw_base.proofs.Common.{Option, Some, None, IsSome, IsSomeAnd, IsTrue, option_map, Result, Ok, rules, refl, sym, ap, ap₂, ◌∙◌, subst, arith}
-use Rattle.rw_base.proofs.Common.{list_all, if◌then◌else◌, slice_get}
-use Rattle.rw_base.proofs.Tests.{Decides-le}
-use Rattle.rpl_code.specs.declared.kind.ValueKind.{ValueKind}
+use Rattle.rpl_compile.proofs.Common.{Before, Decides-le, Instruction, IsAnyList, IsElement, IsList, IsSome, IsSomeAnd, IsTarget, IsTrue, Kind, List}
+use Rattle.rpl_compile.proofs.Common.{Loop, None, NotSettable, Ok, Open, Option, Result, Rule, Scope, Some, TargetStep, ValueKind, VerifyKind, [], ap}
+use Rattle.rpl_compile.proofs.Common.{ap₂, arith, before, can_set, code_kind, element_of, element_on_top, goes_by, if_fits, if◌then◌else◌, inl, inr}
+use Rattle.rpl_compile.proofs.Common.{is_near, judged_at, length-replicate, list_all, list_kind, listed, load_row, mapping, number_kind, numbers_kind}
+use Rattle.rpl_compile.proofs.Common.{of_list, opened, operand_row, option_map, put_misfit, refl, replicate, room_of, room_on_top, same_kind_refl}
+use Rattle.rpl_compile.proofs.Common.{same_kinds_refl, shut, slice_get, slot_named, slots_kind, store_row, subst, suc, sym, taken, then_do, true}
+use Rattle.rpl_compile.proofs.Common.{unless_misfit, unless_there, unsigned_abs, visiting, zero, ℕ, ℤ, ◌&&◌, ◌++◌, ◌∙◌, ◌∷◌, ◌≡◌, ◌≤◌}
 use Rattle.rpl_code.specs.declared.kind.ValueKind.TheVariants as K
-use Rattle.rpl_code.specs.declared.instruction.Instruction.{Instruction}
 use Rattle.rpl_code.specs.declared.instruction.Instruction.TheVariants as I
-use Rattle.rpl_code.specs.declared.block.BlockHead.TheVariants.{Rule}
-use Rattle.rw_model.specs.Objects.{slot_named}
-use Rattle.rpl_tree.specs.Value.{Kind, number_kind, truth_kind, date_kind, slot_kind, numbers_kind, slots_kind, element_of, is_same_kind, list_kind}
-use Rattle.rpl_tree.specs.Value.{room_of}
-use Rattle.rpl_tree.specs.World.{can_set}
-use Rattle.rpl_tree.proofs.PutsAhead.{is_near}
-use Rattle.rpl_verify.specs.declared.verify_kind.VerifyKind.{VerifyKind}
-use Rattle.rpl_verify.specs.declared.verify_kind.VerifyKind.TheVariants.{NotSettable, TargetStep}
 use Rattle.rpl_verify.specs.Kinds as V
-use Rattle.rpl_verify.specs.Places.{Loop, mapping, visiting}
-use Rattle.rpl_verify.specs.Table.{goes_by, listed, load_row, of_list, operand_row, store_row}
-use Rattle.rpl_verify.specs.Names.{Scope, put_misfit, put_step_misfit, unless_there}
-use Rattle.rpl_verify.specs.Fits.{Before, Open, before, element_on_top, if_fits, judged_at, opened, room_on_top, shut, taken, then_do, unless_misfit}
-use Rattle.rpl_verify.proofs.KindFacts.{same_kind_refl, same_kinds_refl}
-use Rattle.rpl_compile.specs.Operations.{code_kind}
-use Rattle.rpl_compile.specs.Kinded.{IsAnyList, IsElement, IsList, IsTarget}
+use Rattle.rpl_verify.specs.Names.{put_step_misfit}
 use Rattle.rpl_compile.proofs.Going.{takes_by, takes_kinds}
 
 -- ---- kinds of code
 
-pub tree_same : (k : Kind) → is_same_kind k k ≡ true
-tree_same number_kind = refl
-tree_same truth_kind = refl
-tree_same date_kind = refl
-tree_same slot_kind = refl
-tree_same (numbers_kind m) = search rules
-tree_same (slots_kind m) = search rules
-
 pub room_code : (k : Kind) → V.list_room (code_kind k) ≡ room_of k
 room_code number_kind = refl
-room_code truth_kind = refl
-room_code date_kind = refl
-room_code slot_kind = refl
-room_code (numbers_kind m) = refl
-room_code (slots_kind m) = refl
+room_code k = refl
 
 -- what holds of each list of numbers and each of slots holds of any list
 pub of_lists : (P : Kind → Type 0) → ((m : ℕ) → P (numbers_kind m)) → ((m : ℕ) → P (slots_kind m)) → (k : Kind) → IsAnyList k → P k

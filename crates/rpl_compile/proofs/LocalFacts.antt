@@ -1,16 +1,8 @@
--- The locals of a block: those that code has of its own, and those of the names that it uses.
-use Rattle.rw_base.proofs.Common.{◌≡◌, ℕ, zero, suc, ◌+◌, Bool, true, false, ◌||◌, List, [], ◌∷◌, ◌++◌, length, length-append, bytes_eq, Some, refl}
-use Rattle.rw_base.proofs.Common.{ap₂, ◌∙◌, subst, arith, IsTrue, list_any, if◌then◌else◌, slice_get}
-use Rattle.rpl_code.specs.declared.kind.ValueKind.{ValueKind}
-use Rattle.rpl_tree.specs.Value.{Kind}
-use Rattle.rpl_tree.specs.Tree.{Tree, Trees, literal, truth, now, slot, name, call, brackets, list, choice, bind, each, mapped, one, two, convert, at}
-use Rattle.rpl_tree.specs.Tree.{no_trees, tree, Act, Acts, assign, branch, with_name, no_acts, act}
-use Rattle.rpl_tree.specs.Kinds.{Head, Names, kind_named}
-use Rattle.rpl_tree.specs.Count.{act_locals, acts_locals, local_count, local_counts}
-use Rattle.rpl_tree.specs.Locals.{act_local_kinds, acts_local_kinds, all_local_kinds, local_kinds}
-use Rattle.rpl_compile.specs.Operations.{code_kind, code_kinds}
-use Rattle.rpl_compile.specs.Site.{BoundName, local_named, names_in}
-use Rattle.rpl_compile.specs.Kinded.{HasName}
+-- The locals of a block: those from a place on, those of the names that can be used, and the parameters.
+use Rattle.rpl_compile.proofs.Common.{Bool, BoundName, HasName, IsTrue, Kind, List, Names, Parameter, Some, ValueKind, [], ap, arith, bytes_eq}
+use Rattle.rpl_compile.proofs.Common.{code_kind, code_kinds, false, if◌then◌else◌, kind_named, kind_of_type, length, list_any, local_named, name}
+use Rattle.rpl_compile.proofs.Common.{names_in, param_kinds, param_names, parameters_from, refl, slice_get, subst, suc, true, zero, ℕ, ◌++◌, ◌+◌}
+use Rattle.rpl_compile.proofs.Common.{◌||◌, ◌∷◌, ◌≡◌}
 use Rattle.rpl_compile.proofs.Placing.{HasAt}
 
 -- ---- locals of these kinds, from one on
@@ -45,53 +37,12 @@ placed_name locals (b ∷ scope) x pl h = by (bytes_eq b.name x) h (λ g. placed
     by true h later = pl.0
     by false h later = later h
 
--- ---- how many locals code has of its own
+-- ---- parameters
 
-both : (xs ys : List Kind) (m n : ℕ) → length xs ≡ m → length ys ≡ n → length (xs ++ ys) ≡ m + n
-both xs ys m n e f = length-append xs ys ∙ ap₂ (λ a b. a + b) e f
+pub parameter_names : (n : ℕ) (ps : List Parameter) → names_in (parameters_from n ps) ≡ param_names ps
+parameter_names n [] = refl
+parameter_names n (p ∷ ps) = ap (λ (names : Names). (p.name, kind_of_type p.of_type) ∷ names) (parameter_names (n + 1) ps)
 
-one_more : (xs : List Kind) (m : ℕ) → length xs ≡ m → suc (length xs) ≡ 1 + m
-one_more xs m e = omega (arith, e)
-
-two_more : (xs : List Kind) (m : ℕ) → length xs ≡ m → suc (suc (length xs)) ≡ 2 + m
-two_more xs m e = omega (arith, e)
-
-module _ (heads : List Head) where
-  mutual
-    pub locals_count : (t : Tree) (names : Names) → length (local_kinds heads names t) ≡ local_count t
-    locals_count (literal z unit) names = refl
-    locals_count (truth b) names = refl
-    locals_count now names = refl
-    locals_count (slot o s) names = refl
-    locals_count (name x) names = refl
-    locals_count (call f ts) names = all_locals_count ts names
-    locals_count (brackets t) names = locals_count t names
-    locals_count (list ts) names = all_locals_count ts names
-    locals_count (choice c y n) names =
-        both _ _ _ _ (locals_count c names) (both _ _ _ _ (locals_count y names) (locals_count n names))
-    locals_count (bind x e b) names =
-        one_more _ _ (both _ _ _ _ (locals_count e names) (locals_count b _))
-    locals_count (each x l a f b) names =
-        two_more _ _ (both _ _ _ _ (locals_count l names) (both _ _ _ _ (locals_count f names) (locals_count b _)))
-    locals_count (mapped x l b) names =
-        one_more _ _ (both _ _ _ _ (locals_count l names) (locals_count b _))
-    locals_count (one word e) names = locals_count e names
-    locals_count (two word l r) names = both _ _ _ _ (locals_count l names) (locals_count r names)
-    locals_count (convert word o e) names = locals_count e names
-    locals_count (at s d) names = both _ _ _ _ (locals_count s names) (locals_count d names)
-
-    pub all_locals_count : (ts : Trees) (names : Names) → length (all_local_kinds heads names ts) ≡ local_counts ts
-    all_locals_count no_trees names = refl
-    all_locals_count (tree t ts) names = both _ _ _ _ (locals_count t names) (all_locals_count ts names)
-
-  mutual
-    pub act_locals_count : (a : Act) (names : Names) → length (act_local_kinds heads names a) ≡ act_locals a
-    act_locals_count (assign o s ahead e) names = locals_count e names
-    act_locals_count (branch c first second) names =
-        both _ _ _ _ (locals_count c names) (both _ _ _ _ (acts_locals_count first names) (acts_locals_count second names))
-    act_locals_count (with_name x e body) names =
-        one_more _ _ (both _ _ _ _ (locals_count e names) (acts_locals_count body _))
-
-    pub acts_locals_count : (acts : Acts) (names : Names) → length (acts_local_kinds heads names acts) ≡ acts_locals acts
-    acts_locals_count no_acts names = refl
-    acts_locals_count (act a rest) names = both _ _ _ _ (act_locals_count a names) (acts_locals_count rest names)
+pub many_params : (params : List Parameter) → length (param_kinds params) ≡ length params
+many_params [] = refl
+many_params (p ∷ ps) = ap suc (many_params ps)

@@ -1,11 +1,8 @@
 -- How many locals are kept for an expression or statement.
-use Rattle.rw_base.proofs.Common.{◌≡◌, List, ◌∷◌, length, refl, arith, length-append}
-use Rattle.rpl_tree.specs.Value.{element_of}
-use Rattle.rpl_tree.specs.Tree.{Tree, Trees, literal, truth, now, slot, name, call, brackets, list, choice, bind, each, mapped, one, two, convert, at}
-use Rattle.rpl_tree.specs.Tree.{no_trees, tree, Act, Acts, assign, branch, with_name, no_acts, act}
-use Rattle.rpl_tree.specs.Kinds.{Head, Names, tree_kind}
-use Rattle.rpl_tree.specs.Count.{act_locals, acts_locals, local_count, local_counts}
-use Rattle.rpl_tree.specs.Locals.{act_local_kinds, acts_local_kinds, all_local_kinds, local_kinds}
+use Rattle.rpl_compile.proofs.Common.{Act, Acts, Head, List, Names, Tree, Trees, act, act_local_kinds, act_locals, acts_local_kinds, acts_locals}
+use Rattle.rpl_compile.proofs.Common.{all_local_kinds, arith, assign, at, bind, brackets, branch, call, choice, convert, each, element_of, length}
+use Rattle.rpl_compile.proofs.Common.{length-append, list, local_count, local_counts, local_kinds, mapped, no_acts, no_trees, one, refl, tree}
+use Rattle.rpl_compile.proofs.Common.{tree_kind, two, with_name, ◌∷◌, ◌≡◌}
 
 module _ (heads : List Head) where
   mutual
@@ -30,11 +27,7 @@ module _ (heads : List Head) where
     locals_size (two word l r) names = simp length-append (omega (arith, locals_size l names, locals_size r names))
     locals_size (convert word o e) names = locals_size e names
     locals_size (at s d) names = simp length-append (omega (arith, locals_size s names, locals_size d names))
-    locals_size (literal n unit) names = refl
-    locals_size (truth b) names = refl
-    locals_size now names = refl
-    locals_size (slot o s) names = refl
-    locals_size (name x) names = refl
+    locals_size t names = refl
 
     pub all_locals_size : (ts : Trees) (names : Names) → length (all_local_kinds heads names ts) ≡ local_counts ts
     all_locals_size no_trees names = refl

@@ -1,12 +1,9 @@
 -- FOR and MAP.
-use Rattle.rw_base.proofs.Common.{◌≡◌, ℕ, suc, ◌+◌, ◌<◌, ◌≤◌, ℤ, List, [], ◌∷◌, ◌++◌, length, set, Some, refl, sym, ap, ap₂, ◌∙◌, subst, arith}
-use Rattle.rw_base.proofs.Common.{append_assoc, append-nil, slice_get, slice_get_within}
+use Rattle.rpl_compile.proofs.Common.{Frame, Kind, List, Outcome, Running, Some, State, Value, [], a_number, after, ap, append-nil, append_assoc, ap₂}
+use Rattle.rpl_compile.proofs.Common.{arith, behind_loop, gives, length, mapping, number_kind, numbers, numbers_for, refl, set, slice_get}
+use Rattle.rpl_compile.proofs.Common.{slice_get_within, spent, subst, suc, sym, turns, visiting, weight, with_left, with_number, ℕ, ℤ, ◌++◌, ◌+◌, ◌<◌}
+use Rattle.rpl_compile.proofs.Common.{◌>>=◌, ◌∙◌, ◌∷◌, ◌≡◌, ◌≤◌}
 use Rattle.rpl_code.specs.declared.instruction.Instruction.TheVariants as I
-use Rattle.rpl_tree.specs.Value.{Kind, number_kind, Value, a_number, numbers, weight}
-use Rattle.rpl_tree.specs.Outcome.{Outcome, after, gives, spent, ◌>>=◌}
-use Rattle.rpl_tree.specs.Mean.{numbers_for, turns, with_number}
-use Rattle.rpl_verify.specs.Places.{visiting, mapping}
-use Rattle.rpl_verify.specs.Machine.{Frame, Running, State, behind_loop, with_left}
 use Rattle.rpl_compile.proofs.Goes.{Goes, after_after, goes_bind, goes_first, goes_none}
 use Rattle.rpl_compile.proofs.OfKind.{HasKind, number_is, set_behind, set_here, set_long}
 use Rattle.rpl_compile.proofs.Setting.{Kept, Left, Setting, fr, goes_at, part, then_kept}

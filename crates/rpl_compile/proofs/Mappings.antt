@@ -1,19 +1,9 @@
 -- The form MAP.
-use Rattle.rw_base.proofs.Common.{◌≡◌, ℕ, suc, ◌+◌, List, [], ◌∷◌, ◌++◌, length, Some, refl, sym, ◌∙◌, subst, arith, slice_get}
-use Rattle.rpl_code.specs.declared.instruction.Instruction.{Instruction}
+use Rattle.rpl_compile.proofs.Common.{Env, Frame, Instruction, Kind, List, Outcome, Running, Site, Some, State, Tree, Value, [], after, after_tree}
+use Rattle.rpl_compile.proofs.Common.{arith, bound, code_of, element_of, elements_of, gives, keeping, kind_at, knowing, length, local_count}
+use Rattle.rpl_compile.proofs.Common.{local_kinds, mapped, mapping, names_in, number_kind, numbers, numbers_for, numbers_kind, on, refl, room_of}
+use Rattle.rpl_compile.proofs.Common.{size, slice_get, spent, subst, suc, sym, value_of, with_elements, ℕ, ◌++◌, ◌+◌, ◌>>=◌, ◌∙◌, ◌∷◌, ◌≡◌}
 use Rattle.rpl_code.specs.declared.instruction.Instruction.TheVariants as I
-use Rattle.rpl_tree.specs.Value.{Kind, number_kind, numbers_kind, Value, numbers, element_of, room_of}
-use Rattle.rpl_tree.specs.Outcome.{Outcome, after, gives, spent, ◌>>=◌}
-use Rattle.rpl_tree.specs.Operators.{elements_of}
-use Rattle.rpl_tree.specs.Tree.{Tree, mapped}
-use Rattle.rpl_tree.specs.Mean.{Env, numbers_for, value_of, with_elements}
-use Rattle.rpl_tree.specs.Count.{local_count}
-use Rattle.rpl_tree.specs.Locals.{local_kinds}
-use Rattle.rpl_verify.specs.Places.{mapping}
-use Rattle.rpl_verify.specs.Machine.{Frame, Running, State}
-use Rattle.rpl_compile.specs.Size.{size}
-use Rattle.rpl_compile.specs.Site.{Site, bound, keeping, kind_at, knowing, names_in, on}
-use Rattle.rpl_compile.specs.Translate.{after_tree, code_of}
 use Rattle.rpl_compile.proofs.Goes.{Goes, goes_bind, goes_first, goes_none}
 use Rattle.rpl_compile.proofs.OfKind.{At, at_back, at_front, at_head, at_moved, at_tail}
 use Rattle.rpl_compile.proofs.Sizes.{code-size}

@@ -1,15 +1,10 @@
 -- Values of a kind, and lists that stand in others from a place on.
-use Rattle.rw_base.proofs.Common.{◌≡◌, ℕ, zero, suc, ◌+◌, ◌<◌, ℤ, Bool, true, List, [], ◌∷◌, ◌++◌, length, drop, set, Some, refl, sym, ap, ap₂, ◌∙◌}
-use Rattle.rw_base.proofs.Common.{subst, arith, rules, append_assoc, append-nil, slice_get, drop-drop, take}
-use Rattle.rpl_code.specs.Weight.{words_of}
-use Rattle.rpl_code.specs.declared.kind.ValueKind.{ValueKind}
+use Rattle.rpl_compile.proofs.Common.{Bool, IsRoomy, Kind, List, Some, Value, ValueKind, [], a_number, a_truth, ap, append-nil, append_assoc, ap₂}
+use Rattle.rpl_compile.proofs.Common.{arith, code_kind, code_kind_of, code_kinds, date_kind, drop, drop-drop, is_same_kind, kind_of_value, kinds_of}
+use Rattle.rpl_compile.proofs.Common.{length, number_kind, number_of, numbers_kind, refl, rules, set, slice_get, slot_kind, slots_kind, subst, suc}
+use Rattle.rpl_compile.proofs.Common.{sym, take, true, truth_kind, truth_of, weight, weights, words_of, words_of_all, zero, ℕ, ℤ, ◌++◌, ◌+◌, ◌<◌, ◌∙◌}
+use Rattle.rpl_compile.proofs.Common.{◌∷◌, ◌≡◌}
 use Rattle.rpl_code.specs.declared.kind.ValueKind.TheVariants as K
-use Rattle.rpl_tree.specs.Value.{Kind, number_kind, truth_kind, date_kind, slot_kind, numbers_kind, slots_kind, Value, a_number, a_truth, a_date}
-use Rattle.rpl_tree.specs.Value.{a_slot, numbers, slots, kind_of_value, is_same_kind, weight, weights}
-use Rattle.rpl_verify.specs.Kinds.{words_of_all}
-use Rattle.rpl_verify.specs.Operations.{kind_of as code_kind_of, kinds_of}
-use Rattle.rpl_verify.proofs.KindFacts.{IsRoomy, number_is as number_of, truth_is as truth_of}
-use Rattle.rpl_compile.specs.Operations.{code_kind, code_kinds}
 
 -- ---- kinds
 
@@ -23,11 +18,7 @@ HaveKinds _ _ = ⊥
 
 pub coded : (v : Value) → code_kind_of v ≡ code_kind (kind_of_value v)
 coded (a_number z) = refl
-coded (a_truth b) = refl
-coded (a_date d) = refl
-coded (a_slot s) = refl
-coded (numbers m zs) = refl
-coded (slots m ss) = refl
+coded v = refl
 
 -- the kind that code has of it
 pub kind_coded : (k : Kind) (v : Value) → HasKind k v → code_kind_of v ≡ code_kind k
@@ -43,22 +34,14 @@ plain_kind (K.SList m) = slots_kind m
 
 plain_coded : (k : Kind) → plain_kind (code_kind k) ≡ k
 plain_coded number_kind = refl
-plain_coded truth_kind = refl
-plain_coded date_kind = refl
-plain_coded slot_kind = refl
-plain_coded (numbers_kind m) = refl
-plain_coded (slots_kind m) = refl
+plain_coded k = refl
 
 pub kind_from_code : (k : Kind) (v : Value) → code_kind_of v ≡ code_kind k → kind_of_value v ≡ k
 kind_from_code k v h = sym (plain_coded (kind_of_value v)) ∙ ap plain_kind (sym (coded v) ∙ h) ∙ plain_coded k
 
 pub words_coded : (k : Kind) → words_of (code_kind k) ≡ weight k
 words_coded number_kind = refl
-words_coded truth_kind = refl
-words_coded date_kind = refl
-words_coded slot_kind = refl
-words_coded (numbers_kind m) = refl
-words_coded (slots_kind m) = refl
+words_coded k = refl
 
 -- how many words a value takes
 pub value_words : (v : Value) → words_of (code_kind_of v) ≡ weight (kind_of_value v)
@@ -69,12 +52,9 @@ all_words_coded [] = refl
 all_words_coded (k ∷ ks) = ap₂ (λ a b. a + b) (words_coded k) (all_words_coded ks)
 
 pub same_kind_refl : (k : Kind) → is_same_kind k k ≡ true
-same_kind_refl number_kind = refl
-same_kind_refl truth_kind = refl
-same_kind_refl date_kind = refl
-same_kind_refl slot_kind = refl
 same_kind_refl (numbers_kind m) = search rules
 same_kind_refl (slots_kind m) = search rules
+same_kind_refl k = refl
 
 pub number_is : (v : Value) → HasKind number_kind v → (z : ℤ) × (v ≡ a_number z)
 number_is v h = number_of v (kind_coded number_kind v h)
@@ -101,11 +81,7 @@ coded_kinds (k ∷ ks) = let r = coded_kinds ks in (plain_kind k ∷ r.0, ap₂ 
   where
     by : (k : ValueKind) → k ≡ code_kind (plain_kind k)
     by K.N = refl
-    by K.B = refl
-    by K.D = refl
-    by K.S = refl
-    by (K.NList m) = refl
-    by (K.SList m) = refl
+    by k = refl
 
 -- ---- what stands in a list from a place on
 

@@ -1,36 +1,17 @@
 -- Operators and words: their operands, and then one or two instructions.
-use Rattle.rw_base.proofs.Common.{◌≡◌, ◌⊎◌, inl, inr, ℕ, suc, ◌+◌, ◌<◌, Bool, true, nat_lt, nat_tests, List, [], ◌∷◌, ◌++◌, Some, None, Ok, refl, sym}
-use Rattle.rw_base.proofs.Common.{ap, ap₂, ◌∙◌, subst, arith, append_assoc, slice_get, if◌then◌else◌}
-use Rattle.rpl_code.specs.declared.kind.ValueKind.{ValueKind}
+use Rattle.rpl_compile.proofs.Common.{And, Append, AreBoth, AreComparable, Bool, CanAddKinds, CanAppend, ConvertWord, Day, Divide, ElevationToStorage}
+use Rattle.rpl_compile.proofs.Common.{Env, Equal, Frame, Greater, GreaterEqual, Instruction, IsAnyList, IsAsked, IsKinded, IsOperation, Item, Kind}
+use Rattle.rpl_compile.proofs.Common.{Known, Length, Less, LessEqual, Less_by, List, Minus, Month, None, Not, Ok, OneWord, Or, Outcome, Plus, Running}
+use Rattle.rpl_compile.proofs.Common.{Site, Some, StorageToElevation, Times, Tree, TwoWord, Unequal, Value, ValueKind, Year, [], after_tree, ap}
+use Rattle.rpl_compile.proofs.Common.{append_assoc, append_of, ap₂, arith, asked_code, at, at_most_of, both, code_kind, code_of, convert, date_kind}
+use Rattle.rpl_compile.proofs.Common.{difference_kind, difference_line, difference_of, element_of, equal_of, if◌then◌else◌, inl, inr, item_of}
+use Rattle.rpl_compile.proofs.Common.{keeping, kind_at, known_in, known_of, left_of, less_of, list_kind, local_count, local_kinds, name_misfit}
+use Rattle.rpl_compile.proofs.Common.{names_in, nat_lt, nat_tests, not_of, number_kind, numbers_kind, one, operand_count, operation, or_wrong, over}
+use Rattle.rpl_compile.proofs.Common.{product_of, quotient_of, read_of, refl, room_of, size, slice_get, slot_kind, slots_kind, subst, suc, sum_line}
+use Rattle.rpl_compile.proofs.Common.{sum_of, sym, table_named, test_line, true, truth_kind, two, value_of, ℕ, ◌++◌, ◌+◌, ◌<◌, ◌>>=◌, ◌∙◌, ◌∷◌, ◌≡◌}
+use Rattle.rpl_compile.proofs.Common.{◌⊎◌}
 use Rattle.rpl_code.specs.declared.kind.ValueKind.TheVariants as K
-use Rattle.rpl_code.specs.declared.instruction.Instruction.{Instruction}
 use Rattle.rpl_code.specs.declared.instruction.Instruction.TheVariants as I
-use Rattle.rpl_tree.specs.declared.words.OneWord.{OneWord}
-use Rattle.rpl_tree.specs.declared.words.OneWord.TheVariants.{Not, Minus, Known, Length, Month, Day, Year}
-use Rattle.rpl_tree.specs.declared.words.TwoWord.{TwoWord}
-use Rattle.rpl_tree.specs.declared.words.TwoWord.TheVariants.{Or, And, Equal, Unequal, Less, LessEqual, Greater, GreaterEqual, Plus, Minus as Less_by}
-use Rattle.rpl_tree.specs.declared.words.TwoWord.TheVariants.{Times, Divide, Append, Item}
-use Rattle.rpl_tree.specs.declared.words.ConvertWord.{ConvertWord}
-use Rattle.rpl_tree.specs.declared.words.ConvertWord.TheVariants.{StorageToElevation, ElevationToStorage}
-use Rattle.rpl_tree.specs.Value.{Kind, number_kind, truth_kind, date_kind, slot_kind, numbers_kind, slots_kind, list_kind, element_of, room_of, Value}
-use Rattle.rpl_tree.specs.Outcome.{Outcome, ◌>>=◌}
-use Rattle.rpl_tree.specs.Operators.{append_of, at_most_of, difference_of, equal_of, item_of, less_of, not_of, product_of, quotient_of, sum_of}
-use Rattle.rpl_tree.specs.World.{known_of, read_of, table_named}
-use Rattle.rpl_tree.specs.Tree.{Tree, one, two, convert, at}
-use Rattle.rpl_tree.specs.Kinds.{difference_kind}
-use Rattle.rpl_tree.specs.Mean.{Env, both, known_in, value_of}
-use Rattle.rpl_tree.specs.Count.{local_count}
-use Rattle.rpl_tree.specs.Locals.{local_kinds}
-use Rattle.rpl_verify.specs.Table.{left_of, operand_count, or_wrong}
-use Rattle.rpl_verify.specs.Names.{name_misfit}
-use Rattle.rpl_verify.specs.Operations.{operation}
-use Rattle.rpl_verify.specs.Machine.{Frame, Running}
-use Rattle.rpl_verify.proofs.Operated.{IsOperation}
-use Rattle.rpl_compile.specs.Operations.{code_kind, difference_line, sum_line, test_line}
-use Rattle.rpl_compile.specs.Size.{size}
-use Rattle.rpl_compile.specs.Site.{Site, keeping, kind_at, names_in, over}
-use Rattle.rpl_compile.specs.Translate.{after_tree, asked_code, code_of}
-use Rattle.rpl_compile.specs.Kinded.{AreBoth, AreComparable, CanAddKinds, CanAppend, IsAnyList, IsAsked, IsKinded}
 use Rattle.rpl_compile.proofs.Goes.{Goes}
 use Rattle.rpl_compile.proofs.OfKind.{At, HasKind, at_back, at_front, at_head, at_moved, at_tail, kind_coded}
 use Rattle.rpl_compile.proofs.Sizes.{code-size}

@@ -1,20 +1,11 @@
 -- The account of a block that fits: what the table of its budgets has at each place.
-use Rattle.rw_base.proofs.Common.{◌≡◌, ◌≤◌, ◌<◌, ℕ, suc, ◌+◌, ◌*◌, max, List, [], ◌∷◌, length, Option, Some, None, Result, Ok, refl, sym, ap, ap₂}
-use Rattle.rw_base.proofs.Common.{◌∙◌, subst, arith, slice_get, slice_get_within, slice_index}
-use Rattle.rpl_code.specs.declared.kind.ValueKind.{ValueKind}
-use Rattle.rpl_verify.specs.declared.verify_kind.VerifyKind.{VerifyKind}
-use Rattle.rpl_code.specs.declared.instruction.Instruction.{Instruction}
+use Rattle.rpl_compile.proofs.Common.{Before, Budget, C, Instruction, List, None, Ok, Open, Option, Price, Result, Scope, Some, ValueKind, VerifyKind}
+use Rattle.rpl_compile.proofs.Common.{W, [], ap, ap₂, arith, at_a_time, before, before_at, befores, bracket, end_of_list, ends_before, entering}
+use Rattle.rpl_compile.proofs.Common.{going_of, judged_at, length, max, onward, refl, room_on_top, slice_get, slice_get_within, slice_index, spots}
+use Rattle.rpl_compile.proofs.Common.{subst, suc, summed, sym, turning, words_at, words_kept, ℕ, ◌*◌, ◌+◌, ◌<◌, ◌∙◌, ◌∷◌, ◌≡◌, ◌≤◌}
 use Rattle.rpl_code.specs.declared.instruction.Instruction.TheVariants as I
-use Rattle.rpl_tree.specs.Budget.{Budget}
-use Rattle.rpl_tree.specs.Cost.{Price}
-use Rattle.rpl_verify.specs.Places.{bracket, ends_before, spots}
-use Rattle.rpl_verify.specs.Names.{Scope}
-use Rattle.rpl_verify.specs.Fits.{Before, Open, before, before_at, befores, judged_at, room_on_top}
-use Rattle.rpl_verify.specs.Budget.{at_a_time, entering, onward, summed, turning, going_of, words_at}
-use Rattle.rpl_verify.specs.Notes.{words_kept}
 use Rattle.rpl_verify.proofs.Loops.{Linked, P, ends_at, first_is, linked, past, spot}
-use Rattle.rpl_verify.proofs.Costs.{C, W, by_far_branch, by_far_entry, by_jump, by_next, by_turn, end_is, words_fit, words_fit_at_end}
-use Rattle.rpl_verify.proofs.Stepping.{end_of_list}
+use Rattle.rpl_verify.proofs.Costs.{by_far_branch, by_far_entry, by_jump, by_next, by_turn, end_is, words_fit, words_fit_at_end}
 use Rattle.rpl_compile.proofs.Counting.{Account, IsInvoke, IsUnit, Prices}
 
 abbrev fine : Before → Result Before VerifyKind

@@ -1,15 +1,11 @@
 -- What stands from a place of a block on: its instructions, which loops are open, and where a jump may go.
-use Rattle.rw_base.proofs.Common.{◌≡◌, ℕ, zero, suc, ◌+◌, ◌<◌, nat_lt, Bool, true, false, List, [], ◌∷◌, ◌++◌, length, map, reverse, reverse-reverse}
-use Rattle.rw_base.proofs.Common.{Some, Ok, Err, refl, sym, ap, ap₂, ◌∙◌, subst, arith, nat_tests, if◌then◌else◌, slice_get}
-use Rattle.rpl_code.specs.declared.kind.ValueKind.{ValueKind}
-use Rattle.rpl_code.specs.declared.instruction.Instruction.{Instruction}
+use Rattle.rpl_compile.proofs.Common.{BackwardJump, Before, Bool, Bracket, Err, Instruction, JumpOutside, List, Loop, Ok, Open, Opener, Scope, Some}
+use Rattle.rpl_compile.proofs.Common.{Spot, ValueKind, [], ap, ap₂, arith, bracket, closed, closing, declared_by, found, if◌then◌else◌, innermost}
+use Rattle.rpl_compile.proofs.Common.{is_same_loop, is_same_place, judged_at, landing, length, level, map, nat_lt, nat_tests, openers_behind, opening}
+use Rattle.rpl_compile.proofs.Common.{refl, reverse, reverse-reverse, slice_get, spots, spots_from, start_of, subst, suc, sym, true, zero, ℕ, ◌++◌}
+use Rattle.rpl_compile.proofs.Common.{◌+◌, ◌<◌, ◌∙◌, ◌∷◌, ◌≡◌}
 use Rattle.rpl_code.specs.declared.instruction.Instruction.TheVariants as I
-use Rattle.rpl_verify.specs.declared.verify_kind.VerifyKind.TheVariants.{BackwardJump, JumpOutside}
-use Rattle.rpl_verify.specs.Places.{Bracket, Loop, Opener, Spot, bracket, closed, closing, declared_by, is_same_loop, level, opening, openers_behind}
-use Rattle.rpl_verify.specs.Places.{spots, spots_from, start_of}
 use Rattle.rpl_verify.specs.Kinds.{top_of}
-use Rattle.rpl_verify.specs.Names.{Scope}
-use Rattle.rpl_verify.specs.Fits.{Before, Open, found, innermost, is_same_place, judged_at, landing}
 use Rattle.rpl_verify.proofs.Judged.{OpenRel, rel_of, same_loop_refl}
 
 -- ---- lists
@@ -52,11 +48,8 @@ openers_go : (p : ℕ) (b : Bracket) (os : List Open) (c : Before) → OpenRel p
 openers_go p (opening loop) os c h =
     ap₂ (λ (s : ℕ) (l : Loop). record { start = s; loop = l } ∷ openers_of os) (sym h.3) (sym h.4) ∙ sym (ap openers_of h.1)
 openers_go p (closing loop) os c h =
-    ap (λ (os : List Open). closed loop (openers_of os)) h.1 ∙ by (is_same_loop loop h.0.loop) (ap (is_same_loop loop) h.3 ∙ same_loop_refl loop)
-  where
-    by : (t : Bool) → t ≡ true → (if t then openers_of c.loops else opener_of h.0 ∷ openers_of c.loops) ≡ openers_of c.loops
-    by true e = refl
-    by false e = absurd (cc e)
+    ap (λ (os : List Open). closed loop (openers_of os)) h.1
+    ∙ ap (λ (t : Bool). if t then openers_of c.loops else opener_of h.0 ∷ openers_of c.loops) (ap (is_same_loop loop) h.3 ∙ same_loop_refl loop)
 openers_go p level os c h = ap openers_of (sym h)
 
 -- the openers before a place

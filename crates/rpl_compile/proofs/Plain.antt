@@ -1,37 +1,26 @@
 -- What is written where a ruleset is kinded is what TRANSLATE says: numbers, names, kinds and functions.
-use Rattle.rw_base.proofs.Common.{◌≡◌, ◌≤◌, ◌*ℤ◌, ℕ, ℤ, pos, unsigned_abs, Bool, true, false, List, [], ◌∷◌, nat_lt, Option, Some, None, IsSome}
-use Rattle.rw_base.proofs.Common.{IsTrue, IsUtf8, is_utf8, is_utf8-from_IsUtf8, refl, sym, ap, subst, arith, inl, inr, bytes_eq, bytes_eq-Decides}
-use Rattle.rw_base.proofs.Common.{cases_Bool, false≢true, ◌||◌, AllByRecursion, option_and_then, unwrap_or, if◌then◌else◌}
-use Rattle.std.proofs.lemmas.Bool.{lt-ltb}
-use Rattle.rw_base.specs.Dimension.{Dimension}
-use Rattle.rw_base.specs.Unit.{units, unit_in}
-use Rattle.rw_model.proofs.Common.{IsBasin, Draft, Object, slot_named}
+use Rattle.rpl_compile.proofs.Common.{AllByRecursion, Bool, Callee, Dimension, Draft, HasHead, IsBasin, IsLiteral, IsSome, IsTrue, IsUtf8, List, None}
+use Rattle.rpl_compile.proofs.Common.{Object, Option, Some, [], ap, arith, byte, bytes_eq, bytes_eq-Decides, call_by, call_instruction, call_line}
+use Rattle.rpl_compile.proofs.Common.{callee_heads, callee_named, cases_Bool, factor_of, false, false≢true, inl, inr, is_quantity, is_utf8}
+use Rattle.rpl_compile.proofs.Common.{is_utf8-from_IsUtf8, lt-ltb, nat_lt, number_in_units, object_at, option_and_then, pos, refl, result_named}
+use Rattle.rpl_compile.proofs.Common.{short, slot_named, spelt_name, subst, sym, table_in, table_named, takes_named, true, unit_in, units, unwrap_or}
+use Rattle.rpl_compile.proofs.Common.{where-true, within, ℕ, ℤ, ◌*ℤ◌, ◌||◌, ◌∷◌, ◌≡◌, ◌≤◌}
 use Rattle.rpl_code.specs.declared.instruction.Instruction.TheVariants as I
-use Rattle.rpl_tree.specs.Operators.{is_quantity}
-use Rattle.rw_model.specs.Objects.{object_at}
-use Rattle.rpl_tree.proofs.Common.{result_named, table_in, table_named, takes_named}
 use Rattle.rpl_types.proofs.Texts.{no_owner, no_slot}
-use Rattle.rpl_compile.specs.Kinded.{HasHead, IsLiteral}
 use Rattle.rpl_compile.proofs.Texts.{no_object}
-use Rattle.rpl_compile.specs.Operations.{factor_of}
-use Rattle.rpl_compile.specs.Translate.{Callee, call_by, call_line, callee_heads}
-use Rattle.rpl_compile.specs.Written.{byte, call_instruction, callee_named, number_in_units, short, spelt_name, within}
+use Rattle.rpl_compile.proofs.Found.{by_test}
 
 -- ---- numbers
 
-by_test : {A : Type 0} (b : Bool) (x y : A) → b ≡ true → (if b then x else y) ≡ x
-by_test true x y e = refl
-by_test false x y e = absurd (grind arith)
-
 pub short_is : (n : ℕ) → n ≤ 4096 → short n ≡ n
-short_is n h = by_test (nat_lt n 65536) n 0 (lt-ltb n 65536 (omega (arith, h)))
+short_is n h = where-true (nat_lt n 65536) n 0 (lt-ltb n 65536 (omega (arith, h)))
 
 pub byte_is : (n : ℕ) → n ≤ 255 → byte n ≡ n
-byte_is n h = by_test (nat_lt n 256) n 0 (lt-ltb n 256 (omega (arith, h)))
+byte_is n h = where-true (nat_lt n 256) n 0 (lt-ltb n 256 (omega (arith, h)))
 
 literal_by : (n : ℤ) (found : Option (Dimension × ℤ)) → IsLiteral n found → within (n *ℤ factor_of found) ≡ n *ℤ factor_of found
 literal_by n None h = absurd h
-literal_by n (Some unit) h = by_test (is_quantity (n *ℤ unit.1)) (n *ℤ unit.1) (pos 0) h
+literal_by n (Some unit) h = where-true (is_quantity (n *ℤ unit.1)) (n *ℤ unit.1) (pos 0) h
 
 pub number_is : (n : ℤ) (unit : Option (List ℕ)) → IsLiteral n (unit_in units (unwrap_or unit []))
     → number_in_units n unit ≡ n *ℤ factor_of (unit_in units (unwrap_or unit []))
@@ -40,11 +29,11 @@ number_is n unit h = literal_by n (unit_in units (unwrap_or unit [])) h
 -- ---- names
 
 pub spelt_is : (word : List ℕ) → IsUtf8 word → spelt_name word ≡ word
-spelt_is word h = by_test (is_utf8 word) word [] (is_utf8-from_IsUtf8 word h)
+spelt_is word h = where-true (is_utf8 word) word [] (is_utf8-from_IsUtf8 word h)
 
 spelt_unless : (word : List ℕ) → (¬ (IsUtf8 word) → ⊥) → spelt_name word ≡ word
 spelt_unless word h = elim (cases_Bool (is_utf8 word)) [
-  | inl e ↦ by_test (is_utf8 word) word [] e
+  | inl e ↦ where-true (is_utf8 word) word [] e
   | inr e ↦ absurd (h (λ text. grind (arith, e, is_utf8-from_IsUtf8 word text)))
 ]
 
@@ -61,17 +50,13 @@ module _ (basin : Draft) (valid : IsBasin basin) where
 abbrev pub IsSpelt : Callee → Type 0
 IsSpelt c = c.block ≡ None → IsUtf8 c.head.name
 
-of_choice : {A B : Type 0} (part : A → B) (b : Bool) (x y : A) (z : B) → part y ≡ z → part (if b then x else y) ≡ (if b then part x else z)
-of_choice part true x y z e = refl
-of_choice part false x y z e = e
-
 pub takes_is : (callees : List Callee) (f : List ℕ) → (callee_named callees f).head.takes ≡ takes_named (callee_heads callees) f
 takes_is [] f = refl
-takes_is (c ∷ callees) f = of_choice (λ (d : Callee). d.head.takes) (bytes_eq c.head.name f) c (callee_named callees f) _ (takes_is callees f)
+takes_is (c ∷ callees) f = by_test (λ (d : Callee). d.head.takes) (bytes_eq c.head.name f) c (callee_named callees f) _ (takes_is callees f)
 
 pub result_is : (callees : List Callee) (f : List ℕ) → (callee_named callees f).head.result ≡ result_named (callee_heads callees) f
 result_is [] f = refl
-result_is (c ∷ callees) f = of_choice (λ (d : Callee). d.head.result) (bytes_eq c.head.name f) c (callee_named callees f) _ (result_is callees f)
+result_is (c ∷ callees) f = by_test (λ (d : Callee). d.head.result) (bytes_eq c.head.name f) c (callee_named callees f) _ (result_is callees f)
 
 called : (f : List ℕ) (block : Option ℕ) → (block ≡ None → IsUtf8 f) → call_instruction f block ≡ call_by f block
 called f None h = ap I.Call (spelt_is f (h refl))

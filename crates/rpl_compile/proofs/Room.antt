@@ -1,22 +1,11 @@
 -- A value is given the room of its place.
-use Rattle.rw_base.proofs.Common.{◌≡◌, ◌⊎◌, inl, inr, ℕ, ◌+◌, ◌<◌, ◌==◌, Bool, true, false, nat_lt, nat_le, nat_tests, List, [], ◌∷◌, ◌++◌, Some}
-use Rattle.rw_base.proofs.Common.{None, refl, sym, ap, ◌∙◌, subst, arith, slice_get, if◌then◌else◌}
+use Rattle.rpl_compile.proofs.Common.{Bool, Env, FitsIn, Frame, IsKinded, Kind, List, None, Running, Site, Some, Tree, Value, [], ap, arith, code_of}
+use Rattle.rpl_compile.proofs.Common.{false, gives, if◌then◌else◌, inl, inr, is_same_kind, is_stuck, kind_at, kind_of_value, local_kinds, names_in}
+use Rattle.rpl_compile.proofs.Common.{nat_le, nat_lt, nat_tests, numbers, numbers_kind, or_wrong, refl, room_lines, roomier, size, slice_get, slots}
+use Rattle.rpl_compile.proofs.Common.{slots_kind, subst, sym, true, value_of, widened, widening, widening_size, ℕ, ◌++◌, ◌+◌, ◌<◌, ◌==◌, ◌>>=◌, ◌∙◌}
+use Rattle.rpl_compile.proofs.Common.{◌∷◌, ◌≡◌, ◌⊎◌}
 use Rattle.rpl_code.specs.declared.kind.ValueKind.TheVariants as K
 use Rattle.rpl_code.specs.declared.instruction.Instruction.TheVariants as I
-use Rattle.rpl_tree.specs.Value.{Kind, numbers_kind, slots_kind, Value, a_number, a_truth, a_date, a_slot, numbers, slots, kind_of_value}
-use Rattle.rpl_tree.specs.Value.{is_same_kind}
-use Rattle.rpl_tree.specs.Outcome.{gives, is_stuck, ◌>>=◌}
-use Rattle.rpl_tree.specs.Operators.{roomier, widened}
-use Rattle.rpl_tree.specs.Tree.{Tree}
-use Rattle.rpl_tree.specs.Mean.{Env, value_of}
-use Rattle.rpl_tree.specs.Locals.{local_kinds}
-use Rattle.rpl_verify.specs.Table.{or_wrong}
-use Rattle.rpl_verify.specs.Machine.{Frame, Running}
-use Rattle.rpl_compile.specs.Operations.{widening, widening_size}
-use Rattle.rpl_compile.specs.Size.{size}
-use Rattle.rpl_compile.specs.Site.{Site, kind_at, names_in}
-use Rattle.rpl_compile.specs.Translate.{code_of, room_lines}
-use Rattle.rpl_compile.specs.Kinded.{FitsIn, IsKinded}
 use Rattle.rpl_compile.proofs.Goes.{Goes, goes_none}
 use Rattle.rpl_compile.proofs.OfKind.{At, HasKind, at_back, at_front, at_head, same_kind_refl}
 use Rattle.rpl_compile.proofs.Sizes.{code-size}
@@ -74,11 +63,7 @@ module _ (g : Setting) where
       (ap (λ (t : Bool). if t then gives (numbers m zs) (m + 1) else is_stuck) (up ∙ sym (ap (λ j. nat_lt j m) e ∙ lower m n lt)))
       (operates g (numbers_kind m) free q us (numbers k zs ∷ []) ops lo rest (I.Widen m) tt refl line (hv.1, tt) refl
       (ap (λ (t : Bool). or_wrong (if t then Some (K.NList m ∷ []) else None)) up)))
-  numbers_wider m n lt free q us ops lo rest (a_number z) at hv = absurd (cc hv.0)
-  numbers_wider m n lt free q us ops lo rest (a_truth z) at hv = absurd (cc hv.0)
-  numbers_wider m n lt free q us ops lo rest (a_date z) at hv = absurd (cc hv.0)
-  numbers_wider m n lt free q us ops lo rest (a_slot z) at hv = absurd (cc hv.0)
-  numbers_wider m n lt free q us ops lo rest (slots k zs) at hv = absurd (cc hv.0)
+  numbers_wider m n lt free q us ops lo rest _ at hv = absurd (cc hv.0)
 
   slots_wider : (m n : ℕ) → n < m → Widens (slots_kind m) (slots_kind n)
   slots_wider m n lt free q us ops lo rest (slots k zs) at hv =
@@ -90,11 +75,7 @@ module _ (g : Setting) where
       (ap (λ (t : Bool). if t then gives (slots m zs) (m + 1) else is_stuck) (up ∙ sym (ap (λ j. nat_lt j m) e ∙ lower m n lt)))
       (operates g (slots_kind m) free q us (slots k zs ∷ []) ops lo rest (I.Widen m) tt refl line (hv.1, tt) refl
       (ap (λ (t : Bool). or_wrong (if t then Some (K.SList m ∷ []) else None)) up)))
-  slots_wider m n lt free q us ops lo rest (a_number z) at hv = absurd (cc hv.0)
-  slots_wider m n lt free q us ops lo rest (a_truth z) at hv = absurd (cc hv.0)
-  slots_wider m n lt free q us ops lo rest (a_date z) at hv = absurd (cc hv.0)
-  slots_wider m n lt free q us ops lo rest (a_slot z) at hv = absurd (cc hv.0)
-  slots_wider m n lt free q us ops lo rest (numbers k zs) at hv = absurd (cc hv.0)
+  slots_wider m n lt free q us ops lo rest _ at hv = absurd (cc hv.0)
 
   by_wider : (place kind : Kind) (m n : ℕ) → n < m
       → (((place ≡ numbers_kind m) × (kind ≡ numbers_kind n)) ⊎ ((place ≡ slots_kind m) × (kind ≡ slots_kind n))) → Widens place kind

@@ -1,26 +1,14 @@
 -- Elements of a list, and arguments of a call.
-use Rattle.rw_base.proofs.Common.{◌≡◌, inl, inr, ℕ, suc, ◌+◌, ◌≤◌, Bool, true, List, [], ◌∷◌, ◌++◌, length, reverse, reverse_aux, reverse-reverse}
-use Rattle.rw_base.proofs.Common.{length-reverse, None, Ok, refl, sym, ap, ap₂, ◌∙◌, subst, arith, append_assoc, option_map, list_all, if◌then◌else◌}
-use Rattle.rpl_code.specs.declared.instruction.Instruction.{Instruction}
+use Rattle.rpl_compile.proofs.Common.{AreArguments, AreOfKind, Bool, Env, Frame, Function, Instruction, IsElement, Kind, List, None, Ok, Outcome}
+use Rattle.rpl_compile.proofs.Common.{Running, Site, State, Tree, Trees, Value, [], after_room, after_tree, all_code, all_local_kinds, ap}
+use Rattle.rpl_compile.proofs.Common.{append_assoc, ap₂, arguments_code, arguments_of, arith, call, call_line, called, code_kind, code_kind_of}
+use Rattle.rpl_compile.proofs.Common.{code_list_kind, code_of, count_of, first_kind, gives, if◌then◌else◌, inl, inr, is_same_value_kind, keeping}
+use Rattle.rpl_compile.proofs.Common.{kind_at, kinds_of, length, length-reverse, list, list_all, list_kind, list_of, listed, local_count, local_kinds}
+use Rattle.rpl_compile.proofs.Common.{names_in, no_trees, option_map, or_wrong, over, refl, result_named, reverse, reverse-reverse, reverse_aux}
+use Rattle.rpl_compile.proofs.Common.{room_lines, same_kind_refl, size, sizes, sizes_of_arguments, subst, suc, sym, takes_named, tree, true, value_of}
+use Rattle.rpl_compile.proofs.Common.{values_of, widened, widening_size, ℕ, ◌++◌, ◌+◌, ◌>>=◌, ◌∙◌, ◌∷◌, ◌≡◌, ◌≤◌}
 use Rattle.rpl_code.specs.declared.instruction.Instruction.TheVariants as I
-use Rattle.rpl_tree.specs.Value.{Kind, list_kind, Value}
-use Rattle.rpl_tree.specs.Outcome.{Outcome, gives, ◌>>=◌}
-use Rattle.rpl_tree.specs.Operators.{list_of, widened}
-use Rattle.rpl_tree.specs.Tree.{Tree, Trees, call, list, no_trees, tree}
-use Rattle.rpl_tree.specs.Kinds.{count_of, first_kind, result_named, takes_named}
-use Rattle.rpl_tree.specs.Mean.{Env, Function, arguments_of, called, value_of, values_of}
-use Rattle.rpl_tree.specs.Count.{local_count}
-use Rattle.rpl_tree.specs.Locals.{all_local_kinds, local_kinds}
-use Rattle.rpl_verify.specs.Kinds.{is_same_value_kind, list_value_kind as code_list_kind}
-use Rattle.rpl_verify.specs.Table.{listed, or_wrong}
-use Rattle.rpl_verify.specs.Operations.{kind_of as code_kind_of, kinds_of}
-use Rattle.rpl_verify.specs.Machine.{Frame, Running, State}
-use Rattle.rpl_verify.proofs.KindFacts.{AreRoomy, same_kind_refl}
-use Rattle.rpl_compile.specs.Operations.{code_kind, widening_size}
-use Rattle.rpl_compile.specs.Size.{size, sizes, sizes_of_arguments}
-use Rattle.rpl_compile.specs.Site.{Site, keeping, kind_at, names_in, over}
-use Rattle.rpl_compile.specs.Translate.{after_room, after_tree, all_code, arguments_code, call_line, code_of, room_lines}
-use Rattle.rpl_compile.specs.Kinded.{AreArguments, AreOfKind, IsElement}
+use Rattle.rpl_verify.proofs.KindFacts.{AreRoomy}
 use Rattle.rpl_compile.proofs.Goes.{Goes, goes_bind, goes_none, goes_weaker}
 use Rattle.rpl_compile.proofs.OfKind.{At, HasKind, HaveKinds, at_back, at_front, at_head, at_moved, kind_coded}
 use Rattle.rpl_compile.proofs.Sizes.{all-size, arguments-size, beside, code-size, widening-size}

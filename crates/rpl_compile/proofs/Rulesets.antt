@@ -1,23 +1,10 @@
 -- The block of a rule does what the rule does, wherever it is declared.
-use Rattle.rw_base.proofs.Common.{◌≡◌, ℕ, suc, ◌+◌, ◌-◌, ◌≤◌, ◌==◌, Bool, true, false, nat_tests, List, [], ◌∷◌, map, Some, refl, sym, ap, ◌∙◌, subst}
-use Rattle.rw_base.proofs.Common.{arith, slice_get, if◌then◌else◌, length-map}
-use Rattle.rw_model.specs.Objects.{numbered}
-use Rattle.rpl_code.specs.declared.block.Block.{Block}
-use Rattle.rpl_tree.specs.Value.{Kind, Value}
-use Rattle.rpl_tree.specs.Outcome.{gives}
-use Rattle.rpl_tree.specs.World.{World}
-use Rattle.rpl_tree.specs.Tree.{Acts, Declared, Parameter, Tree, TypeName, rule, function}
-use Rattle.rpl_tree.specs.Kinds.{Head, kind_of_type}
-use Rattle.rpl_tree.specs.Mean.{Function, acts_done, function_of, function_heads, param_kinds, rule_done}
-use Rattle.rpl_tree.specs.Locals.{acts_local_kinds}
-use Rattle.rpl_parse.specs.Bounds.{rule_count}
-use Rattle.rpl_verify.specs.Operations.{blank}
-use Rattle.rpl_verify.specs.Machine.{Frame, State, begin, rule_from, step}
-use Rattle.rpl_compile.specs.Operations.{code_kind, code_kinds}
-use Rattle.rpl_compile.specs.Site.{start}
-use Rattle.rpl_compile.specs.Size.{size_of_acts}
-use Rattle.rpl_compile.specs.Translate.{Callee, blocks_from, callee_heads, function_block, rule_block}
-use Rattle.rpl_compile.specs.Kinded.{AreKindedActs, AreKindedFrom}
+use Rattle.rpl_compile.proofs.Common.{Acts, AreKindedActs, AreKindedFrom, Block, Bool, Callee, Declared, Frame, Function, Head, Kind, List, Parameter}
+use Rattle.rpl_compile.proofs.Common.{Some, State, Tree, TypeName, Value, World, [], acts_done, acts_local_kinds, ap, arith, begin, blank}
+use Rattle.rpl_compile.proofs.Common.{blocks_from, callee_heads, code_kind, code_kinds, false, function, function_block, function_heads, function_of}
+use Rattle.rpl_compile.proofs.Common.{gives, if◌then◌else◌, kind_of_type, length-map, map, nat_tests, numbered, numbered_by, param_kinds, refl, rule}
+use Rattle.rpl_compile.proofs.Common.{rule_block, rule_count, rule_done, rule_from, size_of_acts, slice_get, start, step, subst, suc, sym, true, ℕ}
+use Rattle.rpl_compile.proofs.Common.{◌+◌, ◌-◌, ◌==◌, ◌∙◌, ◌∷◌, ◌≡◌, ◌≤◌}
 use Rattle.rpl_compile.proofs.Goes.{Goes, goes_weaker}
 use Rattle.rpl_compile.proofs.OfKind.{At, at_all, at_head, at_tail}
 use Rattle.rpl_compile.proofs.Sizes.{acts-size}
@@ -25,7 +12,6 @@ use Rattle.rpl_compile.proofs.Setting.{CanCall, Here, Setting}
 use Rattle.rpl_compile.proofs.Statements.{Behind, acts_go}
 use Rattle.rpl_compile.proofs.Callables.{known_first}
 use Rattle.rpl_compile.proofs.Bodies.{function_does, returns}
-use Rattle.rpl_verify.proofs.Accepted.{numbered_by}
 
 -- the block of a number behind others
 numbered_at : {A : Type 0} (xs : List A) (p : ℕ) (x : A) → slice_get xs p ≡ Some x → numbered xs (p + 1) ≡ Some x

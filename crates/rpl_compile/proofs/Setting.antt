@@ -1,24 +1,9 @@
 -- What the proof for a tree goes by: the code, the block that the tree's code stands in, and the functions that can be called.
-use Rattle.rw_base.proofs.Common.{◌≡◌, ℕ, suc, ◌+◌, ◌<◌, ◌≤◌, List, [], ◌∷◌, ◌++◌, length, reverse, Some, refl, sym, ap, ap₂, ◌∙◌, subst, arith}
-use Rattle.rw_base.proofs.Common.{slice_get}
-use Rattle.rw_model.specs.Objects.{numbered}
-use Rattle.rpl_code.specs.declared.instruction.Instruction.{Instruction}
-use Rattle.rpl_code.specs.declared.block.Block.{Block}
-use Rattle.rpl_tree.specs.Value.{Kind, Value}
-use Rattle.rpl_tree.specs.Outcome.{Outcome, ◌>>=◌}
-use Rattle.rpl_tree.specs.World.{World}
-use Rattle.rpl_tree.specs.Tree.{Tree}
-use Rattle.rpl_tree.specs.Kinds.{Head, Names, result_named, takes_named}
-use Rattle.rpl_tree.specs.Mean.{Env, Function, called, function_heads, names_of_env, value_of}
-use Rattle.rpl_tree.specs.Locals.{local_kinds}
-use Rattle.rpl_verify.specs.Fits.{locals_of}
-use Rattle.rpl_verify.specs.Operations.{kinds_of}
-use Rattle.rpl_verify.specs.Machine.{Frame, Running, State}
-use Rattle.rpl_compile.specs.Operations.{code_kinds}
-use Rattle.rpl_compile.specs.Size.{size}
-use Rattle.rpl_compile.specs.Site.{BoundName, Site, keeping, kind_at, names_in, over}
-use Rattle.rpl_compile.specs.Translate.{Callee, call_line, callee_heads, code_of}
-use Rattle.rpl_compile.specs.Kinded.{HasHead, IsKinded}
+use Rattle.rpl_compile.proofs.Common.{Block, BoundName, Callee, Env, Frame, Function, HasHead, Head, Instruction, IsKinded, Kind, List, Names}
+use Rattle.rpl_compile.proofs.Common.{Outcome, Running, Site, Some, State, Tree, Value, World, [], ap, ap₂, arith, call_line, called, callee_heads}
+use Rattle.rpl_compile.proofs.Common.{code_kinds, code_of, function_heads, keeping, kind_at, kinds_of, length, local_kinds, locals_of, names_in}
+use Rattle.rpl_compile.proofs.Common.{names_of_env, numbered, over, refl, result_named, reverse, size, slice_get, subst, suc, sym, takes_named}
+use Rattle.rpl_compile.proofs.Common.{value_of, ℕ, ◌++◌, ◌+◌, ◌<◌, ◌>>=◌, ◌∙◌, ◌∷◌, ◌≡◌, ◌≤◌}
 use Rattle.rpl_compile.proofs.Goes.{Goes, goes_bind, goes_weaker}
 use Rattle.rpl_compile.proofs.OfKind.{At, HasKind, HaveKinds, kind_coded}
 

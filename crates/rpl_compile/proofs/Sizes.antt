@@ -1,21 +1,12 @@
 -- The code of a tree is as long as its size says.
-use Rattle.rw_base.proofs.Common.{◌≡◌, ℕ, suc, ◌+◌, Bool, true, false, List, [], ◌∷◌, ◌++◌, length, length-append, refl, ap₂, ◌∙◌, arith}
-use Rattle.rw_base.proofs.Common.{if◌then◌else◌}
-use Rattle.rw_model.specs.Draft.{Draft}
-use Rattle.rpl_code.specs.declared.instruction.Instruction.{Instruction}
+use Rattle.rpl_compile.proofs.Common.{Act, Acts, And, AreArguments, AreKindedActs, AreOfKind, Bool, Callee, Draft, Instruction, IsKinded, IsKindedAct}
+use Rattle.rpl_compile.proofs.Common.{Kind, Known, List, Names, Or, Site, Tree, Trees, [], act, act_code, acts_code, after_tree, all_code, ap₂}
+use Rattle.rpl_compile.proofs.Common.{arguments_code, arith, assign, at, bind, brackets, branch, call, callee_heads, choice, choice_lines}
+use Rattle.rpl_compile.proofs.Common.{choice_size, code_of, convert, each, element_of, false, if◌then◌else◌, is_same_kind, kind_of_tree, length}
+use Rattle.rpl_compile.proofs.Common.{length-append, list, mapped, names_in, no_acts, no_trees, on, one, refl, size, size_of_act, size_of_acts, sizes}
+use Rattle.rpl_compile.proofs.Common.{sizes_of_arguments, suc, tree, tree_kind, true, truth_kind, two, widening, widening_size, with_name, ℕ, ◌++◌}
+use Rattle.rpl_compile.proofs.Common.{◌+◌, ◌∙◌, ◌∷◌, ◌≡◌}
 use Rattle.rpl_code.specs.declared.instruction.Instruction.TheVariants as I
-use Rattle.rpl_tree.specs.declared.words.OneWord.TheVariants.{Known}
-use Rattle.rpl_tree.specs.declared.words.TwoWord.TheVariants.{Or, And}
-use Rattle.rpl_tree.specs.Value.{Kind, truth_kind, element_of, is_same_kind}
-use Rattle.rpl_tree.specs.Kinds.{Names, tree_kind}
-use Rattle.rpl_tree.specs.Tree.{Tree, Trees, literal, truth, now, slot, name, call, brackets, list, choice, bind, each, mapped, one, two, convert, at}
-use Rattle.rpl_tree.specs.Tree.{no_trees, tree, Act, Acts, assign, branch, with_name, no_acts, act}
-use Rattle.rpl_compile.specs.Operations.{choice_size, widening, widening_size}
-use Rattle.rpl_compile.specs.Size.{size, size_of_act, size_of_acts, sizes, sizes_of_arguments}
-use Rattle.rpl_compile.specs.Site.{Site, names_in, on}
-use Rattle.rpl_compile.specs.Kinded.{AreArguments, AreKindedActs, AreOfKind, IsKinded, IsKindedAct}
-use Rattle.rpl_compile.specs.Translate.{Callee, act_code, acts_code, all_code, arguments_code, callee_heads, choice_lines, code_of, kind_of_tree}
-use Rattle.rpl_compile.specs.Translate.{after_tree}
 
 pub beside : (a b : List Instruction) {m n : ℕ} → length a ≡ m → length b ≡ n → length (a ++ b) ≡ m + n
 beside a b e f = length-append a b ∙ ap₂ (λ m n. m + n) e f
@@ -44,11 +35,6 @@ module _ (basin : Draft) (callees : List Callee) where
   mutual
     pub code-size : (site : Site) (t : Tree) → IsKinded basin (callee_heads callees) (names_in site.scope) t
         → length (code_of callees site t) ≡ size (callee_heads callees) (names_in site.scope) t
-    code-size site (literal n unit) h = refl
-    code-size site (truth b) h = refl
-    code-size site now h = refl
-    code-size site (slot o s) h = refl
-    code-size site (name x) h = refl
     code-size site (call f ts) h = beside _ _ (arguments-size site _ ts h.1) refl
     code-size site (brackets t) h = code-size site t h
     code-size site (list ts) h = beside _ _ (all-size site _ ts h.3) refl
@@ -78,6 +64,7 @@ module _ (basin : Draft) (callees : List Callee) where
     code-size site (two word l r) h = beside _ _ (code-size site l h.0) (beside _ _ (code-size _ r h.1) refl)
     code-size site (convert word o e) h = beside _ _ (code-size site e h.1) refl
     code-size site (at s d) h = beside _ _ (code-size site s h.0) (beside _ _ (code-size _ d h.2) refl)
+    code-size site t h = refl
 
     pub all-size : (site : Site) (kind : Kind) (ts : Trees) → AreOfKind basin (callee_heads callees) (names_in site.scope) kind ts
         → length (all_code callees site ts) ≡ sizes (callee_heads callees) (names_in site.scope) ts

@@ -1,25 +1,13 @@
 -- Compiled code can be spelt.
-use Rattle.rw_base.proofs.Common.{◌≡◌, ◌≤◌, ℕ, suc, ◌+◌, ◌*◌, List, [], ◌∷◌, length, Some, refl, sym, ap, subst, arith, AllByRecursion}
-use Rattle.rw_model.specs.Basin.{IsBasin}
-use Rattle.rw_model.specs.Draft.{Draft}
-use Rattle.rpl_code.specs.Bounds.{IsBlock, IsCode, IsNumber}
-use Rattle.rpl_tree.specs.Tree.{Tree, Acts, Parameter, TypeName, Declared, rule, function}
-use Rattle.rpl_tree.specs.Kinds.{Names, kind_of_type, tree_kind}
-use Rattle.rpl_tree.specs.Count.{acts_locals, acts_nodes, local_count, node_count, nodes_of}
-use Rattle.rpl_tree.specs.Cost.{param_names}
-use Rattle.rpl_tree.specs.Locals.{acts_local_kinds, local_kinds}
-use Rattle.rpl_tree.specs.Mean.{param_kinds}
-use Rattle.rpl_parse.specs.Bounds.{AreLimited, AreWithin, function_count, rule_count}
-use Rattle.rpl_types.specs.HasType.{IsTyped}
-use Rattle.rpl_compile.specs.Operations.{widening_size}
-use Rattle.rpl_compile.specs.Size.{size, size_of_acts}
-use Rattle.rpl_compile.specs.Site.{Site, names_in, parameters_from, start}
-use Rattle.rpl_compile.specs.Kinded.{AreKindedActs, AreKindedFrom, IsKindedBody}
-use Rattle.rpl_compile.specs.Translate.{Callee, blocks_from, callee_heads, code_of, function_block, predefined_callees, room_lines, rule_block}
-use Rattle.rpl_compile.specs.Translate.{translate}
+use Rattle.rpl_compile.proofs.Common.{Acts, AllByRecursion, AreKindedActs, AreKindedFrom, AreLimited, AreWithin, Callee, Declared, Draft, IsBasin}
+use Rattle.rpl_compile.proofs.Common.{IsBlock, IsCode, IsKindedBody, IsNumber, IsTyped, List, Names, Parameter, Site, Some, Tree, TypeName, []}
+use Rattle.rpl_compile.proofs.Common.{acts_local_kinds, acts_locals, acts_nodes, ap, arith, blocks_from, callee_heads, code_of, function}
+use Rattle.rpl_compile.proofs.Common.{function_block, function_count, kind_of_type, length, local_count, local_kinds, names_in, node_count, nodes_of}
+use Rattle.rpl_compile.proofs.Common.{param_kinds, param_names, parameters_from, predefined_callees, refl, room_lines, rule, rule_block, rule_count}
+use Rattle.rpl_compile.proofs.Common.{size, size_of_acts, start, subst, suc, sym, translate, tree_kind, widening_size, ℕ, ◌*◌, ◌+◌, ◌∷◌, ◌≡◌, ◌≤◌}
 use Rattle.rpl_compile.proofs.Sizes.{acts-size, beside, code-size, widening-size}
 use Rattle.rpl_compile.proofs.TypedKinds.{typed_is_kinded}
-use Rattle.rpl_compile.proofs.BlockWays.{parameter_names}
+use Rattle.rpl_compile.proofs.LocalFacts.{parameter_names}
 use Rattle.rpl_compile.proofs.TreeBounds.{few_acts_locals, few_for_acts, few_lines, few_locals, widening_few}
 use Rattle.rpl_compile.proofs.SpeltKinds.{AreSpelt, acts_locals_spelt, kinds_of_code, locals_spelt}
 use Rattle.rpl_compile.proofs.SpeltLines.{AreBoundSpelt, AreCalleesSpelt, behind, callees_known, names_known, widening_spelt}

@@ -1,21 +1,12 @@
 -- The code of expressions and statements can be spelt: by recursion on the tree, a line or two for each form.
-use Rattle.rw_base.proofs.Common.{◌≤◌, ℕ, ◌+◌, true, false, List, [], ◌∷◌, ◌++◌, arith}
-use Rattle.rw_model.specs.Basin.{IsBasin}
-use Rattle.rw_model.specs.Draft.{Draft}
-use Rattle.rpl_code.specs.Bounds.{IsNumber}
+use Rattle.rpl_compile.proofs.Common.{Act, Acts, And, AreArguments, AreKindedActs, AreOfKind, Callee, Draft, IsBasin, IsKinded, IsKindedAct, IsNumber}
+use Rattle.rpl_compile.proofs.Common.{Kind, Known, List, Or, Site, Tree, Trees, [], act, act_code, act_locals, acts_code, acts_locals, after_act}
+use Rattle.rpl_compile.proofs.Common.{after_acts, after_room, after_tree, all_code, arguments_code, arith, asked_code, assign, at, bind, bound}
+use Rattle.rpl_compile.proofs.Common.{brackets, branch, call, callee_heads, choice, code_of, convert, each, element_of, false, first_kind, keeping}
+use Rattle.rpl_compile.proofs.Common.{kind_of_tree, knowing, list, literal, local_count, local_counts, mapped, name, names_in, no_acts, no_trees, now}
+use Rattle.rpl_compile.proofs.Common.{on, one, over, room_lines, size, size_of_act, size_of_acts, sizes, sizes_of_arguments, slot, takes_named, tree}
+use Rattle.rpl_compile.proofs.Common.{true, truth, truth_kind, two, with_name, ℕ, ◌++◌, ◌+◌, ◌∷◌, ◌≤◌}
 use Rattle.rpl_code.specs.declared.instruction.Instruction.TheVariants as I
-use Rattle.rpl_tree.specs.declared.words.OneWord.TheVariants.{Known}
-use Rattle.rpl_tree.specs.declared.words.TwoWord.TheVariants.{Or, And}
-use Rattle.rpl_tree.specs.Value.{Kind, truth_kind, element_of}
-use Rattle.rpl_tree.specs.Tree.{Tree, Trees, literal, truth, now, slot, name, call, brackets, list, choice, bind, each, mapped, one, two, convert, at}
-use Rattle.rpl_tree.specs.Tree.{no_trees, tree, Act, Acts, assign, branch, with_name, no_acts, act}
-use Rattle.rpl_tree.specs.Kinds.{first_kind, takes_named}
-use Rattle.rpl_tree.specs.Count.{act_locals, acts_locals, local_count, local_counts}
-use Rattle.rpl_compile.specs.Size.{size, size_of_act, size_of_acts, sizes, sizes_of_arguments}
-use Rattle.rpl_compile.specs.Site.{Site, bound, keeping, knowing, names_in, on, over}
-use Rattle.rpl_compile.specs.Kinded.{AreArguments, AreKindedActs, AreOfKind, IsKinded, IsKindedAct}
-use Rattle.rpl_compile.specs.Translate.{Callee, act_code, acts_code, after_act, after_acts, after_room, after_tree, all_code, arguments_code}
-use Rattle.rpl_compile.specs.Translate.{asked_code, callee_heads, code_of, kind_of_tree, room_lines}
 use Rattle.rpl_compile.proofs.SpeltNames.{slot_found, table_found}
 use Rattle.rpl_compile.proofs.SpeltKinds.{AreSpelt, IsSpelt, element_spelt, takes_spelt, tree_spelt}
 use Rattle.rpl_compile.proofs.SpeltLines.{AreBoundSpelt, AreCalleesSpelt, AreLines, behind, below_bound, call_spelt, callees_known, choice_spelt}

@@ -1,27 +1,13 @@
 -- The head of a function that is accepted can be spelt, and it has fewer parameters than words.
-use Rattle.rw_base.proofs.Common.{◌≡◌, ◌≤◌, ℕ, suc, ◌+◌, ◌-◌, max, min, nat_le, ◌&&◌, ℤ, pos, negsuc, int_le, ◌≤ℤ◌, unsigned_abs, Bool, true, false}
-use Rattle.rw_base.proofs.Common.{List, [], ◌∷◌, ◌++◌, length, length-append, slice_index, get_or-append_seam, Option, Some, None, Ok, Err, refl, sym}
-use Rattle.rw_base.proofs.Common.{ap, ◌∙◌, subst, arith, ints, and_parts, append_assoc, if◌then◌else◌}
-use Rattle.rw_base.proofs.Tests.{Decides-int_le, Decides-le, spared}
-use Rattle.rw_base.specs.Dimension.{Dimension}
-use Rattle.rw_base.specs.Unit.{units, unit_in}
-use Rattle.rw_model.specs.Draft.{Draft}
-use Rattle.rpl_code.specs.Bounds.{IsLength}
-use Rattle.rpl_tree.specs.declared.rpl_type.RplType.{RplType}
-use Rattle.rpl_tree.specs.declared.rpl_type.RplType.TheVariants.{NumericList, SlotList}
-use Rattle.rpl_tree.specs.Value.{Kind, numbers_kind, slots_kind, weight, weights}
-use Rattle.rpl_tree.specs.Tree.{TypeName, numeric, boolean, datetime, slot_type, numeric_list, slot_list, Parameter, Declared, rule, function}
-use Rattle.rpl_tree.specs.Kinds.{kind_of_type}
-use Rattle.rpl_tree.specs.Mean.{param_kinds}
-use Rattle.rpl_tree.specs.Budget.{Budget, budget_of, limits}
-use Rattle.rpl_tree.specs.Cost.{Costed, costed_heads, param_names, predefined_costs}
-use Rattle.rpl_tree.specs.Locals.{acts_local_kinds, local_kinds}
-use Rattle.rpl_tree.specs.Words.{height, height_of_acts, words_of_rules, words_from}
-use Rattle.rpl_types.specs.declared.type_kind.TypeKind.TheVariants.{DuplicateName, ListTooLong, TooCostly}
-use Rattle.rpl_types.specs.Fits.{Typed, longest}
-use Rattle.rpl_types.specs.Functions.{Signature, head_misfit, is_duplicate, refusal_in, with_room, with_unit, written_type}
-use Rattle.rpl_types.specs.HasType.{AreDeclared, IsTyped}
-use Rattle.rpl_types.specs.Judged.{and_function, cost_refusal, head_refusal, is_affordable}
+use Rattle.rpl_compile.proofs.Common.{AreDeclared, Bool, Budget, Costed, Decides-int_le, Decides-le, Declared, Dimension, Draft, DuplicateName, Err}
+use Rattle.rpl_compile.proofs.Common.{IsLength, IsTyped, Kind, List, ListTooLong, None, NumericList, Ok, Option, Parameter, RplType, Signature}
+use Rattle.rpl_compile.proofs.Common.{SlotList, Some, TooCostly, TypeName, Typed, [], acts_local_kinds, and_function, and_parts, ap, append_assoc}
+use Rattle.rpl_compile.proofs.Common.{arith, budget_of, cost_refusal, costed_heads, false, function, get_or-append_seam, head_misfit, head_refusal}
+use Rattle.rpl_compile.proofs.Common.{height, height_of_acts, if◌then◌else◌, int_le, ints, is_affordable, is_duplicate, kind_of_type, length}
+use Rattle.rpl_compile.proofs.Common.{length-append, limits, local_kinds, longest, max, min, nat_le, negsuc, numbers_kind, numeric_list, param_kinds}
+use Rattle.rpl_compile.proofs.Common.{param_names, pos, predefined_costs, refl, refusal_in, rule, slice_index, slot_list, slots_kind, spared, subst}
+use Rattle.rpl_compile.proofs.Common.{suc, sym, true, unit_in, units, unsigned_abs, weight, weights, with_room, with_unit, words_from, words_of_rules}
+use Rattle.rpl_compile.proofs.Common.{written_type, ℕ, ℤ, ◌&&◌, ◌++◌, ◌+◌, ◌-◌, ◌∙◌, ◌∷◌, ◌≡◌, ◌≤ℤ◌, ◌≤◌}
 use Rattle.rpl_compile.proofs.TypeKinds.{none_of_two}
 use Rattle.rpl_compile.proofs.SpeltKinds.{AreSpelt, IsSpelt}
 
@@ -52,14 +38,11 @@ unit_known None made h = absurd (cc h)
 unit_known (Some unit) made h = (unit.0, h)
 
 pub written_spelt : (w : TypeName) → refusal_in (written_type w) ≡ None → IsSpelt (kind_of_type w)
-written_spelt (numeric unit) h = tt
-written_spelt boolean h = tt
-written_spelt datetime h = tt
-written_spelt (slot_type unit) h = tt
 written_spelt (numeric_list m unit) h =
     let q = unit_known (unit_in units unit) (λ d. with_room m (λ n. NumericList n d)) h in room_spelt m (λ n. NumericList n q.0) q.1
 written_spelt (slot_list m unit) h =
     let q = unit_known (unit_in units unit) (λ d. with_room m (λ n. SlotList n d)) h in room_spelt m (λ n. SlotList n q.0) q.1
+written_spelt _ h = tt
 
 -- ---- heads
 

@@ -1,21 +1,12 @@
 -- The kinds of expressions that are accepted can be spelt: lists have room for 1 to 4096 elements.
-use Rattle.rw_base.proofs.Common.{◌<◌, inl, inr, ◌⊎◌, ℕ, ◌+◌, nat_lt, Bool, true, false, List, [], ◌∷◌, ◌++◌, reverse, reverse-append, bytes_eq, sym}
-use Rattle.rw_base.proofs.Common.{subst, arith, AllByRecursion, if◌then◌else◌}
-use Rattle.rw_model.specs.Draft.{Draft}
-use Rattle.rpl_code.specs.Bounds.{AreKinds, IsCodeKind, IsLength}
-use Rattle.rpl_tree.specs.declared.words.TwoWord.{TwoWord}
-use Rattle.rpl_tree.specs.declared.words.OneWord.{OneWord}
-use Rattle.rpl_tree.specs.declared.words.OneWord.TheVariants.{Not, Minus, Known, Length, Month, Day, Year}
-use Rattle.rpl_tree.specs.declared.words.TwoWord.TheVariants.{Plus, Minus as Less_by, Append, Item}
-use Rattle.rpl_tree.specs.Value.{Kind, number_kind, date_kind, slot_kind, numbers_kind, slots_kind, element_of, list_kind, room_of}
-use Rattle.rpl_tree.specs.Tree.{Tree, Trees, literal, truth, now, slot, name, call, brackets, list, choice, bind, each, mapped, one, two, convert, at}
-use Rattle.rpl_tree.specs.Tree.{no_trees, tree, Act, Acts, assign, branch, with_name, no_acts, act}
-use Rattle.rpl_tree.specs.Kinds.{Head, Names, count_of, difference_kind, first_kind, kind_named, one_kind, result_named, takes_named, tree_kind}
-use Rattle.rpl_tree.specs.Kinds.{two_kind}
-use Rattle.rpl_tree.specs.Locals.{act_local_kinds, acts_local_kinds, all_local_kinds, local_kinds}
-use Rattle.rpl_compile.specs.Operations.{code_kind, code_kinds}
-use Rattle.rpl_compile.specs.Kinded.{AreArguments, AreBoth, AreKindedActs, AreOfKind, CanAppend, IsAnyList, IsElement, IsKinded, IsKindedAct}
-use Rattle.rpl_compile.specs.Kinded.{TwoTakes}
+use Rattle.rpl_compile.proofs.Common.{Act, Acts, AllByRecursion, Append, AreArguments, AreBoth, AreKindedActs, AreKinds, AreOfKind, CanAppend, Draft}
+use Rattle.rpl_compile.proofs.Common.{Head, IsAnyList, IsCodeKind, IsElement, IsKinded, IsKindedAct, IsLength, Item, Kind, Less_by, List, Names, Not}
+use Rattle.rpl_compile.proofs.Common.{OneWord, Plus, Tree, Trees, TwoTakes, TwoWord, [], act, act_local_kinds, acts_local_kinds, all_local_kinds}
+use Rattle.rpl_compile.proofs.Common.{arith, assign, at, bind, brackets, branch, call, choice, code_kind, code_kinds, cond_both, convert, count_of}
+use Rattle.rpl_compile.proofs.Common.{date_kind, difference_kind, each, element_of, first_kind, inl, inr, kind_named, list, list_kind, local_kinds}
+use Rattle.rpl_compile.proofs.Common.{mapped, name, nat_lt, no_acts, no_trees, number_kind, numbers_kind, one, one_kind, result_named, reverse}
+use Rattle.rpl_compile.proofs.Common.{reverse-append, room_of, slot_kind, slots_kind, subst, sym, takes_named, tree, tree_kind, two, two_kind}
+use Rattle.rpl_compile.proofs.Common.{with_name, ℕ, ◌++◌, ◌+◌, ◌<◌, ◌∷◌, ◌⊎◌}
 use Rattle.rpl_compile.proofs.Lines.{of_lists}
 
 abbrev pub IsSpelt : Kind → Type 0
@@ -47,21 +38,17 @@ abbrev pub AreHeadsSpelt : List Head → Type 0
 AreHeadsSpelt [] = Unit {0}
 AreHeadsSpelt (head ∷ heads) = AreSpelt head.takes × IsSpelt head.result × AreHeadsSpelt heads
 
-either : {X : Type 0} (P : X → Type 0) (t : Bool) (a b : X) → P a → P b → P (if t then a else b)
-either P true a b h g = h
-either P false a b h g = g
-
 named_spelt : (names : Names) (x : List ℕ) → AreNamesSpelt names → IsSpelt (kind_named names x)
 named_spelt [] x h = tt
-named_spelt (entry ∷ names) x h = either IsSpelt (bytes_eq entry.0 x) entry.1 (kind_named names x) h.0 (named_spelt names x h.1)
+named_spelt (entry ∷ names) x h = cond_both _ _ _ IsSpelt (λ e. h.0) (λ e. named_spelt names x h.1)
 
 result_spelt : (heads : List Head) (f : List ℕ) → AreHeadsSpelt heads → IsSpelt (result_named heads f)
 result_spelt [] f h = tt
-result_spelt (head ∷ heads) f h = either IsSpelt (bytes_eq head.name f) head.result (result_named heads f) h.1 (result_spelt heads f h.2)
+result_spelt (head ∷ heads) f h = cond_both _ _ _ IsSpelt (λ e. h.1) (λ e. result_spelt heads f h.2)
 
 pub takes_spelt : (heads : List Head) (f : List ℕ) → AreHeadsSpelt heads → AreSpelt (takes_named heads f)
 takes_spelt [] f h = tt
-takes_spelt (head ∷ heads) f h = either AreSpelt (bytes_eq head.name f) head.takes (takes_named heads f) h.0 (takes_spelt heads f h.2)
+takes_spelt (head ∷ heads) f h = cond_both _ _ _ AreSpelt (λ e. h.0) (λ e. takes_spelt heads f h.2)
 
 -- ---- of operators
 
@@ -78,12 +65,7 @@ listed_spelt n kind (inr e) h = subst (λ k. IsSpelt (list_kind n k)) (sym e) h
 
 one_spelt : (word : OneWord) → IsSpelt (one_kind word)
 one_spelt Not = tt
-one_spelt Minus = tt
-one_spelt Known = tt
-one_spelt Length = tt
-one_spelt Month = tt
-one_spelt Day = tt
-one_spelt Year = tt
+one_spelt _ = tt
 
 difference_spelt : (k l : Kind) → IsSpelt (difference_kind k l)
 difference_spelt date_kind number_kind = tt
@@ -111,10 +93,6 @@ two_spelt _ k l h s = tt
 
 module _ (basin : Draft) (heads : List Head) (known : AreHeadsSpelt heads) where
   pub tree_spelt : (names : Names) (t : Tree) → AreNamesSpelt names → IsKinded basin heads names t → IsSpelt (tree_kind heads names t)
-  tree_spelt names (literal n unit) s h = tt
-  tree_spelt names (truth b) s h = tt
-  tree_spelt names now s h = tt
-  tree_spelt names (slot o p) s h = tt
   tree_spelt names (name x) s h = named_spelt names x s
   tree_spelt names (call f ts) s h = result_spelt heads f known
   tree_spelt names (brackets t) s h = tree_spelt names t s h
@@ -122,24 +100,18 @@ module _ (basin : Draft) (heads : List Head) (known : AreHeadsSpelt heads) where
   tree_spelt names (choice c y n) s h =
       let first = tree_kind heads names y in
       let second = tree_kind heads names n in
-      either IsSpelt (nat_lt (room_of first) (room_of second)) second first (tree_spelt names n s h.4) (tree_spelt names y s h.2)
+      cond_both (nat_lt (room_of first) (room_of second)) second first IsSpelt (λ e. tree_spelt names n s h.4) (λ e. tree_spelt names y s h.2)
   tree_spelt names (bind x e b) s h = tree_spelt ((x, tree_kind heads names e) ∷ names) b (tree_spelt names e s h.0, s) h.1
   tree_spelt names (each x l a f b) s h = tree_spelt names f s h.2
   tree_spelt names (mapped x l b) s h = room_spelt (tree_kind heads names l) h.1 (tree_spelt names l s h.0)
   tree_spelt names (one word e) s h = one_spelt word
   tree_spelt names (two word l r) s h = two_spelt word (tree_kind heads names l) (tree_kind heads names r) h.2 (tree_spelt names l s h.0)
-  tree_spelt names (convert word o e) s h = tt
-  tree_spelt names (at p d) s h = tt
+  tree_spelt names t s h = tt
 
   -- ---- of locals
 
   mutual
     pub locals_spelt : (names : Names) (t : Tree) → AreNamesSpelt names → IsKinded basin heads names t → AreSpelt (local_kinds heads names t)
-    locals_spelt names (literal n unit) s h = tt
-    locals_spelt names (truth b) s h = tt
-    locals_spelt names now s h = tt
-    locals_spelt names (slot o p) s h = tt
-    locals_spelt names (name x) s h = tt
     locals_spelt names (call f ts) s h = arguments_spelt names (takes_named heads f) ts s h.1
     locals_spelt names (brackets t) s h = locals_spelt names t s h
     locals_spelt names (list ts) s h = alike_spelt names (first_kind heads names ts) ts s h.3
@@ -167,6 +139,7 @@ module _ (basin : Draft) (heads : List Head) (known : AreHeadsSpelt heads) where
     locals_spelt names (two word l r) s h = both_all IsSpelt _ _ (locals_spelt names l s h.0) (locals_spelt names r s h.1)
     locals_spelt names (convert word o e) s h = locals_spelt names e s h.1
     locals_spelt names (at p d) s h = both_all IsSpelt _ _ (locals_spelt names p s h.0) (locals_spelt names d s h.2)
+    locals_spelt names t s h = tt
 
     alike_spelt : (names : Names) (kind : Kind) (ts : Trees) → AreNamesSpelt names → AreOfKind basin heads names kind ts
         → AreSpelt (all_local_kinds heads names ts)

@@ -1,33 +1,15 @@
 -- Each instruction of compiled code can be spelt: by recursion on the tree, a line or two for each form.
-use Rattle.rw_base.proofs.Common.{◌≡◌, ◌≢◌, ◌≤◌, inl, inr, ◌⊎◌, ℕ, ◌+◌, ◌*ℤ◌, ℤ, unsigned_abs, Bool, true, false, List, [], ◌∷◌, ◌++◌, Option, Some}
-use Rattle.rw_base.proofs.Common.{None, IsSome, IsSomeAnd, IsTrue, unwrap_or, bytes_eq, bytes_eq-Decides, list_any, ◌||◌, refl, sym, subst, arith}
-use Rattle.rw_base.proofs.Common.{AllByRecursion, if◌then◌else◌}
-use Rattle.rw_base.proofs.Tests.{Decides-from_to}
-use Rattle.rw_base.specs.Dimension.{Dimension}
+use Rattle.rpl_compile.proofs.Common.{AllByRecursion, And, Bool, BoundName, Callee, ConvertWord, Decides-from_to, Dimension, Draft}
+use Rattle.rpl_compile.proofs.Common.{ElevationToStorage, Equal, FitsIn, Greater, GreaterEqual, HasHead, Head, Instruction, IsBasin, IsInstruction}
+use Rattle.rpl_compile.proofs.Common.{IsLiteral, IsNumber, IsSome, IsSomeAnd, IsTarget, IsTrue, Kind, Less, LessEqual, Less_by, List, None, Not}
+use Rattle.rpl_compile.proofs.Common.{OneWord, Option, Or, Plus, Site, Some, StorageToElevation, TwoWord, Unequal, [], arith, at_most_30, bytes_eq}
+use Rattle.rpl_compile.proofs.Common.{bytes_eq-Decides, call_by, call_line, callee_heads, can_set, choice_lines, code_kinds, cond_both, convert_line}
+use Rattle.rpl_compile.proofs.Common.{date_kind, difference_line, factor_of, false, false≢true, if◌then◌else◌, inl, inr, is_same_kind, list_any}
+use Rattle.rpl_compile.proofs.Common.{local_named, names_in, number_kind, number_line, numbers_kind, one_line, refl, slot_kind, slot_named}
+use Rattle.rpl_compile.proofs.Common.{slots_kind, subst, sum_line, sym, target, test_line, true, truth_kind, two_lines, unit_in, units, unsigned_abs}
+use Rattle.rpl_compile.proofs.Common.{unwrap_or, widening, ℕ, ℤ, ◌*ℤ◌, ◌++◌, ◌+◌, ◌||◌, ◌∙◌, ◌∷◌, ◌≡◌, ◌≢◌, ◌≤◌, ◌⊎◌}
 use Rattle.rw_base.specs.Quantity.{IsQuantity}
-use Rattle.rw_base.specs.Unit.{units, unit_in}
-use Rattle.rw_model.specs.Basin.{IsBasin}
-use Rattle.rw_model.specs.Draft.{Draft}
-use Rattle.rw_model.specs.Objects.{slot_named}
-use Rattle.rpl_code.specs.Bounds.{IsInstruction, IsNumber}
-use Rattle.rpl_code.specs.declared.instruction.Instruction.{Instruction}
 use Rattle.rpl_code.specs.declared.instruction.Instruction.TheVariants as I
-use Rattle.rpl_tree.specs.declared.words.ConvertWord.{ConvertWord}
-use Rattle.rpl_tree.specs.declared.words.ConvertWord.TheVariants.{StorageToElevation, ElevationToStorage}
-use Rattle.rpl_tree.specs.declared.words.OneWord.{OneWord}
-use Rattle.rpl_tree.specs.declared.words.OneWord.TheVariants.{Not, Minus, Known, Length, Month, Day, Year}
-use Rattle.rpl_tree.specs.declared.words.TwoWord.{TwoWord}
-use Rattle.rpl_tree.specs.declared.words.TwoWord.TheVariants.{Or, And, Equal, Unequal, Less, LessEqual, Greater, GreaterEqual, Plus, Minus as Less_by}
-use Rattle.rpl_tree.specs.declared.words.TwoWord.TheVariants.{Times, Divide, Append, Item}
-use Rattle.rpl_tree.specs.Value.{Kind, number_kind, truth_kind, date_kind, slot_kind, numbers_kind, slots_kind, is_same_kind, room_of}
-use Rattle.rpl_tree.specs.World.{can_set}
-use Rattle.rpl_tree.specs.Kinds.{Head}
-use Rattle.rpl_tree.proofs.PutsAhead.{at_most_30}
-use Rattle.rpl_compile.specs.Operations.{code_kinds, convert_line, difference_line, factor_of, number_line, one_line, sum_line, target, test_line}
-use Rattle.rpl_compile.specs.Operations.{two_lines, widening}
-use Rattle.rpl_compile.specs.Site.{BoundName, Site, local_named, names_in}
-use Rattle.rpl_compile.specs.Kinded.{FitsIn, HasHead, IsLiteral, IsTarget}
-use Rattle.rpl_compile.specs.Translate.{Callee, call_by, call_line, callee_heads, choice_lines}
 use Rattle.rpl_compile.proofs.SpeltNames.{CanBeSpelt, slot_found}
 use Rattle.rpl_compile.proofs.SpeltKinds.{AreHeadsSpelt, AreNamesSpelt, AreSpelt, IsSpelt, all_reverse, both_all, kinds_of_code}
 
@@ -51,12 +33,7 @@ number_spelt n unit h = by (unit_in units (unwrap_or unit [])) h
 
 pub one_line_spelt : (word : OneWord) → IsInstruction (one_line word)
 one_line_spelt Not = tt
-one_line_spelt Minus = tt
-one_line_spelt Known = tt
-one_line_spelt Length = tt
-one_line_spelt Month = tt
-one_line_spelt Day = tt
-one_line_spelt Year = tt
+one_line_spelt _ = tt
 
 test_spelt : (k : Kind) (i j : Instruction) → IsInstruction i → IsInstruction j → IsInstruction (test_line k i j)
 test_spelt date_kind i j h g = g
@@ -68,7 +45,6 @@ sum_spelt _ = tt
 
 difference_line_spelt : (k l : Kind) → IsInstruction (difference_line k l)
 difference_line_spelt date_kind date_kind = tt
-difference_line_spelt date_kind _ = tt
 difference_line_spelt _ _ = tt
 
 pub two_lines_spelt : (word : TwoWord) (k l : Kind) → AreLines (two_lines word k l)
@@ -82,10 +58,7 @@ two_lines_spelt Greater k l = (test_spelt k I.Le I.Dle tt tt, (tt, tt))
 two_lines_spelt GreaterEqual k l = (test_spelt k I.Lt I.Dlt tt tt, (tt, tt))
 two_lines_spelt Plus k l = (sum_spelt k, tt)
 two_lines_spelt Less_by k l = (difference_line_spelt k l, tt)
-two_lines_spelt Times k l = (tt, tt)
-two_lines_spelt Divide k l = (tt, tt)
-two_lines_spelt Append k l = (tt, tt)
-two_lines_spelt Item k l = (tt, tt)
+two_lines_spelt _ k l = (tt, tt)
 
 pub convert_spelt : (word : ConvertWord) (o : List ℕ) → CanBeSpelt o → IsInstruction (convert_line word o)
 convert_spelt StorageToElevation o h = h
@@ -111,11 +84,8 @@ target_spelt kinds h = all_reverse _ (code_kinds kinds) (kinds_of_code kinds h)
 plain : (place kind : Kind) → is_same_kind place place ≡ true → ((m : ℕ) → place ≢ numbers_kind m) → ((m : ℕ) → place ≢ slots_kind m)
     → FitsIn place kind
     → AreLines (widening place kind)
-plain place kind same n s (inl e) = subst (λ k. AreLines (widening place k)) e (by (is_same_kind place place) same)
-  where
-    by : (t : Bool) → t ≡ true → AreLines (if t then [] else I.Widen (room_of place) ∷ [])
-    by true h = tt
-    by false h = absurd (cc h)
+plain place kind same n s (inl e) =
+    subst (λ k. AreLines (widening place k)) e (cond_both _ _ _ AreLines (λ e. tt) (λ e. absurd (false≢true (sym e ∙ same))))
 plain place kind same n s (inr h) = by h.3
   where
     by : ((place ≡ numbers_kind h.0) × (kind ≡ numbers_kind h.1)) ⊎ ((place ≡ slots_kind h.0) × (kind ≡ slots_kind h.1))
@@ -124,16 +94,10 @@ plain place kind same n s (inr h) = by h.3
     by (inr e) = absurd (s h.0 e.0)
 
 pub widening_spelt : (place kind : Kind) → FitsIn place kind → IsSpelt place → AreLines (widening place kind)
-widening_spelt (numbers_kind m) kind h s = by (is_same_kind (numbers_kind m) kind)
-  where
-    by : (t : Bool) → AreLines (if t then [] else I.Widen m ∷ [])
-    by true = tt
-    by false = (s, tt)
-widening_spelt (slots_kind m) kind h s = by (is_same_kind (slots_kind m) kind)
-  where
-    by : (t : Bool) → AreLines (if t then [] else I.Widen m ∷ [])
-    by true = tt
-    by false = (s, tt)
+widening_spelt (numbers_kind m) kind h s =
+    cond_both (is_same_kind (numbers_kind m) kind) [] (I.Widen m ∷ []) AreLines (λ e. tt) (λ e. (s, tt))
+widening_spelt (slots_kind m) kind h s =
+    cond_both (is_same_kind (slots_kind m) kind) [] (I.Widen m ∷ []) AreLines (λ e. tt) (λ e. (s, tt))
 widening_spelt number_kind kind h s = plain number_kind kind refl (λ m e. absurd (cc e)) (λ m e. absurd (cc e)) h
 widening_spelt truth_kind kind h s = plain truth_kind kind refl (λ m e. absurd (cc e)) (λ m e. absurd (cc e)) h
 widening_spelt date_kind kind h s = plain date_kind kind refl (λ m e. absurd (cc e)) (λ m e. absurd (cc e)) h
@@ -181,11 +145,7 @@ names_known (b ∷ scope) h = (h.0, names_known scope h.2)
 
 pub local_spelt : (scope : List BoundName) (x : List ℕ) → AreBoundSpelt scope → IsNumber (local_named scope x)
 local_spelt [] x h = omega arith
-local_spelt (b ∷ scope) x h = by (bytes_eq b.name x) (local_spelt scope x h.2)
-  where
-    by : (t : Bool) → IsNumber (local_named scope x) → IsNumber (if t then b.local else local_named scope x)
-    by true later = h.1
-    by false later = later
+local_spelt (b ∷ scope) x h = cond_both _ _ _ IsNumber (λ e. h.1) (λ e. local_spelt scope x h.2)
 
 -- ---- an IF
 

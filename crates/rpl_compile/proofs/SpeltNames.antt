@@ -1,9 +1,10 @@
 -- What is found by name in a basin has a name that code can spell.
-use Rattle.rw_base.proofs.Common.{◌≡◌, ℕ, ◌+◌, ◌==◌, Bool, true, false, ◌&&◌, ◌||◌, not, List, [], ◌∷◌, length, map, nat_le, Option, Some, None}
-use Rattle.rw_base.proofs.Common.{IsSome, option_and_then, refl, sym, subst, bytes_eq, bytes_eq-Decides, list_all, AllByRecursion, recursion_from_All}
-use Rattle.rw_base.proofs.Common.{and_parts, if◌then◌else◌}
-use Rattle.rw_model.proofs.Common.{IsBasin, Draft, IsSound, IsKind, IsName, Object, Placed, all_slots, first_from, is_named, object_at, object_from}
-use Rattle.rw_model.proofs.Common.{object_named, placed_from, slot_named, slots_from, Slot, of_range, all_quantities, slots_of, where_chosen}
+use Rattle.rpl_compile.proofs.Common.{AllByRecursion, Bool, Draft, IsBasin, IsKind, IsName, IsSome, IsSound, List, None, Object, Option, Placed, Some}
+use Rattle.rpl_compile.proofs.Common.{[], all_quantities, all_slots, and_parts, bytes_eq, bytes_eq-Decides, cond_both, false, first_from, is_named}
+use Rattle.rpl_compile.proofs.Common.{length, list_all, map, nat_le, not, object_at, object_from, object_named, of_range, option_and_then}
+use Rattle.rpl_compile.proofs.Common.{placed_from, recursion_from_All, refl, slot_named, slots_from, slots_of, subst, sym, table_in, table_named}
+use Rattle.rpl_compile.proofs.Common.{true, where_chosen, ℕ, ◌&&◌, ◌+◌, ◌==◌, ◌||◌, ◌∷◌, ◌≡◌}
+use Rattle.rw_model.proofs.Common.{Slot}
 use Rattle.rw_model.proofs.NameFacts.{Decides-name}
 use Rattle.rw_base.specs.Byte.{is_digit, is_letter}
 use Rattle.rw_model.specs.Name as N
@@ -14,7 +15,6 @@ use Rattle.rw_model.specs.declared.kind.Kind.TheVariants.{PowerReservoir, Routed
 use Rattle.rw_model.specs.declared.kind.Supply.TheVariants.{Request, Rule}
 use Rattle.rw_model.specs.declared.role.Role.TheVariants.{Neither}
 use Rattle.rpl_code.specs.Names as C
-use Rattle.rpl_tree.specs.World.{table_in, table_named}
 use Rattle.rpl_compile.proofs.SpeltKinds.{both_all}
 
 -- a name as code spells it
@@ -53,12 +53,9 @@ sound_objects basin h = recursion_from_All IsSound basin.objects h.whole.sound
 object_spelt : (n : ℕ) (objects : List Object) (name : List ℕ) → AllByRecursion IsSound objects → IsSome (object_from n objects name)
     → CanBeSpelt name
 object_spelt n [] name sound h = absurd (cc h)
-object_spelt n (object ∷ objects) name sound h = by (bytes_eq name object.name) refl h (λ g. object_spelt (n + 1) objects name sound.1 g)
-  where
-    by : (t : Bool) → bytes_eq name object.name ≡ t → IsSome (if t then Some n else object_from (n + 1) objects name)
-        → (IsSome (object_from (n + 1) objects name) → CanBeSpelt name) → CanBeSpelt name
-    by true e h later = same_spelt name object.name e (name_spelt object.name sound.0.name)
-    by false e h later = later h
+object_spelt n (object ∷ objects) name sound h =
+    cond_both _ _ _ (λ found. IsSome found → CanBeSpelt name) (λ e h. same_spelt name object.name e (name_spelt object.name sound.0.name))
+    (λ e. object_spelt (n + 1) objects name sound.1) h
 
 -- ---- slots
 
@@ -126,12 +123,10 @@ slots_spelt n (object ∷ objects) h =
 first_spelt : (n owner : ℕ) (name : List ℕ) (slots : List Placed) → AllByRecursion IsPlacedSpelt slots
     → IsSome (first_from n (is_named owner name) slots) → CanBeSpelt name
 first_spelt n owner name [] spelt h = absurd (cc h)
-first_spelt n owner name (placed ∷ slots) spelt h = by (is_named owner name placed) refl h (λ g. first_spelt (n + 1) owner name slots spelt.1 g)
-  where
-    by : (t : Bool) → is_named owner name placed ≡ t → IsSome (if t then Some n else first_from (n + 1) (is_named owner name) slots)
-        → (IsSome (first_from (n + 1) (is_named owner name) slots) → CanBeSpelt name) → CanBeSpelt name
-    by true e h later = same_spelt name placed.slot.name (and_parts (placed.owner == owner) (bytes_eq name placed.slot.name) e).1 spelt.0
-    by false e h later = later h
+first_spelt n owner name (placed ∷ slots) spelt h =
+    cond_both _ _ _ (λ found. IsSome found → CanBeSpelt name)
+    (λ e h. same_spelt name placed.slot.name (and_parts (placed.owner == owner) (bytes_eq name placed.slot.name) e).1 spelt.0)
+    (λ e. first_spelt (n + 1) owner name slots spelt.1) h
 
 module _ (basin : Draft) (valid : IsBasin basin) where
   -- of the slot, and of its object

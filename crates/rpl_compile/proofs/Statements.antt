@@ -1,25 +1,12 @@
 -- The code of statements does what they mean.
-use Rattle.rw_base.proofs.Common.{◌≡◌, ℕ, suc, ◌+◌, ◌≤◌, ℤ, pos, Bool, true, false, ◌&&◌, List, [], ◌∷◌, ◌++◌, Option, Some, None, refl, sym, ap, ap₂}
-use Rattle.rw_base.proofs.Common.{◌∙◌, subst, arith, unsigned_abs, if◌then◌else◌}
-use Rattle.rw_model.specs.Objects.{slot_named}
-use Rattle.rpl_code.specs.declared.instruction.Instruction.{Instruction}
+use Rattle.rpl_compile.proofs.Common.{Act, Acts, AreKindedActs, Bool, Env, Frame, Instruction, IsKindedAct, IsTarget, Kind, List, None, Option}
+use Rattle.rpl_compile.proofs.Common.{Outcome, Running, Site, Some, State, Tree, Value, [], a_number, act, act_code, act_done, act_local_kinds}
+use Rattle.rpl_compile.proofs.Common.{act_locals, acts_code, acts_done, acts_local_kinds, acts_locals, after_act, after_acts, after_tree, ap, ap₂}
+use Rattle.rpl_compile.proofs.Common.{arith, assign, bound, bounds_at, branch, chosen, code_kinds, code_of, false, gives, if◌then◌else◌, is_stuck}
+use Rattle.rpl_compile.proofs.Common.{is_within, keeping, kind_at, kinds_of, knowing, local_count, local_kinds, names_in, never_behind, no_acts, on}
+use Rattle.rpl_compile.proofs.Common.{put_of, refl, size, size_of_act, size_of_acts, slot_named, subst, suc, sym, true, unsigned_abs, value_of}
+use Rattle.rpl_compile.proofs.Common.{with_name, within_or_end, ℕ, ℤ, ◌&&◌, ◌++◌, ◌+◌, ◌>>=◌, ◌∙◌, ◌∷◌, ◌≡◌, ◌≤◌}
 use Rattle.rpl_code.specs.declared.instruction.Instruction.TheVariants as I
-use Rattle.rpl_tree.specs.Value.{Kind, Value, a_number}
-use Rattle.rpl_tree.specs.Outcome.{Outcome, gives, is_stuck, ◌>>=◌}
-use Rattle.rpl_tree.specs.World.{bounds_at, is_within, put_of, within_or_end}
-use Rattle.rpl_tree.proofs.PutsAhead.{never_behind}
-use Rattle.rpl_tree.specs.Operators.{chosen}
-use Rattle.rpl_tree.specs.Tree.{Tree, Act, Acts, assign, branch, with_name, no_acts, act}
-use Rattle.rpl_tree.specs.Mean.{Env, act_done, acts_done, value_of}
-use Rattle.rpl_tree.specs.Count.{act_locals, acts_locals, local_count}
-use Rattle.rpl_tree.specs.Locals.{act_local_kinds, acts_local_kinds, local_kinds}
-use Rattle.rpl_verify.specs.Operations.{kinds_of}
-use Rattle.rpl_verify.specs.Machine.{Frame, Running, State}
-use Rattle.rpl_compile.specs.Operations.{code_kinds}
-use Rattle.rpl_compile.specs.Size.{size, size_of_act, size_of_acts}
-use Rattle.rpl_compile.specs.Site.{Site, bound, keeping, kind_at, knowing, names_in, on}
-use Rattle.rpl_compile.specs.Translate.{act_code, acts_code, after_act, after_acts, after_tree, code_of}
-use Rattle.rpl_compile.specs.Kinded.{AreKindedActs, IsKindedAct, IsTarget}
 use Rattle.rpl_compile.proofs.Goes.{Goes, Made, goes_as, goes_bind, goes_none, goes_weaker}
 use Rattle.rpl_compile.proofs.OfKind.{At, HasKind, at_back, at_front, at_head, number_is}
 use Rattle.rpl_compile.proofs.Sizes.{act-size, acts-size, code-size}

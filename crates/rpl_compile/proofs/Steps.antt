@@ -1,28 +1,18 @@
 -- One step of each instruction.
-use Rattle.rw_base.proofs.Common.{◌≡◌, ℕ, zero, suc, ◌+◌, ◌≤◌, Bool, true, false, nat_lt, nat_tests, List, [], ◌∷◌, ◌++◌, length, take, drop, set}
-use Rattle.rw_base.proofs.Common.{reverse, reverse-reverse, Option, Some, None, Result, Ok, Err, refl, sym, ap, ap₂, ◌∙◌, subst, arith, slice_get}
-use Rattle.rw_base.proofs.Common.{is_ok, if◌then◌else◌, option_and_then, length-append}
-use Rattle.rw_model.specs.Objects.{numbered}
-use Rattle.rpl_code.specs.declared.kind.ValueKind.{ValueKind}
-use Rattle.rpl_code.specs.declared.instruction.Instruction.{Instruction}
+use Rattle.rpl_compile.proofs.Common.{Answer, Block, Bool, Err, Frame, Instruction, IsOperation, Kind, List, MissingOperand, None, Ok, OperandRow}
+use Rattle.rpl_compile.proofs.Common.{Option, Outcome, Result, Running, Scope, Some, State, Trail, Value, ValueKind, VerifyKind, World, WrongOperand}
+use Rattle.rpl_compile.proofs.Common.{[], a_truth, ap, ap₂, are_declared, are_same_kinds, arith, code_kind, code_kind_of, code_kinds, declared_by}
+use Rattle.rpl_compile.proofs.Common.{drop, ended, false, gives, goes_on, if◌then◌else◌, is_ok, joined, jumped, kind_of_value, kinds_append}
+use Rattle.rpl_compile.proofs.Common.{kinds_length, kinds_of, left_of, length, length-append, load_row, loaded, locals_of, name_misfit, nat_lt}
+use Rattle.rpl_compile.proofs.Common.{nat_tests, numbered, on_top_of, operand_count, operands_behind, operated, operation, option_and_then, refl}
+use Rattle.rpl_compile.proofs.Common.{reverse, reverse-reverse, row_in, same_kinds_refl, scope_of, set, slice_get, spent, step, step_at, step_by}
+use Rattle.rpl_compile.proofs.Common.{step_in, store_row, stuck, subst, suc, sym, take, takes, target, true, value, weight, zero, ℕ, ◌++◌, ◌+◌, ◌>>=◌}
+use Rattle.rpl_compile.proofs.Common.{◌∙◌, ◌∷◌, ◌≡◌, ◌≤◌}
 use Rattle.rpl_code.specs.declared.instruction.Instruction.TheVariants as I
-use Rattle.rpl_code.specs.declared.block.Block.{Block}
-use Rattle.rpl_tree.specs.Value.{Kind, Value, a_truth, kind_of_value, weight}
-use Rattle.rpl_tree.specs.Outcome.{Answer, Outcome, Trail, ended, gives, goes_on, joined, spent, stuck, value, ◌>>=◌}
-use Rattle.rpl_tree.specs.World.{World}
-use Rattle.rpl_verify.specs.declared.verify_kind.VerifyKind.{VerifyKind}
-use Rattle.rpl_verify.specs.declared.verify_kind.VerifyKind.TheVariants.{MissingOperand, WrongOperand}
-use Rattle.rpl_verify.specs.Kinds.{are_same_kinds}
-use Rattle.rpl_verify.specs.Table.{OperandRow, left_of, load_row, on_top_of, operand_count, operands_behind, store_row, takes}
-use Rattle.rpl_verify.specs.Places.{declared_by}
-use Rattle.rpl_verify.specs.Names.{Scope, name_misfit}
-use Rattle.rpl_verify.specs.Fits.{locals_of, scope_of}
-use Rattle.rpl_verify.specs.Operations.{kind_of as code_kind_of, kinds_of, operation}
-use Rattle.rpl_verify.specs.Machine.{Frame, Running, State, are_declared, jumped, loaded, onward, operated, row_in, step, step_at, step_by, step_in}
-use Rattle.rpl_verify.proofs.KindFacts.{AreRoomy, same_kinds_refl, kinds_append, kinds_length}
+use Rattle.rpl_verify.specs.Machine.{onward}
+use Rattle.rpl_verify.proofs.KindFacts.{AreRoomy}
 use Rattle.rpl_verify.proofs.Operating.{MadeOn}
-use Rattle.rpl_verify.proofs.Operated.{IsOperation, operation_made}
-use Rattle.rpl_compile.specs.Operations.{code_kind, code_kinds, target}
+use Rattle.rpl_verify.proofs.Operated.{operation_made}
 use Rattle.rpl_compile.proofs.Goes.{Goes, Made, goes_as, goes_one, goes_weaker, nothing_last, same_outcome}
 use Rattle.rpl_compile.proofs.OfKind.{HasKind, kind_coded, kind_from_code, value_words, drop_front, take_front}
 use Rattle.rpl_compile.proofs.Setting.{Left, Setting, fr, left, same_kept}
@@ -130,16 +120,13 @@ module _ (g : Setting) where
 
   -- ---- locals
 
-  kinds_at : (n : ℕ) (k : Kind) → slice_get g.kinds n ≡ Some k → slice_get (locals_of g.block) n ≡ Some (code_kind k)
-  kinds_at n k h = ap (λ l. slice_get l n) g.locals_are ∙ by g.kinds n h
+  pub local_kind : (n : ℕ) (k : Kind) → slice_get g.kinds n ≡ Some k → slice_get (locals_of g.block) n ≡ Some (code_kind k)
+  local_kind n k h = ap (λ l. slice_get l n) g.locals_are ∙ by g.kinds n h
     where
       by : (ks : List Kind) (n : ℕ) → slice_get ks n ≡ Some k → slice_get (code_kinds ks) n ≡ Some (code_kind k)
       by [] n h = absurd (cc h)
       by (l ∷ ks) zero h = let e : l ≡ k = cc h in ap (λ k. Some (code_kind k)) e
       by (l ∷ ks) (suc n) h = by ks n h
-
-  pub local_kind : (n : ℕ) (k : Kind) → slice_get g.kinds n ≡ Some k → slice_get (locals_of g.block) n ≡ Some (code_kind k)
-  local_kind n k h = kinds_at n k h
 
   pub loads : (K : Kind) (free p n : ℕ) (ls ops : List Value) (lo : List Running) (rest : List Frame) (v : Value) (k : Kind)
       → slice_get g.block.lines p ≡ Some (I.Load n) → slice_get g.kinds n ≡ Some k → slice_get ls n ≡ Some v → HasKind K v
@@ -147,8 +134,8 @@ module _ (g : Setting) where
   loads K free p n ls ops lo rest v k at has holds hv =
       goes_one g.code g.world (fr g p ls ops lo) rest (fr g (suc p) ls (v ∷ ops) lo ∷ rest) (spent (weight (kind_of_value v))) v
       (Left g K free (p + 1) ls ops lo rest)
-      (step_does p ls [] ops lo rest (I.Load n) (code_kind k ∷ []) at (ap (λ o. operand_count (load_row o)) (sym (kinds_at n k has)))
-      (ap (λ o. left_of (load_row o) []) (kinds_at n k has))
+      (step_does p ls [] ops lo rest (I.Load n) (code_kind k ∷ []) at (ap (λ o. operand_count (load_row o)) (sym (local_kind n k has)))
+      (ap (λ o. left_of (load_row o) []) (local_kind n k has))
       ∙ ap (λ o. loaded o (fr g p ls ops lo) >>= (λ h. gives (h ∷ rest) 0)) holds
       ∙ same_outcome (value (fr g (suc p) ls (v ∷ ops) lo ∷ rest)) _ _ (nothing_last (spent _) ∙ ap spent (value_words v)))
       (left g K free (p + 1) (suc p) ls ls ops lo rest v (omega arith) hv (same_kept free ls))
@@ -157,8 +144,8 @@ module _ (g : Setting) where
       → slice_get g.block.lines p ≡ Some (I.Store n) → slice_get g.kinds n ≡ Some k → HasKind k v
       → step g.code g.world (fr g p us (v ∷ ops) lo) rest ≡ gives (fr g (suc p) (set us n v) ops lo ∷ rest) (weight (kind_of_value v))
   stores p n us ops lo rest v k at has hv =
-      step_does p us (v ∷ []) ops lo rest (I.Store n) [] at (ap (λ o. operand_count (store_row o)) (sym (kinds_at n k has)))
-      (ap (λ o. left_of (store_row o) (code_kind_of v ∷ [])) (kinds_at n k has)
+      step_does p us (v ∷ []) ops lo rest (I.Store n) [] at (ap (λ o. operand_count (store_row o)) (sym (local_kind n k has)))
+      (ap (λ o. left_of (store_row o) (code_kind_of v ∷ [])) (local_kind n k has)
       ∙ ap (λ l. left_of (takes (code_kind k ∷ []) []) (l ∷ [])) (kind_coded k v hv)
       ∙ ap (λ (t : Bool). if t then Ok [] else Err WrongOperand) (same_kinds_refl (code_kind k ∷ [])))
       ∙ same_outcome (value (fr g (suc p) (set us n v) ops lo ∷ rest)) _ _ (nothing_last (spent _) ∙ ap spent (value_words v))

@@ -1,12 +1,9 @@
 -- What is no text names no unit.
-use Rattle.rw_base.proofs.Common.{arith, AllByRecursion, recursion_from_All, ◌+◌, ◌⊎◌, ◌≡◌, ◌<◌, ℕ, ℤ, Bool, true, List, [], ◌∷◌, None, refl, subst}
-use Rattle.rw_base.proofs.Common.{inl, inr, bytes_eq, nat_lt, list_all, IsAscii, IsUtf8, IsUtf8-from_ascii, IsUtf8-from_is_utf8, is_utf8-from_IsUtf8}
-use Rattle.rw_base.proofs.Common.{is_utf8, if◌then◌else◌, false, sym, ap, ◌∙◌, IsAscii-nil, IsAscii-cons, and_parts, cases_Bool, ltb-true}
-use Rattle.rw_base.proofs.Common.{bytes_eq-Decides}
-use Rattle.rw_model.proofs.Common.{Draft, IsBasin, IsDigit, IsLetter, IsName, IsSound, Object, object_from, object_named}
-use Rattle.rw_base.specs.Dimension.{Dimension}
-use Rattle.rw_base.specs.Unit.{units, unit_in}
-use Rattle.rpl_compile.specs.Written.{spelt_name}
+use Rattle.rpl_compile.proofs.Common.{AllByRecursion, Bool, Dimension, Draft, IsAscii, IsAscii-cons, IsAscii-nil, IsBasin, IsDigit, IsLetter, IsName}
+use Rattle.rpl_compile.proofs.Common.{IsSound, IsUtf8, IsUtf8-from_ascii, IsUtf8-from_is_utf8, List, None, Object, [], and_parts, ap, arith, bytes_eq}
+use Rattle.rpl_compile.proofs.Common.{bytes_eq-Decides, cases_Bool, false, if◌then◌else◌, inl, inr, is_utf8, is_utf8-from_IsUtf8, list_all, ltb-true}
+use Rattle.rpl_compile.proofs.Common.{nat_lt, object_from, object_named, recursion_from_All, refl, spelt_name, subst, sym, true, unit_in, units, ℕ, ℤ}
+use Rattle.rpl_compile.proofs.Common.{◌+◌, ◌<◌, ◌∙◌, ◌∷◌, ◌≡◌, ◌⊎◌}
 
 abbrev is_small : List ℕ → Bool
 is_small = list_all (λ b. nat_lt b 128)

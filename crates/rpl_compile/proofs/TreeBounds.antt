@@ -1,23 +1,13 @@
 -- Code has at most 8 lines for each node, and at most 2 locals.
-use Rattle.rw_base.proofs.Common.{◌≤◌, ℕ, ◌+◌, ◌*◌, Bool, true, false, List, [], ◌∷◌, arith, if◌then◌else◌}
-use Rattle.rpl_tree.specs.declared.words.OneWord.{OneWord}
-use Rattle.rpl_tree.specs.declared.words.OneWord.TheVariants.{Known}
-use Rattle.rpl_tree.specs.declared.words.TwoWord.{TwoWord}
-use Rattle.rpl_tree.specs.declared.words.TwoWord.TheVariants.{Or, And, Unequal, Greater, GreaterEqual}
-use Rattle.rpl_tree.specs.Value.{Kind, element_of, is_same_kind}
-use Rattle.rpl_tree.specs.Tree.{Tree, Trees, literal, truth, now, slot, name, call, brackets, list, choice, bind, each, mapped, one, two, convert, at}
-use Rattle.rpl_tree.specs.Tree.{no_trees, tree, Act, Acts, assign, branch, with_name, no_acts, act}
-use Rattle.rpl_tree.specs.Kinds.{Head, Names, takes_named, tree_kind}
-use Rattle.rpl_tree.specs.Count.{act_locals, act_nodes, acts_locals, acts_nodes, local_count, local_counts, node_count, node_counts}
-use Rattle.rpl_compile.specs.Operations.{one_size, two_size, widening_size}
-use Rattle.rpl_compile.specs.Size.{size, size_of_act, size_of_acts, sizes, sizes_of_arguments}
+use Rattle.rpl_compile.proofs.Common.{Act, Acts, And, Greater, GreaterEqual, Head, Kind, Known, List, Names, OneWord, Or, Tree, Trees, TwoWord}
+use Rattle.rpl_compile.proofs.Common.{Unequal, [], act, act_locals, act_nodes, acts_locals, acts_nodes, arith, assign, at, bind, brackets, branch}
+use Rattle.rpl_compile.proofs.Common.{call, choice, cond_both, convert, each, element_of, is_same_kind, list, local_count, local_counts, mapped}
+use Rattle.rpl_compile.proofs.Common.{no_acts, no_trees, node_count, node_counts, one, one_size, size, size_of_act, size_of_acts, sizes}
+use Rattle.rpl_compile.proofs.Common.{sizes_of_arguments, takes_named, tree, tree_kind, two, two_size, widening_size, with_name, ℕ, ◌*◌, ◌+◌, ◌∷◌}
+use Rattle.rpl_compile.proofs.Common.{◌≤◌}
 
 pub widening_few : (place kind : Kind) → widening_size place kind ≤ 1
-widening_few place kind = by (is_same_kind place kind)
-  where
-    by : (t : Bool) → (if t then 0 else 1) ≤ 1
-    by true = omega arith
-    by false = omega arith
+widening_few place kind = cond_both (is_same_kind place kind) 0 1 (λ n. n ≤ 1) (λ e. omega arith) (λ e. omega arith)
 
 one_few : (word : OneWord) (e nodes : ℕ) → e + 2 ≤ 8 * nodes → one_size word e + 2 ≤ 8 * (nodes + 1)
 one_few Known e nodes h = omega (arith, h)
@@ -35,11 +25,6 @@ module _ (heads : List Head) where
   mutual
     -- one line is left for a list that is widened
     pub few_lines : (names : Names) (t : Tree) → size heads names t + 2 ≤ 8 * node_count t
-    few_lines names (literal n unit) = omega arith
-    few_lines names (truth b) = omega arith
-    few_lines names now = omega arith
-    few_lines names (slot o s) = omega arith
-    few_lines names (name x) = omega arith
     few_lines names (call f ts) = let h = few_for_arguments names (takes_named heads f) ts in omega (arith, h)
     few_lines names (brackets t) = let h = few_lines names t in omega (arith, h)
     few_lines names (list ts) = let h = few_for_all names ts in omega (arith, h)
@@ -76,6 +61,7 @@ module _ (heads : List Head) where
         let h = few_lines names s in
         let g = few_lines names d in
         omega (arith, h, g)
+    few_lines names t = omega arith
 
     few_for_all : (names : Names) (ts : Trees) → sizes heads names ts ≤ 8 * node_counts ts
     few_for_all names no_trees = omega arith
@@ -85,8 +71,7 @@ module _ (heads : List Head) where
         omega (arith, h, g)
 
     few_for_arguments : (names : Names) (kinds : List Kind) (ts : Trees) → sizes_of_arguments heads names kinds ts ≤ 8 * node_counts ts
-    few_for_arguments names [] no_trees = omega arith
-    few_for_arguments names [] (tree t ts) = omega arith
+    few_for_arguments names [] ts = omega arith
     few_for_arguments names (kind ∷ kinds) no_trees = omega arith
     few_for_arguments names (kind ∷ kinds) (tree t ts) =
         let h = few_lines names t in
@@ -118,11 +103,6 @@ module _ (heads : List Head) where
 
 mutual
   pub few_locals : (t : Tree) → local_count t ≤ 2 * node_count t
-  few_locals (literal n unit) = omega arith
-  few_locals (truth b) = omega arith
-  few_locals now = omega arith
-  few_locals (slot o s) = omega arith
-  few_locals (name x) = omega arith
   few_locals (call f ts) = let h = few_locals_of ts in omega (arith, h)
   few_locals (brackets t) = let h = few_locals t in omega (arith, h)
   few_locals (list ts) = let h = few_locals_of ts in omega (arith, h)
@@ -154,6 +134,7 @@ mutual
       let h = few_locals s in
       let g = few_locals d in
       omega (arith, h, g)
+  few_locals t = omega arith
 
   few_locals_of : (ts : Trees) → local_counts ts ≤ 2 * node_counts ts
   few_locals_of no_trees = omega arith

@@ -1,17 +1,10 @@
 -- What trees cost, in words that the proofs on their code use.
-use Rattle.rw_base.proofs.Common.{max, ◌≡◌, ℕ, zero, suc, ◌+◌, List, [], ◌∷◌, ◌++◌, replicate, reverse, reverse-append, append_assoc, inl, inr, refl}
-use Rattle.rw_base.proofs.Common.{sym, ap, ◌∙◌, subst, arith}
-use Rattle.rpl_code.specs.declared.kind.ValueKind.{ValueKind}
-use Rattle.rpl_code.specs.Weight.{words_of}
-use Rattle.rpl_tree.specs.declared.words.TwoWord.{TwoWord}
-use Rattle.rpl_tree.specs.declared.words.TwoWord.TheVariants.{Or, And}
-use Rattle.rpl_tree.specs.Value.{Kind, number_kind, truth_kind, date_kind, slot_kind, numbers_kind, slots_kind, list_kind, weight, weights}
-use Rattle.rpl_tree.specs.Cost.{Costed, Price, two_cost}
+use Rattle.rpl_compile.proofs.Common.{And, Costed, IsElement, Kind, List, Or, Price, TwoWord, ValueKind, [], ap, append_assoc, arith, code_kind}
+use Rattle.rpl_compile.proofs.Common.{code_kinds, inl, inr, list_kind, max, refl, replicate, reverse, reverse-append, subst, suc, sym, two_cost}
+use Rattle.rpl_compile.proofs.Common.{weight, weights, words_of, words_of_all, zero, ℕ, ◌++◌, ◌+◌, ◌∙◌, ◌∷◌, ◌≡◌}
 use Rattle.rpl_tree.specs.Words.{two_words}
-use Rattle.rpl_verify.specs.Kinds.{words_of_all}
-use Rattle.rpl_compile.specs.Operations.{code_kind, code_kinds}
-use Rattle.rpl_compile.specs.Kinded.{IsElement}
 use Rattle.rpl_compile.proofs.WordLines.{IsLine, two_step}
+use Rattle.rpl_compile.proofs.OfKind.{words_coded}
 
 pub again : (n : ℕ) (k : ValueKind) (ks : List ValueKind) → replicate n k ++ (k ∷ ks) ≡ replicate (n + 1) k ++ ks
 again n k ks = by n ∙ ap (λ m. replicate m k ++ ks) more
@@ -28,14 +21,6 @@ turned k ks ls = sym (append_assoc (reverse ks) (k ∷ []) ls) ∙ ap (λ l. l +
 
 -- ---- words
 
-pub words_weight : (k : Kind) → words_of (code_kind k) ≡ weight k
-words_weight number_kind = refl
-words_weight truth_kind = refl
-words_weight date_kind = refl
-words_weight slot_kind = refl
-words_weight (numbers_kind m) = refl
-words_weight (slots_kind m) = refl
-
 pub words_added : (ks ls : List ValueKind) → words_of_all (ks ++ ls) ≡ words_of_all ks + words_of_all ls
 words_added [] ls = omega arith
 words_added (k ∷ ks) ls = let e = words_added ks ls in omega (arith, e)
@@ -45,7 +30,7 @@ words_turned [] ls = omega arith
 words_turned (k ∷ ks) ls =
     let e = words_turned ks (code_kind k ∷ ls) in
     let z = ap words_of_all (turned (code_kind k) (code_kinds ks) ls) in
-    let w = words_weight k in
+    let w = words_coded k in
     omega (arith, e, z, w)
 
 pub element_words : (n : ℕ) (kind : Kind) → IsElement kind → (words_of (code_kind kind) ≡ 1) × (words_of (code_kind (list_kind n kind)) ≡ n + 1)

@@ -1,8 +1,6 @@
 -- The code of each tree does what the tree means.
-use Rattle.rpl_tree.specs.declared.words.TwoWord.{TwoWord}
-use Rattle.rpl_tree.specs.declared.words.TwoWord.TheVariants.{Or, And}
-use Rattle.rpl_tree.specs.Tree.{Tree, Trees, literal, truth, now, slot, name, call, brackets, list, choice, bind, each, mapped, one, two, convert, at}
-use Rattle.rpl_tree.specs.Tree.{no_trees, tree}
+use Rattle.rpl_compile.proofs.Common.{And, Or, Tree, Trees, TwoWord, at, bind, brackets, call, choice, convert, each, list, literal, mapped, name}
+use Rattle.rpl_compile.proofs.Common.{no_trees, now, one, slot, tree, truth, two}
 use Rattle.rpl_compile.proofs.Setting.{Claim, Setting}
 use Rattle.rpl_compile.proofs.Leaves.{on_brackets, on_literal, on_name, on_now, on_slot, on_truth}
 use Rattle.rpl_compile.proofs.Operators.{Asks, asks_at, on_at, on_convert, on_two_trees, on_word}

@@ -1,26 +1,15 @@
 -- What types that fit say of kinds: for each form the kind that it has, and what it asks of the kinds of its parts.
-use Rattle.rw_base.proofs.Common.{◌≡◌, ◌≤◌, ◌<◌, inl, inr, ◌⊎◌, ℕ, ◌+◌, nat_le, nat_lt, max, Bool, true, false, ◌&&◌, List, [], ◌∷◌, length, Option}
-use Rattle.rw_base.proofs.Common.{Some, None, Ok, Err, refl, ap, ◌∙◌, arith, nat_tests, if◌then◌else◌}
+use Rattle.rpl_compile.proofs.Common.{And, Append, AreComparable, Bool, Boolean, ConvertWord, Datetime, Dimension, Divide, Err, FitsIn, IsAnyList}
+use Rattle.rpl_compile.proofs.Common.{IsElement, Item, Kind, Known, Length, Less_by, List, ListTooLong, Minus, None, Not, Numeric, NumericList, Ok}
+use Rattle.rpl_compile.proofs.Common.{OneTakes, OneWord, Option, Or, Plus, RplType, Slot, SlotList, Some, Times, TwoTakes, TwoWord, TypeKind, Typed}
+use Rattle.rpl_compile.proofs.Common.{[], a_dimension, and_true, answers, ap, append_type, arith, asks, compared_type, cond_both, convert_type}
+use Rattle.rpl_compile.proofs.Common.{date_kind, difference_type, element_of, element_type, false, if◌then◌else◌, inl, inr, is_boolean, is_datetime}
+use Rattle.rpl_compile.proofs.Common.{item_type, join, joined_type, length, length_misfit, length_type, list_kind, list_type, longest, look_type}
+use Rattle.rpl_compile.proofs.Common.{mapped_type, max, measured_in, misfit, misfit_among, nat_le, nat_lt, nat_tests, negative_type, number_kind}
+use Rattle.rpl_compile.proofs.Common.{numbers_kind, one_kind, one_type, only_if, per_of, product_type, refl, refusal_order, room_of, slot_kind}
+use Rattle.rpl_compile.proofs.Common.{slots_kind, sooner, sum_type, times_of, true, truth_kind, two_kind, two_type, unit_misfit, ℕ, ◌&&◌, ◌+◌, ◌<◌}
+use Rattle.rpl_compile.proofs.Common.{◌∙◌, ◌∷◌, ◌≡◌, ◌≤◌, ◌⊎◌}
 use Rattle.rw_base.specs.Answers.{unless_refused}
-use Rattle.rw_base.specs.Dimension.{Dimension, per_of, times_of}
-use Rattle.rpl_tree.specs.declared.words.OneWord.{OneWord}
-use Rattle.rpl_tree.specs.declared.words.OneWord.TheVariants.{Not, Minus, Known, Length, Month, Day, Year}
-use Rattle.rpl_tree.specs.declared.words.TwoWord.{TwoWord}
-use Rattle.rpl_tree.specs.declared.words.TwoWord.TheVariants.{Or, And, Equal, Unequal, Less, LessEqual, Greater, GreaterEqual, Plus, Minus as Less_by}
-use Rattle.rpl_tree.specs.declared.words.TwoWord.TheVariants.{Times, Divide, Append, Item}
-use Rattle.rpl_tree.specs.declared.words.ConvertWord.{ConvertWord}
-use Rattle.rpl_tree.specs.declared.rpl_type.RplType.{RplType}
-use Rattle.rpl_tree.specs.declared.rpl_type.RplType.TheVariants.{Numeric, Boolean, Datetime, Slot, NumericList, SlotList}
-use Rattle.rpl_tree.specs.Value.{Kind, number_kind, truth_kind, date_kind, slot_kind, numbers_kind, slots_kind, element_of, list_kind, room_of}
-use Rattle.rpl_tree.specs.Kinds.{join, one_kind, two_kind}
-use Rattle.rpl_types.specs.declared.type_kind.TypeKind.{TypeKind}
-use Rattle.rpl_types.specs.declared.type_kind.TypeKind.TheVariants.{ListTooLong}
-use Rattle.rpl_types.specs.Fits.{Typed, joined_type, length_misfit, longest, misfit, misfit_among, refusal_order, sooner, unit_misfit}
-use Rattle.rpl_types.specs.Forms.{a_dimension, answers, append_type, asks, compared_type, convert_type, difference_type, element_type, is_boolean}
-use Rattle.rpl_types.specs.Forms.{is_datetime, item_type, length_type, list_type, look_type, mapped_type, measured_in, negative_type, one_type}
-use Rattle.rpl_types.specs.Forms.{only_if, product_type, sum_type, two_type}
-use Rattle.rpl_verify.proofs.KindFacts.{and_true}
-use Rattle.rpl_compile.specs.Kinded.{AreComparable, FitsIn, IsAnyList, IsElement, OneTakes, TwoTakes}
 
 abbrev pub kind_of_rpl_type : RplType → Kind
 kind_of_rpl_type (Numeric d) = number_kind
@@ -53,22 +42,17 @@ unrefused (Some kind) own t h = absurd (cc h)
 pub none_of_two : (a b : Option TypeKind) → sooner a b ≡ None → (a ≡ None) × (b ≡ None)
 none_of_two None b h = (refl, h)
 none_of_two (Some a) None h = absurd (cc h)
-none_of_two (Some a) (Some b) h = by (nat_lt (refusal_order b) (refusal_order a)) h
-  where
-    by : (t : Bool) → (if t then Some b else Some a) ≡ None → (Some a ≡ None) × (Some b ≡ None)
-    by true h = absurd (cc h)
-    by false h = absurd (cc h)
+none_of_two (Some a) (Some b) h =
+    cond_both (nat_lt (refusal_order b) (refusal_order a)) (Some b) (Some a) (λ found. found ≡ None → (Some a ≡ None) × (Some b ≡ None))
+    (λ e h. absurd (cc h)) (λ e h. absurd (cc h)) h
 
 only : (test : Bool) (own t : RplType) → only_if test own ≡ Ok t → (test ≡ true) × (kind_of_rpl_type own ≡ kind_of_rpl_type t)
 only true own t h = (refl, same_kind own t h)
 only false own t h = absurd (cc h)
 
 few : (n most : ℕ) → length_misfit n most ≡ None → n ≤ most
-few n most h = by (nat_le n most) refl h
-  where
-    by : (t : Bool) → nat_le n most ≡ t → (if t then None else Some ListTooLong) ≡ None → n ≤ most
-    by true e h = grind (arith, nat_tests, e)
-    by false e h = absurd (cc h)
+few n most h =
+    cond_both (nat_le n most) None (Some ListTooLong) (λ found. found ≡ None → n ≤ most) (λ e h. grind (arith, nat_tests, e)) (λ e h. absurd (cc h)) h
 
 truth_is : (t : RplType) → is_boolean t ≡ true → kind_of_rpl_type t ≡ truth_kind
 truth_is Boolean h = refl
@@ -167,9 +151,7 @@ one_takes Not looks part t p h = let q = only (is_boolean part) Boolean t h in (
 one_takes Minus looks part t p h = negative part t h
 one_takes Known looks part t p h = absurd p
 one_takes Length looks part t p h = counted part t h
-one_takes Month looks part t p h = let q = only (is_datetime part) _ t h in (q.1, date_is part q.0)
-one_takes Day looks part t p h = let q = only (is_datetime part) _ t h in (q.1, date_is part q.0)
-one_takes Year looks part t p h = let q = only (is_datetime part) _ t h in (q.1, date_is part q.0)
+one_takes _ looks part t p h = let q = only (is_datetime part) _ t h in (q.1, date_is part q.0)
 
 pub known_takes : (looks : Bool) (part t : RplType) → one_type Known looks part ≡ Ok t → (looks ≡ true) × (truth_kind ≡ kind_of_rpl_type t)
 known_takes looks part t h = only looks Boolean t h
@@ -230,18 +212,13 @@ picked _ _ t h = absurd (cc h)
 pub two_takes : (word : TwoWord) (a b t : RplType) → two_type word a b ≡ Ok t → TakesTwo word a b t
 two_takes Or a b t h = truths a b t h
 two_takes And a b t h = truths a b t h
-two_takes Equal a b t h = compared a b t h
-two_takes Unequal a b t h = compared a b t h
-two_takes Less a b t h = compared a b t h
-two_takes LessEqual a b t h = compared a b t h
-two_takes Greater a b t h = compared a b t h
-two_takes GreaterEqual a b t h = compared a b t h
 two_takes Plus a b t h = summed a b t h
 two_takes Less_by a b t h = parted a b t h
 two_takes Times a b t h = multiplied times_of a b t h
 two_takes Divide a b t h = multiplied per_of a b t h
 two_takes Append a b t h = appended a b t h
 two_takes Item a b t h = picked a b t h
+two_takes _ a b t h = compared a b t h
 
 -- ---- looks, tables, lists
 

@@ -1,33 +1,19 @@
 -- A ruleset that is accepted is of the kinds that its code asks for: by recursion on the tree, a line or two for each form.
-use Rattle.rw_base.proofs.Common.{◌≡◌, ℕ, ◌+◌, ℤ, pos, Bool, true, false, ◌||◌, List, [], ◌∷◌, length, bytes_eq, Option, Some, None, is_some, IsSome}
-use Rattle.rw_base.proofs.Common.{IsSomeAnd, IsTrue, unwrap_or, Ok, Err, refl, sym, ap, ap₂, ◌∙◌, subst, arith, if◌then◌else◌, ◌*ℤ◌}
-use Rattle.std.specs.List.{list_any}
-use Rattle.rw_base.specs.Dimension.{Dimension}
-use Rattle.rw_base.specs.Unit.{units, unit_in}
-use Rattle.rw_model.specs.Draft.{Draft}
+use Rattle.rpl_compile.proofs.Common.{Act, Acts, AllStand, AreArguments, AreDeclared, AreKinded, AreKindedActs, AreKindedFrom, AreOfKind, Bool}
+use Rattle.rpl_compile.proofs.Common.{Boolean, Callable, ConvertWord, Day, Declared, Dimension, Draft, Err, FitsIn, HasName, HasType, HaveTypes, Head}
+use Rattle.rpl_compile.proofs.Common.{IsAnyList, IsAsked, IsElement, IsKinded, IsKindedAct, IsKindedBody, IsLiteral, IsSome, IsSomeAnd, IsTrue}
+use Rattle.rpl_compile.proofs.Common.{IsTyped, Kind, Known, Length, List, LiteralRange, Minus, Month, Names, None, Not, Numeric, Ok, OneTakes}
+use Rattle.rpl_compile.proofs.Common.{OneWord, Option, RplType, Signature, Slot, Some, Stands, Tree, Trees, TwoTakes, TwoWord, TypeScope, Year, []}
+use Rattle.rpl_compile.proofs.Common.{act, and_function, ap, ap₂, arith, assign, at, bind, brackets, branch, bytes_eq, call, can_set, choice, convert}
+use Rattle.rpl_compile.proofs.Common.{count_of, each, element_of, false, found_slot_type, found_target_misfit, function, function_heads}
+use Rattle.rpl_compile.proofs.Common.{function_names, if◌then◌else◌, is_look, is_quantity, is_some, join, kind_named, kind_of_type, length, list}
+use Rattle.rpl_compile.proofs.Common.{list_any, list_kind, literal, literal_in_unit, mapped, misfit, name, name_type, no_acts, no_trees, now}
+use Rattle.rpl_compile.proofs.Common.{number_kind, numbers_kind, object_named, one, param_scope, predefined_functions, refl, room_of, rule, slot}
+use Rattle.rpl_compile.proofs.Common.{slot_kind, slot_named, subst, sym, table_named, takes_named, tree, tree_kind, true, truth, two, two_kind}
+use Rattle.rpl_compile.proofs.Common.{type_here, unit_in, units, unwrap_or, with_name, ℕ, ℤ, ◌*ℤ◌, ◌+◌, ◌||◌, ◌∙◌, ◌∷◌, ◌≡◌}
 use Rattle.rw_model.specs.Links.{dim_of}
-use Rattle.rw_model.specs.Objects.{object_named, slot_named}
-use Rattle.rpl_tree.specs.declared.words.OneWord.{OneWord}
-use Rattle.rpl_tree.specs.declared.words.OneWord.TheVariants.{Not, Minus, Known, Length, Month, Day, Year}
-use Rattle.rpl_tree.specs.declared.words.TwoWord.{TwoWord}
-use Rattle.rpl_tree.specs.declared.words.ConvertWord.{ConvertWord}
-use Rattle.rpl_tree.specs.declared.rpl_type.RplType.{RplType}
-use Rattle.rpl_tree.specs.declared.rpl_type.RplType.TheVariants.{Numeric, Boolean, Slot}
-use Rattle.rpl_tree.specs.Value.{Kind, number_kind, numbers_kind, slot_kind, element_of, list_kind, room_of}
-use Rattle.rpl_tree.specs.Operators.{is_quantity}
-use Rattle.rpl_tree.specs.World.{can_put_ahead, can_set, table_named}
-use Rattle.rpl_tree.specs.Tree.{Tree, Trees, literal, truth, now, slot, name, call, brackets, list, choice, bind, each, mapped, one, two, convert, at}
-use Rattle.rpl_tree.specs.Tree.{no_trees, tree, Act, Acts, assign, branch, with_name, no_acts, act, Declared, rule, function}
-use Rattle.rpl_tree.specs.Kinds.{Head, Names, count_of, join, kind_named, kind_of_type, takes_named, tree_kind, two_kind}
-use Rattle.rpl_tree.specs.Mean.{function_heads, predefined_functions}
-use Rattle.rpl_types.specs.declared.type_kind.TypeKind.TheVariants.{LiteralRange, NotSettable, TargetStep}
-use Rattle.rpl_types.specs.Fits.{misfit}
-use Rattle.rpl_types.specs.Forms.{TypeScope, found_slot_type, found_target_misfit, literal_in_unit, is_look, name_type}
-use Rattle.rpl_types.specs.Functions.{Callable, Signature, param_scope, type_here}
-use Rattle.rpl_types.specs.HasType.{AllStand, AreDeclared, HasType, HaveTypes, IsTyped, Stands}
-use Rattle.rpl_types.specs.Judged.{and_function, function_names}
-use Rattle.rpl_compile.specs.Kinded.{AreArguments, AreKinded, AreKindedActs, AreKindedFrom, AreOfKind, FitsIn, HasName, IsAnyList, IsAsked, IsElement}
-use Rattle.rpl_compile.specs.Kinded.{IsKinded, IsKindedAct, IsKindedBody, IsLiteral, OneTakes, TwoTakes}
+use Rattle.rpl_tree.specs.World.{can_put_ahead}
+use Rattle.rpl_types.specs.declared.type_kind.TypeKind.TheVariants.{NotSettable, TargetStep}
 use Rattle.rpl_compile.proofs.TypeKinds.{AreAlike, IsPlain, Listed, convert_takes, element_is, kind_of_rpl_type, kinds_fit, kinds_join, known_takes}
 use Rattle.rpl_compile.proofs.TypeKinds.{list_takes, look_takes, mapped_takes, measured_number, one_takes, same_kind, two_takes, typed}
 use Rattle.rpl_compile.proofs.CallKinds.{FitTypes, Matches, call_takes, fresh, matches_none, type_names, with_function}
@@ -74,13 +60,8 @@ target_found basin (Some s) ahead t h = by (can_set basin s) (can_put_ahead basi
 -- ---- words
 
 asked_always : (word : OneWord) (e : Tree) → IsPlain word → IsAsked word e
-asked_always Not e h = tt
-asked_always Minus e h = tt
 asked_always Known e h = absurd h
-asked_always Length e h = tt
-asked_always Month e h = tt
-asked_always Day e h = tt
-asked_always Year e h = tt
+asked_always _ e h = tt
 
 fit_first : (a b c d : Kind) → a ≡ c → b ≡ d → FitsIn (join c d) c → FitsIn (join a b) a
 fit_first a b c d e f h = subst (λ x. FitsIn (join x b) x) (sym e) (subst (λ y. FitsIn (join c y) c) (sym f) h)

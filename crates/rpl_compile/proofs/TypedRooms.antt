@@ -1,64 +1,24 @@
 -- The types that an accepted ruleset declares have room for as many elements as code can say.
-use Rattle.rw_base.proofs.Common.{◌≡◌, ◌&&◌, ℕ, ◌+◌, ℤ, pos, negsuc, Bool, true, false, List, [], ◌∷◌, Option, None, Some, IsSome, Ok, Err, nat_le}
-use Rattle.rw_base.proofs.Common.{nat_lt, int_le, unsigned_abs, refl, subst, false≢true, and_parts, leb-true, if◌then◌else◌}
-use Rattle.rw_base.specs.Dimension.{Dimension}
-use Rattle.rw_base.specs.Unit.{units, unit_in}
-use Rattle.rw_model.proofs.Common.{Draft}
-use Rattle.rpl_code.specs.Bounds.{IsLength}
-use Rattle.rpl_tree.specs.Tree.{numeric, boolean, datetime, slot_type, numeric_list, slot_list}
-use Rattle.rpl_tree.specs.declared.rpl_type.RplType.{RplType}
-use Rattle.rpl_tree.specs.declared.rpl_type.RplType.TheVariants.{NumericList, SlotList}
-use Rattle.rpl_tree.proofs.Common.{Declared, Parameter, TypeName, function, rule}
-use Rattle.rpl_types.specs.declared.type_kind.TypeKind.{TypeKind}
-use Rattle.rpl_types.specs.declared.type_kind.TypeKind.TheVariants.{DuplicateName, ListTooLong}
-use Rattle.rpl_types.specs.Fits.{longest, refusal_order, sooner}
-use Rattle.rpl_types.specs.Functions.{Signature, head_misfit, is_duplicate, refusal_in, with_room, with_unit, written_type}
-use Rattle.rpl_types.specs.HasType.{AreDeclared, IsTyped}
-use Rattle.rpl_compile.specs.Rooms.{AreRoomy, HasListRoom, HaveRoom}
-
-no_some : {A : Type 0} (x : A) → Some x ≡ None → ⊥
-no_some x e = false≢true (subst IsSome e refl)
-
-is_length : (m : ℤ) → (int_le (pos 1) m && int_le m (pos longest)) ≡ true → IsLength (unsigned_abs m)
-is_length (pos n) h = let parts = and_parts (nat_le 1 n) (nat_le n longest) h in (leb-true 1 n parts.0, leb-true n longest parts.1)
-is_length (negsuc n) h = absurd (false≢true h)
-
-room_by : (b : Bool) (m : ℤ) (t : RplType) → (int_le (pos 1) m && int_le m (pos longest)) ≡ b
-    → refusal_in (if b then Ok t else Err ListTooLong) ≡ None → IsLength (unsigned_abs m)
-room_by true m t e h = is_length m e
-room_by false m t e h = absurd (no_some ListTooLong h)
-
-list_room : (found : Option (Dimension × ℤ)) (m : ℤ) (made : Dimension → ℕ → RplType)
-    → refusal_in (with_unit found (λ d. with_room m (made d))) ≡ None → IsLength (unsigned_abs m)
-list_room None m made h = absurd (no_some _ h)
-list_room (Some unit) m made h = room_by _ m (made unit.0 (unsigned_abs m)) refl h
+use Rattle.rpl_compile.proofs.Common.{AreDeclared, AreRoomy, Bool, Declared, Draft, DuplicateName, HasListRoom, HaveRoom, IsTyped, List, None, Option}
+use Rattle.rpl_compile.proofs.Common.{Parameter, Signature, Some, TypeKind, TypeName, [], false, function, head_misfit, if◌then◌else◌, is_duplicate}
+use Rattle.rpl_compile.proofs.Common.{numeric_list, refusal_in, rule, slot_list, true, written_type, ℕ, ◌+◌, ◌∷◌, ◌≡◌}
+use Rattle.rpl_compile.proofs.TypeKinds.{none_of_two}
+use Rattle.rpl_compile.proofs.SpeltHeads.{written_spelt}
 
 type_room : (written : TypeName) → refusal_in (written_type written) ≡ None → HasListRoom written
-type_room (numeric unit) h = tt
-type_room boolean h = tt
-type_room datetime h = tt
-type_room (slot_type unit) h = tt
-type_room (numeric_list m unit) h = list_room (unit_in units unit) m (λ d n. NumericList n d) h
-type_room (slot_list m unit) h = list_room (unit_in units unit) m (λ d n. SlotList n d) h
-
-one_of : (b : Bool) (x y : TypeKind) → (if b then Some x else Some y) ≡ None → ⊥
-one_of true x y = no_some x
-one_of false x y = no_some y
-
-neither : (a b : Option TypeKind) → sooner a b ≡ None → (a ≡ None) × (b ≡ None)
-neither None b h = (refl, h)
-neither (Some x) None h = absurd (no_some x h)
-neither (Some x) (Some y) h = absurd (one_of (nat_lt (refusal_order y) (refusal_order x)) y x h)
+type_room (numeric_list m unit) h = written_spelt (numeric_list m unit) h
+type_room (slot_list m unit) h = written_spelt (slot_list m unit) h
+type_room _ h = tt
 
 head_rooms : (params : List Parameter) (result : TypeName) → head_misfit params result ≡ None → HaveRoom params × HasListRoom result
 head_rooms [] result h = (tt, type_room result h)
 head_rooms (p ∷ ps) result h =
-    let both = neither (refusal_in (written_type p.of_type)) (head_misfit ps result) h in
+    let both = none_of_two (refusal_in (written_type p.of_type)) (head_misfit ps result) h in
     let rest = head_rooms ps result both.1 in
     ((type_room p.of_type both.0, rest.0), rest.1)
 
 head_fine : (b : Bool) (found : Option TypeKind) → (if b then Some DuplicateName else found) ≡ None → found ≡ None
-head_fine true found h = absurd (no_some DuplicateName h)
+head_fine true found h = absurd (cc h)
 head_fine false found h = h
 
 declared_rooms : (basin : Draft) (rules : List Declared) (k : ℕ) (earlier : List Signature) (ds : List Declared)

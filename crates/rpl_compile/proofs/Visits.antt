@@ -1,21 +1,10 @@
 -- The forms FOR and MAP.
-use Rattle.rw_base.proofs.Common.{◌≡◌, ℕ, suc, ◌+◌, ◌<◌, List, [], ◌∷◌, ◌++◌, length, set, Some, refl, sym, ap, ◌∙◌, subst, arith, append_assoc}
-use Rattle.rw_base.proofs.Common.{slice_get, slice_get_within}
-use Rattle.rpl_code.specs.declared.instruction.Instruction.{Instruction}
+use Rattle.rpl_compile.proofs.Common.{Env, Frame, Instruction, Kind, List, Outcome, Running, Site, Some, State, Tree, Value, [], after, after_tree}
+use Rattle.rpl_compile.proofs.Common.{ap, append_assoc, arith, bound, code_of, each, element_of, elements_of, gives, keeping, kind_at, kind_of_value}
+use Rattle.rpl_compile.proofs.Common.{knowing, length, local_count, local_kinds, names_in, on, over, refl, room_lines, room_of, set, size, slice_get}
+use Rattle.rpl_compile.proofs.Common.{slice_get_within, spent, subst, suc, sym, turns, value_of, visiting, weight, widened, widening_size}
+use Rattle.rpl_compile.proofs.Common.{with_elements, with_left, ℕ, ◌++◌, ◌+◌, ◌<◌, ◌>>=◌, ◌∙◌, ◌∷◌, ◌≡◌}
 use Rattle.rpl_code.specs.declared.instruction.Instruction.TheVariants as I
-use Rattle.rpl_tree.specs.Value.{Kind, Value, kind_of_value, element_of, room_of, weight}
-use Rattle.rpl_tree.specs.Outcome.{Outcome, after, gives, spent, ◌>>=◌}
-use Rattle.rpl_tree.specs.Operators.{elements_of, widened}
-use Rattle.rpl_tree.specs.Tree.{Tree, each}
-use Rattle.rpl_tree.specs.Mean.{Env, turns, value_of, with_elements}
-use Rattle.rpl_tree.specs.Count.{local_count}
-use Rattle.rpl_tree.specs.Locals.{local_kinds}
-use Rattle.rpl_verify.specs.Places.{visiting}
-use Rattle.rpl_verify.specs.Machine.{Frame, Running, State, with_left}
-use Rattle.rpl_compile.specs.Operations.{widening_size}
-use Rattle.rpl_compile.specs.Size.{size}
-use Rattle.rpl_compile.specs.Site.{Site, bound, keeping, kind_at, knowing, names_in, on, over}
-use Rattle.rpl_compile.specs.Translate.{after_tree, code_of, room_lines}
 use Rattle.rpl_compile.proofs.Goes.{Goes, after_after, goes_bind, goes_first}
 use Rattle.rpl_compile.proofs.OfKind.{At, HasKind, at_back, at_front, at_head, at_moved, at_second, at_tail, set_here}
 use Rattle.rpl_compile.proofs.Sizes.{beside, code-size, widening-size}

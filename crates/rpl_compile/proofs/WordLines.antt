@@ -1,32 +1,20 @@
 -- Lines of operators and of room lead from the kinds of their operands to the kind of their result.
-use Rattle.rw_base.proofs.Common.{max, ◌≡◌, ◌≤◌, ◌<◌, inl, inr, ◌⊎◌, ℕ, suc, ◌+◌, ◌==◌, nat_le, nat_lt, true, false, List, [], ◌∷◌, ◌++◌, Option}
-use Rattle.rw_base.proofs.Common.{Some, None, refl, sym, ap, ◌∙◌, subst, arith, nat_tests, if◌then◌else◌, length}
-use Rattle.rpl_code.specs.declared.kind.ValueKind.{ValueKind}
+use Rattle.rpl_compile.proofs.Common.{And, Append, AreBoth, AreComparable, Before, CanAddKinds, CanAppend, Day, Divide, Equal, FitsIn, Greater}
+use Rattle.rpl_compile.proofs.Common.{GreaterEqual, Instruction, IsAnyList, IsWider, Item, Kind, Known, Length, Less, LessEqual, Less_by, List, Minus}
+use Rattle.rpl_compile.proofs.Common.{Month, None, Not, OneTakes, OneWord, Open, Option, Or, Plus, Price, Scope, Some, Times, TwoTakes, TwoWord}
+use Rattle.rpl_compile.proofs.Common.{Unequal, ValueKind, Year, [], ap, appended, arith, before, code_kind, date_kind, element_picked, false, goes_by}
+use Rattle.rpl_compile.proofs.Common.{going_of, if◌then◌else◌, inl, inr, is_same_kind, judged_at, length, max, nat_le, nat_lt, nat_tests, number_kind}
+use Rattle.rpl_compile.proofs.Common.{numbers_kind, of_list, one_kind, one_line, onward, operand_row, refl, room_of, slot_kind, slots_kind, spots}
+use Rattle.rpl_compile.proofs.Common.{subst, suc, sym, taken, takes, true, truth_kind, two_kind, two_lines, weight, widened_list, widening}
+use Rattle.rpl_compile.proofs.Common.{words_kept, words_of, ℕ, ◌++◌, ◌+◌, ◌<◌, ◌==◌, ◌∙◌, ◌∷◌, ◌≡◌, ◌≤◌, ◌⊎◌}
 use Rattle.rpl_code.specs.declared.kind.ValueKind.TheVariants as K
-use Rattle.rpl_code.specs.declared.instruction.Instruction.{Instruction}
 use Rattle.rpl_code.specs.declared.instruction.Instruction.TheVariants as I
-use Rattle.rpl_tree.specs.declared.words.OneWord.{OneWord}
-use Rattle.rpl_tree.specs.declared.words.OneWord.TheVariants.{Not, Minus, Known, Length, Month, Day, Year}
-use Rattle.rpl_tree.specs.declared.words.TwoWord.{TwoWord}
-use Rattle.rpl_tree.specs.declared.words.TwoWord.TheVariants.{Or, And, Equal, Unequal, Less, LessEqual, Greater, GreaterEqual, Plus, Minus as Less_by}
-use Rattle.rpl_tree.specs.declared.words.TwoWord.TheVariants.{Times, Divide, Append, Item}
-use Rattle.rpl_tree.specs.Value.{Kind, number_kind, truth_kind, date_kind, slot_kind, numbers_kind, slots_kind, is_same_kind, room_of, weight}
-use Rattle.rpl_tree.specs.Kinds.{one_kind, two_kind}
-use Rattle.rpl_verify.specs.Places.{spots}
-use Rattle.rpl_verify.specs.Table.{appended, goes_by, of_list, element_picked, operand_row, takes, widened_list}
-use Rattle.rpl_verify.specs.Names.{Scope}
 use Rattle.rpl_verify.specs.Kinds as V
-use Rattle.rpl_verify.specs.Budget.{onward, going_of}
-use Rattle.rpl_verify.specs.Notes.{words_kept}
-use Rattle.rpl_code.specs.Weight.{words_of}
-use Rattle.rpl_tree.specs.Cost.{Price}
-use Rattle.rpl_verify.specs.Fits.{Before, Open, before, judged_at, taken}
-use Rattle.rpl_compile.specs.Operations.{code_kind, one_line, two_lines, widening}
-use Rattle.rpl_compile.specs.Kinded.{AreBoth, AreComparable, CanAddKinds, CanAppend, FitsIn, IsAnyList, IsWider, OneTakes, TwoTakes}
 use Rattle.rpl_compile.proofs.TypeKinds.{IsPlain}
 use Rattle.rpl_compile.proofs.Counting.{Account, IsInvoke, IsUnit}
 use Rattle.rpl_compile.proofs.Going.{Goes, goes_as, goes_line, goes_none, goes_then, takes_by, takes_kinds}
-use Rattle.rpl_compile.proofs.Lines.{of_lists, tree_same}
+use Rattle.rpl_compile.proofs.OfKind.{same_kind_refl}
+use Rattle.rpl_compile.proofs.Lines.{of_lists}
 
 -- a word that isn't an IF
 abbrev pub IsLine : TwoWord → Type 0
@@ -258,7 +246,7 @@ module _ (scope : Scope) (lines : List Instruction) (spots_are : scope.spots ≡
   same_room k p ls os =
       let b : Before = before (code_kind k ∷ ls) os in
       subst (λ t. Leads (if t then [] else I.Widen (room_of k) ∷ []) p b b (if t then 0 else pays.step (weight k)) (max (kept b) (kept b)))
-      (sym (tree_same k))
+      (sym (same_kind_refl k))
       (told (goes_none scope lines spots_are pays account p b) refl (omega arith))
 
   filling : (m n : ℕ) (make : ℕ → ValueKind) → widened_list m (make n ∷ []) ≡ Some (make m ∷ []) → (p : ℕ) (ls : List ValueKind) (os : List Open)

@@ -1,6 +1,4 @@
-use Rattle.rw_base.proofs.Common.{sym, subst}
-use Rattle.rpl_tree.specs.Seen.{rules_of}
-use Rattle.rpl_code.specs.Bounds.{IsCode}
+use Rattle.rpl_compile.proofs.Common.{IsCode, rules_of, subst, sym}
 use Rattle.rpl_compile.proofs.Compiled.{typed_rules}
 use Rattle.rpl_compile.proofs.Spelling.{compiled_can_be_spelt}
 use Rattle.rpl_compile.proofs.TypedKinds.{typed_is_kinded}

@@ -1,5 +1,4 @@
-use Rattle.rw_base.proofs.Common.{ap}
-use Rattle.rpl_verify.proofs.Common.{refusal, misfit_refusal_of}
+use Rattle.rpl_compile.proofs.Common.{ap, refusal, misfit_refusal_of}
 use Rattle.rpl_compile.proofs.Compiled.{never_refused}
 use Rattle.rpl_compile.proofs.compiling.compile.Goals as goal
 

@@ -1,8 +1,6 @@
-use Rattle.std.proofs.Common.{◌∙◌, ap, ap₂, subst, sym}
-use Rattle.rpl_tree.proofs.Common.{Tree, call, choice, each, two, tree_of, trees_in, tree_of_call}
-use Rattle.rpl_compile.specs.Seen.{callees_of, written_of}
+use Rattle.rpl_compile.proofs.Common.{Tree, ap, ap₂, call, callees_of, choice, compiled, each, subst, sym, tree_of, tree_of_call, trees_in, two}
+use Rattle.rpl_compile.proofs.Common.{written_of, ◌∙◌}
 use Rattle.rpl_compile.specs.Writes.{WritesKind}
-use Rattle.rpl_compile.specs.Written.{compiled}
 use Rattle.rpl_compile.proofs.expression.+code.Goals as goal
 
 pub code-returns-in-Call : goal.code-returns-in-Call

@@ -1,8 +1,5 @@
-use Rattle.rw_base.proofs.Common.{◌≡◌, ◌+◌, ◌*◌, drop, max}
+use Rattle.rpl_compile.proofs.Common.{callees_of, compiled_all, compiled_arguments, drop, kinds_seen, max, trees_in, written_of, ◌*◌, ◌+◌, ◌≡◌}
 use Rattle.rpl_tree.specs.declared.expression.Expr.{size-Expr}
-use Rattle.rpl_tree.specs.Seen.{trees_in}
-use Rattle.rpl_compile.specs.Seen.{callees_of, kinds_seen, written_of}
-use Rattle.rpl_compile.specs.Written.{compiled_all, compiled_arguments}
 use Rattle.rpl_compile.proofs.expression.+code.Given as goal
 
 abbrev pub invariant-elements-loop-item : goal.invariant-elements-loop-item

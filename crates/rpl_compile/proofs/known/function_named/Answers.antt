@@ -1,5 +1,4 @@
-use Rattle.std.proofs.Common.{map}
-use Rattle.rpl_compile.specs.Seen.{callee_seen}
+use Rattle.rpl_compile.proofs.Common.{callee_seen, map}
 use Rattle.rpl_compile.proofs.Found.{function_found}
 use Rattle.rpl_compile.proofs.known.function_named.Goals as goal
 

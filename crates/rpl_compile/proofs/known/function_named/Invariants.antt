@@ -1,6 +1,4 @@
-use Rattle.std.proofs.Common.{◌≡◌, drop, map, option_map}
-use Rattle.rpl_compile.specs.Seen.{callee_or_none, callee_seen, callees_of}
-use Rattle.rpl_compile.specs.Written.{callee_named}
+use Rattle.rpl_compile.proofs.Common.{callee_named, callee_or_none, callee_seen, callees_of, drop, map, option_map, ◌≡◌}
 use Rattle.rpl_compile.proofs.Found.{last_named}
 use Rattle.rpl_compile.proofs.known.function_named.Given as goal
 

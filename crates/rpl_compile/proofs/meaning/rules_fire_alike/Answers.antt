@@ -1,4 +1,4 @@
-use Rattle.rpl_compile.specs.Budgets.{accepted_code}
+use Rattle.rpl_compile.proofs.Common.{accepted_code}
 use Rattle.rpl_compile.proofs.meaning.rules_fire_alike.Goals as goal
 
 pub returns : goal.returns

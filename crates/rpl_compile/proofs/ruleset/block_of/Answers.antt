@@ -1,7 +1,4 @@
-use Rattle.std.proofs.Common.{◌∙◌, map}
-use Rattle.rpl_tree.specs.Seen.{parameter_of, tree_of}
-use Rattle.rpl_compile.specs.Seen.{callees_of}
-use Rattle.rpl_compile.specs.Written.{written_function}
+use Rattle.rpl_compile.proofs.Common.{callees_of, map, parameter_of, tree_of, written_function, ◌∙◌}
 use Rattle.rpl_compile.proofs.ruleset.block_of.Goals as goal
 
 pub returns-in_ok-push-in-Function-clause-block : goal.returns-in_ok-push-in-Function-clause-block

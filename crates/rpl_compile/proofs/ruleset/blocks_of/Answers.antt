@@ -1,5 +1,4 @@
-use Rattle.std.proofs.Common.{◌∙◌}
-use Rattle.rpl_tree.specs.Seen.{rules_of}
+use Rattle.rpl_compile.proofs.Common.{rules_of, ◌∙◌}
 use Rattle.rpl_compile.proofs.BlocksWritten.{translated}
 use Rattle.rpl_compile.proofs.ruleset.blocks_of.Goals as goal
 

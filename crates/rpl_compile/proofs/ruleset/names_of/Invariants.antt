@@ -1,7 +1,4 @@
-use Rattle.std.proofs.Common.{◌≡◌, ◌≤◌, drop, length, map}
-use Rattle.rpl_tree.proofs.Common.{parameter_of}
-use Rattle.rpl_compile.specs.Seen.{scope_seen}
-use Rattle.rpl_compile.specs.Written.{written_parameters}
+use Rattle.rpl_compile.proofs.Common.{drop, length, map, parameter_of, scope_seen, written_parameters, ◌≡◌, ◌≤◌}
 use Rattle.rpl_compile.proofs.ruleset.names_of.Given as goal
 
 abbrev pub invariant-loop-k : goal.invariant-loop-k

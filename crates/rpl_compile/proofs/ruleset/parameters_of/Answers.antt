@@ -1,6 +1,4 @@
-use Rattle.std.proofs.Common.{map}
-use Rattle.rpl_tree.specs.Seen.{parameter_of}
-use Rattle.rpl_compile.specs.Written.{written_takes}
+use Rattle.rpl_compile.proofs.Common.{map, parameter_of, written_takes}
 use Rattle.rpl_compile.proofs.Found.{codes_seen}
 use Rattle.rpl_compile.proofs.ruleset.parameters_of.Goals as goal
 

@@ -1,7 +1,4 @@
-use Rattle.std.proofs.Common.{◌≡◌, ◌++◌, drop, map}
-use Rattle.rpl_tree.proofs.Common.{parameter_of}
-use Rattle.rpl_compile.specs.Seen.{kinds_seen}
-use Rattle.rpl_compile.specs.Written.{written_takes}
+use Rattle.rpl_compile.proofs.Common.{drop, kinds_seen, map, parameter_of, written_takes, ◌++◌, ◌≡◌}
 use Rattle.rpl_compile.proofs.ruleset.takes_of.Given as goal
 
 abbrev pub invariant-loop-param : goal.invariant-loop-param

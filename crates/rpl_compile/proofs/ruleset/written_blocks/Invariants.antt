@@ -1,8 +1,5 @@
-use Rattle.std.proofs.Common.{◌≡◌, ◌+◌, ◌++◌, drop, length, map}
-use Rattle.rpl_tree.specs.Seen.{declared_of, rules_of}
-use Rattle.rpl_compile.specs.Seen.{callees_of}
-use Rattle.rpl_compile.specs.Translate.{predefined_callees}
-use Rattle.rpl_compile.specs.Written.{written_from}
+use Rattle.rpl_compile.proofs.Common.{callees_of, drop, length, map, predefined_callees, rules_of, written_from, ◌++◌, ◌+◌, ◌≡◌}
+use Rattle.rpl_tree.specs.Seen.{declared_of}
 use Rattle.rpl_compile.proofs.ruleset.written_blocks.Given as goal
 
 abbrev pub invariant-loop-declaration : goal.invariant-loop-declaration

@@ -1,9 +1,7 @@
-use Rattle.std.proofs.Common.{◌∙◌, ap, ap₂, subst, sym, List, ℕ}
-use Rattle.rpl_tree.proofs.Common.{Acts, branch, with_name, acts_in, tree_of}
+use Rattle.rpl_compile.proofs.Common.{Acts, List, Written, acts_in, ap, ap₂, branch, callees_of, compiled_act, compiled_acts, subst, sym, tree_of}
+use Rattle.rpl_compile.proofs.Common.{with_name, without_name, written_of, ℕ, ◌∙◌}
 use Rattle.rpl_types.proofs.Viewed.{act_of_branch, act_of_with}
-use Rattle.rpl_compile.specs.Seen.{callees_of, written_of}
 use Rattle.rpl_compile.specs.Writes.{LeavesWritten}
-use Rattle.rpl_compile.specs.Written.{Written, compiled_act, compiled_acts, without_name}
 use Rattle.rpl_compile.proofs.Acts.{branch_written}
 use Rattle.rpl_compile.proofs.statement.+statements.Goals as goal
 

@@ -1,7 +1,4 @@
-use Rattle.std.proofs.Common.{◌≡◌, drop}
-use Rattle.rpl_tree.specs.Seen.{acts_in}
-use Rattle.rpl_compile.specs.Seen.{callees_of, written_of}
-use Rattle.rpl_compile.specs.Written.{compiled_acts}
+use Rattle.rpl_compile.proofs.Common.{acts_in, callees_of, compiled_acts, drop, written_of, ◌≡◌}
 use Rattle.rpl_compile.proofs.statement.+statements.Given as goal
 
 abbrev pub invariant-statements-loop-statement : goal.invariant-statements-loop-statement
