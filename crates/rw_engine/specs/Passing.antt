@@ -13,15 +13,26 @@ use Rattle.rw_run.specs.Timestep.{IsTimestep}
 use Rattle.rw_run.specs.declared.run.Run.{Run}
 use Rattle.rw_record.specs.Noted.{AreHeld}
 use Rattle.rw_record.specs.Record.{StepRecord}
-use Rattle.rw_inputs.specs.Inputs.{Inputs}
-use Rattle.rw_inputs.specs.Placings.{placings}
+use Rattle.rw_inputs.specs.Inputs.{Inputs, IsInputsOf}
+use Rattle.rw_inputs.specs.Givens.{givens}
 use Rattle.rw_engine.specs.Engine.{Engine}
 use Rattle.rw_engine.specs.Records.{HasNoted, Records, RecordsThese}
 use Rattle.rw_engine.specs.declared.step_end.StepEnd.{StepEnd}
 use Rattle.rw_engine.specs.declared.step_end.StepEnd.TheVariants.{Closed as IsClosed, Fault as IsFault}
-use Rattle.rpl_verify.specs.Verified.{Accepted}
+use Rattle.rpl_verify.specs.Verified.{Accepted, verified}
 use Rattle.rw_rules.specs.Rules.{policy_in}
 use Rattle.rw_engine.specs.Shows.{CanReplay, CanShow, IsBefore, IsEngineOf, KeepsOn, Shows, EndsBy, closed_by}
+
+-- the policy is accepted for the basin, and these are inputs of it, so it has a run
+pub record CanRun (basin : Draft) (policy : Accepted) (given : Inputs) : Type 0 where
+  pub fits : verified basin policy.blocks ≡ Ok policy
+  pub inputs : IsInputsOf basin given
+
+-- an engine of the basin and the policy stands before the first timestep of the run of the inputs
+pub record BeginsRun (basin : Draft) (policy : Accepted) (inputs : Inputs) (engine : Engine) : Type 0 where
+  pub made : IsEngineOf basin policy engine
+  pub shows : Shows basin engine (placed [] (givens basin inputs))
+  pub turns : engine.turns ≡ 0
 
 -- in the new log this timestep has followed the old one up to its closing, and an engine that notes timesteps has noted it
 pub record ClosesStep (basin : Draft) (policy : Policy) (step : ℕ) (old new : Log) (engine : Engine) : Type 0 where

@@ -1,18 +1,15 @@
-ghost use Rattle.std.specs.Prelude.{◌≤◌, ◌+◌, ◌↔◌, ℕ, List, [], map, IfOk, IfSome, ◌≡◌, IsSome, Ok, is_some, true};
+ghost use Rattle.std.specs.Prelude.{◌≤◌, ◌+◌, ◌↔◌, ℕ, List, map, IfOk, IfSome, ◌≡◌, IsSome, is_some, true};
 ghost use Rattle.rw_model.specs.Draft.{Draft};
 ghost use Rattle.rw_method.specs.Catalogue.{AreInOrder};
-ghost use Rattle.rw_inputs.specs.Inputs.{IsInputsOf};
-ghost use Rattle.rpl_verify.specs.Verified.{Accepted, verified};
+ghost use Rattle.rpl_verify.specs.Verified.{Accepted};
 ghost use Rattle.rw_run.specs.Log.{Event, Log};
-ghost use Rattle.rw_run.specs.Runs.{with_inputs};
 ghost use Rattle.rw_run.specs.RunOf.{IsRunOf};
 ghost use Rattle.rw_model.specs.Turn.{IsStep};
-ghost use Rattle.rw_inputs.specs.Placings.{placings};
 ghost use Rattle.rw_model.specs.Links.{IsBetween, bounds_in};
 ghost use Rattle.rw_series.specs.Series.{IsCell, held};
 ghost use Rattle.rw_record.specs.Noted.{AreHeld};
 ghost use Rattle.rw_engine.specs.Shows.{CanReplay, IsEngineOf, Shows};
-ghost use Rattle.rw_engine.specs.Passing.{GivesInput, Replays, RunsStep, TakesBack, steps_of};
+ghost use Rattle.rw_engine.specs.Passing.{BeginsRun, CanRun, GivesInput, Replays, RunsStep, TakesBack, steps_of};
 ghost use Rattle.rw_engine.specs.Picked.{RunsStepBy};
 ghost use Rattle.rw_engine.specs.Records.{CanWriteLines, HasNoted, RecordsOrNot};
 
@@ -63,14 +60,10 @@ impl Engine {
         policy: &Verified,
         inputs: &Inputs,
     ) -> Result<Engine, NoMemory>
-        requires fits { verified basin.now policy.now.blocks ≡ Ok policy.now }
-        requires inputs { IsInputsOf basin.now inputs.now }
-        ensures made { IfOk result (IsEngineOf basin.now policy.now) }
-        ensures shows { IfOk result
-            (λ engine. Shows basin.now engine (with_inputs [] (placings basin.now inputs.now))) }
+        requires can { CanRun basin.now policy.now inputs.now }
+        ensures begun { IfOk result (BeginsRun basin.now policy.now inputs.now) }
         ensures kept { IfOk result (λ engine. IsSome engine.trace) }
         ensures noted { IfOk result (λ engine. IsSome engine.noted) }
-        ensures turns { IfOk result (λ engine. engine.turns ≡ 0) }
     {
         Engine::for_reuse(alloc, basin, policy, inputs, true)
     }
@@ -84,14 +77,10 @@ impl Engine {
         inputs: &Inputs,
         traced: bool,
     ) -> Result<Engine, NoMemory>
-        requires fits { verified basin.now policy.now.blocks ≡ Ok policy.now }
-        requires inputs { IsInputsOf basin.now inputs.now }
-        ensures made { IfOk result (IsEngineOf basin.now policy.now) }
-        ensures shows { IfOk result
-            (λ engine. Shows basin.now engine (with_inputs [] (placings basin.now inputs.now))) }
+        requires can { CanRun basin.now policy.now inputs.now }
+        ensures begun { IfOk result (BeginsRun basin.now policy.now inputs.now) }
         ensures noted { IfOk result (λ engine. IsSome engine.noted) }
         ensures kept { IfOk result (λ engine. is_some engine.trace ≡ traced) }
-        ensures turns { IfOk result (λ engine. engine.turns ≡ 0) }
     {
         let trace = trace_where(alloc, traced);
         let noted = Noted::for_basin(alloc, basin)?;
@@ -108,12 +97,8 @@ impl Engine {
         policy: &Verified,
         inputs: &Inputs,
     ) -> Result<Engine, NoMemory>
-        requires fits { verified basin.now policy.now.blocks ≡ Ok policy.now }
-        requires inputs { IsInputsOf basin.now inputs.now }
-        ensures made { IfOk result (IsEngineOf basin.now policy.now) }
-        ensures shows { IfOk result
-            (λ engine. Shows basin.now engine (with_inputs [] (placings basin.now inputs.now))) }
-        ensures turns { IfOk result (λ engine. engine.turns ≡ 0) }
+        requires can { CanRun basin.now policy.now inputs.now }
+        ensures begun { IfOk result (BeginsRun basin.now policy.now inputs.now) }
     {
         let trace = Trace::unkept(alloc);
         let noted = Noted::unkept(alloc);

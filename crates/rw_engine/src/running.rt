@@ -1,9 +1,7 @@
-ghost use Rattle.std.specs.Prelude.{◌≡◌, ◌≤◌, map, IfOk, IsSome, Ok};
+ghost use Rattle.std.specs.Prelude.{◌≡◌, ◌≤◌, map, IfOk, IsSome};
 ghost use Rattle.rw_method.specs.Catalogue.{AreInOrder};
-ghost use Rattle.rw_inputs.specs.Inputs.{IsInputsOf};
-ghost use Rattle.rpl_verify.specs.Verified.{verified};
 ghost use Rattle.rw_rules.specs.Rules.{policy_in};
-ghost use Rattle.rw_engine.specs.Passing.{ComesTo, CountsSteps};
+ghost use Rattle.rw_engine.specs.Passing.{CanRun, ComesTo, CountsSteps};
 ghost use Rattle.rw_engine.specs.Picked.{ComesToPicked, RunsAllBy};
 ghost use Rattle.rw_engine.specs.Shows.{IsEngineOf};
 
@@ -57,9 +55,8 @@ pub fn run_all<L: Ledger>(
     inputs: &Inputs,
     steps: &mut Steps<L>,
 ) -> Result<Run, NoMemory>
-    requires fits { verified basin.now policy.now.blocks ≡ Ok policy.now }
+    requires can { CanRun basin.now policy.now inputs.now }
     requires order { AreInOrder (map (λ b. code (b.vtable, b.value)) methods.now.methods.items) }
-    requires inputs { IsInputsOf basin.now inputs.now }
     ensures run { IfOk result (ComesTo basin.now (policy_in basin.now policy.now) inputs.now) }
     ensures closed { IfOk result (λ run. run.closed ≤ basin.now.control.stamps.count) }
     ensures kept { IfOk result (λ run. IsSome run.trace) }
@@ -85,9 +82,8 @@ pub fn run_without_trace<L: Ledger>(
     inputs: &Inputs,
     steps: &mut Steps<L>,
 ) -> Result<Run, NoMemory>
-    requires fits { verified basin.now policy.now.blocks ≡ Ok policy.now }
+    requires can { CanRun basin.now policy.now inputs.now }
     requires order { AreInOrder (map (λ b. code (b.vtable, b.value)) methods.now.methods.items) }
-    requires inputs { IsInputsOf basin.now inputs.now }
     ensures run { IfOk result (ComesTo basin.now (policy_in basin.now policy.now) inputs.now) }
     ensures closed { IfOk result (λ run. run.closed ≤ basin.now.control.stamps.count) }
     ensures counted { CountsSteps basin.now steps.old steps.new result }
@@ -114,9 +110,8 @@ pub fn run_by<L: Ledger, P: Pick>(
     pick: &P,
     steps: &mut Steps<L>,
 ) -> Result<Run, NoMemory>
-    requires fits { verified basin.now policy.now.blocks ≡ Ok policy.now }
+    requires can { CanRun basin.now policy.now inputs.now }
     requires order { AreInOrder (map (λ b. code (b.vtable, b.value)) methods.now.methods.items) }
-    requires inputs { IsInputsOf basin.now inputs.now }
     ensures run { IfOk result (ComesToPicked basin.now
         (policy_in basin.now policy.now) (P.rule pick.now) inputs.now) }
     ensures closed { IfOk result (λ run. run.closed ≤ basin.now.control.stamps.count) }

@@ -1,9 +1,8 @@
 ghost use Rattle.std.specs.Prelude.{◌≡◌, ◌<◌, [], ℕ, List, Option, map, Some, None, Ok, IfOk, IfErr, IfSome, IsSome, is_some};
 ghost use Rattle.rw_model.specs.Draft.{Draft};
 ghost use Rattle.rw_method.specs.Catalogue.{AreInOrder};
-ghost use Rattle.rw_inputs.specs.Inputs.{IsInputsOf};
 ghost use Rattle.rw_run.specs.Log.{Event, Log, fault};
-ghost use Rattle.rpl_verify.specs.Verified.{Accepted, verified};
+ghost use Rattle.rpl_verify.specs.Verified.{Accepted};
 ghost use Rattle.rw_rules.specs.Firing.{IsRuleTurn};
 ghost use Rattle.rw_run.specs.RunOf.{IsRunOf};
 ghost use Rattle.rw_model.specs.Turn.{IsStep, IsTurn};
@@ -12,7 +11,7 @@ ghost use Rattle.rw_model.specs.Links.{IsBetween, bounds_in};
 ghost use Rattle.rw_series.specs.Series.{IsCell};
 ghost use Rattle.rw_dispatch.specs.Pick.{picked_at};
 ghost use Rattle.rw_dispatch.specs.Queue.{IsTaken};
-ghost use Rattle.rw_engine.specs.Passing.{GivesInput, Replays, TakesBack};
+ghost use Rattle.rw_engine.specs.Passing.{CanRun, GivesInput, Replays, TakesBack};
 ghost use Rattle.rw_run.specs.Runs.{inside};
 ghost use Rattle.rw_engine.specs.Picked.{PicksAt, RunsStepBy};
 ghost use Rattle.rw_engine.specs.Shows.{CanReplay, IsEngineOf, Shows};
@@ -68,8 +67,7 @@ impl State {
         trace: Trace,
         noted: Noted,
     ) -> Result<State, NoMemory>
-        requires fits { verified basin.now policy.now.blocks ≡ Ok policy.now }
-        requires inputs { IsInputsOf basin.now inputs.now }
+        requires can { CanRun basin.now policy.now inputs.now }
         requires fresh { IfSome trace (λ lines. lines ≡ []) }
         requires notes { IsSome trace → IsSome noted }
         ensures begun { IfOk result (Begins basin.now policy.now inputs.now) }

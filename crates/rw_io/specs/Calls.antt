@@ -1,5 +1,5 @@
 -- What a call does to a shelf or to a sink, by what it answers.
-use Rattle.std.specs.Prelude.{◌≡◌, ℕ, ◌<◌, ◌≤◌, List, length, None, Some, Result, Ok, IfOk, OnOk, OnErr, ⊤}
+use Rattle.std.specs.Prelude.{◌≡◌, ℕ, ◌<◌, ◌≤◌, List, length, None, Some, IfSome, Result, Ok, IfOk, OnOk, OnErr, ⊤}
 use Rattle.std.specs.Io.{ReadsAtMost}
 use Rattle.std.specs.Io.KnownBytes.{ReadConsumes}
 use Rattle.rw_io.specs.Causes.{Rose, NoneFell, PathRose}
@@ -7,6 +7,7 @@ use Rattle.rw_io.specs.Known.{SinkAppends, taken_after}
 use Rattle.rw_io.specs.Outside.{Change, ShelfView, SinkView}
 use Rattle.rw_io.specs.declared.shelf.ShelfFault.{ShelfFault}
 use Rattle.rw_io.specs.declared.sink.SinkFault.{SinkFault}
+use Rattle.rw_io.specs.declared.whole_file.TheConstants.{FILE_MAX}
 
 -- `start` of the file of this path
 pub record Starts (path : List ℕ) (shelf : Change ShelfView) (result : Result ⊤ ShelfFault) : Type 0 where
@@ -36,6 +37,18 @@ pub record GivesRead (buffer : List ℕ) (shelf : Change ShelfView) (result : Re
   -- a fault is one of the started path
   pub later : NoneFell shelf.before.faults shelf.after.faults
   pub cause : OnErr result (PathRose shelf.before.started shelf.before.faults shelf.after.faults)
+
+-- the reading of these bytes as those of the file of this path
+pub record ReadsWhole (path bytes : List ℕ) (shelf : Change ShelfView) : Type 0 where
+  -- they are the whole file, where the shelf tells it, of at most so many bytes
+  pub whole : IfSome (shelf.before.holds path) (λ file. bytes ≡ file)
+  pub short : length bytes ≤ FILE_MAX
+  pub given : shelf.after.given ≡ length bytes
+
+-- the reading of a file of this path that has too many bytes
+pub record ReadsTooLong (path : List ℕ) (shelf : Change ShelfView) : Type 0 where
+  pub given : FILE_MAX < shelf.after.given
+  pub longer : IfSome (shelf.before.holds path) (λ file. FILE_MAX < length file)
 
 -- `write` of this piece
 pub record TakesWrite (piece : List ℕ) (sink : Change SinkView) (result : Result ℕ SinkFault) : Type 0 where

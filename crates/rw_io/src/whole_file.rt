@@ -1,5 +1,7 @@
-ghost use Rattle.std.specs.Prelude.{◌≡◌, ℕ, ◌+◌, ◌<◌, ◌≤◌, List, ◌++◌, length, OnOk, IfOk, IfSome, IsErrOf};
+ghost use Rattle.std.specs.Prelude.{◌≡◌, ℕ, ◌+◌, ◌<◌, ◌≤◌, List, ◌++◌, length, OnOk, IfOk, IsErrOf};
+ghost use Rattle.rw_io.specs.Calls.{ReadsTooLong, ReadsWhole};
 ghost use Rattle.rw_io.specs.Causes.{Rose, NoneFell};
+ghost use Rattle.rw_io.specs.Outside.{change};
 
 use crate::Shelf;
 use rw_base::limits::TEXT_MAX;
@@ -43,18 +45,14 @@ fn keep(bytes: &mut Vec<u8>, piece: &[u8]) -> Result<(), ReadEnd>
 /// Reads the whole file of that path, of `FILE_MAX` bytes at most, in pieces of `PIECE_MAX` bytes. After a refusal the file
 /// is left partly read. `NoMemory` says nothing of the file.
 pub fn read_all<S: Shelf>(alloc: Global, shelf: &mut S, path: &str) -> Result<Vec<u8>, ReadEnd>
-    // The whole file, where the shelf tells it, of at most `FILE_MAX` bytes.
     ensures whole { IfOk result
-        (λ bytes. IfSome ((S.seen shelf.old).holds path.now) (λ file. bytes.items ≡ file)) }
-    ensures short { IfOk result (λ bytes. length bytes.items ≤ FILE_MAX) }
-    ensures taken { IfOk result (λ bytes. (S.seen shelf.new).taken ≡ length bytes.items) }
+        (λ bytes. ReadsWhole path.now bytes.items (change (S.seen shelf.old) (S.seen shelf.new))) }
 
     // Why it isn't read.
     ensures fault { IsErrOf result ReadEnd.ReadFault
         → Rose ((S.seen shelf.old).faults path.now) ((S.seen shelf.new).faults path.now) }
-    ensures long { IsErrOf result ReadEnd.TooLong → FILE_MAX < (S.seen shelf.new).taken }
-    ensures longer { IsErrOf result ReadEnd.TooLong
-        → IfSome ((S.seen shelf.old).holds path.now) (λ file. FILE_MAX < length file) }
+    ensures long { IsErrOf result ReadEnd.TooLong
+        → ReadsTooLong path.now (change (S.seen shelf.old) (S.seen shelf.new)) }
 
     // What stays.
     ensures held { (p : List ℕ) → (S.seen shelf.new).holds p ≡ (S.seen shelf.old).holds p }

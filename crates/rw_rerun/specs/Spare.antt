@@ -59,6 +59,11 @@ pub record IsSpareBy (basin : Draft) (policy : Accepted) (was : List (Option Ste
 abbrev pub AreKeptFrom : List (Option StepRecord) → ℕ → ℕ → Type 0
 AreKeptFrom was first last = (place : ℕ) (entry : Option StepRecord) → first ≤ place → place < last → slice_get was place ≡ Some entry → IsSome entry
 
+-- there are so many first timesteps, and each of them is kept
+pub record AreKeptFirst (was : List (Option StepRecord)) (behind : ℕ) : Type 0 where
+  pub near : behind ≤ length was
+  pub known : AreKeptFrom was 0 behind
+
 -- a call brings it behind so many timesteps, in whatever run it stands
 pub record BringsTo (basin : Draft) (was : List (Option StepRecord)) (behind : ℕ) (old new : Spare) : Type 0 where
   pub behind_is : new.behind ≡ behind

@@ -81,6 +81,11 @@ IsUnlike pass entry = IfSome entry (λ kept. ¬ AreHeld (held pass.engine.series
 abbrev pub AreReplayable : Draft → List (Option StepRecord) → Type 0
 AreReplayable basin was = (place : ℕ) (kept : StepRecord) → slice_get was place ≡ Some (Some kept) → IsReplayable basin (place + 1) kept
 
+-- what is kept of an earlier run of the basin, by which the next one can go: a place for each timestep, with a record of that one or none
+pub record CanGoBy (basin : Draft) (was : List (Option StepRecord)) : Type 0 where
+  pub many : length was ≡ basin.control.stamps.count
+  pub each : AreReplayable basin was
+
 -- a call comes from behind so many timesteps behind all, with what was kept of an earlier run to go by, and counts those that it runs
 pub record PassesRest (basin : Draft) (policy : Accepted) (was : List (Option StepRecord)) (behind : ℕ) (old new : Pass) (before after : ℕ) (result : Result (Unit {0}) NoMemory) : Type 0 where
   pub made : IfOk result (λ done. IsPassOf basin policy new)

@@ -1,13 +1,14 @@
 // The run after a batch, from behind the timesteps that the batch leaves.
 ghost use Rattle.std.specs.Prelude.{◌≡◌, ◌≤◌, All, IfOk, IsSome, map, length, Ok};
 ghost use Rattle.rpl_verify.specs.Verified.{verified};
+ghost use Rattle.rw_engine.specs.Passing.{CanRun};
 ghost use Rattle.rw_engine.specs.Shows.{IsEngineOf};
 ghost use Rattle.rw_inputs.specs.Inputs.{IsInputsOf};
 ghost use Rattle.rw_method.specs.Catalogue.{AreInOrder};
 ghost use Rattle.rw_series.specs.Series.{IsCell};
 ghost use Rattle.rw_rerun.specs.Next.{IsSpareReady, PassesBehind, PassesFrom};
-ghost use Rattle.rw_rerun.specs.Spare.{AreKeptFrom, IsSpare, IsSpareBy};
-ghost use Rattle.rw_rerun.specs.UnderWay.{AreReplayable};
+ghost use Rattle.rw_rerun.specs.Spare.{AreKeptFirst, AreKeptFrom, IsSpare, IsSpareBy};
+ghost use Rattle.rw_rerun.specs.UnderWay.{CanGoBy};
 
 use crate::pass::Pass;
 use crate::passing::pass_rest;
@@ -35,8 +36,7 @@ fn made_ready(
     requires known { AreKeptFrom kept.now 0 spare.behind }
     requires inputs { IsInputsOf basin.now inputs.now }
     requires cells { All (IsCell basin.now) cells.now }
-    requires near { behind ≤ length kept.now }
-    requires left { AreKeptFrom kept.now 0 behind }
+    requires left { AreKeptFirst kept.now behind }
     ensures { IfOk result (IsSpareReady basin.now inputs.now cells.now kept.now behind spare) }
 {
     bring(&mut spare, basin, kept, behind)?;
@@ -56,8 +56,7 @@ fn pass_others<L: Ledger>(
         ≡ Ok setup.now.policy.now }
     requires order { AreInOrder
         (map (λ b. code (b.vtable, b.value)) setup.now.methods.now.methods.items) }
-    requires many { length kept.now ≡ setup.now.basin.now.control.stamps.count }
-    requires can { AreReplayable setup.now.basin.now kept.now }
+    requires kept { CanGoBy setup.now.basin.now kept.now }
     requires made { IsEngineOf setup.now.basin.now setup.now.policy.now spare.engine }
     requires noted { IsSome spare.engine.noted }
     requires near { spare.behind ≤ setup.now.basin.now.control.stamps.count }
@@ -82,18 +81,14 @@ pub(crate) fn pass_behind<L: Ledger>(
     behind: u16,
     steps: &mut Steps<L>,
 ) -> Result<Pass, NoMemory>
-    requires fits { verified setup.now.basin.now setup.now.policy.now.blocks
-        ≡ Ok setup.now.policy.now }
+    requires can { CanRun setup.now.basin.now setup.now.policy.now inputs.now }
     requires order { AreInOrder
         (map (λ b. code (b.vtable, b.value)) setup.now.methods.now.methods.items) }
-    requires many { length kept.now ≡ setup.now.basin.now.control.stamps.count }
-    requires can { AreReplayable setup.now.basin.now kept.now }
+    requires kept { CanGoBy setup.now.basin.now kept.now }
     requires stands { IsSpareBy setup.now.basin.now setup.now.policy.now kept.now spare }
     requires known { AreKeptFrom kept.now 0 spare.behind }
-    requires inputs { IsInputsOf setup.now.basin.now inputs.now }
     requires cells { All (IsCell setup.now.basin.now) cells.now }
-    requires near { behind ≤ length kept.now }
-    requires left { AreKeptFrom kept.now 0 behind }
+    requires left { AreKeptFirst kept.now behind }
     ensures { PassesBehind setup.now.basin.now setup.now.policy.now inputs.now cells.now kept.now
         behind spare steps.old steps.new result }
 {

@@ -1,12 +1,12 @@
 // A run, timestep by timestep: each is taken over from an earlier run, or run.
-ghost use Rattle.std.specs.Prelude.{◌≡◌, ◌≤◌, ℕ, ⊤, map, length, IfOk, IfSome, false, true, Ok, Some};
+ghost use Rattle.std.specs.Prelude.{◌≡◌, ◌≤◌, ℕ, ⊤, map, IfSome, false, true, Ok, Some};
 ghost use Rattle.rpl_verify.specs.Verified.{verified};
-ghost use Rattle.rw_inputs.specs.Inputs.{IsInputsOf};
+ghost use Rattle.rw_engine.specs.Passing.{CanRun};
 ghost use Rattle.rw_method.specs.Catalogue.{AreInOrder};
 ghost use Rattle.rw_model.specs.Turn.{IsStep};
 ghost use Rattle.rw_record.specs.Noted.{AreHeld};
 ghost use Rattle.rw_series.specs.Series.{held};
-ghost use Rattle.rw_rerun.specs.UnderWay.{IsReplayable, AreReplayable, GoesOn, IsPassOf, IsUnlike, PassesAll, PassesRest};
+ghost use Rattle.rw_rerun.specs.UnderWay.{CanGoBy, IsReplayable, GoesOn, IsPassOf, IsUnlike, PassesAll, PassesRest};
 
 use crate::pass::Pass;
 use crate::setup::Setup;
@@ -134,9 +134,8 @@ pub(crate) fn pass_rest<L: Ledger>(
     requires order { AreInOrder
         (map (λ b. code (b.vtable, b.value)) setup.now.methods.now.methods.items) }
     requires made { IsPassOf setup.now.basin.now setup.now.policy.now pass.old }
-    requires many { length kept.now ≡ setup.now.basin.now.control.stamps.count }
+    requires kept { CanGoBy setup.now.basin.now kept.now }
     requires some { behind ≤ setup.now.basin.now.control.stamps.count }
-    requires can { AreReplayable setup.now.basin.now kept.now }
     ensures { PassesRest setup.now.basin.now setup.now.policy.now kept.now behind
         pass.old pass.new steps.old steps.new result }
 {
@@ -158,13 +157,10 @@ pub(crate) fn pass_all<L: Ledger>(
     traced: bool,
     steps: &mut Steps<L>,
 ) -> Result<Pass, NoMemory>
-    requires fits { verified setup.now.basin.now setup.now.policy.now.blocks
-        ≡ Ok setup.now.policy.now }
+    requires can { CanRun setup.now.basin.now setup.now.policy.now inputs.now }
     requires order { AreInOrder
         (map (λ b. code (b.vtable, b.value)) setup.now.methods.now.methods.items) }
-    requires inputs { IsInputsOf setup.now.basin.now inputs.now }
-    requires many { length kept.now ≡ setup.now.basin.now.control.stamps.count }
-    requires can { AreReplayable setup.now.basin.now kept.now }
+    requires kept { CanGoBy setup.now.basin.now kept.now }
     ensures { PassesAll setup.now.basin.now setup.now.policy.now inputs.now traced kept.now
         steps.old steps.new result }
 {

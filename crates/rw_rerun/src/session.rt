@@ -1,8 +1,7 @@
-ghost use Rattle.std.specs.Prelude.{◌≡◌, ◌≤◌, map, IfErr, IfOk, Ok, is_some};
-ghost use Rattle.rpl_verify.specs.Verified.{Accepted, verified};
-ghost use Rattle.rw_engine.specs.Passing.{ComesTo};
+ghost use Rattle.std.specs.Prelude.{◌≡◌, ◌≤◌, map, IfErr, IfOk, is_some};
+ghost use Rattle.rpl_verify.specs.Verified.{Accepted};
+ghost use Rattle.rw_engine.specs.Passing.{CanRun, ComesTo};
 ghost use Rattle.rw_inputs.specs.Edits.{IsBatch};
-ghost use Rattle.rw_inputs.specs.Inputs.{IsInputsOf};
 ghost use Rattle.rw_method.specs.Catalogue.{AreInOrder};
 ghost use Rattle.rw_model.specs.Draft.{Draft};
 ghost use Rattle.rw_rules.specs.Rules.{policy_in};
@@ -43,10 +42,9 @@ impl<'a> Session<'a> {
         traced: bool,
         steps: &mut Steps<L>,
     ) -> Result<Session<'a>, NoMemory>
-        requires fits { verified basin.now policy.now.blocks ≡ Ok policy.now }
+        requires can { CanRun basin.now policy.now inputs }
         requires order { AreInOrder
             (map (λ b. code (b.vtable, b.value)) methods.now.methods.items) }
-        requires inputs { IsInputsOf basin.now inputs }
         ensures started { IfOk result
             (λ session. IsStarted basin.entry.now policy.entry.now inputs session.state) }
         ensures traced { IfOk result

@@ -1,8 +1,8 @@
 // An engine beside that of a session's run, from which the next run begins.
-ghost use Rattle.std.specs.Prelude.{◌≡◌, ◌≤◌, ◌+◌, ◌-◌, All, IfOk, IfSome, None, Ok, is_some, length, replicate, true};
-ghost use Rattle.rpl_verify.specs.Verified.{verified};
+ghost use Rattle.std.specs.Prelude.{◌≡◌, ◌≤◌, ◌+◌, ◌-◌, All, IfOk, IfSome, None, is_some, length, replicate, true};
 ghost use Rattle.rw_inputs.specs.Inputs.{IsInputsOf};
 ghost use Rattle.rw_series.specs.Series.{IsCell};
+ghost use Rattle.rw_engine.specs.Passing.{CanRun};
 ghost use Rattle.rw_engine.specs.Shows.{CanReplay};
 ghost use Rattle.rw_model.specs.Turn.{IsStep};
 ghost use Rattle.rw_rerun.specs.Edited.{BecomesSpare};
@@ -34,8 +34,7 @@ pub(crate) fn fresh(
     inputs: &Inputs,
     traced: bool,
 ) -> Result<Spare, NoMemory>
-    requires fits { verified basin.now policy.now.blocks ≡ Ok policy.now }
-    requires inputs { IsInputsOf basin.now inputs.now }
+    requires can { CanRun basin.now policy.now inputs.now }
     ensures { (session : Session) (is : IsSessionOf basin.now policy.now session)
         → session.inputs ≡ inputs.now → is_some session.engine.trace ≡ traced
         → IfOk result (IsSpareIn basin.now policy.now session is.log) }
@@ -53,8 +52,7 @@ pub(crate) fn found_or_fresh(
     inputs: &Inputs,
     traced: bool,
 ) -> Result<Spare, NoMemory>
-    requires fits { verified basin.now policy.now.blocks ≡ Ok policy.now }
-    requires inputs { IsInputsOf basin.now inputs.now }
+    requires can { CanRun basin.now policy.now inputs.now }
     ensures { (session : Session) (is : IsSessionOf basin.now policy.now session)
         → session.inputs ≡ inputs.now → is_some session.engine.trace ≡ traced
         → IfSome found (IsSpareIn basin.now policy.now session is.log)

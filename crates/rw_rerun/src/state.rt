@@ -1,6 +1,6 @@
-ghost use Rattle.std.specs.Prelude.{◌≡◌, ◌≤◌, All, map, length, IfErr, IfOk, Ok, is_some};
-ghost use Rattle.rpl_verify.specs.Verified.{Accepted, verified};
-ghost use Rattle.rw_engine.specs.Passing.{ComesTo};
+ghost use Rattle.std.specs.Prelude.{◌≡◌, ◌≤◌, All, map, length, IfErr, IfOk, is_some};
+ghost use Rattle.rpl_verify.specs.Verified.{Accepted};
+ghost use Rattle.rw_engine.specs.Passing.{CanRun, ComesTo};
 ghost use Rattle.rw_inputs.specs.Edits.{IsBatch};
 ghost use Rattle.rw_inputs.specs.Inputs.{IsInputsOf};
 ghost use Rattle.rw_method.specs.Catalogue.{AreInOrder};
@@ -82,11 +82,9 @@ impl<'a> State<'a> {
         traced: bool,
         steps: &mut Steps<L>,
     ) -> Result<State<'a>, NoMemory>
-        requires fits { verified setup.now.basin.now setup.now.policy.now.blocks
-            ≡ Ok setup.now.policy.now }
+        requires can { CanRun setup.now.basin.now setup.now.policy.now inputs }
         requires order { AreInOrder
             (map (λ b. code (b.vtable, b.value)) setup.now.methods.now.methods.items) }
-        requires inputs { IsInputsOf setup.now.basin.now inputs }
         ensures started { IfOk result (IsStarted setup.now.basin.now setup.now.policy.now inputs) }
         ensures traced { IfOk result (λ state. is_some state.engine.trace ≡ traced) }
         ensures counted { CountsRuns setup.now.basin.now steps.old steps.new result

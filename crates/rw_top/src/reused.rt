@@ -1,17 +1,16 @@
 // The sections of a run by a policy that takes timesteps over after a batch of edits.
-ghost use Rattle.std.specs.Prelude.{◌≡◌, ◌≤◌, ◌+◌, is_some, length, map, option_map, IfOk, MatchResult, Ok, true};
+ghost use Rattle.std.specs.Prelude.{◌≡◌, ◌≤◌, ◌+◌, length, map, option_map, IfOk, MatchResult, Ok, true};
 ghost use Rattle.std.specs.List.{All};
 ghost use Rattle.rpl_verify.specs.Verified.{verified};
 ghost use Rattle.rw_inputs.specs.Edits.{IsBatch};
 ghost use Rattle.rw_inputs.specs.Inputs.{IsInputsOf};
 ghost use Rattle.rw_io.specs.Outside.{change};
 ghost use Rattle.rw_method.specs.Catalogue.{AreInOrder};
-ghost use Rattle.rw_report.specs.Sheet.{AreToldBefore, AreToldOf};
-ghost use Rattle.rw_rerun.specs.Session.{IsSessionOf};
+ghost use Rattle.rw_report.specs.Sheet.{AreToldOf};
 ghost use Rattle.rw_series.specs.Series.{held};
 ghost use Rattle.rw_top.specs.Policy.{PolicyFile as Rules};
 ghost use Rattle.rw_top.specs.Ready.{IsFit};
-ghost use Rattle.rw_top.specs.Reused.{IsNextSection, WritesFrom, told_of};
+ghost use Rattle.rw_top.specs.Reused.{CanTell, IsNextSection, WritesFrom, told_of};
 ghost use Rattle.rw_top.specs.RunText.{CountsSections, IsCodeOf, IsRulesText};
 ghost use Rattle.rw_top.specs.Sections.{AppendsAll, AppendsOne, GivenInputs, StopsAmong, StopsAtOne, first_given};
 ghost use Rattle.rw_top.specs.Seen.{policy_of};
@@ -51,13 +50,8 @@ fn tell_run(
     number: u32,
     sheet: &mut Sheet<'_>,
 ) -> Result<RunEnd, NoMemory>
-    requires made { IsSessionOf session.now.setup.basin.now
-        session.now.setup.policy.now session.now.state }
-    requires reuse { extras.reuse ≡ true }
-    requires traced { is_some session.now.state.engine.trace ≡ extras.trace }
-    requires sheet { sheet.old.basin ≡ session.now.setup.basin.now }
-    requires same { AreToldBefore session.now.setup.basin.now
-        (held session.now.state.engine.series) session.now.state.same sheet.old.values }
+    requires can { CanTell session.now.setup.basin.now session.now.setup.policy.now extras
+        session.now.state sheet.old }
     ensures text { (policy : Rules) (given : GivenInputs)
         → IsCodeOf session.now.setup.basin.now policy session.now.setup.policy.now
         → IsNextSection session.now.setup.basin.now policy number given session.now.state
@@ -83,13 +77,8 @@ fn write_run<K: Sink>(
     sheet: &mut Sheet<'_>,
     out: &mut K,
 ) -> Result<RunEnd, Refusal>
-    requires made { IsSessionOf session.now.setup.basin.now
-        session.now.setup.policy.now session.now.state }
-    requires reuse { extras.reuse ≡ true }
-    requires traced { is_some session.now.state.engine.trace ≡ extras.trace }
-    requires sheet { sheet.old.basin ≡ session.now.setup.basin.now }
-    requires same { AreToldBefore session.now.setup.basin.now
-        (held session.now.state.engine.series) session.now.state.same sheet.old.values }
+    requires can { CanTell session.now.setup.basin.now session.now.setup.policy.now extras
+        session.now.state sheet.old }
     ensures out { (policy : Rules) (given : GivenInputs)
         → IsCodeOf session.now.setup.basin.now policy session.now.setup.policy.now
         → IsNextSection session.now.setup.basin.now policy number given session.now.state
@@ -122,17 +111,12 @@ fn write_from<K: Sink, L: Ledger>(
     sheet: &mut Sheet<'_>,
     out: &mut K,
 ) -> Result<RunEnd, Refusal>
-    requires made { IsSessionOf session.old.setup.basin.now
-        session.old.setup.policy.now session.old.state }
+    requires can { CanTell session.old.setup.basin.now session.old.setup.policy.now extras
+        session.old.state sheet.old }
     requires order { AreInOrder
         (map (λ b. code (b.vtable, b.value)) session.old.setup.methods.now.methods.items) }
     requires batches { All (IsBatch session.old.setup.basin.now) batches.now }
     requires few { number + length batches.now ≤ 64 }
-    requires reuse { extras.reuse ≡ true }
-    requires traced { is_some session.old.state.engine.trace ≡ extras.trace }
-    requires sheet { sheet.old.basin ≡ session.old.setup.basin.now }
-    requires same { AreToldBefore session.old.setup.basin.now
-        (held session.old.state.engine.series) session.old.state.same sheet.old.values }
     ensures { (policy : Rules) (given : GivenInputs)
         → IsCodeOf session.old.setup.basin.now policy session.old.setup.policy.now
         → IsNextSection session.old.setup.basin.now policy number given session.old.state

@@ -2,16 +2,22 @@ use Rattle.rw_engine.proofs.Common.{[], placings, ◌∙◌}
 use Rattle.rw_run.proofs.Placed.{closed-placed}
 use Rattle.rw_engine.proofs.running.run_by.Goals as goal
 
+pub pass_all-requires-clause-made : goal.pass_all-requires-clause-made
+pass_all-requires-clause-made g c = c.in_ok-engine.ensures.begun.made
+
+pub pass_all-requires-clause-turns : goal.pass_all-requires-clause-turns
+pass_all-requires-clause-turns g c = c.in_ok-engine.ensures.begun.turns
+
 pub pass_all-requires-clause-begun : goal.pass_all-requires-clause-begun
 pass_all-requires-clause-begun g c =
-    c.in_ok-engine.ensures.shows.closed_steps ∙ closed-placed [] (placings c.args.basin.now c.args.inputs.now)
+    c.in_ok-engine.ensures.begun.shows.closed_steps ∙ closed-placed [] (givens c.args.basin.now c.args.inputs.now)
 
 pub returns-clause-run : goal.returns-clause-run
-returns-clause-run g c = c.pass_all.ensures.comes c.args.inputs.now c.in_ok-engine.ensures.shows
+returns-clause-run g c = c.pass_all.ensures.comes c.args.inputs.now c.in_ok-engine.ensures.begun.shows
 
 pub returns-clause-counted : goal.returns-clause-counted
 returns-clause-counted g c = record {
-  opened_steps = c.pass_all.ensures.opened_steps c.args.inputs.now c.in_ok-engine.ensures.shows;
+  opened_steps = c.pass_all.ensures.opened_steps c.args.inputs.now c.in_ok-engine.ensures.begun.shows;
   rises = c.pass_all.ensures.rises;
   few = c.pass_all.ensures.few;
 }

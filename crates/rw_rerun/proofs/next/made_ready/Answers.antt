@@ -1,6 +1,12 @@
 use Rattle.rw_base.proofs.Common.{refl}
 use Rattle.rw_rerun.proofs.next.made_ready.Goals as goal
 
+pub bring-requires-clause-near : goal.bring-requires-clause-near
+bring-requires-clause-near c = c.requires.left.near
+
+pub bring-requires-clause-left : goal.bring-requires-clause-left
+bring-requires-clause-left c = c.requires.left.known
+
 pub give_all-requires-clause-made : goal.give_all-requires-clause-made
 give_all-requires-clause-made c =
     let is = c.requires.stands in

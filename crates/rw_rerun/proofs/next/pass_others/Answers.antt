@@ -20,4 +20,4 @@ returns-in_err-pass_rest g c =
 pub returns : goal.returns
 returns g c =
     passes_from c.args.setup.now.basin.now c.args.setup.now.policy.now c.args.kept.now c.args.spare _ _ c.args.steps.now _ _
-    (let many = c.requires.many in let near = c.requires.near in omega (arith, many, near)) c.in_ok-pass.ensures c.in_ok-pass_rest.ensures
+    (let many = c.requires.kept.many in let near = c.requires.near in omega (arith, many, near)) c.in_ok-pass.ensures c.in_ok-pass_rest.ensures

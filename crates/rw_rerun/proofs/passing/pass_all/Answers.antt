@@ -9,8 +9,11 @@ use Rattle.rw_rerun.proofs.Showing.{placed_shown}
 use Rattle.rw_rerun.proofs.Ways.{first_way}
 use Rattle.rw_rerun.proofs.passing.pass_all.Goals as goal
 
+pub pass_rest-requires-clause-fits : goal.pass_rest-requires-clause-fits
+pass_rest-requires-clause-fits g c = c.requires.can.fits
+
 pub pass_rest-requires-clause-made : goal.pass_rest-requires-clause-made
-pass_rest-requires-clause-made g c = record { made = c.in_ok-engine.ensures.made; noted = c.in_ok-engine.ensures.noted }
+pass_rest-requires-clause-made g c = record { made = c.in_ok-engine.ensures.begun.made; noted = c.in_ok-engine.ensures.noted }
 
 pub returns-in_err-pass_rest : goal.returns-in_err-pass_rest
 returns-in_err-pass_rest g c =
@@ -29,9 +32,9 @@ returns g c =
           c.in_ok-pass_rest.ensures.goes c.args.inputs.now earlier kept
           (first_way basin (policy_in basin c.args.setup.now.policy.now) c.args.inputs.now earlier c.args.kept.now _ c.new-2.ensures.items
           c.new.ensures.items refl
-          c.in_ok-engine.ensures.shows (standing-placed [] inputs refl) (begun inputs)
-          (λ step. (nothing_of step (with_inputs [] inputs) (begun inputs step)).0)
-          (placed_shown basin c.args.inputs.now c.requires.inputs));
+          c.in_ok-engine.ensures.begun.shows (standing-placed [] inputs refl) (begun inputs)
+          (λ step. (nothing_of step (placed [] inputs) (begun inputs step)).0)
+          (placed_shown basin c.args.inputs.now c.requires.can.inputs));
       each = omega (arith, none, counted);
       rises = c.in_ok-pass_rest.ensures.rises;
       few = c.in_ok-pass_rest.ensures.few;

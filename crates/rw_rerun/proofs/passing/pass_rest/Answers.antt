@@ -26,9 +26,9 @@ pass_step-requires-clause-can g c =
     let steps = ap (λ (k : RunControl). k.stamps.count) c.control.ensures in
     let near : c.loop-before.before < basin.control.stamps.count = let test = c.loop-before-test.true in let value =
     c.count-before-end.ensures.value in omega arith in
-    replayed_here basin c.args.kept.now c.loop-before.before c.index-kept-from.result c.requires.can
+    replayed_here basin c.args.kept.now c.loop-before.before c.index-kept-from.result c.requires.kept.each
     (entry_there c.args.kept.now c.loop-before.before c.from.result basin.control.stamps.count c.index-kept-from.result c.from.ensures near
-    c.requires.many
+    c.requires.kept.many
     c.index-kept-from.is)
 
 pub returns-in_err-pass_step : goal.returns-in_err-pass_step
@@ -53,7 +53,7 @@ loop-before-preserved g c =
     c.count-before-end.ensures.value in omega arith in
     let there : slice_get c.args.kept.now c.loop-before.before ≡ Some c.index-kept-from.result =
     entry_there c.args.kept.now c.loop-before.before c.from.result basin.control.stamps.count c.index-kept-from.result c.from.ensures near
-    c.requires.many
+    c.requires.kept.many
     c.index-kept-from.is in
     let framed : IsFramed (policy_in basin policy) =
     (c.code_keeps_promises.ensures basin policy.blocks policy.budgets

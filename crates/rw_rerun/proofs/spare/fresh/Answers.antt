@@ -8,12 +8,12 @@ use Rattle.rw_rerun.proofs.spare.fresh.Goals as goal
 pub returns : goal.returns
 returns c = λ session is same traced. record {
   stands = record {
-    made = c.in_ok-engine.ensures.made;
+    made = c.in_ok-engine.ensures.begun.made;
     noted = c.in_ok-engine.ensures.noted;
     few = omega arith;
-    log = with_inputs [] (placings c.args.basin.now session.inputs);
-    shows = subst (λ (inputs : Inputs). Shows c.args.basin.now c.in_ok-engine.engine (with_inputs [] (placings c.args.basin.now inputs))) (sym same)
-        c.in_ok-engine.ensures.shows;
+    log = placed [] (givens c.args.basin.now session.inputs);
+    shows = subst (λ (inputs : Inputs). Shows c.args.basin.now c.in_ok-engine.engine (placed [] (givens c.args.basin.now inputs))) (sym same)
+        c.in_ok-engine.ensures.begun.shows;
     before = refl;
     rest = is.linked;
   };

@@ -52,27 +52,21 @@ write_from-requires g t c κs within =
         (
           within.1,
           (
-            rw kept c.in-Ok-apply.ensures.applied.is,
-            (
-              rw kept c.requires.order,
-              (
-                rw kept batches,
-                (
-                  omega (arith, few, shorter),
-                  (
-                    c.requires.reuse,
-                    (
-                      c.in-Ok-apply.ensures.applied.kept.trace ∙ c.requires.traced,
-                      (rw kept (c.in-Ok.ensures.sheet ∙ c.requires.sheet), rw kept same),
-                    ),
-                  ),
-                ),
-              ),
-            ),
+            record {
+              made = rw kept c.in-Ok-apply.ensures.applied.is;
+              reuse = c.requires.can.reuse;
+              traced = c.in-Ok-apply.ensures.applied.kept.trace ∙ c.requires.can.traced;
+              own = rw kept (c.in-Ok.ensures.sheet ∙ c.requires.can.own);
+              same = rw kept same;
+            },
+            (rw kept c.requires.order, (rw kept batches, omega (arith, few, shorter))),
           ),
         ),
       ),
     )
+
+pub apply-requires-clause-made : goal.apply-requires-clause-made
+apply-requires-clause-made g t c = c.requires.can.made
 
 pub returns-in-Ok-apply : goal.returns-in-Ok-apply
 returns-in-Ok-apply g t c = λ policy given means next.
@@ -84,7 +78,7 @@ returns-in-Ok-apply g t c = λ policy given means next.
     let kept = c.in-Ok-apply.ensures.kept.0 in
     let behind =
     later_next basin policy code means (c.args.number + 1) given c.in-Some.batch.now old new (later_number c.args.number) next.inputs_are
-    c.requires.made applies in
+    c.requires.can.made applies in
     subst
     (λ batches. WritesFrom basin policy c.args.extras c.args.number given batches (length old.reran)
     (change (g.K.Sink.seen c.args.out.now) (g.K.Sink.seen c.write_from.new.out)) (change c.args.steps.now c.write_from.new.steps) c.write_from.result)

@@ -1,4 +1,4 @@
-use Rattle.rw_top.proofs.Common.{change, length, refl, subst, sym}
+use Rattle.rw_top.proofs.Common.{ap, change, length, refl, subst, sym}
 use Rattle.rw_report.specs.Sheet.{AreToldBefore, Sheet}
 use Rattle.rw_series.specs.Series.{held}
 use Rattle.rw_top.specs.Policy.{PolicyFile as Rules}
@@ -37,9 +37,18 @@ returns-clause-counted g c = λ policy means.
     c.start.new.steps
     c.write_from.new.steps c.write_from.result c.in-Ok.ensures.counted.each writes.counted
 
-pub write_from-requires-clause-same : goal.write_from-requires-clause-same
-write_from-requires-clause-same g c =
+pub start-requires-clause-can : goal.start-requires-clause-can
+start-requires-clause-can g c = record { fits = c.requires.fits; inputs = c.requires.inputs }
+
+pub write_from-requires-clause-can : goal.write_from-requires-clause-can
+write_from-requires-clause-can g c =
+    let setup = c.in-Ok.ensures.setup in
     let basin = c.in-Ok.session.setup.basin.now in
     let cells = held c.in-Ok.session.state.engine.series in
-    let same = c.in-Ok.session.state.same in
-    subst (λ (sheet : Sheet). AreToldBefore basin cells same sheet.values) (sym c.new-sheet.ensures) (none_told basin cells same)
+    let same = c.in-Ok.session.state.same in record {
+      made = rw setup c.in-Ok.ensures.started.is;
+      reuse = c.requires.reuse;
+      traced = c.in-Ok.ensures.traced;
+      own = rw setup (ap (λ (sheet : Sheet). sheet.basin) c.new-sheet.ensures);
+      same = subst (λ (sheet : Sheet). AreToldBefore basin cells same sheet.values) (sym c.new-sheet.ensures) (none_told basin cells same);
+    }

@@ -14,3 +14,10 @@ returns-clause-noted c = ap is_some (c.in_ok-for_run.ensures.noted ∙ c.in_ok-n
 
 pub returns-clause-kept : goal.returns-clause-kept
 returns-clause-kept c = ap is_some c.in_ok-for_run.ensures.trace ∙ kept_where c.trace_where-trace.result c.args.traced c.trace_where-trace.ensures
+
+pub returns-clause-begun : goal.returns-clause-begun
+returns-clause-begun c = record {
+  made = c.in_ok-for_run.ensures.begun.made.engine;
+  shows = c.in_ok-for_run.ensures.begun.shows;
+  turns = c.in_ok-for_run.ensures.begun.turns;
+}

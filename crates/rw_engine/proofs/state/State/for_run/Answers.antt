@@ -12,12 +12,13 @@ place-requires-clause-made c = record {
 
 pub returns-clause-begun : goal.returns-clause-begun
 returns-clause-begun c =
+    let fits = c.requires.can.fits in
     let notes : NotesAlike c.args.noted c.trace_where-lines.result c.args.trace = record {
       same = kept_where c.trace_where-lines.result _ c.trace_where-lines.ensures ∙ c.is_kept.ensures;
       traced = c.requires.notes;
     } in
-    let given = placings c.args.basin.now c.args.inputs.now in record {
-      made = search (rules, notes);
+    let given = givens c.args.basin.now c.args.inputs.now in record {
+      made = search (rules, notes, fits);
       shows = record {
         cells = c.place.ensures.placed [] c.in_ok-series.ensures.unknown;
         trace = shows_nothing c.args.trace _ (trace-placed [] given) c.requires.fresh;

@@ -11,17 +11,20 @@ use Rattle.rw_rerun.proofs.Following.{passes_next, spare_ready}
 use Rattle.rw_rerun.proofs.Sessions.{all_replayed}
 use Rattle.rw_rerun.proofs.state.State.pass_next.Goals as goal
 
-pub pass_behind-requires-clause-many : goal.pass_behind-requires-clause-many
-pass_behind-requires-clause-many g c =
-    let lent : c.args.self.now.kept ≡ c.deref.result.now = sym (ap (λ (s : Session). s.kept) c.self.view_is) ∙ sym c.deref.ensures.value in
-    let same = ap length lent in let many = c.requires.made.many in omega (arith, same, many)
-
 pub pass_behind-requires-clause-can : goal.pass_behind-requires-clause-can
-pass_behind-requires-clause-can g c =
+pass_behind-requires-clause-can g c = record { fits = c.requires.made.made.fits; inputs = c.requires.inputs }
+
+pub pass_behind-requires-clause-kept : goal.pass_behind-requires-clause-kept
+pass_behind-requires-clause-kept g c =
     let basin = c.args.setup.now.basin.now in
     let lent : c.args.self.now.kept ≡ c.deref.result.now = sym (ap (λ (s : Session). s.kept) c.self.view_is) ∙ sym c.deref.ensures.value in
-    subst (AreReplayable basin) lent
-    (all_replayed basin (policy_in basin c.args.setup.now.policy.now) c.requires.made.log c.args.self.now.kept c.requires.made.kept)
+    let same = ap length lent in
+    let many = c.requires.made.many in record {
+      many = omega (arith, same, many);
+      each =
+          subst (AreReplayable basin) lent
+          (all_replayed basin (policy_in basin c.args.setup.now.policy.now) c.requires.made.log c.args.self.now.kept c.requires.made.kept);
+    }
 
 pub pass_behind-requires-clause-stands : goal.pass_behind-requires-clause-stands
 pass_behind-requires-clause-stands g c =
@@ -52,15 +55,14 @@ pass_behind-requires-clause-known g c =
     c.take-found.ensures.value c.in_ok-spare.ensures in
     subst (λ kept. AreKeptFrom kept 0 c.in_ok-spare.spare.behind) lent stands.known
 
-pub pass_behind-requires-clause-near : goal.pass_behind-requires-clause-near
-pass_behind-requires-clause-near g c =
-    let lent : c.args.self.now.kept ≡ c.deref.result.now = sym (ap (λ (s : Session). s.kept) c.self.view_is) ∙ sym c.deref.ensures.value in
-    let same = ap length lent in let near = c.requires.near in omega (arith, same, near)
-
 pub pass_behind-requires-clause-left : goal.pass_behind-requires-clause-left
 pass_behind-requires-clause-left g c =
     let lent : c.args.self.now.kept ≡ c.deref.result.now = sym (ap (λ (s : Session). s.kept) c.self.view_is) ∙ sym c.deref.ensures.value in
-    subst (λ kept. AreKeptFrom kept 0 c.args.behind) lent c.requires.left
+    let same = ap length lent in
+    let near = c.requires.near in record {
+      near = omega (arith, same, near);
+      known = subst (λ kept. AreKeptFrom kept 0 c.args.behind) lent c.requires.left;
+    }
 
 pub returns-clause-passes : goal.returns-clause-passes
 returns-clause-passes g c =

@@ -5,12 +5,24 @@ use Rattle.rw_record.specs.Record.{StepRecord}
 use Rattle.rw_rules.specs.Rules.{policy_in}
 use Rattle.rw_rerun.specs.Kept.{AreKept}
 use Rattle.rw_rerun.specs.Session.{IsStarted}
-use Rattle.rw_rerun.specs.UnderWay.{IsUnderWay}
-use Rattle.rw_rerun.proofs.Sessions.{none_kept, starts}
+use Rattle.rw_rerun.specs.UnderWay.{AreReplayable, IsUnderWay}
+use Rattle.rw_rerun.proofs.Sessions.{none_kept, none_replayed, starts}
 use Rattle.rw_rerun.proofs.state.State.start.Goals as goal
 
 abbrev nothing : Option StepRecord
 nothing = None
+
+pub pass_all-requires-clause-kept : goal.pass_all-requires-clause-kept
+pass_all-requires-clause-kept g c =
+    let basin = c.args.setup.now.basin.now in
+    let lent = ap length c.deref.ensures.value in
+    let all = ap length c.in_ok-kept.ensures in
+    let each = length-replicate c.count.result nothing in
+    let steps = ap (λ (k : RunControl). k.stamps.count) c.control.ensures in
+    let value = c.count.ensures.value in record {
+      many = omega (arith, lent, all, each, steps, value);
+      each = subst (AreReplayable basin) (sym (c.deref.ensures.value ∙ c.in_ok-kept.ensures)) (none_replayed basin c.count.result);
+    }
 
 pub exchange-requires : goal.exchange-requires
 exchange-requires g c =
@@ -51,4 +63,4 @@ returns-clause-started g c =
       same = 0;
     }))
     (sym c.exchange.ensures)
-    (starts basin c.args.setup.now.policy.now c.args.inputs c.in_ok-kept.kept.items pass c.requires.inputs c.in_ok-pass.ensures.made many way)
+    (starts basin c.args.setup.now.policy.now c.args.inputs c.in_ok-kept.kept.items pass c.requires.can.inputs c.in_ok-pass.ensures.made many way)
