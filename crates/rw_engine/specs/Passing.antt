@@ -14,7 +14,7 @@ use Rattle.rw_run.specs.declared.run.Run.{Run}
 use Rattle.rw_record.specs.Noted.{AreHeld}
 use Rattle.rw_record.specs.Record.{StepRecord}
 use Rattle.rw_inputs.specs.Inputs.{Inputs, IsInputsOf}
-use Rattle.rw_inputs.specs.Givens.{givens}
+use Rattle.rw_inputs.specs.Placings.{placings}
 use Rattle.rw_engine.specs.Engine.{Engine}
 use Rattle.rw_engine.specs.Records.{HasNoted, Records, RecordsThese}
 use Rattle.rw_engine.specs.declared.step_end.StepEnd.{StepEnd}
@@ -31,7 +31,7 @@ pub record CanRun (basin : Draft) (policy : Accepted) (given : Inputs) : Type 0 
 -- an engine of the basin and the policy stands before the first timestep of the run of the inputs
 pub record BeginsRun (basin : Draft) (policy : Accepted) (inputs : Inputs) (engine : Engine) : Type 0 where
   pub made : IsEngineOf basin policy engine
-  pub shows : Shows basin engine (placed [] (givens basin inputs))
+  pub shows : Shows basin engine (placed [] (placings basin inputs))
   pub turns : engine.turns ≡ 0
 
 -- in the new log this timestep has followed the old one up to its closing, and an engine that notes timesteps has noted it

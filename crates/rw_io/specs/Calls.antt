@@ -43,11 +43,11 @@ pub record ReadsWhole (path bytes : List ℕ) (shelf : Change ShelfView) : Type 
   -- they are the whole file, where the shelf tells it, of at most so many bytes
   pub whole : IfSome (shelf.before.holds path) (λ file. bytes ≡ file)
   pub short : length bytes ≤ FILE_MAX
-  pub given : shelf.after.given ≡ length bytes
+  pub taken : shelf.after.taken ≡ length bytes
 
 -- the reading of a file of this path that has too many bytes
 pub record ReadsTooLong (path : List ℕ) (shelf : Change ShelfView) : Type 0 where
-  pub given : FILE_MAX < shelf.after.given
+  pub taken : FILE_MAX < shelf.after.taken
   pub longer : IfSome (shelf.before.holds path) (λ file. FILE_MAX < length file)
 
 -- `write` of this piece

@@ -1,4 +1,4 @@
--- Sections of a session's runs.
+-- Within the crate: sections of a session's runs.
 use Rattle.std.specs.Prelude.{◌≡◌, ◌+◌, ◌==◌, ℕ, IfOk, List, length, MatchResult, Option, Some, None, Result, is_some, true, if◌then◌else◌}
 use Rattle.rw_base.specs.declared.number.StepNo.{StepNo}
 use Rattle.rw_model.specs.Draft.{Draft}
