@@ -79,7 +79,8 @@ pub use Rattle.rpl_verify.proofs.Common.{is_alike, is_same_loop, is_same_value_k
 pub use Rattle.rpl_verify.proofs.Common.{kinds_length, kinds_of, list_room as code_room_of, list_value_kind as code_list_kind, load_row, loaded}
 pub use Rattle.rpl_verify.proofs.Common.{locals_of, looks_of, loop_end, mapping, most_steps, name_misfit, number_is as number_of, numbered_by}
 pub use Rattle.rpl_verify.proofs.Common.{numbered_is, of_function, of_list, operand_count, operand_row, operands_behind, operated, operation}
-pub use Rattle.rpl_verify.proofs.Common.{or_wrong, put_misfit, puts_of, refusal, misfit_refusal_of, rest_of, returned, room_on_top, row_in, rule_from, run}
+pub use Rattle.rpl_verify.proofs.Common.{or_wrong, put_misfit, puts_of, refusal, misfit_refusal_of, rest_of, returned, room_on_top, row_in, rule_from}
+pub use Rattle.rpl_verify.proofs.Common.{run}
 pub use Rattle.rpl_verify.proofs.Common.{scope_of, step, step_at, step_by, step_in, store_row, taken, takes, then_do, truth_is as truth_of, turned}
 pub use Rattle.rpl_verify.proofs.Common.{unless_there, verified, visiting, with_made, words_of_all, words_of_kind}
 pub use Rattle.rpl_verify.proofs.KindFacts.{is_kind_refl, same_kind_refl, same_kinds_refl}
