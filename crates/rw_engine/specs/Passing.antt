@@ -31,7 +31,7 @@ pub record CanRun (basin : Draft) (policy : Accepted) (given : Inputs) : Type 0 
 -- an engine of the basin and the policy stands before the first timestep of the run of the inputs
 pub record BeginsRun (basin : Draft) (policy : Accepted) (inputs : Inputs) (engine : Engine) : Type 0 where
   pub made : IsEngineOf basin policy engine
-  pub shows : Shows basin engine (placed [] (placings basin inputs))
+  pub shows : Shows basin engine (with_inputs [] (placings basin inputs))
   pub turns : engine.turns ≡ 0
 
 -- in the new log this timestep has followed the old one up to its closing, and an engine that notes timesteps has noted it

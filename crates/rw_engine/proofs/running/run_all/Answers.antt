@@ -12,7 +12,7 @@ pass_all-requires-clause-turns g c = c.in_ok-engine.ensures.begun.turns
 
 pub pass_all-requires-clause-begun : goal.pass_all-requires-clause-begun
 pass_all-requires-clause-begun g c =
-    c.in_ok-engine.ensures.begun.shows.closed_steps ∙ closed-placed [] (givens c.args.basin.now c.args.inputs.now)
+    c.in_ok-engine.ensures.begun.shows.closed_steps ∙ closed-placed [] (placings c.args.basin.now c.args.inputs.now)
 
 pub returns-clause-run : goal.returns-clause-run
 returns-clause-run g c =

@@ -11,8 +11,8 @@ returns c = λ session is same traced. record {
     made = c.in_ok-engine.ensures.begun.made;
     noted = c.in_ok-engine.ensures.noted;
     few = omega arith;
-    log = placed [] (givens c.args.basin.now session.inputs);
-    shows = subst (λ (inputs : Inputs). Shows c.args.basin.now c.in_ok-engine.engine (placed [] (givens c.args.basin.now inputs))) (sym same)
+    log = with_inputs [] (placings c.args.basin.now session.inputs);
+    shows = subst (λ (inputs : Inputs). Shows c.args.basin.now c.in_ok-engine.engine (with_inputs [] (placings c.args.basin.now inputs))) (sym same)
         c.in_ok-engine.ensures.begun.shows;
     before = refl;
     rest = is.linked;

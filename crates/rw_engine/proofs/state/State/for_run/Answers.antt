@@ -17,7 +17,7 @@ returns-clause-begun c =
       same = kept_where c.trace_where-lines.result _ c.trace_where-lines.ensures ∙ c.is_kept.ensures;
       traced = c.requires.notes;
     } in
-    let given = givens c.args.basin.now c.args.inputs.now in record {
+    let given = placings c.args.basin.now c.args.inputs.now in record {
       made = search (rules, notes, fits);
       shows = record {
         cells = c.place.ensures.placed [] c.in_ok-series.ensures.unknown;
