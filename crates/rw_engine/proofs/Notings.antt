@@ -2,7 +2,7 @@
 use Rattle.rw_engine.proofs.Common.{RunFault, State, ended_by, Asked, Bool, Cell, Cells, Draft, Event, IsSome, List, None, Option, Some, []}
 use Rattle.rw_engine.proofs.Common.{ap, arith, cell_at, false, length, filter_map, held_after, option_map}
 use Rattle.rw_engine.proofs.Common.{refl, subst, sym, true, written_by, ℕ, ℤ, ◌++◌, ◌+◌, ◌∙◌, ◌∷◌, ◌≡◌}
-use Rattle.std.specs.Prelude.{Contains, Err, IfSome, IsErrAnd, Ok, Result, cond, is_some, ◌⊎◌}
+use Rattle.std.specs.Prelude.{Contains, if◌then◌else◌, Err, IfSome, IsErrAnd, Ok, Result, cond, is_some, ◌⊎◌}
 use Rattle.std.specs.List.{filter}
 use Rattle.std.proofs.lemmas.List.Elements.{Contains-append_cases, Contains-append_right}
 use Rattle.rw_base.proofs.Common.{inl, inr}

@@ -1,17 +1,21 @@
 -- Which cells records hold, found by their order.
 use Rattle.rw_base.proofs.Common.{◌≡◌, ◌⊎◌, ◌<◌, ◌≤◌, ◌+◌, ◌∙◌, ◌||◌, ℕ, zero, suc, Bool, true, false, List, [], ◌∷◌, All, All-head, All-tail}
 use Rattle.rw_base.proofs.Common.{Contains, Option, Some, None, length, list_any, nat_lt, nat_tests, refl, sym, ap, subst, arith, inl, inr, none-some}
-use Rattle.rw_base.proofs.Common.{same_Some, slice_get, slice_get_within, slice_get-get_or, get_or_from_slice_get, false≢true}
+use Rattle.rw_base.proofs.Common.{nat_le, ◌&&◌, same_Some, slice_get, slice_get_within, slice_get-get_or, get_or_from_slice_get, false≢true}
 use Rattle.rw_base.specs.declared.number.Cell.{Cell}
 use Rattle.rw_base.specs.declared.number.SlotNo.{SlotNo}
+use Rattle.rw_model.specs.Draft.{Draft}
 use Rattle.rw_model.specs.Kept.{numbers_of}
+use Rattle.rw_model.specs.Links.{group_of}
+use Rattle.rw_run.specs.Dispatch.{cell_at}
 use Rattle.rw_run.specs.Step.{is_same_cell}
 use Rattle.rw_run.specs.declared.held.Held.{Held}
 use Rattle.rw_record.specs.Noted.{is_noted}
-use Rattle.rw_record.specs.Record.{AreRisingCells, IsBelow}
+use Rattle.rw_record.specs.Record.{AreRisingCells, IsBelow, greatest_step, least_step}
 use Rattle.rw_record.proofs.Cells.{cells_equiv, same_cell}
 use Rattle.rw_record.proofs.Noting.{noted_from, noted_of}
-use Rattle.rw_rerun.specs.Touched.{AreBelow, AreNotBelow, CountsBelow}
+use Rattle.rw_record.proofs.Spans.{none_earlier, none_later}
+use Rattle.rw_rerun.specs.Touched.{AreBelow, AreNotBelow, CountsBelow, is_reached, spans}
 
 below_next : (a b c : Cell) → IsBelow a b → IsBelow b c → IsBelow a c
 below_next a b c (inl one) (inl other) = inl (omega (arith, one, other))
@@ -128,3 +132,21 @@ module _ (looked : List Held) (cell : Cell) (count : ℕ) (rising : AreRisingCel
 pub any_numbers : (p : ℕ → Bool) (slots : List SlotNo) → list_any (λ (slot : SlotNo). p slot.0) slots ≡ list_any p (numbers_of slots)
 any_numbers p [] = refl
 any_numbers p (slot ∷ slots) = ap (λ rest. p slot.0 || rest) (any_numbers p slots)
+
+-- ---- of timesteps
+
+any_none : (p : ℕ → Bool) (slots : List ℕ) → ((slot : ℕ) → p slot ≡ false) → list_any p slots ≡ false
+any_none p [] none = refl
+any_none p (slot ∷ slots) none = ap (λ known. known || list_any p slots) (none slot) ∙ any_none p slots none
+
+-- none is reached at a timestep that isn't between those of the cells
+pub none_spanned : (basin : Draft) (looked : List Held) (cell : Cell) → spans looked cell.step.0 ≡ false → is_reached basin looked cell ≡ false
+none_spanned basin looked cell apart =
+    any_none (λ slot. is_noted looked (cell_at slot cell.step.0)) (group_of basin.objects basin.links cell.slot.0)
+    (λ slot. by slot (nat_le (least_step looked) cell.step.0) (nat_le cell.step.0 (greatest_step looked)) refl refl apart)
+  where
+    by : (slot : ℕ) (first last : Bool) → nat_le (least_step looked) cell.step.0 ≡ first → nat_le cell.step.0 (greatest_step looked) ≡ last
+        → (first && last) ≡ false → is_noted looked (cell_at slot cell.step.0) ≡ false
+    by slot false last before behind none = none_earlier looked (cell_at slot cell.step.0) (grind (arith, nat_tests, before))
+    by slot true false before behind none = none_later looked (cell_at slot cell.step.0) (grind (arith, nat_tests, behind))
+    by slot true true before behind none = absurd (cc)

@@ -1,5 +1,5 @@
 -- Within the crate: which cells records hold, found by their order.
-use Rattle.std.specs.Prelude.{◌≡◌, ◌≤◌, ◌<◌, ℕ, Bool, true, false, not, List, length, IfSome, Option, Some, None, slice_get}
+use Rattle.std.specs.Prelude.{◌≡◌, ◌≤◌, ◌<◌, ◌&&◌, ℕ, Bool, true, false, nat_le, not, List, length, IfSome, Option, Some, None, slice_get}
 use Rattle.std.specs.List.{list_any}
 use Rattle.rw_base.specs.declared.number.Cell.{Cell}
 use Rattle.rw_model.specs.Draft.{Draft}
@@ -7,7 +7,7 @@ use Rattle.rw_model.specs.Links.{group_of}
 use Rattle.rw_run.specs.Dispatch.{cell_at}
 use Rattle.rw_run.specs.declared.held.Held.{Held}
 use Rattle.rw_record.specs.Noted.{is_noted}
-use Rattle.rw_record.specs.Record.{AreRisingCells, IsBelow, StepRecord}
+use Rattle.rw_record.specs.Record.{AreRisingCells, IsBelow, StepRecord, greatest_step, least_step}
 
 -- so many first ones are below the cell
 abbrev pub AreBelow : List Held → Cell → ℕ → Type 0
@@ -24,6 +24,10 @@ pub record CountsBelow (looked : List Held) (cell : Cell) (count : ℕ) : Type 0
   pub others : AreNotBelow looked cell count
 
 -- ---- timesteps that batches touch
+
+-- the timestep is between those at which these cells are
+abbrev pub spans : List Held → ℕ → Bool
+spans looked step = nat_le (least_step looked) step && nat_le step (greatest_step looked)
 
 -- one of these cells shares its value with this one
 abbrev pub is_reached : Draft → List Held → Cell → Bool

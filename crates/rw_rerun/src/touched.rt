@@ -9,7 +9,7 @@ ghost use Rattle.rw_run.specs.Step.{is_same_cell};
 ghost use Rattle.rw_record.specs.Noted.{is_noted};
 ghost use Rattle.rw_record.specs.Record.{AreRisingCells, IsBelow};
 ghost use Rattle.rw_rerun.specs.Edited.{AreEdited, cells_named};
-ghost use Rattle.rw_rerun.specs.Touched.{AreRisingIn, CountsBelow, CountsUntouched, is_reached, is_untouched};
+ghost use Rattle.rw_rerun.specs.Touched.{AreRisingIn, CountsBelow, CountsUntouched, is_reached, is_untouched, spans};
 
 use rw_base::{Cell, NoMemory, SlotNo, StepNo};
 use rw_engine::{Held, StepRecord};
@@ -130,6 +130,13 @@ fn is_one_among(looked: &[Held], slots: &[SlotNo], step: StepNo) -> bool
     false
 }
 
+// Whether a timestep is between those at which a record holds cells.
+fn spans(kept: &StepRecord, step: StepNo) -> bool
+    ensures { result ≡ spans kept.now.looked step.0 }
+{
+    kept.first().0 <= step.0 && step.0 <= kept.last().0
+}
+
 // Whether a record holds a cell that shares its value with this one.
 fn is_reached(basin: &Basin, kept: &StepRecord, cell: Cell) -> bool
     requires rising { AreRisingCells kept.now.looked }
@@ -137,7 +144,7 @@ fn is_reached(basin: &Basin, kept: &StepRecord, cell: Cell) -> bool
     ensures { result ≡ is_reached basin.now kept.now.looked cell }
 {
     // Most records hold no cell at its timestep.
-    if cell.step < kept.first() || kept.last() < cell.step {
+    if !spans(kept, cell.step) {
         return false;
     }
     is_one_among(kept.looked(), basin.group(cell.slot), cell.step)

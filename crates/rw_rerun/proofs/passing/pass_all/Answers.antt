@@ -33,7 +33,7 @@ returns g c =
           (first_way basin (policy_in basin c.args.setup.now.policy.now) c.args.inputs.now earlier c.args.kept.now _ c.new-2.ensures.items
           c.new.ensures.items refl
           c.in_ok-engine.ensures.begun.shows (standing-placed [] inputs refl) (begun inputs)
-          (λ step. (nothing_of step (placed [] inputs) (begun inputs step)).0)
+          (λ step. (nothing_of step (with_inputs [] inputs) (begun inputs step)).0)
           (placed_shown basin c.args.inputs.now c.requires.can.inputs));
       each = omega (arith, none, counted);
       rises = c.in_ok-pass_rest.ensures.rises;
