@@ -77,11 +77,11 @@ solved_below most steady terms term (Some held) near zero_number =
     (solves_if most (held.number == 0) (Conflicts term.place held.value (value_from_others steady terms term)) (solves steady terms term) tt
     (near, zero_number))
 
-solved_below : (most : ℕ) (steady : Option ℤ) (sight : Sight) (parts : Parts) → AreZero sight → PartsBelow most parts
+balance_below : (most : ℕ) (steady : Option ℤ) (sight : Sight) (parts : Parts) → AreZero sight → PartsBelow most parts
     → SolvesBelow most (solved_balance steady (terms_of sight parts))
-solved_below most None sight parts zeros below = tt
-solved_below most (Some steady) sight [] zeros below = tt
-solved_below most (Some steady) sight (part ∷ parts) zeros below =
+balance_below most None sight parts zeros below = tt
+balance_below most (Some steady) sight [] zeros below = tt
+balance_below most (Some steady) sight (part ∷ parts) zeros below =
     let first = term_in sight part in
     let rest = terms_of sight parts in
     solves_if most (nat_le 2 (missing (first ∷ rest))) Idle _ tt
@@ -182,7 +182,7 @@ module _ (kind : Kind) (view : View) (zeros : KnownZero view) (free : is_free ki
   solves_below : (most : ℕ) → PartsBelow most (parts_of kind) → SolvesBelow most (balanced_of kind view)
   solves_below most below =
       subst (SolvesBelow most) (sym (balanced_is kind view free))
-      (solved_below most (balance_of kind view).steady (sight_of kind view) (parts_of kind) (sight_zero kind view zeros) below)
+      (balance_below most (balance_of kind view).steady (sight_of kind view) (parts_of kind) (sight_zero kind view zeros) below)
 
   -- the solved term alone
   alone : PartsBelow 12 (parts_of kind) → ArePlain 0 (solved_put (balanced_of kind view)) 12
