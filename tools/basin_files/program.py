@@ -7,7 +7,7 @@ import sys
 from pathlib import Path
 
 from .judging import read_model
-from .reasons import plain
+from .reasons import LONG, plain
 
 TOP = Path(__file__).resolve().parents[2]
 HOW_BUILT = (
@@ -60,12 +60,12 @@ def good_model(path):
         model = read_model(bytes_of(path))
     except ValueError as error:
         raise Unable(
-            f"{plain(str(path))} is no TOML: {plain(str(error))} (tools/doctor {path} says more)"
+            f"{plain(str(path))} is no TOML: {plain(str(error))} (tools/doctor {plain(str(path), LONG)} says more)"
         ) from None
     if model.findings:
         finding = model.findings[0]
         raise Unable(
-            f"{plain(str(path))} line {finding.line}: {finding.says} (tools/doctor {path} says more)"
+            f"{plain(str(path))} line {finding.line}: {finding.says} (tools/doctor {plain(str(path), LONG)} says more)"
         )
     return model
 

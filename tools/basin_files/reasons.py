@@ -6,6 +6,7 @@ import re
 from . import formats
 from .model import slots_of
 
+LONG = 4096  # letters, where a text isn't to be cut short
 NAME = re.compile(r"[A-Za-z_][A-Za-z0-9_]*")
 
 

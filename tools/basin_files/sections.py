@@ -5,7 +5,8 @@ from dataclasses import dataclass, field
 
 from .moments import moment_of
 
-HEADING = re.compile(r"# batch ([0-9]+) (settled|fault (.*))")
+HEADING = re.compile(r"# batch ([0-9]+) (settled|fault ([A-Za-z0-9_. -]+))")
+SLOT = re.compile(r"[A-Za-z_][A-Za-z0-9_]*\.[A-Za-z_][A-Za-z0-9_]*")
 STEP_OF_FAULT = re.compile(r"\bstep ([0-9]+)")
 
 
@@ -76,7 +77,7 @@ def read_sections(text):
 def read_line(section, fields, number):
     """A line of a section's table: its columns, or the row of a timestep."""
     if fields[:2] == ["step", "stamp"]:
-        section.slots = fields[2:]
+        section.slots = slots_of(fields[2:], number)
         return
     stamp = moment_of(fields[1]) if len(fields) > 1 else None
     if not section.slots or len(fields) != len(section.slots) + 2 or not stamp:
@@ -85,10 +86,17 @@ def read_line(section, fields, number):
     section.rows.append(Row(int(fields[0]), stamp, values))
 
 
+def slots_of(fields, number):
+    """The slots of a line of columns. Whoever draws or prints them relies on it that they are names, and no commands."""
+    if not all(map(SLOT.fullmatch, fields)):
+        raise ValueError(f"line {number} isn't one of a table that basin wrote: it names a column that is no slot")
+    return fields
+
+
 def read_flags(section, fields, columns, number):
     """A line of a section's flags: its columns, or a timestep's. The columns that stand then."""
     if fields[0] == "step":
-        return fields[1:]
+        return slots_of(fields[1:], number)
     if len(fields) != len(columns) + 1 or not fields[0].isdigit():
         raise ValueError(f"line {number} isn't one of flags that basin wrote")
     section.flags[int(fields[0])] = {slot: flag for slot, flag in zip(columns, fields[1:]) if flag}

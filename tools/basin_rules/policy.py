@@ -3,7 +3,7 @@
 from dataclasses import dataclass, field
 
 from basin_files.program import bytes_of
-from basin_files.reasons import plain
+from basin_files.reasons import LONG, plain
 
 from . import codefile, verifier
 from .looks import Look, RuleFacts, Setting, calls_of, facts_of
@@ -82,7 +82,7 @@ def rows_of_ruleset(ruleset, model):
         budget = rule.budget
         amounts = (budget.instructions, budget.reads, budget.puts, budget.words)
         sets = list(dict.fromkeys(setting.cell for setting in facts.settings))
-        rows.append(RuleRow(rule.rule, rule.name, sets, looks, amounts))
+        rows.append(RuleRow(rule.rule, plain(rule.name, LONG), sets, looks, amounts))
     return rows
 
 

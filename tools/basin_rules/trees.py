@@ -5,6 +5,8 @@ A node's `parts` are the nodes below it, in the order of the text, in which `bas
 
 from dataclasses import dataclass, field
 
+from basin_files.reasons import LONG, plain
+
 from .places import Span
 
 
@@ -210,7 +212,7 @@ class Declaration:
     @property
     def called(self):
         """The declaration for people to read."""
-        return f'rule {self.rule} "{self.name}"' if self.is_rule else f"function {self.name}"
+        return f'rule {self.rule} "{plain(self.name, LONG)}"' if self.is_rule else f"function {self.name}"
 
     def nodes(self):
         """All its nodes, in the order of their numbers."""
