@@ -252,17 +252,31 @@ AMOUNTS = {
     "MCM": ("m3", Fraction(10**6)),
     "km3": ("m3", Fraction(10**9)),
     "ft3": ("m3", Fraction(28_316_846_592, 10**12)),
+    "kft3": ("m3", Fraction(28_316_846_592, 10**9)),
     "acre-ft": ("m3", Fraction(123_348_183_754_752, 10**11)),
+    "TAF": ("m3", Fraction(123_348_183_754_752, 10**8)),
+    "ML": ("m3", Fraction(1000)),
+    "GL": ("m3", Fraction(10**6)),
     "mm": ("mm", Fraction(1)),
     "cm": ("mm", Fraction(10)),
     "m": ("mm", Fraction(1000)),
+    "ft": ("mm", Fraction(3048, 10)),
+    "in": ("mm", Fraction(254, 10)),
     "step": ("step", Fraction(1)),
     "kWh": ("kWh", Fraction(1)),
+    "MWh": ("kWh", Fraction(1000)),
+    "GWh": ("kWh", Fraction(10**6)),
     "m3/mm": ("m3/mm", Fraction(1)),
     "": ("", Fraction(1)),
 }
 SECONDS = {"s": 1, "min": 60, "h": 3600, "d": 86400, "day": 86400}
-RATES = {"cms": "m3/s", "cfs": "ft3/s"}  # flows that have a word of their own
+RATES = {"cms": "m3/s", "cfs": "ft3/s", "kcfs": "kft3/s"}  # flows that have a word of their own
+SPELLINGS = {  # other words of the same amounts, in small letters
+    **dict.fromkeys(("af", "acft", "ac-ft", "acre-feet", "acre-foot", "acrefeet"), "acre-ft"),
+    **dict.fromkeys(("feet", "foot"), "ft"),
+    **dict.fromkeys(("inch", "inches"), "in"),
+    "kaf": "TAF",
+}
 
 
 def widest_bounds(slot_name, kind):

@@ -4,7 +4,7 @@ import csv
 import io
 import re
 from dataclasses import dataclass
-from datetime import datetime
+from datetime import datetime, timedelta
 from decimal import Decimal
 from fractions import Fraction
 
@@ -16,8 +16,14 @@ from .moments import stamp_of
 HEADING = re.compile(r"\s*(?P<name>[^\[(]*?)\s*(?:[\[(]\s*(?P<unit>[^\])]*?)\s*[\])])?\s*")
 WHOLE = re.compile(r"-?[0-9]{1,18}")
 DECIMAL = re.compile(r"[-+]?(?:[0-9]+[.,]?[0-9]*|[.,][0-9]+)(?:[eE][-+]?[0-9]{1,2})?")
+MONTHS = ("jan", "feb", "mar", "apr", "may", "jun", "jul", "aug", "sep", "oct", "nov", "dec")
+NAMED_DATE = re.compile(  # 1-Oct-2020, Oct 1, 2020, Oct 2020
+    r"(?:(\d{1,2})[- ]?)?([A-Za-z]{3})[a-z]*\.?[- ]?(?:(\d{1,2}), ?)?(\d{4})(?:,? (\d{2}):?(\d{2}))?"
+)
 DATES = (
     "%Y-%m-%d",
+    "%Y/%m/%d",
+    "%Y/%m/%d %H:%M",
     "%Y-%m-%dT%H:%M",
     "%Y-%m-%d %H:%M",
     "%Y-%m-%dT%H:%M:%S",
@@ -75,9 +81,9 @@ def slot_and_unit(heading):
     found = HEADING.fullmatch(heading)
     if not found:
         return None, None
-    parts = found["name"].split(".")
+    parts = [part.replace(" ", "") for part in found["name"].split(".")]  # Dam.Pool Elevation, as others write it
     is_slot = len(parts) == 2 and all(NAME.fullmatch(part) for part in parts)
-    return (found["name"] if is_slot else None), found["unit"]
+    return (".".join(parts) if is_slot else None), found["unit"]
 
 
 def factor_of(unit, slot_unit, timesteps):
@@ -89,6 +95,8 @@ def factor_of(unit, slot_unit, timesteps):
     """
     word = unit.replace("³", "3").replace("^", "").replace(" ", "")
     word = formats.RATES.get(word, word)
+    first, slash, rest = word.partition("/")
+    word = formats.SPELLINGS.get(first.lower(), first) + slash + rest
     whole, _, time = (word, "", "") if word in formats.AMOUNTS else word.partition("/")
     if whole not in formats.AMOUNTS:
         raise ValueError(unknown_unit(unit))
@@ -147,7 +155,23 @@ def moment_in(text):
             return datetime.strptime(text, form)
         except ValueError:
             pass
-    return None
+    midnight = re.fullmatch(r"(.*[ T])24:?00(?::00)?", text)
+    if midnight:
+        day = moment_in(midnight[1].rstrip(" T"))
+        return day + timedelta(days=1) if day else None
+    return named_moment(text)
+
+
+def named_moment(text):
+    """The moment of a date with an English month's name: 01-Oct-2020, Oct 1, 2020, 01Oct2020 06:00."""
+    found = NAMED_DATE.fullmatch(text)
+    if not found or found[2].lower() not in MONTHS or (found[1] and found[3]):
+        return None
+    day = int(found[1] or found[3] or 1)
+    try:
+        return datetime(int(found[4]), MONTHS.index(found[2].lower()) + 1, day, int(found[5] or 0), int(found[6] or 0))
+    except ValueError:
+        return None
 
 
 def steps_in(text, heading, timesteps):
@@ -171,6 +195,12 @@ def steps_in(text, heading, timesteps):
     if not timesteps:
         raise ValueError(f"{plain(bare)} is a date, which wants --model to become a timestep")
     return (step_at(moment, word in END_WORDS, timesteps),) * 2
+
+
+def is_outside(text, timesteps):
+    """Whether a cell has a date before the run or behind it."""
+    moment = moment_in(text.strip())
+    return bool(moment and timesteps) and not timesteps.begin(1) <= moment < timesteps.end(timesteps.count)
 
 
 def step_at(moment, is_end, timesteps):

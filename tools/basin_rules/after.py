@@ -228,7 +228,22 @@ def lines_of_object(run, thing, step):
         value = next(value for name, at, value in event.written if (name, at) == (slot, step))
         when = "this timestep" if event.step == step else f"timestep {event.step}"
         lines.append(f"{run.rule(event.rule)} led there: it put {slot} = {value:,} in {when}.")
+        lines += due_again(run, event)
     return lines if puts else [*lines, "No rule put for this timestep what that came from."]
+
+
+def due_again(run, event):
+    """A line that tells where a rule was due again when the run ended: it had looked at what is another value now."""
+    mine = [one for one in run.firings if (one.rule, one.step) == (event.rule, event.step)]
+    own = {(run.walk.first[slot], step) for one in mine for slot, step, _ in one.written}
+    for slot, step in looked_at(run, mine[-1]):
+        if (run.walk.first[slot], step) in own:
+            continue
+        seen, now = run.walk.held(slot, step, mine[-1].place), run.walk.held(slot, step, END)
+        if seen.value != now.value and event.step == run.section.fault_step:
+            was = "unknown" if seen.value is None else f"{seen.value:,}"
+            return [f"    It was due again: {slot} was {was} when it fired, and is {now.value:,} now."]
+    return []
 
 
 def what_of_object(run, thing):

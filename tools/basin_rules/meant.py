@@ -17,6 +17,10 @@ OTHER_UNITS = {
     "cfs": 'the units are metric: 1,000 cfs are 2446576 "m3/step" where a timestep is a day',
     "acre-ft": 'the units are metric: 1,000 acre-ft are 1233482 "m3"',
     "ft": '"mm": the units are metric, and 10 ft are 3048 "mm"',
+    **dict.fromkeys(
+        ("acre-feet", "acre-foot", "ac-ft", "af", "AF"), 'the units are metric: 1,000 acre-feet are 1233482 "m3"'
+    ),
+    "feet": '"mm": the units are metric, and 10 ft are 3048 "mm"',
     "m3/day": 'a flow is what comes in a timestep: "m3/step"',
     "m3/month": 'a flow is what comes in a timestep: "m3/step"',
     "day": '"step", where a timestep is a day',
@@ -28,6 +32,16 @@ OTHER_UNITS = {
 }
 OTHER_FUNCTIONS = {
     "IsNaN": "NOT KNOWN(Object.Slot[t])",
+    "HOUR": "there is none: a slot of a data object that a rule counts up, from the one of the timestep before",
+    "GetHour": "there is none: a slot of a data object that a rule counts up, from the one of the timestep before",
+    "DAYOFYEAR": "a list of the days before each month, ITEM(days, MONTH(t)) + DAY(t)",
+    "GetDayOfYear": "a list of the days before each month, ITEM(days, MONTH(t)) + DAY(t)",
+    "GetDaysInMonth": "a list of twelve, ITEM(days, MONTH(t)); docs/LANGUAGE.md, \"Two common tasks\", has leap years",
+    "TableInterpolation": "ElevationToStorage or StorageToElevation for a reservoir's table, else a FOR over two lists",
+    "TableLookup": "ElevationToStorage or StorageToElevation for a reservoir's table, else a FOR over two lists",
+    "FlowToVolume": 'flow * 1 "step"',
+    "VolumeToFlow": 'volume / 1 "step"',
+    "Ceil": "(a + b - 1) / b",
     "IsKnown": "KNOWN(Object.Slot[t])",
     "Sum": "a FOR over a list of slots",
     "SUM": "a FOR over a list of slots",

@@ -14,7 +14,7 @@ WAITS = "make two rules of it, or give the value a name with WITH"
 def warnings(policy, model, inputs):
     """Findings of what will never happen. `inputs` may be `None`: then they may give each slot that no rule sets."""
     judge = Never(policy.facts(model), model, inputs)
-    found = [*judge.never_fire(), *judge.over_inputs(), *judge.never_count()]
+    found = [*judge.never_fire(), *judge.never_begin(), *judge.over_inputs(), *judge.never_count()]
     if policy.ruleset:
         found += [*high_pools(judge, policy.ruleset), *zero_quotients(policy.ruleset, model)]
     found += [warn(span, f"no rule calls the function {name}") for name, span in policy.uncalled()]
@@ -104,6 +104,30 @@ class Never:
             if look:
                 says, hint = self.why_unknown(rule, look)
                 yield warn(look.span, f"the rule never fires to its end: {says}", hint, rule.called)
+
+    def never_begin(self):
+        """Rules that look at what they alone set at an earlier timestep, which isn't known at the first one."""
+        for rule in self.rules:
+            given = self.spread(self.may_be_given(), [one for one in self.rules if one.number != rule.number])
+            for look in rule.needs():
+                early = look.ahead is not None and look.ahead < 0 and not self.has_past(look.slot, -look.ahead)
+                if early and self.first[look.slot] not in given:
+                    unless = "" if self.inputs else " (unless inputs give it)"
+                    cell = f"{look.slot}{look.time}"
+                    says = f"the rule never begins: {cell} isn't known at the first timestep, and then at none{unless}"
+                    hint = f"IF KNOWN({cell}) around it, or a lower rule or an input that sets the first one"
+                    yield warn(look.span, says, hint, rule.called)
+                    break
+
+    def has_past(self, name, ago):
+        """Whether a slot has a value so many timesteps before the first one."""
+        slot = self.model.slots[name]
+        thing = self.model.object_named(slot.owner)
+        if slot.name == "PoolElevation" and thing.stores:
+            return ago == 1
+        if slot.name != past_name(thing):
+            return False
+        return ago <= (thing.options["lag"] if thing.kind == "reach" else 1)
 
     def why_unknown(self, rule, look):
         """Why a slot is never known, and what to do."""

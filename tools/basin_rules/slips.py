@@ -17,7 +17,7 @@ NO_NUMBER = "values are whole numbers in base units: 1500 \"mm\" for 1.5 m, and 
 AT_T = "`[t]`, this timestep, or in a model of `format = 2` `[t + 3]`, three of them ahead, without a unit"
 # Signs that aren't there, and what is here for them.
 OTHER_SIGNS = {
-    "@": 't, or t - 1 "step", in the brackets: [t - 1 "step"]',
+    "@": 't, or t - 1 "step", in the brackets: [t - 1 "step"]; of a date MONTH(t) = 4 AND DAY(t) = 1',
     "'": 'a string stands between two "',
     "“": 'the straight quote "',
     "”": 'the straight quote "',
