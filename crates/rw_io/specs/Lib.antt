@@ -5,3 +5,4 @@ pub mod Calls
 pub mod Files
 pub mod MemShelf
 pub mod MemSink
+pub mod Sure

@@ -9,6 +9,8 @@ mod plan;
 mod shelf;
 mod sink;
 mod std_sink;
+mod sure_shelf;
+mod sure_sink;
 mod whole_file;
 mod whole_text;
 
@@ -18,5 +20,7 @@ pub use mem_sink::MemSink;
 pub use shelf::{Shelf, ShelfFault};
 pub use sink::{Sink, SinkFault};
 pub use std_sink::StdSink;
+pub use sure_shelf::SureShelf;
+pub use sure_sink::SureSink;
 pub use whole_file::{FILE_MAX, PIECE_MAX, ReadEnd, read_all};
 pub use whole_text::{WriteFault, write_all};

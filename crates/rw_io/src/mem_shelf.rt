@@ -27,7 +27,7 @@ pub struct MemShelf {
 }
 
 // The place of the first file of that path, or the number of files.
-fn place_in(files: &[(String, Vec<u8>)], path: &str) -> usize
+pub(crate) fn place_in(files: &[(String, Vec<u8>)], path: &str) -> usize
     ensures place { result ≡ file_position files.now path.now }
     ensures bound { result ≤ length files.now }
 {
@@ -53,7 +53,7 @@ fn raise(counts: &mut Vec<u64>, place: usize)
 }
 
 // Copies what fits of the bytes from `at` on.
-fn copy_from(bytes: &[u8], at: usize, buf: &mut [u8]) -> usize
+pub(crate) fn copy_from(bytes: &[u8], at: usize, buf: &mut [u8]) -> usize
     ensures bound { result ≤ length buf.new }
     ensures inside { at + result ≤ max at (length bytes.now) }
     ensures copied { drop at bytes.now ≡ take result buf.new ++ drop (at + result) bytes.now }

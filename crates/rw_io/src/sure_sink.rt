@@ -1,0 +1,87 @@
+ghost use Rattle.std.specs.Prelude.{◌≡◌, ◌+◌, ◌++◌, ◌≤◌, ◌<◌, ℕ, List, [], Ok, Some, None, length, IfOk, IfSome, IsOk};
+
+use crate::{Sink, SinkFault};
+use rw_base::NoMemory;
+use std::alloc::Global;
+
+/// Text in memory, which is told, for which there is room from the beginning on. Each piece is taken whole. From the first
+/// piece on that doesn't fit, nothing more is kept, and what is held isn't told any more.
+#[derive(Drop)]
+pub struct SureSink {
+    bytes: Vec<u8>,
+    room: usize,
+    told: bool,
+    ghost fits: { length bytes.items ≤ room },
+    ghost has_room: { room ≤ bytes.cap },
+}
+
+// Adds a piece for which there is room.
+fn add(bytes: &mut Vec<u8>, piece: &[u8])
+    requires { length bytes.old.items + length piece.now ≤ bytes.old.cap }
+    ensures items { bytes.new.items ≡ bytes.old.items ++ piece.now }
+    ensures room { bytes.old.cap ≤ bytes.new.cap }
+{
+    match bytes.extend_from_slice(piece) {
+        Ok(()) => {}
+        Err(_) => unreachable!(),
+    }
+}
+
+impl SureSink {
+    ghost use Rattle.rw_io.specs.Sure.{sink_seen};
+
+    /// An empty sink with room for so many bytes. The one error is want of memory.
+    pub fn of(alloc: Global, room: usize) -> Result<SureSink, NoMemory>
+        ensures empty { IfOk result (λ sink. (sink_seen sink).contents ≡ Some []) }
+        ensures room { IfOk result (λ sink. sink.room ≡ room) }
+    {
+        let bytes = Vec::with_capacity(alloc, room)?;
+        Ok(SureSink {
+            bytes,
+            room,
+            told: true,
+        })
+    }
+
+    /// What was kept.
+    pub fn held(&self) -> &[u8]
+        ensures kept { result.now ≡ self.now.bytes.items }
+        ensures told { IfSome (sink_seen self.now).contents (λ held. held ≡ result.now) }
+    {
+        &self.bytes
+    }
+}
+
+impl Sink for SureSink {
+    ghost use Rattle.rw_io.specs.Sure.{sink_seen};
+    ghost use Rattle.rw_io.specs.Calls.{TakesWrite};
+    ghost use Rattle.rw_io.specs.Outside.{change};
+
+    ghost seen = { sink_seen };
+
+    fn write(&mut self, piece: &[u8]) -> Result<usize, SinkFault>
+        ensures takes { TakesWrite piece.now
+            (change (sink_seen self.old) (sink_seen self.new)) result }
+        ensures whole { result ≡ Ok (length piece.now) }
+        ensures kept { (held : List ℕ) → (sink_seen self.old).contents ≡ Some held
+            → length held + length piece.now ≤ self.old.room
+            → (sink_seen self.new).contents ≡ Some (held ++ piece.now) }
+        ensures full { self.old.room < length self.old.bytes.items + length piece.now
+            → ((sink_seen self.new).contents ≡ None)
+            × (self.new.bytes.items ≡ self.old.bytes.items) }
+        ensures lost { (sink_seen self.old).contents ≡ None
+            → ((sink_seen self.new).contents ≡ None)
+            × (self.new.bytes.items ≡ self.old.bytes.items) }
+        ensures room { self.new.room ≡ self.old.room }
+    {
+        if piece.is_empty() {
+            return Ok(0);
+        }
+        if !self.told || piece.len() > self.room - self.bytes.len() {
+            self.told = false;
+            return Ok(piece.len());
+        }
+        add(&mut self.bytes, piece);
+        Ok(piece.len())
+    }
+}
