@@ -7,7 +7,7 @@ use Rattle.rw_model.specs.Draft.{Draft}
 use Rattle.rw_run.specs.Frame.{AreAlike, IsFramed, IsStepFrom, log_after, looked_in}
 use Rattle.rw_run.specs.Log.{Cells, Event, Log, cells_of, placed, opened, closed, idle, solved, fired, fault}
 use Rattle.rw_run.specs.Next.{Policy}
-use Rattle.rw_run.specs.Reuse.{IsReused}
+use Rattle.rw_run.specs.Reuse.{IsHeldAlike, IsReused}
 use Rattle.rw_run.specs.Runs.{IsRun, Leads, Standing, follows, with_inputs, rests, inside, over, standing}
 use Rattle.rw_run.specs.Step.{before_newest, before_closing, before_opening, events_of, is_closing, is_of_step, is_opening, looked_at, reached_by}
 use Rattle.rw_run.specs.Waiting.{first_waiting}
@@ -389,10 +389,10 @@ alike_at one other [] alike cell (k, less, same) = absurd (omega (arith, less))
 alike_at one other (first ∷ cells) alike cell (zero, less, same) = subst (λ c. one c ≡ other c) same alike.0
 alike_at one other (first ∷ cells) alike cell (suc k, less, same) = alike_at one other cells alike.1 cell (k, omega (arith, less), same)
 
-pub reused : (basin : Draft) (policy : Policy) (inputs others : List (Cell × ℤ)) (earlier later : Log) (step : ℕ) → IsFramed policy
-    → IsRun basin policy inputs earlier → IsRun basin policy others later → IsReused basin earlier later step
+pub held_alike : (basin : Draft) (policy : Policy) (inputs others : List (Cell × ℤ)) (earlier later : Log) (step : ℕ) → IsFramed policy
+    → IsRun basin policy inputs earlier → IsRun basin policy others later → IsHeldAlike basin earlier later step
     → events_of step later ≡ events_of step earlier
-reused basin policy inputs others earlier later step framed run_one run_other is =
+held_alike basin policy inputs others earlier later step framed run_one run_other is =
     let c = closes basin policy step earlier (led_run basin policy inputs earlier run_one) is.closed in
     let o = c.timestep in
     let events : List Event = o.events ++ closed step ∷ [] in
@@ -435,3 +435,10 @@ reused basin policy inputs others earlier later step framed run_one run_other is
     let both : events_of step (log_after events (opened step ∷ is.other)) ≡ events_of step (closed step ∷ c.before_it) =
     events_after step events (opened step ∷ is.other) (opened step ∷ o.old) bases ∙ ap (events_of step) one_made in
     other_own ∙ both ∙ sym one_own
+
+pub reused : (basin : Draft) (policy : Policy) (inputs others : List (Cell × ℤ)) (earlier later : Log) (step : ℕ) → IsFramed policy
+    → IsRun basin policy inputs earlier → IsRun basin policy others later → IsReused basin earlier later step
+    → events_of step later ≡ events_of step earlier
+reused basin policy inputs others earlier later step framed run_one run_other is =
+    held_alike basin policy inputs others earlier later step framed run_one run_other
+    (record { closed = is.closed; one = is.one; one_is = is.one_is; other = is.other; other_is = is.other_is; alike = is.alike })

@@ -21,6 +21,16 @@ pub record IsReused (basin : Draft) (earlier later : Log) (step : ℕ) : Type 0 
   pub other_is : before_opening step later ≡ Some other
   pub alike : AreAlike (cells_of basin one) (cells_of basin other) (looked_at basin step earlier)
 
+-- the timestep was closed in the earlier run and opened in the later one, and each cell at which it looked there or which its puts
+-- reached is held alike just before its opening in both, however many these are
+pub record IsHeldAlike (basin : Draft) (earlier later : Log) (step : ℕ) : Type 0 where
+  pub closed : IsSome (before_closing step earlier)
+  pub one : Log
+  pub one_is : before_opening step earlier ≡ Some one
+  pub other : Log
+  pub other_is : before_opening step later ≡ Some other
+  pub alike : AreAlike (cells_of basin one) (cells_of basin other) (looked_at basin step earlier)
+
 -- each of the numbers is below the next ones
 abbrev pub AreRising : List ℕ → Type 0
 AreRising [] = Unit {0}

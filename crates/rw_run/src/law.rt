@@ -18,7 +18,7 @@ ghost use Rattle.rw_run.specs.Behind.{IsBehind};
 ghost use Rattle.rw_run.specs.Choice.{MayFollow, MayLead};
 ghost use Rattle.rw_run.specs.RunOf.{end_of, last_closed, opened_by, opened_in};
 ghost use Rattle.rw_run.specs.Step.{before_closing, before_opening, cell_count, events_of, line_count, looked_at};
-ghost use Rattle.rw_run.specs.Reuse.{AreRerun, AreRising, IsReused};
+ghost use Rattle.rw_run.specs.Reuse.{AreRerun, AreRising, IsHeldAlike, IsReused};
 ghost use Rattle.rw_run.specs.Timestep.{AreLooked, IsTimestep};
 ghost use Rattle.rw_run.specs.declared.held.Held.{Held};
 ghost use Rattle.rw_run.specs.Worked.{across, across_run, sets_ahead, ahead_run, data_object_basin, both_days, both_days_run, both_ends, both_ends_run, counts_up, counted_run, divided, divided_run, faulty_run, five, first_of_ahead, followed, followed_run, given_once, given_run, given_seven_run, linked_basin, needy, needy_run, one_end_run, one_of_each, outranked, outranked_run, put_twice, put_twice_run, raises_x, raised_run, raised_twice, seven, three};
@@ -234,6 +234,11 @@ pub fn again()
 /// A timestep that is reused goes in the later run, event by event, as it went in the earlier one. It looked at or reached at
 /// most 6,000 cells, and has at most 6,000 lines.
 pub fn reused()
+    ensures held_alike { (basin : Draft) (policy : Policy) (inputs others : List (Cell × ℤ))
+        (earlier later : Log) (step : ℕ) → IsFramed policy
+        → IsRun basin policy inputs earlier → IsRun basin policy others later
+        → IsHeldAlike basin earlier later step
+        → events_of step later ≡ events_of step earlier }
     ensures alike { (basin : Draft) (policy : Policy) (inputs others : List (Cell × ℤ))
         (earlier later : Log) (step : ℕ) → IsFramed policy
         → IsRun basin policy inputs earlier → IsRun basin policy others later
