@@ -31,3 +31,20 @@ here items place item is =
     drop-cons items place item (slice_get_within items place item is)
     ∙ ap (λ x. x ∷ drop (suc place) items) (get_or_from_slice_get items place item item is)
     ∙ ap (λ n. item ∷ drop n items) (suc-eq-add-one place)
+
+-- what is written of the numbers up to one, in front of what is left, where that of the last of them is written too
+pub back : (words : ℕ → List ℕ) (left less : ℕ) (now new whole : List ℕ) → left ≡ less + 1
+    → for_each words left ++ now ≡ whole → new ≡ words left ++ now → for_each words less ++ new ≡ whole
+back words left less now new whole e is added =
+    let s : left ≡ suc less = e ∙ sym (suc-eq-add-one less) in
+    ap (λ t. for_each words less ++ t) added
+    ∙ sym (append_assoc (for_each words less) (words left) now)
+    ∙ ap (λ t. t ++ now) (ap (λ n. for_each words less ++ words n) s ∙ sym (ap (for_each words) s))
+    ∙ is
+
+-- a piece, behind what is there
+pub piece : (words : ℕ → List ℕ) (first last : ℕ) (front text tail new : List ℕ)
+    → for_each words first ++ tail ≡ for_each words last → text ≡ front ++ for_each words first → new ≡ text ++ tail
+    → new ≡ front ++ for_each words last
+piece words first last front text tail new whole is added =
+    both front text new (for_each words first) tail is added ∙ ap (λ t. front ++ t) whole

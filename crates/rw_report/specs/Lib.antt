@@ -5,6 +5,7 @@ pub mod Kept
 pub mod Flags
 pub mod Lines
 pub mod Outcome
+pub mod Pieces
 pub mod Whole
 pub mod Why
 pub mod Worked

@@ -1,16 +1,19 @@
-ghost use Rattle.std.specs.Prelude.{◌≡◌, ◌≤◌, ◌++◌, ℕ, List, OnOk, string_bytes, codes, option_map, length};
-ghost use Rattle.std.specs.Fmt.{decimal};
+ghost use Rattle.std.specs.Prelude.{◌≡◌, ◌≤◌, ◌<◌, ◌+◌, ◌++◌, ℕ, List, IsAscii, OnOk, string_bytes, codes, drop, option_map, length};
+ghost use Rattle.std.specs.Fmt.{decimal, signed_decimal};
 ghost use Rattle.rw_calendar.specs.Stamps.{end_of_step, stamp_text};
 ghost use Rattle.rw_model.specs.declared.content.Content.{Content};
 ghost use Rattle.rw_series.specs.Series.{held};
-ghost use Rattle.rw_report.specs.Section.{columns, for_slots, row, rows, slot_words, value_words, values_in};
+ghost use Rattle.rw_report.specs.Section.{columns, for_each, for_slots, row, rows, slot_words, value_words, values_in};
+ghost use Rattle.rw_report.specs.Pieces.{words_at};
 
 use crate::names::push_slot;
-use crate::numbers::{push_count, push_number};
+use crate::numbers::push_count;
+use itoa::write_digits;
 use rw_base::{NoMemory, SlotNo, StepNo};
 use rw_model::{Basin, Content};
-use rw_series::Series;
+use rw_series::{Series, StepCells};
 use std::alloc::Global;
+use std::str::from_utf8_unchecked;
 
 // Appends a comma and the name of a slot.
 fn push_name(text: &mut String, basin: &Basin, slot: SlotNo) -> Result<(), NoMemory>
@@ -45,16 +48,126 @@ pub(crate) fn push_columns(text: &mut String, basin: &Basin) -> Result<(), NoMem
     Ok(())
 }
 
-// Appends a comma and the value that a cell holds, which is nothing where it is unknown.
-fn push_value(text: &mut String, content: Option<Content>) -> Result<(), NoMemory>
-    ensures { OnOk result (string_bytes text.new ≡ string_bytes text.old
-        ++ (codes "," ++ value_words (option_map (λ (content : Content). content.value) content))) }
+// Of so many slots the values are written in one piece.
+const BLOCK: u16 = 32;
+
+// The most bytes that they take: each a comma and the text of a number of 64 bits.
+const ROOM: usize = 672;
+
+// Writes a number so that it ends where it is said, and answers where it begins.
+#[inline(always)]
+fn write_number(buffer: &mut [u8; ROOM], number: i64, end: usize) -> usize
+    requires room { (20 ≤ end) × (end ≤ 672) }
+    ensures start { (result ≤ end) × (end ≤ result + 20) }
+    ensures written { drop result buffer.new ≡ signed_decimal number ++ drop end buffer.old }
+    ensures ascii { IsAscii (signed_decimal number) }
 {
-    text.push(',')?;
-    match content {
-        Some(content) => push_number(text, content.value.get()),
-        None => Ok(()),
+    let start = write_digits(number.unsigned_abs(), buffer, end);
+    if number >= 0 {
+        return start;
     }
+    buffer[start - 1] = b'-';
+    start - 1
+}
+
+// Writes the value that a cell holds, which is nothing where it is unknown.
+#[inline(always)]
+fn write_content(buffer: &mut [u8; ROOM], content: Option<Content>, end: usize) -> usize
+    requires room { (20 ≤ end) × (end ≤ 672) }
+    ensures start { (result ≤ end) × (end ≤ result + 20) }
+    ensures written { drop result buffer.new
+        ≡ value_words (option_map (λ (content : Content). content.value) content)
+        ++ drop end buffer.old }
+    ensures ascii { IsAscii
+        (value_words (option_map (λ (content : Content). content.value) content)) }
+{
+    match content {
+        Some(content) => write_number(buffer, content.value.get(), end),
+        None => end,
+    }
+}
+
+// Writes a comma before it.
+#[inline(always)]
+fn write_value(buffer: &mut [u8; ROOM], content: Option<Content>, end: usize) -> usize
+    requires room { (21 ≤ end) × (end ≤ 672) }
+    ensures start { (result ≤ end) × (end ≤ result + 21) }
+    ensures written { drop result buffer.new
+        ≡ (codes "," ++ value_words (option_map (λ (content : Content). content.value) content))
+        ++ drop end buffer.old }
+    ensures ascii { IsAscii
+        (codes "," ++ value_words (option_map (λ (content : Content). content.value) content)) }
+{
+    let start = write_content(buffer, content, end) - 1;
+    buffer[start] = b',';
+    start
+}
+
+// Writes the values of the slots behind the first ones and up to a last one, from the last to the first, and answers where
+// they begin.
+#[inline(always)]
+fn write_block(buffer: &mut [u8; ROOM], cells: &StepCells, first: u16, last: u16) -> usize
+    requires order { first ≤ last }
+    requires few { last ≤ first + 32 }
+    ensures start { result ≤ 672 }
+    ensures ascii { IsAscii (drop result buffer.new) }
+    ensures written { for_each (words_at (held cells.now)) first ++ drop result buffer.new
+        ≡ for_each (words_at (held cells.now)) last }
+{
+    let mut at = ROOM;
+    for done in 0..last - first {
+        at = write_value(buffer, cells.get(SlotNo(last - done)), at);
+    }
+    at
+}
+
+// Appends them.
+fn push_block(
+    text: &mut String,
+    buffer: &mut [u8; ROOM],
+    cells: &StepCells,
+    first: u16,
+    last: u16,
+) -> Result<(), NoMemory>
+    requires order { first ≤ last }
+    requires few { last ≤ first + 32 }
+    ensures { (front : List ℕ)
+        → string_bytes text.old ≡ front ++ for_each (words_at (held cells.now)) first
+        → OnOk result (string_bytes text.new
+        ≡ front ++ for_each (words_at (held cells.now)) last) }
+{
+    let at = write_block(buffer, cells, first, last);
+    text.push_str(unsafe { from_utf8_unchecked(&buffer[at..]) })?;
+    Ok(())
+}
+
+// The last of the slots that are written in one piece behind the first ones.
+fn last_of_block(first: u16, count: u16) -> u16
+    requires { first < count }
+    ensures more { first < result }
+    ensures few { result ≤ first + 32 }
+    ensures within { result ≤ count }
+{
+    if count - first < BLOCK {
+        count
+    } else {
+        first + BLOCK
+    }
+}
+
+// Appends the value that each of these cells holds.
+fn push_cells(text: &mut String, cells: &StepCells, count: u16) -> Result<(), NoMemory>
+    ensures { OnOk result (string_bytes text.new
+        ≡ string_bytes text.old ++ for_each (words_at (held cells.now)) count) }
+{
+    let mut buffer = [0; ROOM];
+    let mut first = 0;
+    while first < count {
+        let last = last_of_block(first, count);
+        push_block(text, &mut buffer, cells, first, last)?;
+        first = last;
+    }
+    Ok(())
 }
 
 // Appends a comma and the value of each slot at a timestep.
@@ -68,11 +181,7 @@ fn push_values(
         ++ for_slots basin.now
         (λ slot. codes "," ++ value_words (values_in (held series.now) slot step.0))) }
 {
-    let cells = series.at_step(step);
-    for before in 0..basin.slot_count() {
-        push_value(text, cells.get(SlotNo(before + 1)))?;
-    }
-    Ok(())
+    push_cells(text, &series.at_step(step), basin.slot_count())
 }
 
 // Appends the number of a timestep, a comma and a stamp.
