@@ -1,5 +1,6 @@
 pub mod Number
 pub mod Row
+pub mod LastSlot
 pub mod Records
 pub mod Column
 pub mod Inputs

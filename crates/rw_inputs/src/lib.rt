@@ -15,6 +15,7 @@ mod edit_row;
 mod edits;
 mod fault;
 mod inputs;
+mod last_slot;
 pub mod law;
 mod limits;
 mod number;

@@ -9,8 +9,10 @@ ghost use Rattle.rw_inputs.specs.Inputs.{IsInputsOf, Keeps, value_at};
 ghost use Rattle.rw_inputs.specs.Reading.{column, row_values, first_refusal, inputs_of, is_header, read_records, values_read};
 ghost use Rattle.rw_inputs.specs.Refusal.{input_refusal_of, TellsInput};
 ghost use Rattle.rw_inputs.specs.Taking.{TakesRow, RefusesRow};
+ghost use Rattle.rw_inputs.specs.LastSlot.{IsLastSlot};
 
 use crate::inputs::Inputs;
+use crate::last_slot::LastSlot;
 use crate::records::Records;
 use crate::row::{read_row, three_fields};
 use crate::wrong::{Part, Wrong};
@@ -67,17 +69,20 @@ fn refused(number: u32, wrong: Wrong) -> InputFault
 
 // Takes what the row of a number gives, or answers what is wrong with it.
 fn take_row(
+    last: &mut LastSlot,
     inputs: &mut Inputs,
     basin: &Basin,
     number: u32,
     row: &ByteRecord,
 ) -> Result<(), InputFault>
-    requires { IsInputsOf basin.now inputs.old }
+    requires made { IsInputsOf basin.now inputs.old }
+    requires last { IsLastSlot basin.now last.old }
     ensures made { IsInputsOf basin.now inputs.new }
+    ensures last { IsLastSlot basin.now last.new }
     ensures taken { OnOk result (TakesRow basin.now (fields_of row.now) inputs.old inputs.new) }
     ensures refused { IfErr result (RefusesRow basin.now number (fields_of row.now) inputs.old) }
 {
-    let row_value = match read_row(basin, row) {
+    let row_value = match read_row(last, basin, row) {
         Ok(row_value) => row_value,
         Err(wrong) => return Err(refused(number, wrong)),
     };
@@ -108,9 +113,10 @@ fn take_rows(
         (λ fault. TellsInput fault (first_refusal basin.now 2 [] rows.old)) }
 {
     let mut row = ByteRecord::new(alloc);
+    let mut last = LastSlot::none(alloc);
     for number in 2..u32::MAX {
         match rows.read(&mut row) {
-            Ok(true) => take_row(inputs, basin, number, &row)?,
+            Ok(true) => take_row(&mut last, inputs, basin, number, &row)?,
             Ok(false) => return Ok(()),
             Err(NoMemory) => return Err(InputFault::NoMemory),
         }

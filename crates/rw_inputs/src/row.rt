@@ -8,8 +8,10 @@ ghost use Rattle.rw_inputs.specs.Number.{read_number, byte_position};
 ghost use Rattle.rw_inputs.specs.Row.{slot_of_names, slot_of_text, read_slot, span_of, span_in, read_span, read_value, three_fields, row_of, read_row};
 ghost use Rattle.rw_inputs.specs.Sound.{IsRowValue};
 ghost use Rattle.rw_model.specs.Links.{IsBetween, bounds_in};
+ghost use Rattle.rw_inputs.specs.LastSlot.{IsLastSlot};
 
 use crate::InputKind;
+use crate::last_slot::LastSlot;
 use crate::number::{position_of, read_number, read_signed};
 use crate::row_value::RowValue;
 use crate::span::Span;
@@ -80,13 +82,21 @@ fn span_of(first: &[u8], last: &[u8]) -> Option<(u64, u64)>
     Some((first, last))
 }
 
+// The same number twice.
+fn span_of_one(text: &[u8]) -> Option<(u64, u64)>
+    ensures { result ≡ span_of (read_number text.now) (read_number text.now) }
+{
+    let number = read_number(text)?;
+    Some((number, number))
+}
+
 // One number, or two numbers round the first `-`.
 fn span_in(text: &[u8]) -> Option<(u64, u64)>
     ensures { result ≡ span_in text.now (byte_position 45 text.now) }
 {
     match position_of(b'-', text) {
         Some(dash) => span_of(&text[..dash], &text[dash + 1..]),
-        None => span_of(text, text),
+        None => span_of_one(text),
     }
 }
 
@@ -138,11 +148,19 @@ pub(crate) fn read_value(basin: &Basin, slot: u16, text: &[u8]) -> Result<Qty, W
 }
 
 // What the three fields of a row give.
-fn read_fields(basin: &Basin, slot: &[u8], span: &[u8], value: &[u8]) -> Result<RowValue, Wrong>
+fn read_fields(
+    last: &mut LastSlot,
+    basin: &Basin,
+    slot: &[u8],
+    span: &[u8],
+    value: &[u8],
+) -> Result<RowValue, Wrong>
+    requires last { IsLastSlot basin.now last.old }
+    ensures last { IsLastSlot basin.now last.new }
     ensures read { result ≡ row_of basin.now (Some (slot.now, span.now, value.now)) }
     ensures sound { IfOk result (IsRowValue basin.now) }
 {
-    let slot = read_slot(basin, slot)?;
+    let slot = last.read(basin, slot)?;
     let span = read_span(basin, span)?;
     let value = read_value(basin, slot, value)?;
     Ok(RowValue {
@@ -174,12 +192,18 @@ pub(crate) fn three_fields(row: &ByteRecord) -> Option<(&[u8], &[u8], &[u8])>
 }
 
 /// What a row gives: three fields, a slot, timesteps and a value.
-pub(crate) fn read_row(basin: &Basin, row: &ByteRecord) -> Result<RowValue, Wrong>
+pub(crate) fn read_row(
+    last: &mut LastSlot,
+    basin: &Basin,
+    row: &ByteRecord,
+) -> Result<RowValue, Wrong>
+    requires last { IsLastSlot basin.now last.old }
+    ensures last { IsLastSlot basin.now last.new }
     ensures read { result ≡ read_row basin.now (fields_of row.now) }
     ensures sound { IfOk result (IsRowValue basin.now) }
 {
     match three_fields(row) {
-        Some((slot, span, value)) => read_fields(basin, slot, span, value),
+        Some((slot, span, value)) => read_fields(last, basin, slot, span, value),
         None => Err(wrong(InputKind::Ragged, Part::Row)),
     }
 }
