@@ -1,5 +1,4 @@
 pub mod FramedCode
 pub mod Asking
 mod CodePolicy
-mod RulesetPolicy
 pub mod Verified

@@ -1,11 +1,8 @@
--- The policy of a run, as code or a ruleset gives it.
+-- The policy of a run, as code gives it.
 use Rattle.std.specs.Prelude.{List}
 use Rattle.rw_model.specs.Draft.{Draft}
 use Rattle.rpl_code.specs.declared.block.Block.{Block}
 use Rattle.rpl_code.specs.declared.block.BlockHead.TheVariants.{Rule}
-use Rattle.rpl_tree.specs.Mean.{mean}
-use Rattle.rpl_tree.specs.Tree.{Declared}
-use Rattle.rpl_parse.specs.Bounds.{rule_count}
 use Rattle.rpl_verify.specs.Fits.{count_alike}
 use Rattle.rpl_verify.specs.Machine.{fire_of_code}
 use Rattle.rw_run.specs.Next.{Policy}
@@ -13,7 +10,3 @@ use Rattle.rw_run.specs.Next.{Policy}
 -- each rule does what its block does in the machine
 abbrev pub policy_of_code : Draft → List Block → Policy
 policy_of_code basin code = record { rules = count_alike Rule code; fire = fire_of_code code basin }
-
--- each rule does what it means
-abbrev pub policy_of_rules : Draft → List Declared → Policy
-policy_of_rules basin rules = record { rules = rule_count rules; fire = mean rules basin }

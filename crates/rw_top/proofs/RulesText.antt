@@ -18,7 +18,8 @@ use Rattle.rpl_code.specs.declared.block.Block.{Block}
 use Rattle.rpl_compile.specs.Budgets.{code_budgets_of}
 use Rattle.rpl_compile.specs.Translate.{translate}
 use Rattle.rpl_policy.specs.Firings.{AreVerified}
-use Rattle.rpl_policy.specs.Policy.{policy_of_code, policy_of_rules}
+use Rattle.rpl_policy.specs.Policy.{policy_of_code}
+use Rattle.rpl_rulesets.specs.RulesPolicy.{policy_of_rules}
 use Rattle.rpl_types.specs.Judged.{TypeRefusal as NodeRefusal}
 use Rattle.rpl_types.specs.Nodes.{Types}
 use Rattle.rpl_verify.specs.Budget.{AreAccepted}

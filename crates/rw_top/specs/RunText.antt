@@ -29,7 +29,8 @@ use Rattle.rw_report.specs.Why.{why_of}
 use Rattle.rpl_tree.specs.Budget.{Budget}
 use Rattle.rpl_verify.specs.Budget.{AreAccepted}
 use Rattle.rpl_policy.specs.Firings.{AreVerified}
-use Rattle.rpl_policy.specs.Policy.{policy_of_code, policy_of_rules}
+use Rattle.rpl_policy.specs.Policy.{policy_of_code}
+use Rattle.rpl_rulesets.specs.RulesPolicy.{policy_of_rules}
 use Rattle.rw_model_toml.specs.Model.{model_of}
 use Rattle.rw_inputs.specs.Reading.{Reads}
 use Rattle.rpl_tree.specs.Tree.{Declared}

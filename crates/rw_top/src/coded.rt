@@ -10,7 +10,8 @@ ghost use Rattle.rw_top.specs.RunText.{IsCodeOf};
 use rpl_compile::accepted::compiled_budgets;
 use rpl_compile::compile;
 use rpl_parse::law::bounds;
-use rpl_policy::law::{firings_are_verified, firings_of_rules_are_verified, policies_have_runs};
+use rpl_policy::law::firings_are_verified;
+use rpl_rulesets::law::{firings_of_rules_are_verified, rulesets_have_runs};
 use rpl_types::Typed;
 use rpl_types::law::accepted;
 use rpl_verify::Verified;
@@ -41,7 +42,7 @@ pub(crate) fn code_of_rules(
     accepted();
     bounds();
     compiled_budgets();
-    policies_have_runs();
+    rulesets_have_runs();
     firings_of_rules_are_verified();
     let _rules = typed.rules();
     let code = compile(alloc, typed, basin)?;

@@ -4,6 +4,3 @@ use Rattle.rpl_policy.proofs.law.a_dam.Goals as goal
 
 pub returns-clause-code : goal.returns-clause-code
 returns-clause-code c = record { events = dam_run; leads = (refl, (refl, (refl, (refl, (refl, (refl, (refl, (refl, refl)))))))); end = omega arith }
-
-pub returns-clause-rules : goal.returns-clause-rules
-returns-clause-rules c = record { events = dam_run; leads = (refl, (refl, (refl, (refl, (refl, (refl, (refl, (refl, refl)))))))); end = omega arith }

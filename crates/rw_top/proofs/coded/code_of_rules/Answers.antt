@@ -22,5 +22,5 @@ returns-clause-runs c =
     (c.bounds.ensures.all c.rules-rules.result.now c.rules-rules.ensures.ruleset) in
     code_of_ruleset basin rules c.in_ok-code.code c.in_ok-code.ensures.code
     (c.compiled_budgets.ensures basin rules typed bounded.rules bounded.functions)
-    (λ inputs log. (c.policies_have_runs.ensures.same basin rules (placings basin inputs) log typed bounded.rules bounded.functions).1)
+    (λ inputs log. (c.rulesets_have_runs.ensures.same basin rules (placings basin inputs) log typed bounded.rules bounded.functions).1)
     (λ inputs log whole. c.firings_of_rules_are_verified.ensures basin rules (placings basin inputs) log typed bounded.rules bounded.functions whole)

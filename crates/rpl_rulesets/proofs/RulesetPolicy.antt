@@ -8,7 +8,8 @@ use Rattle.rpl_tree.proofs.Common.{Declared}
 use Rattle.rpl_compile.specs.Fires.{FiresAlike, HasRule}
 use Rattle.rpl_compile.specs.Translate.{predefined_callees, translate}
 use Rattle.rpl_compile.proofs.CompiledFits.{rules_counted}
-use Rattle.rpl_policy.specs.Policy.{policy_of_code, policy_of_rules}
+use Rattle.rpl_policy.specs.Policy.{policy_of_code}
+use Rattle.rpl_rulesets.specs.RulesPolicy.{policy_of_rules}
 
 pub fire_alike : (basin : Draft) (rules : List Declared)
     → ((number step : ℕ) (values : Cell → Option ℤ) → HasRule rules number → FiresAlike rules basin number step values)

@@ -1,11 +1,8 @@
 use Rattle.rpl_compile.specs.Translate.{translate}
-use Rattle.rpl_policy.specs.Policy.{policy_of_code, policy_of_rules}
-use Rattle.rpl_policy.proofs.RulesetPolicy.{alike_back}
-use Rattle.rpl_policy.proofs.law.policies_have_runs.Goals as goal
-
-pub returns-clause-code : goal.returns-clause-code
-returns-clause-code c = λ basin code budgets inputs accepted.
-    c.some_run.ensures.exists basin (policy_of_code basin code) inputs (c.code_keeps_promises.ensures basin code budgets accepted)
+use Rattle.rpl_policy.specs.Policy.{policy_of_code}
+use Rattle.rpl_rulesets.specs.RulesPolicy.{policy_of_rules}
+use Rattle.rpl_rulesets.proofs.RulesetPolicy.{alike_back}
+use Rattle.rpl_rulesets.proofs.law.rulesets_have_runs.Goals as goal
 
 pub returns-clause-rules : goal.returns-clause-rules
 returns-clause-rules c = λ basin rules inputs typed few fewer.
