@@ -11,7 +11,7 @@ use Rattle.rpl_compile.proofs.ActClaims.{claim_acts}
 use Rattle.rpl_compile.proofs.Claims.{claim}
 use Rattle.rpl_compile.proofs.Plain.{IsSpelt, short_is}
 use Rattle.rpl_compile.proofs.AtSites.{At, room_at}
-use Rattle.rpl_compile.proofs.Texts.{small_text}
+use Rattle.rpl_types.proofs.Texts.{small_text}
 use Rattle.rpl_compile.proofs.LocalFacts.{parameter_names, many_params}
 
 -- ---- types that are written

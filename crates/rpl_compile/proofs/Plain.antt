@@ -1,13 +1,13 @@
 -- What is written where a ruleset is kinded is what TRANSLATE says: numbers, names, kinds and functions.
 use Rattle.rpl_compile.proofs.Common.{AllByRecursion, Bool, Callee, Dimension, Draft, HasHead, IsBasin, IsLiteral, IsSome, IsTrue, IsUtf8, List, None}
-use Rattle.rpl_compile.proofs.Common.{Object, Option, Some, [], ap, arith, byte, bytes_eq, bytes_eq-Decides, call_by, call_instruction, call_line}
+use Rattle.rpl_compile.proofs.Common.{Option, Some, [], ap, arith, byte, bytes_eq, bytes_eq-Decides, call_by, call_instruction, call_line}
 use Rattle.rpl_compile.proofs.Common.{callee_heads, callee_named, cases_Bool, factor_of, false, false≢true, inl, inr, is_quantity, is_utf8}
-use Rattle.rpl_compile.proofs.Common.{is_utf8-from_IsUtf8, lt-ltb, nat_lt, number_in_units, object_at, option_and_then, pos, refl, result_named}
-use Rattle.rpl_compile.proofs.Common.{short, slot_named, spelt_name, subst, sym, table_in, table_named, takes_named, true, unit_in, units, unwrap_or}
+use Rattle.rpl_compile.proofs.Common.{is_utf8-from_IsUtf8, lt-ltb, nat_lt, number_in_units, pos, refl, result_named}
+use Rattle.rpl_compile.proofs.Common.{short, slot_named, spelt_name, subst, sym, table_named, takes_named, true, unit_in, units, unwrap_or}
 use Rattle.rpl_compile.proofs.Common.{where-true, within, ℕ, ℤ, ◌*ℤ◌, ◌||◌, ◌∷◌, ◌≡◌, ◌≤◌}
 use Rattle.rpl_code.specs.declared.instruction.Instruction.TheVariants as I
-use Rattle.rpl_types.proofs.Texts.{no_owner, no_slot}
-use Rattle.rpl_compile.proofs.Texts.{no_object}
+use Rattle.rpl_types.proofs.Texts.{object_text, slot_texts}
+use Rattle.rpl_compile.proofs.SpeltNames.{table_object}
 use Rattle.rpl_compile.proofs.Found.{by_test}
 
 -- ---- numbers
@@ -31,18 +31,12 @@ number_is n unit h = literal_by n (unit_in units (unwrap_or unit [])) h
 pub spelt_is : (word : List ℕ) → IsUtf8 word → spelt_name word ≡ word
 spelt_is word h = where-true (is_utf8 word) word [] (is_utf8-from_IsUtf8 word h)
 
-spelt_unless : (word : List ℕ) → (¬ (IsUtf8 word) → ⊥) → spelt_name word ≡ word
-spelt_unless word h = elim (cases_Bool (is_utf8 word)) [
-  | inl e ↦ where-true (is_utf8 word) word [] e
-  | inr e ↦ absurd (h (λ text. grind (arith, e, is_utf8-from_IsUtf8 word text)))
-]
-
 module _ (basin : Draft) (valid : IsBasin basin) where
   pub owner_spelt : (o s : List ℕ) → IsSome (slot_named basin.objects o s) → spelt_name o ≡ o
-  owner_spelt o s h = spelt_unless o (λ none. absurd (false≢true (subst IsSome (no_owner basin o s valid none) h)))
+  owner_spelt o s h = spelt_is o (slot_texts basin valid o s h).0
 
   pub slot_spelt : (o s : List ℕ) → IsSome (slot_named basin.objects o s) → spelt_name s ≡ s
-  slot_spelt o s h = spelt_unless s (λ none. absurd (false≢true (subst IsSome (no_slot basin o s valid none) h)))
+  slot_spelt o s h = spelt_is s (slot_texts basin valid o s h).1
 
 -- ---- functions
 
@@ -76,6 +70,4 @@ call_is (c ∷ callees) f s h = elim (cases_Bool (bytes_eq c.head.name f)) [
 
 module _ (basin : Draft) (valid : IsBasin basin) where
   pub table_spelt : (o : List ℕ) → IsSome (table_named basin o) → spelt_name o ≡ o
-  table_spelt o h = spelt_unless o (λ none. absurd (false≢true (subst IsSome (ap (λ (found : Option ℕ). option_and_then (λ
-      (object : Object). table_in object.kind)
-      (option_and_then (λ number. object_at basin.objects number) found)) (no_object basin o valid none)) h)))
+  table_spelt o h = spelt_is o (object_text basin o valid (table_object basin valid o h))

@@ -50,7 +50,7 @@ fn in_units(number: i64, factor: i64) -> i64
     }
 }
 
-#[tactic(auto, using(crate::proofs::Texts::no_unit))]
+#[tactic(auto, using(rpl_types::proofs::Texts::no_unit))]
 fn factor_named(word: &[u8]) -> i64
     ensures { result ≡ Operations.factor_of (unit_in units word.now) }
 {
