@@ -85,9 +85,6 @@ module _ (lane : Lane) (functions : List Priced) where
   abbrev H : List Head
   H = costed_heads F
 
-  pub name_cost : (names : Names) (x : List ℕ) → lane.steps (weight (kind_named names x)) ≡ C names (name x)
-  name_cost names x = lane.stop (weight (kind_named names x))
-
   pub list_cost : (names : Names) (ts : Trees)
       → and (cap (most_of price F names ts)) (and (lane.steps (count_of ts + 1)) 0) ≡ C names (list ts)
   list_cost names ts = Sums.listed lane.limit (most_of price F names ts) _ _ (lane.stop (count_of ts + 1))

@@ -19,10 +19,6 @@ weights-append (x ∷ xs) ys = let more = weights-append xs ys in omega (arith, 
 pub two_locals : (xs ys : List Kind) → cap (cap (weights xs) + cap (weights ys)) ≡ cap (weights (xs ++ ys))
 two_locals xs ys = omega (arith, weights-append xs ys)
 
-pub three_locals : (xs ys zs : List Kind)
-    → cap (cap (weights xs) + cap (cap (weights ys) + cap (weights zs))) ≡ cap (weights (xs ++ (ys ++ zs)))
-three_locals xs ys zs = omega (arith, weights-append xs (ys ++ zs), weights-append ys zs)
-
 -- ---- heights
 
 cap_max : (a b : ℕ) → cap (max a b) ≡ max (cap a) (cap b)

@@ -104,13 +104,6 @@ module _ (scope : Scope) (lines : List Instruction) (spots_are : scope.spots ≡
       subst (λ n. Goes (i ∷ []) p b c n (max (kept b) (kept c))) e
       (subst (λ n. Goes (i ∷ []) p b c (account.sum_at b i) (max n (kept c))) (account.high_is b i none) (goes_one p b c i j w))
 
-  pub goes_cons : {i : Instruction} {xs : List Instruction} {p q s t g : ℕ} {b c d : Before} → q ≡ p + 1 → judged_at scope p b i ≡ Ok c
-      → going_of i ≡ onward
-      → (IsInvoke i → ⊥) → account.sum_at b i ≡ s → Goes xs q c d t g
-      → Goes (i ∷ xs) p b d (s + t) (max (max (words_kept scope.locals b) (words_kept scope.locals c)) g)
-  goes_cons {i} {xs} {p} {q} {s} {t} {g} {b} {c} {d} e j w none f way =
-      goes_then {xs = i ∷ []} {ys = xs} {p = p} {q = q} {b = b} {c = c} {d = d} e (goes_line {i = i} {p = p} {s = s} {b = b} {c = c} j w none f) way
-
   -- what is before the place behind them, written otherwise
   pub goes_to : {xs : List Instruction} {p s h : ℕ} {b c d : Before} → c ≡ d → Goes xs p b c s h → Goes xs p b d s h
   goes_to {xs} {p} {s} {h} {b} {c} {d} e g = subst (λ c. Goes xs p b c s h) e g

@@ -37,10 +37,6 @@ first_piece source x (y ∷ ys) = by_end (is_end (token_seen source x.token)) (f
 
 -- What is due at the first declaration, which has these tokens.
 module _ (source : List ℕ) (k r f : ℕ) (before : List Declared) where
-  pub due_none : (xs : List TokenAt) → length xs ≡ 0 → IsDue k r f before (pieces (lineds source xs)) (Ok before)
-  due_none [] e = refl
-  due_none (x ∷ xs) e = absurd (omega arith)
-
   abbrev pub First : List TokenAt → List Tok
   First xs = toks source (take (size (toks source xs)) xs)
 

@@ -56,15 +56,3 @@ pub found_here : (objects : List Object) (name text : List ℕ) (place : ℕ) �
 found_here objects name text place l lt e y =
     sym l ∙ next objects name text place lt e
     ∙ ap (λ b. if b then Some (place + 1) else object_from (place + 1 + 1) (drop (place + 1) objects) name) y
-
--- the table of the object that is found
-pub tabled : (basin : Draft) (name : List ℕ) (n : ℕ) (kind : Kind) → object_named basin.objects name ≡ Some n
-    → option_map (λ (o : Object). o.kind) (object_at basin.objects n) ≡ Some kind → table_named basin name ≡ table_in kind
-tabled basin name n kind found k =
-    ap (λ n. option_and_then (λ (object : Object). table_in object.kind) (option_and_then (λ number. object_at basin.objects number) n)) found
-    ∙ by (object_at basin.objects n) k
-  where
-    by : (o : Option Object) → option_map (λ (o : Object). o.kind) o ≡ Some kind
-        → option_and_then (λ (object : Object). table_in object.kind) o ≡ table_in kind
-    by (Some o) k = let e : o.kind ≡ kind = cc k in ap table_in e
-    by None k = absurd (cc k)

@@ -44,74 +44,6 @@ turn_back : (order : AgendaOrder) (rules place : ℕ) → place < rules → agen
 turn_back HighFirst rules place near = refl
 turn_back LowFirst rules place near = omega (arith, near)
 
-turn_apart : (order : AgendaOrder) (rules place other : ℕ) → place < rules → other < rules → other ≢ place
-    → (agenda_turn order rules other == agenda_turn order rules place) ≡ false
-turn_apart order rules place other near there apart = by (agenda_turn order rules other == agenda_turn order rules place) refl
-  where
-    by : (same : Bool) → (agenda_turn order rules other == agenda_turn order rules place) ≡ same → same ≡ false
-    by true same =
-        let is : agenda_turn order rules other ≡ agenda_turn order rules place = grind (arith, nat_tests, same) in
-        absurd (apart (sym (turn_back order rules other there) ∙ ap (agenda_turn order rules) is ∙ turn_back order rules place near))
-    by false same = refl
-
-own_turn : (turn : ℕ) → (turn == turn) ≡ true
-own_turn turn = grind (arith, nat_tests)
-
--- the words have a turn more, and the flags a mark more
-pub turns_added : (order : AgendaOrder) (flags : List Bool) (old new : List ℕ) (place : ℕ) → AreTurns order flags old → place < length flags
-    → length new ≡ length old → ((other : ℕ) → has_turn new other ≡ (other == agenda_turn order (length flags) place || has_turn old other))
-    → AreTurns order (set flags place true) new
-turns_added order flags old new place kept near same is = record {
-  many = same ∙ kept.many;
-  few = let many = length-set flags place true in let few = kept.few in omega (arith, many, few);
-  each = λ other there. by other (subst (λ n. other < n) (length-set flags place true) there) (nat_eq other place) refl;
-}
-  where
-    by : (other : ℕ) → other < length flags → (here : Bool) → nat_eq other place ≡ here
-        → has_turn new (agenda_turn order (length (set flags place true)) other) ≡ slice_index_or (set flags place true) other true
-    by other there true here =
-        let is_place : other ≡ place = grind (arith, nat_tests, here) in
-        ap (λ n. has_turn new (agenda_turn order n other)) (length-set flags place true)
-        ∙ is (agenda_turn order (length flags) other)
-        ∙ ap (λ t. t || has_turn old (agenda_turn order (length flags) other))
-        (ap (λ k. agenda_turn order (length flags) k == agenda_turn order (length flags) place) is_place
-        ∙ own_turn (agenda_turn order (length flags) place))
-        ∙ sym (ap (λ k. get_or (set flags place true) k true) is_place ∙ get_or-set_same flags place true true near)
-    by other there false here =
-        let apart : other ≢ place = grind (arith, nat_tests, here) in
-        ap (λ n. has_turn new (agenda_turn order n other)) (length-set flags place true)
-        ∙ is (agenda_turn order (length flags) other)
-        ∙ ap (λ t. t || has_turn old (agenda_turn order (length flags) other)) (turn_apart order (length flags) place other near there apart)
-        ∙ kept.each other there
-        ∙ sym (get_or-set_other flags place other true true apart)
-
-pub turns_taken : (order : AgendaOrder) (flags : List Bool) (old new : List ℕ) (place : ℕ) → AreTurns order flags old → place < length flags
-    → length new ≡ length old → ((other : ℕ) → has_turn new other ≡ (not (other == agenda_turn order (length flags) place) && has_turn old other))
-    → AreTurns order (set flags place false) new
-turns_taken order flags old new place kept near same is = record {
-  many = same ∙ kept.many;
-  few = let many = length-set flags place false in let few = kept.few in omega (arith, many, few);
-  each = λ other there. by other (subst (λ n. other < n) (length-set flags place false) there) (nat_eq other place) refl;
-}
-  where
-    by : (other : ℕ) → other < length flags → (here : Bool) → nat_eq other place ≡ here
-        → has_turn new (agenda_turn order (length (set flags place false)) other) ≡ slice_index_or (set flags place false) other true
-    by other there true here =
-        let is_place : other ≡ place = grind (arith, nat_tests, here) in
-        ap (λ n. has_turn new (agenda_turn order n other)) (length-set flags place false)
-        ∙ is (agenda_turn order (length flags) other)
-        ∙ ap (λ t. not t && has_turn old (agenda_turn order (length flags) other))
-        (ap (λ k. agenda_turn order (length flags) k == agenda_turn order (length flags) place) is_place
-        ∙ own_turn (agenda_turn order (length flags) place))
-        ∙ sym (ap (λ k. get_or (set flags place false) k true) is_place ∙ get_or-set_same flags place false true near)
-    by other there false here =
-        let apart : other ≢ place = grind (arith, nat_tests, here) in
-        ap (λ n. has_turn new (agenda_turn order n other)) (length-set flags place false)
-        ∙ is (agenda_turn order (length flags) other)
-        ∙ ap (λ t. not t && has_turn old (agenda_turn order (length flags) other)) (turn_apart order (length flags) place other near there apart)
-        ∙ kept.each other there
-        ∙ sym (get_or-set_other flags place other false true apart)
-
 -- ---- the first marked rule
 
 -- what the words have at a turn is whether its rule is marked
@@ -124,25 +56,6 @@ turn_tells order flags words turn kept near =
 pub none_marked : (order : AgendaOrder) (flags : List Bool) (words : List ℕ) (from : ℕ) → AreTurns order flags words → IsFirstOf words from None
     → IsFirstMarked (record { order = order; flags = flags }) from None
 none_marked order flags words from kept none turn after near = turn_tells order flags words turn kept near ∙ none turn after
-
-pub first_marked : (order : AgendaOrder) (flags : List Bool) (words : List ℕ) (from turn : ℕ) → AreTurns order flags words
-    → IsFirstOf words from (Some turn)
-    → IsFirstMarked (record { order = order; flags = flags }) from (if nat_lt turn (length flags) then Some turn else None)
-first_marked order flags words from turn kept first = by (nat_lt turn (length flags)) refl
-  where
-    by : (near : Bool) → nat_lt turn (length flags) ≡ near
-        → IsFirstMarked (record { order = order; flags = flags }) from (if near then Some turn else None)
-    by true near =
-        let there : turn < length flags = grind (arith, nat_tests, near) in record {
-          from_there = first.from_there;
-          last = there;
-          marked = turn_tells order flags words turn kept there ∙ first.there;
-          none_before = λ other after below.
-              turn_tells order flags words other kept (omega (arith, below, there)) ∙ first.none_before other after below;
-        }
-    by false far = λ other after there.
-        let past : length flags ≤ turn = grind (arith, nat_tests, far) in
-        turn_tells order flags words other kept there ∙ first.none_before other after (omega (arith, past, there))
 
 -- ---- who looked at a cell is marked
 

@@ -188,21 +188,6 @@ watching_more old new rule looks k look near is kept all watching =
     (All-push (λ (l : Look). is_watching new l.cell rule ≡ true) (take k looks) look
     (λ place d there. kept (get_or (take k looks) place d).cell rule (all place d there)) watching)
 
--- a cell in a place of looks whose cells are watched
-pub watching_in_place : (index : CellIndex) (rule : ℕ) (looks : List Look) (place : ℕ) (cell : Cell)
-    → All (λ (l : Look). is_watching index l.cell rule ≡ true) looks → IsSomeAnd (slice_get looks place) (λ (look : Look). look.cell ≡ cell)
-    → is_watching index cell rule ≡ true
-watching_in_place index rule looks place cell all there = by (slice_get looks place) refl there
-  where
-    by : (found : Option Look) → slice_get looks place ≡ found → IsSomeAnd found (λ (look : Look). look.cell ≡ cell)
-        → is_watching index cell rule ≡ true
-    by None is there = absurd there
-    by (Some look) is there =
-        let at : get_or looks place look ≡ look = get_or_from_slice_get looks place look look is in
-        ap (λ c. is_watching index c rule) (sym there)
-        ∙ ap (λ (l : Look). is_watching index l.cell rule) (sym at)
-        ∙ all place look (slice_get_within looks place look is)
-
 -- an index without watches
 pub idle : (slots steps room : ℕ) (newest : List ℕ) (watches : List Watch) (full : Bool) → full ≡ false → length watches ≡ 0
     → (cell : Cell) (rule : ℕ)
@@ -210,9 +195,3 @@ pub idle : (slots steps room : ℕ) (newest : List ℕ) (watches : List Watch) (
 idle slots steps room newest watches full spare none cell rule =
     ap₂ (λ f n. f || is_met watches n (newest_at
     (record { slots = slots; steps = steps; newest = newest; watches = watches; room = room; is_full = full }) cell) rule) spare none
-
--- the cell of the last look
-pub watching_last : (index : CellIndex) (rule : ℕ) (last : Option Cell) (cell : Cell) → IfSome last (λ seen. is_watching index seen rule ≡ true)
-    → IsSomeAnd last (λ seen. seen ≡ cell) → is_watching index cell rule ≡ true
-watching_last index rule None cell all is = absurd is
-watching_last index rule (Some seen) cell all is = subst (λ c. is_watching index c rule ≡ true) is all

@@ -153,14 +153,6 @@ first_left word from small some = record {
 abbrev pub low_in : ℕ → ℕ → ℕ
 low_in from place = if from / 64 == place then from % 64 else 0
 
--- from the bit on that counts in a word, its turns are those that count
-low_after : (from place turn : ℕ) → from ≤ turn → turn / 64 ≡ place → low_in from place ≤ turn % 64
-low_after from place turn after at = by (from / 64 == place) refl
-  where
-    by : (same : Bool) → (from / 64 == place) ≡ same → (if same then from % 64 else 0) ≤ turn % 64
-    by true same = let is : from / 64 ≡ place = grind (arith, nat_tests, same) in omega (arith, is, after, at)
-    by false same = omega arith
-
 low_first : (from place bit : ℕ) → from / 64 ≤ place → low_in from place ≤ bit → from ≤ place * 64 + bit
 low_first from place bit near low = by (from / 64 == place) refl low
   where
@@ -175,49 +167,3 @@ no_turn words place turn at none =
 -- no turn counts in the words before a place
 abbrev pub NoneBefore : List ℕ → ℕ → ℕ → Type 0
 NoneBefore words from place = (turn : ℕ) → from ≤ turn → turn < place * 64 → has_turn words turn ≡ false
-
-pub none_in_word : (words : List ℕ) (from place low : ℕ) → low ≡ low_in from place → NoneBefore words from place
-    → IsFirstBit (slice_index_or words place 0) low None → NoneBefore words from (place + 1)
-none_in_word words from place low is before none turn after below = by (cases_lt turn (place * 64))
-  where
-    by : (turn < place * 64) ⊎ (place * 64 ≤ turn) → has_turn words turn ≡ false
-    by (inl earlier) = before turn after earlier
-    by (inr here) =
-        let at : turn / 64 ≡ place = omega (arith, here, below) in
-        no_turn words place turn at (none (turn % 64) (subst (λ l. l ≤ turn % 64) (sym is) (low_after from place turn after at)))
-
-pub first_in_word : (words : List ℕ) (from place low bit : ℕ) → low ≡ low_in from place → from / 64 ≤ place → NoneBefore words from place
-    → IsFirstBit (slice_index_or words place 0) low (Some bit) → IsFirstTurn words from (place * 64 + bit)
-first_in_word words from place low bit is near before first = record {
-  from_there = low_first from place bit near (subst (λ l. l ≤ bit) is first.from_there);
-  there =
-      ap (λ p. bit_at (slice_index_or words p 0) ((place * 64 + bit) % 64) == 1) at
-      ∙ ap (λ b. bit_at (slice_index_or words place 0) b == 1) own ∙ ap (λ k. k == 1) first.there;
-  none_before = λ other after below. by other after below (cases_lt other (place * 64));
-}
-  where
-    within : bit < 64
-    within = first.last
-
-    at : (place * 64 + bit) / 64 ≡ place
-    at = omega (arith, within)
-
-    own : (place * 64 + bit) % 64 ≡ bit
-    own = omega (arith, within)
-
-    by : (other : ℕ) → from ≤ other → other < place * 64 + bit → (other < place * 64) ⊎ (place * 64 ≤ other) → has_turn words other ≡ false
-    by other after below (inl earlier) = before other after earlier
-    by other after below (inr here) =
-        let word : other / 64 ≡ place = omega (arith, here, below, within) in
-        let less : other % 64 < bit = omega (arith, here, below, within) in
-        no_turn words place other word
-        (first.none_before (other % 64) (subst (λ l. l ≤ other % 64) (sym is) (low_after from place other after word)) less)
-
-pub none_at_all : (words : List ℕ) (from place : ℕ) → length words ≤ place → NoneBefore words from place → IsFirstOf words from None
-none_at_all words from place all before turn after = by (cases_lt turn (place * 64))
-  where
-    by : (turn < place * 64) ⊎ (place * 64 ≤ turn) → has_turn words turn ≡ false
-    by (inl earlier) = before turn after earlier
-    by (inr past) =
-        ap (λ word. bit_at word (turn % 64) == 1) (get_or_past words (turn / 64) 0 (omega (arith, all, past)))
-        ∙ ap (λ k. k == 1) (bit_at-zero (turn % 64))

@@ -60,11 +60,6 @@ told_on first old new one more all is was same = is ∙ ap (λ t. told t more) w
 pub grows_on : (first old new : Option (List TraceEvent)) (more : List TraceEvent) → new ≡ told old more → TraceGrows first old → TraceGrows first new
 grows_on first old new more is grows = (grows.0 ++ more, is ∙ ap (λ t. told t more) grows.1 ∙ told_more first grows.0 more)
 
--- where no line is kept, none is told
-pub told_unkept : (trace : Option (List TraceEvent)) (more : List TraceEvent) → is_some trace ≡ false → trace ≡ told trace more
-told_unkept None more none = refl
-told_unkept (Some lines) more none = absurd (cc)
-
 pub none_kept : (trace : Option (List TraceEvent)) → trace ≡ None → IsSome trace → ⊥
 none_kept None is kept = absurd (cc)
 none_kept (Some lines) is kept = absurd (none-some _ (sym is))

@@ -40,11 +40,6 @@ counts_by (Some past) (Some outflow) (Some content) asking is = by (nat_lt conte
 pub counts : (view : View) (asking : Content) → request_of view ≡ Some asking → IsCounting view.past (given view 1) (known view 4) asking
 counts view asking is = counts_by view.past (given view 1) (known view 4) asking is
 
--- beside an outflow that isn't given a request counts
-pub counts_alone : (view : View) (asking : Content) → is_some view.past ≡ true → given view 1 ≡ None → known view 4 ≡ Some asking
-    → request_of view ≡ Some asking
-counts_alone view asking past none there = rw past rw none rw there refl
-
 -- ---- up to which number the outflow is given
 
 -- the request is known with a number up to this, and the past value is known

@@ -84,9 +84,3 @@ weaker basin policy step Fits Known old new before after result known on = recor
   rises = on.rises;
   few = on.few;
 }
-
-pub wants_runs : {A : Type 0} (basin : Draft) (before after : ℕ) (result : Result A NoMemory) (reran : A → List StepNo) (why : NoMemory)
-    → IsErrAnd result (λ fault. fault ≡ why) → before ≤ after → after ≤ before + basin.control.stamps.count
-    → CountsRuns basin before after result reran
-wants_runs basin before after (Ok done) reran why is rises few = absurd is
-wants_runs basin before after (Err fault) reran why is rises few = record { each = tt; rises = rises; few = few }

@@ -123,9 +123,6 @@ module _ (basin : Draft) (policy : Policy) (earlier later now : Log) (step : ℕ
 
 -- ---- the timesteps that are run
 
-step_numbers : List StepNo → List ℕ
-step_numbers steps = map (λ (step : StepNo). step.0) steps
-
 rising_more : (steps : List ℕ) (step : ℕ) → AreRising steps → All (λ one. one < step) steps → AreRising (steps ++ step ∷ [])
 rising_more [] step rising all = (All-nil (λ later. step < later), tt)
 rising_more (first ∷ steps) step rising all = (
