@@ -1,6 +1,6 @@
 -- What is so of a run's inputs and stays so with each event is so of the run, and what follows from it where a timestep is closed is so just
 -- before each closing.
-use Rattle.rw_laws.proofs.Common.{Bool, Cell, Draft, Done, Event, FireEnd, IsFault, IsRun, Leads, List, Log, None, Policy, Some, [], ap, arith}
+use Rattle.rw_laws.proofs.Common.{Bool, Cell, Draft, Done, Event, FireEnd, IsFault, IsLed, List, Log, MayLead, None, Policy, Some, [], ap, arith}
 use Rattle.rw_laws.proofs.Common.{before_closing, cells_of, ended, false, fault, if◌then◌else◌, is_closing, nat_tests, none-some, with_inputs, refl}
 use Rattle.rw_laws.proofs.Common.{same_Some, subst, sym, true, ℕ, ℤ, ◌==◌, ◌∙◌, ◌∷◌, ◌≡◌}
 use Rattle.rw_run.specs.Log.{placed}
@@ -9,11 +9,11 @@ use Rattle.rw_laws.proofs.Dispatches.{Asked_of, asked_of, idles, solves, stops}
 
 module _ (basin : Draft) (policy : Policy) (P : Log → Type 0)
     (next : (log : Log) (event : Event) → Came basin policy log event → P log → P (event ∷ log)) where
-  lead : (old : Log) (events : List Event) (new : Log) → Leads basin policy old events new → P old → P new
+  lead : (old : Log) (events : List Event) (new : Log) → MayLead basin policy old events new → P old → P new
   lead old [] new leads is = subst P (sym leads) is
   lead old (event ∷ events) new leads is = lead (event ∷ old) events new leads.1 (next old event (came basin policy old event leads.0) is)
 
-  pub along : (inputs : List (Cell × ℤ)) (log : Log) → IsRun basin policy inputs log → P (with_inputs [] inputs) → P log
+  pub along : (inputs : List (Cell × ℤ)) (log : Log) → IsLed basin policy inputs log → P (with_inputs [] inputs) → P log
   along inputs log run begun = lead (with_inputs [] inputs) run.events log run.leads begun
 
 -- ---- closings
@@ -62,7 +62,7 @@ module _ (basin : Draft) (policy : Policy) (P : Log → Type 0)
           subst (Q step) (same_Some _ _ is) (closing_of basin policy (λ s. Q s log) log event step (f log event both.0) comes here)
       by step before false there is = both.1 step before is
 
-  pub all_closed : (inputs : List (Cell × ℤ)) (log : Log) → IsRun basin policy inputs log → P (with_inputs [] inputs)
+  pub all_closed : (inputs : List (Cell × ℤ)) (log : Log) → IsLed basin policy inputs log → P (with_inputs [] inputs)
       → (step : ℕ) (before : Log) → before_closing step log ≡ Some before → Q step before
   all_closed inputs log run begun =
       (along basin policy (λ log. P log × AllClosed log) next_closed inputs log run

@@ -1,7 +1,7 @@
 -- How an event came to follow a log.
-use Rattle.rw_laws.proofs.Common.{Bool, Draft, Event, Fire, IsFault, Log, None, ObjectLimit, Option, Policy, RuleLimit, Some, Standing, after_objects}
-use Rattle.rw_laws.proofs.Common.{cells_of, closed, dispatched, dispatches, ended, false, fault, firing_of, firings, first_due, first_waiting}
-use Rattle.rw_laws.proofs.Common.{follows_in, if◌then◌else◌, inside, nat_le, nat_lt, next_of, none-some, opened, option_map, over, refl, rests}
+use Rattle.rw_laws.proofs.Common.{Bool, CanBeChosen, Draft, Event, Fire, IsFault, Log, MayFollow, None, ObjectLimit, Option, Policy, RuleLimit, Some, Standing, [], after_objects}
+use Rattle.rw_laws.proofs.Common.{cells_of, closed, dispatched, dispatches, ended, false, fault, firing_of, firings, first_due, waiting}
+use Rattle.rw_laws.proofs.Common.{follows_by, if◌then◌else◌, inside, nat_le, nat_lt, next_of, none-some, opened, option_map, over, refl, rests}
 use Rattle.rw_laws.proofs.Common.{same_Some, standing, sym, true, value_in, ℕ, ◌+◌, ◌≡◌}
 
 pub record Opens (log : Log) (event : Event) : Type 0 where
@@ -12,7 +12,7 @@ pub record Opens (log : Log) (event : Event) : Type 0 where
 pub record Closes (basin : Draft) (policy : Policy) (log : Log) (event : Event) : Type 0 where
   pub step : ℕ
   pub stands : standing log ≡ inside step
-  pub none_waits : first_waiting basin log ≡ None
+  pub none_waits : waiting basin log ≡ []
   pub none_due : first_due basin policy (cells_of basin log) log ≡ None
   pub is : event ≡ closed step
 
@@ -29,7 +29,6 @@ pub record Asks (basin : Draft) (log : Log) (event : Event) : Type 0 where
   pub step : ℕ
   pub stands : standing log ≡ inside step
   pub object : ℕ
-  pub waits : first_waiting basin log ≡ Some object
   pub is : event ≡ dispatched basin (cells_of basin log) object step
 
 pub data Came (basin : Draft) (policy : Policy) (log : Log) (event : Event) : Type 0 where
@@ -61,29 +60,30 @@ module _ (basin : Draft) (policy : Policy) (log : Log) (event : Event) where
   by_rule_limit step rule at due true is = ends (faults event _ is tt)
   by_rule_limit step rule at due false is = by_fire step rule at due (policy.fire rule step (value_in (cells_of basin log))) refl is
 
-  by_due : (step : ℕ) → standing log ≡ inside step → first_waiting basin log ≡ None → (due : Option ℕ)
+  by_due : (step : ℕ) → standing log ≡ inside step → waiting basin log ≡ [] → (due : Option ℕ)
       → first_due basin policy (cells_of basin log) log ≡ due
       → after_objects basin policy (cells_of basin log) log step due ≡ Some event → Came basin policy log event
   by_due step at none None due is =
       closes (record { step = step; stands = at; none_waits = none; none_due = due; is = sym (same_Some _ event is) })
   by_due step at none (Some rule) due is = by_rule_limit step rule at due (nat_le basin.control.rule_limit (firings log rule)) is
 
-  by_object_limit : (step object : ℕ) → standing log ≡ inside step → first_waiting basin log ≡ Some object → (reached : Bool)
+  by_object_limit : (step object : ℕ) → standing log ≡ inside step → (reached : Bool)
       → (if reached then fault (ObjectLimit (record { 0 = object }) (record { 0 = step }) (dispatches log object))
       else dispatched basin (cells_of basin log) object step) ≡ event → Came basin policy log event
-  by_object_limit step object at waits true is = ends (rw (← is) tt)
-  by_object_limit step object at waits false is = asks (record { step = step; stands = at; object = object; waits = waits; is = sym is })
+  by_object_limit step object at true is = ends (rw (← is) tt)
+  by_object_limit step object at false is = asks (record { step = step; stands = at; object = object; is = sym is })
 
-  by_waiting : (step : ℕ) → standing log ≡ inside step → (object : Option ℕ) → first_waiting basin log ≡ object
+  by_waiting : (step : ℕ) → standing log ≡ inside step → (object : Option ℕ) → CanBeChosen (waiting basin log) object
       → next_of basin policy (cells_of basin log) log step object ≡ Some event → Came basin policy log event
   by_waiting step at None waits is = by_due step at waits (first_due basin policy (cells_of basin log) log) refl is
   by_waiting step at (Some object) waits is =
-      by_object_limit step object at waits (nat_le basin.control.object_limit (dispatches log object)) (same_Some _ event is)
+      by_object_limit step object at (nat_le basin.control.object_limit (dispatches log object)) (same_Some _ event is)
 
-  by_standing : (at : Standing) → standing log ≡ at → follows_in basin policy log at ≡ Some event → Came basin policy log event
-  by_standing (rests step) at is = by_open step at (nat_lt step basin.control.stamps.count) is
-  by_standing (inside step) at is = by_waiting step at (first_waiting basin log) refl is
-  by_standing over at is = absurd (none-some event is)
+  by_standing : (at : Standing) → standing log ≡ at → (object : Option ℕ) → CanBeChosen (waiting basin log) object
+      → follows_by basin policy log object at ≡ Some event → Came basin policy log event
+  by_standing (rests step) at object waits is = by_open step at (nat_lt step basin.control.stamps.count) is
+  by_standing (inside step) at object waits is = by_waiting step at object waits is
+  by_standing over at object waits is = absurd (none-some event is)
 
-  pub came : follows_in basin policy log (standing log) ≡ Some event → Came basin policy log event
-  came is = by_standing (standing log) refl is
+  pub came : MayFollow basin policy log event → Came basin policy log event
+  came may = by_standing (standing log) refl may.object may.waits may.is

@@ -1,6 +1,6 @@
 -- What a timestep that was closed holds stays so to the end of the run.
 use Rattle.rw_laws.proofs.Common.{All, Bool, CanAsk, Cell, DividesByZero, Done, Draft, EndsOutside, Event, Fire, FireEnd, IsBasin, IsFault}
-use Rattle.rw_laws.proofs.Common.{IsPolicyOf, IsRun, List, Log, Policy, Some, Standing, Unknown, [], ap, arith, before_closing, cells_of, closed}
+use Rattle.rw_laws.proofs.Common.{IsLed, IsPolicyOf, List, Log, Policy, Some, Standing, Unknown, [], ap, arith, before_closing, cells_of, closed}
 use Rattle.rw_laws.proofs.Common.{closed-placed, due_is_rule, ended, false, fault, if◌then◌else◌, inl, inr, inside, is_closing, last_closed}
 use Rattle.rw_laws.proofs.Common.{nat_tests, none-some, opened, option_or, over, with_inputs, refl, rests, same_Some, standing, standing-placed}
 use Rattle.rw_laws.proofs.Common.{subst}
@@ -137,7 +137,7 @@ module _ (basin : Draft) (valid : IsBasin basin) (policy : Policy) (promise : Is
       asked_past log event at.step at.object at.stands (asked_of basin (cells_of basin log) at.object at.step event at.is) past
   next_past log event (ends why) past = ends_past log event why past
 
-  past_run : (inputs : List (Cell × ℤ)) (log : Log) → IsRun basin policy inputs log → ArePast basin log
+  past_run : (inputs : List (Cell × ℤ)) (log : Log) → IsLed basin policy inputs log → ArePast basin log
   past_run inputs log run = along basin policy (ArePast basin) next_past inputs log run (record {
     each = λ at early is. absurd (none-some early (sym (none_closed [] inputs (λ t. refl) at) ∙ is));
     last = subst (λ s. IsLast s (last_closed (with_inputs [] inputs))) (sym (standing-placed [] inputs refl)) (sym (closed-placed [] inputs));
@@ -145,12 +145,12 @@ module _ (basin : Draft) (valid : IsBasin basin) (policy : Policy) (promise : Is
   })
 
   -- a cell of a timestep that was closed, or of an earlier one, holds at the end what it held just before the closing
-  pub stays : (inputs : List (Cell × ℤ)) (log : Log) → IsRun basin policy inputs log → (step : ℕ) (before : Log)
+  pub stays : (inputs : List (Cell × ℤ)) (log : Log) → IsLed basin policy inputs log → (step : ℕ) (before : Log)
       → before_closing step log ≡ Some before
       → (cell : Cell) → cell.step.0 ≤ step → cells_of basin log cell ≡ cells_of basin before cell
   stays inputs log run step before is = ((past_run inputs log run).each step before is).same
 
   -- each timestep up to the last one that is closed was closed
-  pub closings : (inputs : List (Cell × ℤ)) (log : Log) → IsRun basin policy inputs log → (step : ℕ) → 1 ≤ step → step ≤ last_closed log
+  pub closings : (inputs : List (Cell × ℤ)) (log : Log) → IsLed basin policy inputs log → (step : ℕ) → 1 ≤ step → step ≤ last_closed log
       → (before : Log) × (before_closing step log ≡ Some before)
   closings inputs log run = (past_run inputs log run).all

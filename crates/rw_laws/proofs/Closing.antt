@@ -1,6 +1,6 @@
 -- What holds where a timestep of a run is closed.
 use Rattle.rw_laws.proofs.Common.{AllByRecursion, Bool, Cell, Cells, DividesByZero, Done, Draft, EndsOutside, Event, Fire, FireEnd, Firing, IsBasin}
-use Rattle.rw_laws.proofs.Common.{IsFault, IsPolicyOf, IsRun, List, Log, Policy, Some, Standing, Unknown, [], ap, arith, asked_for, asked_of_rule}
+use Rattle.rw_laws.proofs.Common.{IsFault, IsLed, IsPolicyOf, List, Log, Policy, Some, Standing, Unknown, [], ap, arith, asked_for, asked_of_rule}
 use Rattle.rw_laws.proofs.Common.{before_closing, cells_looked, cells_of, due_is_rule, ended, false, fault, fired, idle, if◌then◌else◌, inside}
 use Rattle.rw_laws.proofs.Common.{last_firing, last_ones, looks_at, looks_of, nat_tests, none-some, over, with_inputs, puts_written, refl, rests}
 use Rattle.rw_laws.proofs.Common.{same_Some, standing, standing-placed, subst, sym, true, value_in, weaker_all, ℕ, ℤ, ◌==◌, ◌∙◌, ◌∷◌, ◌≡◌, ◌≤◌}
@@ -142,7 +142,7 @@ module _ (basin : Draft) (valid : IsBasin basin) (policy : Policy) (promise : Is
     fired = subst (FiredAt basin policy (with_inputs [] inputs)) (sym (standing-placed [] inputs refl)) tt;
   }
 
-  pub rules_stand : (inputs : List (Cell × ℤ)) (log : Log) → IsRun basin policy inputs log → (step : ℕ) (before : Log)
+  pub rules_stand : (inputs : List (Cell × ℤ)) (log : Log) → IsLed basin policy inputs log → (step : ℕ) (before : Log)
       → before_closing step log ≡ Some before
       → AllStandBy basin policy step before
   rules_stand inputs log run = all_closed basin policy (IsWithin basin policy) next_within (AllStandBy basin policy) (λ log event within at.

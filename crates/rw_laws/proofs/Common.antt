@@ -61,10 +61,12 @@ pub use Rattle.rw_run.specs.Next.{Policy, after_objects, agenda_of, asked_by_rul
 pub use Rattle.rw_run.specs.Next.{is_changed, is_due, is_put_again, last_firing, last_ones, next_of}
 pub use Rattle.rw_run.specs.Policy.{CanAsk, IsPolicyOf, IsRule}
 pub use Rattle.rw_run.specs.RunOf.{IsRunOf, last_closed}
-pub use Rattle.rw_run.specs.Runs.{IsRun, Leads, Standing, follows_in, inside, over, with_inputs, rests, standing}
+pub use Rattle.rw_run.specs.Choice.{CanBeChosen, MayFollow, MayLead}
+pub use Rattle.rw_run.specs.Runs.{IsRun, Standing, follows_by, inside, over, with_inputs, rests, standing}
+pub use Rattle.rw_laws.specs.AnyOrder.{IsLed}
 pub use Rattle.rw_run.specs.Step.{before_closing, is_closing}
 pub use Rattle.rw_run.specs.Times.{times}
-pub use Rattle.rw_run.specs.Waiting.{ends_wait, first_of, first_waiting, is_at, is_put_at, numbers, since, waiting, wakes}
+pub use Rattle.rw_run.specs.Waiting.{ends_wait, is_at, is_put_at, numbers, since, waiting, wakes}
 pub use Rattle.rw_run.specs.declared.fault.RunFault.TheVariants.{ObjectLimit, RuleLimit}
 pub use Rattle.rw_run.specs.declared.run.Run.{Run}
 pub use Rattle.rw_dispatch.proofs.Viewed.{has_slot, known-view}

@@ -1,5 +1,5 @@
 -- The laws of priority, of rules and of balance, and what every run keeps.
-use Rattle.rw_laws.proofs.Common.{Cell, Draft, IsBalanced, IsBasin, IsPolicyOf, IsRun, IsRunOf, List, Log, Policy, Run, Some, before_closing}
+use Rattle.rw_laws.proofs.Common.{Cell, Draft, IsBalanced, IsBasin, IsLed, IsPolicyOf, IsRunOf, List, Log, Policy, Run, Some, before_closing}
 use Rattle.rw_laws.proofs.Common.{cells_of, held, subst, sym, ℕ, ℤ, ◌∙◌, ◌≡◌, ◌≤◌}
 use Rattle.rw_laws.specs.Balances.{AllBalanced}
 use Rattle.rw_laws.specs.Laws.{KeepsLaws}
@@ -13,30 +13,30 @@ use Rattle.rw_laws.proofs.Staying.{same_view}
 use Rattle.rw_laws.proofs.Along.{along}
 
 pub priority : (basin : Draft) (policy : Policy) (inputs : List (Cell × ℤ)) (log : Log) → IsBasin basin → IsPolicyOf basin policy
-    → IsRun basin policy inputs log → KeepPriority basin log
+    → IsLed basin policy inputs log → KeepPriority basin log
 priority basin policy inputs log valid promise run =
     (along basin policy (IsWithin basin policy) (next_within basin valid policy promise) inputs log run
     (begin_within basin valid policy promise inputs)).holds.priority
 
 pub rules : (basin : Draft) (policy : Policy) (inputs : List (Cell × ℤ)) (log before : Log) (step : ℕ) → IsBasin basin → IsPolicyOf basin policy
-    → IsRun basin policy inputs log
+    → IsLed basin policy inputs log
     → before_closing step log ≡ Some before → AllStandBy basin policy step before
 rules basin policy inputs log before step valid promise run closes = rules_stand basin valid policy promise inputs log run step before closes
 
 pub balance : (basin : Draft) (policy : Policy) (inputs : List (Cell × ℤ)) (log before : Log) (step : ℕ) → IsBasin basin → IsPolicyOf basin policy
-    → IsRun basin policy inputs log
+    → IsLed basin policy inputs log
     → before_closing step log ≡ Some before → AllBalanced basin step (cells_of basin before)
 balance basin policy inputs log before step valid promise run closes = balances basin valid policy promise inputs log run step before closes
 
 pub closed_stay : (basin : Draft) (policy : Policy) (inputs : List (Cell × ℤ)) (log before : Log) (step : ℕ) → IsBasin basin → IsPolicyOf basin policy
-    → IsRun basin policy inputs log
+    → IsLed basin policy inputs log
     → before_closing step log ≡ Some before → (cell : Cell) → cell.step.0 ≤ step → cells_of basin log cell ≡ cells_of basin before cell
 closed_stay basin policy inputs log before step valid promise run closes = stays basin valid policy promise inputs log run step before closes
 
-pub every_run : (basin : Draft) (policy : Policy) (inputs : List (Cell × ℤ)) (log : Log) (run : Run) → IsBasin basin → IsPolicyOf basin policy
-    → IsRun basin policy inputs log
+pub every_order : (basin : Draft) (policy : Policy) (inputs : List (Cell × ℤ)) (log : Log) (run : Run) → IsBasin basin → IsPolicyOf basin policy
+    → IsLed basin policy inputs log
     → IsRunOf basin log run → KeepsLaws basin policy log run
-every_run basin policy inputs log run valid promise whole comes = record {
+every_order basin policy inputs log run valid promise whole comes = record {
   links = λ cell other known shared. comes.cells cell ∙ links basin log cell other known shared ∙ sym (comes.cells other);
   priority = priority basin policy inputs log valid promise whole;
   steps = λ step first last.

@@ -19,3 +19,4 @@ pub mod Staying
 pub mod Settles
 pub mod Closed
 pub mod Laws
+pub mod Rulesets

@@ -1,8 +1,8 @@
 -- An object that doesn't wait is balanced; where a timestep is closed none waits.
 use Rattle.rw_laws.proofs.Common.{All, AllByRecursion, Bool, CanAsk, Cell, Done, Draft, Event, Fire, FireEnd, Firing, IsBalanced, IsBasin, IsFault}
-use Rattle.rw_laws.proofs.Common.{IsPolicyOf, IsRun, Kind, List, Log, None, Object, Option, Policy, Some, Standing, Unknown, [], ap, arith, asked_for}
+use Rattle.rw_laws.proofs.Common.{IsLed, IsPolicyOf, Kind, List, Log, None, Object, Option, Policy, Some, Standing, Unknown, [], ap, arith, asked_for}
 use Rattle.rw_laws.proofs.Common.{asked_of_rule, before_closing, cells_of, code_of, cond, data_balanced, due_is_rule, ended, ends_wait, false, fault}
-use Rattle.rw_laws.proofs.Common.{fired, first_of, first_waiting, idle, idle_balanced, inl, inr, inside, is_data, is_put_at, is_some, last_ones}
+use Rattle.rw_laws.proofs.Common.{fired, idle, idle_balanced, inl, inr, inside, is_data, is_put_at, is_some, last_ones}
 use Rattle.rw_laws.proofs.Common.{length, looks_at, looks_of, nat_tests, none-some, none_bits, not, numbers, object_at, opened, option_map, over}
 use Rattle.rw_laws.proofs.Common.{with_inputs, puts_written, refl, rests, same_Some, since, solve_of, solved_balanced, solved_by, standing}
 use Rattle.rw_laws.proofs.Common.{standing-placed, subst, sym, times, times-numbers, times-waiting, true, unwrap_or, value_in, view_of, waiting}
@@ -195,13 +195,9 @@ module _ (basin : Draft) (valid : IsBasin basin) (policy : Policy) (promise : Is
 
   -- ---- where none waits
 
-  no_since : (log : Log) (object : ℕ) (kind : Kind) → KindIs basin object kind → first_waiting basin log ≡ None → since basin log object ≡ None
+  no_since : (log : Log) (object : ℕ) (kind : Kind) → KindIs basin object kind → waiting basin log ≡ [] → since basin log object ≡ None
   no_since log object kind is none = by (since basin log object) refl
     where
-      empty : (xs : List ℕ) → first_of xs ≡ None → xs ≡ []
-      empty [] e = refl
-      empty (x ∷ xs) e = absurd (none-some x (sym e))
-
       of : IsObjectOf basin object kind
       of = is_object_of basin object kind valid is
 
@@ -210,7 +206,7 @@ module _ (basin : Draft) (valid : IsBasin basin) (policy : Policy) (promise : Is
           of.last in grind (arith, nat_tests, counted, low, high)
 
       counted : 0 ≡ cond (is_some (since basin log object)) (times object (numbers (length basin.objects))) 0
-      counted = ap (times object) (sym (empty (waiting basin log) none)) ∙ times-waiting basin log object
+      counted = ap (times object) (sym none) ∙ times-waiting basin log object
 
       by : (found : Option ℕ) → since basin log object ≡ found → since basin log object ≡ None
       by None at = at
@@ -224,7 +220,7 @@ module _ (basin : Draft) (valid : IsBasin basin) (policy : Policy) (promise : Is
       let here : SettledIn basin log at.step =
       subst (SettledAt basin log) at.stands settled in here object kind is (no_since log object kind is at.none_waits)
 
-  pub balances : (inputs : List (Cell × ℤ)) (log : Log) → IsRun basin policy inputs log → (step : ℕ) (before : Log)
+  pub balances : (inputs : List (Cell × ℤ)) (log : Log) → IsLed basin policy inputs log → (step : ℕ) (before : Log)
       → before_closing step log ≡ Some before
       → AllBalanced basin step (cells_of basin before)
   balances inputs log run = all_closed basin policy (λ log. IsWithin basin policy log × SettledAt basin log (standing log))

@@ -1,4 +1,5 @@
 pub mod Links
+pub mod AnyOrder
 pub mod Priority
 pub mod Rules
 pub mod Balances

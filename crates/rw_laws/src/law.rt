@@ -20,6 +20,13 @@ ghost use Rattle.rpl_verify.specs.Verified.{verified};
 ghost use Rattle.rpl_verify.specs.Verified.{Accepted};
 ghost use Rattle.rw_rules.specs.Rules.{policy_in};
 ghost use Rattle.rw_engine.specs.Passing.{ComesTo};
+ghost use Rattle.rpl_parse.specs.Bounds.{function_count, rule_count};
+ghost use Rattle.rpl_rulesets.specs.RulesPolicy.{policy_of_rules};
+ghost use Rattle.rpl_tree.specs.Tree.{Declared};
+ghost use Rattle.rpl_types.specs.HasType.{IsTyped};
+ghost use Rattle.rw_dispatch.specs.Pick.{Picking};
+ghost use Rattle.rw_engine.specs.Picked.{ComesToPicked};
+ghost use Rattle.rw_laws.specs.AnyOrder.{IsLed};
 ghost use Rattle.rw_laws.specs.Balances.{AllBalanced};
 ghost use Rattle.rw_laws.specs.Laws.{KeepsLaws};
 ghost use Rattle.rw_laws.specs.Links.{HoldAsLinked};
@@ -28,7 +35,9 @@ ghost use Rattle.rw_laws.specs.Rules.{AllStandBy};
 ghost use Rattle.rw_laws.specs.Worked.{apart, by_rule, changed_after, dam_alone, dam_events, dam_log, gage, held_low, inflow, put_at, started, torn, weakened};
 
 use rpl_policy::law::code_keeps_promises;
+use rpl_rulesets::law::{rules_keep_promises, rulesets_have_runs};
 use rpl_verify::law::answered_code_is_safe;
+use rw_run::law::choices;
 
 /// What every run keeps, of the table that it comes to: linked slots agree; no value gave way to one of lower priority; and
 /// of each timestep that was closed balances are true of what the table has, and each rule's last firing stood.
@@ -36,7 +45,27 @@ pub fn every_run()
     ensures { (basin : Draft) (policy : Policy) (inputs : List (Cell × ℤ)) (log : Log) (run : Run)
         → IsBasin basin → IsPolicyOf basin policy → IsRun basin policy inputs log
         → IsRunOf basin log run → KeepsLaws basin policy log run }
+{
+    every_order();
+    choices();
+}
+
+/// And so it is in whatever order the objects that wait are dispatched.
+pub fn every_order()
+    ensures { (basin : Draft) (policy : Policy) (inputs : List (Cell × ℤ)) (log : Log) (run : Run)
+        → IsBasin basin → IsPolicyOf basin policy → IsLed basin policy inputs log
+        → IsRunOf basin log run → KeepsLaws basin policy log run }
 {}
+
+/// So the table of a run in which a rule picks them keeps the laws: that of `run_any`, by whatever rule.
+pub fn every_pick()
+    ensures { (basin : Draft) (policy : Policy) (rule : Picking) (inputs : Inputs) (run : Run)
+        → IsBasin basin → IsPolicyOf basin policy
+        → (comes : ComesToPicked basin policy rule inputs run)
+        → KeepsLaws basin policy comes.log run }
+{
+    every_order();
+}
 
 /// So does what `run_all` comes to, by verified code and whatever the inputs, of the very log that it comes to.
 pub fn every_run_of_code()
@@ -48,6 +77,19 @@ pub fn every_run_of_code()
     every_run();
     code_keeps_promises();
     answered_code_is_safe();
+}
+
+/// And so does the table of a run by an accepted ruleset, by what its rules mean: the one that `run` writes.
+pub fn every_run_of_rules()
+    ensures { (basin : Draft) (rules : List Declared) (inputs : List (Cell × ℤ)) (log : Log)
+        (run : Run) → IsBasin basin → IsTyped basin rules
+        → rule_count rules ≤ 200 → function_count rules ≤ 200
+        → IsRun basin (policy_of_rules basin rules) inputs log → IsRunOf basin log run
+        → KeepsLaws basin (policy_of_rules basin rules) log run }
+{
+    every_run();
+    rules_keep_promises();
+    rulesets_have_runs();
 }
 
 /// All cells of a link group are held alike after any log.
@@ -62,7 +104,9 @@ pub fn priority()
     ensures { (basin : Draft) (policy : Policy) (inputs : List (Cell × ℤ)) (log : Log)
         → IsBasin basin → IsPolicyOf basin policy → IsRun basin policy inputs log
         → KeepPriority basin log }
-{}
+{
+    choices();
+}
 
 /// Just before a timestep of a run is closed: of each object whose solvable and fixed terms and past value are known, the
 /// balance is true of what is held, and each derived slot holds what is derived.
@@ -70,7 +114,9 @@ pub fn balance()
     ensures { (basin : Draft) (policy : Policy) (inputs : List (Cell × ℤ)) (log before : Log)
         (step : ℕ) → IsBasin basin → IsPolicyOf basin policy → IsRun basin policy inputs log
         → before_closing step log ≡ Some before → AllBalanced basin step (cells_of basin before) }
-{}
+{
+    choices();
+}
 
 /// Just before a timestep of a run is closed each rule fired in it and would do the same again, and what it put last stands or
 /// gave way to a put of no lower priority.
@@ -78,7 +124,9 @@ pub fn rules()
     ensures { (basin : Draft) (policy : Policy) (inputs : List (Cell × ℤ)) (log before : Log)
         (step : ℕ) → IsBasin basin → IsPolicyOf basin policy → IsRun basin policy inputs log
         → before_closing step log ≡ Some before → AllStandBy basin policy step before }
-{}
+{
+    choices();
+}
 
 /// A cell of a timestep that was closed, or of an earlier one, holds at the end of the run what it held just before the closing.
 pub fn closed_timesteps_stay()
@@ -87,7 +135,9 @@ pub fn closed_timesteps_stay()
         → before_closing step log ≡ Some before
         → (cell : Cell) → cell.step.0 ≤ step
         → cells_of basin log cell ≡ cells_of basin before cell }
-{}
+{
+    choices();
+}
 
 /// A dam on one day, into which 100 flow. It comes to hold 1020, of 1000 and 100 less 80; the 50 that rule 2 put gave way to what
 /// the dam solved from rule 1's storage, at priority 1.

@@ -1,5 +1,7 @@
+use Rattle.rw_laws.proofs.Common.{with_inputs, []}
 use Rattle.rw_laws.proofs.Laws.{rules}
 use Rattle.rw_laws.proofs.law.rules.Goals as goal
 
 pub returns : goal.returns
-returns c = rules
+returns c = λ basin policy inputs log before step valid promise run closes. rules basin policy inputs log before step valid promise
+    (record { events = run.events; leads = c.choices.ensures.events basin policy (with_inputs [] inputs) run.events log run.leads }) closes
