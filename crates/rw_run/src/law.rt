@@ -18,7 +18,7 @@ ghost use Rattle.rw_run.specs.Behind.{IsBehind};
 ghost use Rattle.rw_run.specs.Choice.{MayFollow, MayLead};
 ghost use Rattle.rw_run.specs.RunOf.{end_of, last_closed, opened_by, opened_in};
 ghost use Rattle.rw_run.specs.Step.{before_closing, before_opening, cell_count, events_of, line_count, looked_at};
-ghost use Rattle.rw_run.specs.Reuse.{AreRerun, AreRising, IsHeldAlike, IsReused};
+ghost use Rattle.rw_run.specs.Reuse.{AreOpened, AreRerun, AreRising, IsHeldAlike, IsReused, most_kept};
 ghost use Rattle.rw_run.specs.Timestep.{AreLooked, IsTimestep};
 ghost use Rattle.rw_run.specs.declared.held.Held.{Held};
 ghost use Rattle.rw_run.specs.Worked.{across, across_run, sets_ahead, ahead_run, data_object_basin, both_days, both_days_run, both_ends, both_ends_run, counts_up, counted_run, divided, divided_run, faulty_run, five, first_of_ahead, followed, followed_run, given_once, given_run, given_seven_run, linked_basin, needy, needy_run, one_end_run, one_of_each, outranked, outranked_run, put_twice, put_twice_run, raises_x, raised_run, raised_twice, seven, three};
@@ -165,6 +165,12 @@ pub fn worked_reruns()
     ensures opened { AreRerun (data_object_basin HighFirst 2) (log_after faulty_run [])
         (log_after needy_run (with_inputs [] five)) (1 ∷ 2 ∷ []) }
     ensures rising { (first later : ℕ) → AreRising (first ∷ later ∷ []) → first < later }
+{}
+
+/// Which timesteps a run opened, and how large one is that is kept.
+pub fn worked_openings()
+    ensures first_alone { ¬ AreOpened (log_after raised_twice []) (1 ∷ []) }
+    ensures most { most_kept ≡ 6000 }
 {}
 
 /// Which objects wait after an event, by those that waited before it. A timestep begins with all but the data objects. A

@@ -26,14 +26,22 @@ ghost use Rattle.rw_top.specs.Command.{AskOne, AskNothing, AskForCommand, order,
 ghost use Rattle.rw_words.specs.Command.{Command};
 ghost use Rattle.rw_words.specs.declared.order.Order.{Order};
 ghost use Rattle.rw_top.specs.FirstCall.{IsFirstCall};
-ghost use Rattle.rw_top.specs.Policy.{BadCode, RulesRefusal, BadRules, BadBlocks, PolicyFile, Ruleset, Code, IsPolicyFileOf};
+ghost use Rattle.rw_top.specs.Policy.{BadCode, RulesRefusal, BadRules, BadBlocks, PolicyFile, Ruleset, Code, IsPolicyFileOf, code_in_file};
 ghost use Rattle.rw_top.specs.Promise.{Promise, WroteCheck, WroteCode, WroteRules, WroteRun, WroteSample, WroteWhy};
 ghost use Rattle.rw_top.specs.Reading.{AcceptsAll, HoldsTooLong, LacksCell, ReadsInputs, RefusesEdits, RefusesInputs, RefusesModel, RefusesPolicy};
 ghost use Rattle.rw_top.specs.Refusal.{FailsToRead, FindsTooLong};
 ghost use Rattle.rw_top.specs.Told.{AreTold};
-ghost use Rattle.rw_top.specs.Written.{WritesFront, WritesSections};
+ghost use Rattle.rw_top.specs.Written.{CountsOfFiles, OfFiles, WritesFront, WritesSections};
+ghost use Rattle.std.specs.Prelude.{IsTrue};
+ghost use Rattle.rw_top.specs.Sections.{GivenInputs};
+ghost use Rattle.rw_words.specs.declared.job.Job.TheVariants as J;
+ghost use Rattle.rw_run.specs.Log.{Log};
+ghost use Rattle.rw_run.specs.Runs.{IsRun};
+ghost use Rattle.rw_inputs.specs.Placings.{placings};
+ghost use Rattle.rpl_policy.specs.Firings.{AreVerified};
+ghost use Rattle.rpl_tree.specs.Budget.{Budget};
 ghost use Rattle.rw_base.specs.declared.number.StepNo.{StepNo};
-ghost use Rattle.rw_top.specs.RunText.{IsRunText, IsSampleOf, IsSimulated, no_extras};
+ghost use Rattle.rw_top.specs.RunText.{IsRulesText, IsRunText, IsSampleOf, IsSimulated, no_extras, policy_in_run};
 ghost use Rattle.rw_top.specs.declared.extras.Extras.{Extras};
 ghost use Rattle.rw_top.specs.declared.refusal.File.{File};
 
@@ -78,6 +86,29 @@ pub fn one_order()
 {
     one_run();
 }
+
+/// What else a call keeps: words that ask for nothing are refused, timesteps that are reused aren't counted, and no file changes.
+pub fn kept()
+    ensures words { (call : Call) (status : ℕ) → Promise call status → AskNothing call.words
+        → (status ≡ 2) ⊎ (status ≡ 5) }
+    ensures counted { (call : Call) (status : ℕ) (command : Command) → Promise call status
+        → status ≤ 1 → AskForCommand call.words command → command.job ≡ J.Run
+        → IsTrue command.reuse
+        → OfFiles command call.shelf.before.holds (λ files. CountsOfFiles files call.steps) }
+    ensures held { (call : Call) (status : ℕ) (path : List ℕ) → Promise call status
+        → call.shelf.after.holds path ≡ call.shelf.before.holds path }
+{}
+
+/// Each firing of a run by a policy is the machine's on its code, never stuck and within its budget.
+pub fn firings_of_sections()
+    ensures { (basin : Draft) (policy : PolicyFile) (extras : Extras) (number : ℕ)
+        (given : GivenInputs) (end : RunEnd) (text : List ℕ)
+        → IsRulesText basin policy extras number given end text
+        → (log : Log) × (budgets : List Budget)
+        × IsRun basin (policy_in_run basin policy) (placings basin given.inputs) log
+        × AreAccepted basin (code_in_file policy) budgets
+        × AreVerified basin (code_in_file policy) budgets log }
+{}
 
 /// The sample of a seed has one line.
 pub fn one_sample()
