@@ -2,6 +2,7 @@ mod Common
 pub mod CommandLemmas
 pub mod OneReading
 pub mod OneText
+pub mod OneAnswer
 pub mod Findings
 pub mod CauseLemmas
 pub mod DueLemmas

@@ -33,7 +33,7 @@ ghost use Rattle.rw_top.specs.Refusal.{FailsToRead, FindsTooLong};
 ghost use Rattle.rw_top.specs.Told.{AreTold};
 ghost use Rattle.rw_top.specs.Written.{CountsOfFiles, OfFiles, WritesFront, WritesSections};
 ghost use Rattle.std.specs.Prelude.{IsTrue};
-ghost use Rattle.rw_top.specs.Sections.{GivenInputs};
+ghost use Rattle.rw_top.specs.Sections.{AreSections, GivenInputs, first_given};
 ghost use Rattle.rw_words.specs.declared.job.Job.TheVariants as J;
 ghost use Rattle.rw_run.specs.Log.{Log};
 ghost use Rattle.rw_run.specs.Runs.{IsRun};
@@ -41,7 +41,9 @@ ghost use Rattle.rw_inputs.specs.Placings.{placings};
 ghost use Rattle.rpl_policy.specs.Firings.{AreVerified};
 ghost use Rattle.rpl_tree.specs.Budget.{Budget};
 ghost use Rattle.rw_base.specs.declared.number.StepNo.{StepNo};
-ghost use Rattle.rw_top.specs.RunText.{IsRulesText, IsRunText, IsSampleOf, IsSimulated, no_extras, policy_in_run};
+ghost use Rattle.rw_base.specs.declared.number.Cell.{Cell};
+ghost use Rattle.rw_inputs.specs.Edits.{Batch};
+ghost use Rattle.rw_top.specs.RunText.{IsRulesText, IsRunText, IsSampleOf, IsSimulated, IsWhyOfRules, no_extras, policy_in_run};
 ghost use Rattle.rw_top.specs.declared.extras.Extras.{Extras};
 ghost use Rattle.rw_top.specs.declared.refusal.File.{File};
 
@@ -82,6 +84,31 @@ pub fn one_order()
         → ((slot step : ℕ) → value_at inputs slot step ≡ value_at others slot step)
         → IsSimulated order basin extras number inputs end text
         → IsSimulated order basin extras number others other more
+        → (end ≡ other) × (text ≡ more) }
+{
+    one_run();
+}
+
+/// A basin, a policy, inputs and batches of edits have one text, the timesteps that are told as run again among it, and one end; so
+/// has each section by itself; and a cell has one reason. All that counts of inputs are their values.
+pub fn one_answer()
+    ensures section { (basin : Draft) (policy : PolicyFile) (extras : Extras) (number : ℕ)
+        (given : GivenInputs) (end other : RunEnd) (text more : List ℕ)
+        → IsRulesText basin policy extras number given end text
+        → IsRulesText basin policy extras number given other more
+        → (end ≡ other) × (text ≡ more) }
+    ensures sections { (basin : Draft) (policy : PolicyFile) (extras : Extras)
+        (inputs others : Inputs)
+        (batches : List Batch) (end other : RunEnd) (texts more : List (List ℕ))
+        → ((slot step : ℕ) → value_at inputs slot step ≡ value_at others slot step)
+        → AreSections (IsRulesText basin policy extras) 0 (first_given inputs) batches end texts
+        → AreSections (IsRulesText basin policy extras) 0 (first_given others) batches other more
+        → (end ≡ other) × (texts ≡ more) }
+    ensures why { (basin : Draft) (policy : PolicyFile) (inputs others : Inputs)
+        (cell : Cell) (end other : RunEnd) (text more : List ℕ)
+        → ((slot step : ℕ) → value_at inputs slot step ≡ value_at others slot step)
+        → IsWhyOfRules basin policy inputs cell end text
+        → IsWhyOfRules basin policy others cell other more
         → (end ≡ other) × (text ≡ more) }
 {
     one_run();
