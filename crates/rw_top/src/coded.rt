@@ -5,8 +5,11 @@ ghost use Rattle.rpl_tree.specs.Seen.{rules_of};
 ghost use Rattle.rpl_types.specs.Judged.{rules_judged};
 ghost use Rattle.rpl_verify.specs.Verified.{Accepted, verified};
 ghost use Rattle.rw_top.specs.Policy.{Ruleset, Code};
+ghost use Rattle.rw_top.specs.Ready.{IsFit};
 ghost use Rattle.rw_top.specs.RunText.{IsCodeOf};
+ghost use Rattle.rw_top.specs.Seen.{policy_of};
 
+use crate::policy::Policy;
 use rpl_compile::accepted::compiled_budgets;
 use rpl_compile::compile;
 use rpl_parse::law::bounds;
@@ -47,4 +50,17 @@ pub(crate) fn code_of_rules(
     let _rules = typed.rules();
     let code = compile(alloc, typed, basin)?;
     Ok(code)
+}
+
+/// The code by which a policy that is accepted for the basin runs. It is made once, whatever runs there are.
+pub(crate) fn code_of(alloc: Global, policy: Policy, basin: &Basin) -> Result<Verified, NoMemory>
+    requires { IsFit basin.now policy }
+    ensures fits { IfOk result (λ code. verified basin.now code.blocks ≡ Ok code) }
+    ensures runs { IfOk result (IsCodeOf basin.now (policy_of policy)) }
+{
+    code_runs();
+    match policy {
+        Policy::Ruleset(typed) => code_of_rules(alloc, &typed, basin),
+        Policy::Code(code) => Ok(code),
+    }
 }

@@ -1,25 +1,27 @@
-ghost use Rattle.std.specs.Prelude.{◌≡◌, ◌≤◌, ℕ, List, [], length, map, option_map, unwrap_or, IfErr, IfOk, IsTrue, MatchResult};
+ghost use Rattle.std.specs.Prelude.{◌≡◌, ◌≤◌, ℕ, List, [], length, map, option_map, unwrap_or, IfErr, IfOk, IsTrue, MatchResult, Ok};
 ghost use Rattle.std.specs.List.{All};
 ghost use Rattle.rw_inputs.specs.Edits.{IsBatch};
 ghost use Rattle.rw_inputs.specs.Inputs.{IsInputsOf};
 ghost use Rattle.rw_io.specs.Outside.{change};
 ghost use Rattle.rw_method.specs.Catalogue.{AreInOrder};
+ghost use Rattle.rpl_verify.specs.Verified.{verified};
 ghost use Rattle.rw_top.specs.Command.{command_said};
-ghost use Rattle.rw_top.specs.Ready.{AreReady, IsFit};
+ghost use Rattle.rw_top.specs.Policy.{PolicyFile};
+ghost use Rattle.rw_top.specs.Ready.{AreReady};
 ghost use Rattle.rw_top.specs.Refusal.{Cause};
-ghost use Rattle.rw_top.specs.RunText.{CountsSections, IsRulesText};
+ghost use Rattle.rw_top.specs.RunText.{CountsSections, IsCodeOf, IsRulesText};
 ghost use Rattle.rw_top.specs.Sections.{AppendsAll, StopsAmong, first_given};
-ghost use Rattle.rw_top.specs.Seen.{files_seen, policy_of};
+ghost use Rattle.rw_top.specs.Seen.{files_seen};
 ghost use Rattle.rw_words.specs.declared.job.Job.TheVariants as J;
 ghost use Rattle.rw_top.specs.Written.{Appends, CountsOfFiles, CountsReused, IsOne, Stops, WritesAll, status_of_end};
 
 use crate::Refusal;
 use crate::check::budgets;
+use crate::coded::code_of;
 use crate::command::Command;
 use crate::compile::code_text;
 use crate::extras::Extras;
 use crate::files::{Files, read_files};
-use crate::policy::Policy;
 use crate::reused::write_reused;
 use crate::sample::sample_by_policy;
 use crate::sections::write_sections;
@@ -27,6 +29,7 @@ use crate::setup::RunSetup;
 use crate::simulate::text_without_rules;
 use crate::why::why_by_policy;
 use rpl_predef::Predefs;
+use rpl_verify::Verified;
 use rw_base::{Ledger, NoMemory, Steps};
 use rw_engine::RunEnd;
 use rw_inputs::{Batch, Inputs};
@@ -189,11 +192,11 @@ fn batches_of(edits: &Option<Vec<Batch>>) -> &[Batch]
     }
 }
 
-// Writes the sections of the runs from inputs and after batches of edits, and takes timesteps over where that is asked for.
+// Writes the sections of the runs by code from inputs and after batches of edits, and takes timesteps over where that is asked for.
 fn write_runs<K: Sink, L: Ledger>(
     alloc: Global,
     setup: &RunSetup<'_>,
-    policy: &Policy,
+    by: &Verified,
     extras: Extras,
     inputs: Inputs,
     batches: &[Batch],
@@ -202,23 +205,25 @@ fn write_runs<K: Sink, L: Ledger>(
 ) -> Result<RunEnd, Refusal>
     requires order { AreInOrder
         (map (λ b. code (b.vtable, b.value)) setup.now.methods.now.methods.items) }
-    requires fits { IsFit setup.now.basin.now policy.now }
+    requires fits { verified setup.now.basin.now by.now.blocks ≡ Ok by.now }
     requires inputs { IsInputsOf setup.now.basin.now inputs }
     requires batches { All (IsBatch setup.now.basin.now) batches.now }
     requires few { length batches.now ≤ 64 }
-    ensures text { MatchResult result
-        (AppendsAll (IsRulesText setup.now.basin.now (policy_of policy.now) extras)
+    ensures text { (policy : PolicyFile) → IsCodeOf setup.now.basin.now policy by.now
+        → MatchResult result
+        (AppendsAll (IsRulesText setup.now.basin.now policy extras)
         0 (first_given inputs) batches.now (change (K.seen out.old) (K.seen out.new)))
-        (StopsAmong (IsRulesText setup.now.basin.now (policy_of policy.now) extras)
+        (StopsAmong (IsRulesText setup.now.basin.now policy extras)
         0 (first_given inputs) batches.now (change (K.seen out.old) (K.seen out.new))) }
-    ensures counted { IsTrue extras.reuse → IfOk result
-        (λ end. CountsSections setup.now.basin.now (policy_of policy.now) inputs batches.now
+    ensures counted { (policy : PolicyFile) → IsCodeOf setup.now.basin.now policy by.now
+        → IsTrue extras.reuse → IfOk result
+        (λ end. CountsSections setup.now.basin.now policy inputs batches.now
         (change steps.old steps.new)) }
 {
     if extras.reuse {
-        write_reused(alloc, setup, policy, extras, inputs, batches, steps, out)
+        write_reused(alloc, setup, by, extras, inputs, batches, steps, out)
     } else {
-        write_sections(alloc, setup, policy, extras, inputs, batches, steps, out)
+        write_sections(alloc, setup, by, extras, inputs, batches, steps, out)
     }
 }
 
@@ -247,11 +252,15 @@ fn run<K: Sink, L: Ledger>(
         edits,
         cell: _,
     } = files;
-    let Some(policy) = &policy else {
+    let Some(policy) = policy else {
         unreachable!();
     };
     let Some(inputs) = inputs else {
         unreachable!();
+    };
+    let by = match code_of(alloc, policy, &basin) {
+        Ok(by) => by,
+        Err(NoMemory) => return Err(Refusal::NoMemory),
     };
     let batches = batches_of(&edits);
     let setup = RunSetup {
@@ -259,7 +268,7 @@ fn run<K: Sink, L: Ledger>(
         methods,
         predefs,
     };
-    match write_runs(alloc, &setup, policy, extras, inputs, batches, steps, out) {
+    match write_runs(alloc, &setup, &by, extras, inputs, batches, steps, out) {
         Ok(end) => Ok(status_of_run(&end)),
         Err(refusal) => Err(refusal),
     }

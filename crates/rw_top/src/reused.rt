@@ -9,16 +9,12 @@ ghost use Rattle.rw_method.specs.Catalogue.{AreInOrder};
 ghost use Rattle.rw_report.specs.Sheet.{AreToldOf};
 ghost use Rattle.rw_series.specs.Series.{held};
 ghost use Rattle.rw_top.specs.Policy.{PolicyFile as Rules};
-ghost use Rattle.rw_top.specs.Ready.{IsFit};
 ghost use Rattle.rw_top.specs.Reused.{CanTell, IsNextSection, WritesFrom, told_of};
 ghost use Rattle.rw_top.specs.RunText.{CountsSections, IsCodeOf, IsRulesText};
 ghost use Rattle.rw_top.specs.Sections.{AppendsAll, AppendsOne, GivenInputs, StopsAmong, StopsAtOne, first_given};
-ghost use Rattle.rw_top.specs.Seen.{policy_of};
 
 use crate::Refusal;
-use crate::coded::{code_of_rules, code_runs};
 use crate::extras::Extras;
-use crate::policy::Policy;
 use crate::sections::first_of;
 use crate::setup::RunSetup;
 use rpl_verify::Verified;
@@ -137,8 +133,9 @@ fn write_from<K: Sink, L: Ledger>(
     }
 }
 
-// The sections by code, which are those by each policy that runs as it does.
-fn write_by_code<K: Sink, L: Ledger>(
+/// Writes a section for inputs and one after each batch of edits, after which the timesteps alone are run again that a batch
+/// touches, and answers how the run of the last one ended.
+pub(crate) fn write_reused<K: Sink, L: Ledger>(
     alloc: Global,
     setup: &RunSetup<'_>,
     by: &Verified,
@@ -180,41 +177,4 @@ fn write_by_code<K: Sink, L: Ledger>(
     };
     let mut sheet = Sheet::new(alloc, setup.basin, !batches.is_empty());
     write_from(&mut session, extras, 0, batches, steps, &mut sheet, out)
-}
-
-/// Writes a section for inputs and one after each batch of edits, after which the timesteps alone are run again that a batch
-/// touches, and answers how the run of the last one ended.
-pub(crate) fn write_reused<K: Sink, L: Ledger>(
-    alloc: Global,
-    setup: &RunSetup<'_>,
-    policy: &Policy,
-    extras: Extras,
-    inputs: Inputs,
-    batches: &[Batch],
-    steps: &mut Steps<L>,
-    out: &mut K,
-) -> Result<RunEnd, Refusal>
-    requires order { AreInOrder
-        (map (λ b. code (b.vtable, b.value)) setup.now.methods.now.methods.items) }
-    requires fits { IsFit setup.now.basin.now policy.now }
-    requires inputs { IsInputsOf setup.now.basin.now inputs }
-    requires batches { All (IsBatch setup.now.basin.now) batches.now }
-    requires few { length batches.now ≤ 64 }
-    requires reuse { extras.reuse ≡ true }
-    ensures text { MatchResult result
-        (AppendsAll (IsRulesText setup.now.basin.now (policy_of policy.now) extras)
-        0 (first_given inputs) batches.now (change (K.seen out.old) (K.seen out.new)))
-        (StopsAmong (IsRulesText setup.now.basin.now (policy_of policy.now) extras)
-        0 (first_given inputs) batches.now (change (K.seen out.old) (K.seen out.new))) }
-    ensures counted { IfOk result (λ end. CountsSections setup.now.basin.now
-        (policy_of policy.now) inputs batches.now (change steps.old steps.new)) }
-{
-    code_runs();
-    match policy {
-        Policy::Ruleset(typed) => match code_of_rules(alloc, typed, setup.basin) {
-            Ok(by) => write_by_code(alloc, setup, &by, extras, inputs, batches, steps, out),
-            Err(NoMemory) => Err(Refusal::NoMemory),
-        },
-        Policy::Code(by) => write_by_code(alloc, setup, by, extras, inputs, batches, steps, out),
-    }
 }

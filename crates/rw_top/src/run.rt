@@ -7,9 +7,9 @@ ghost use Rattle.rw_rules.specs.Rules.{policy_in};
 ghost use Rattle.rpl_tree.specs.Seen.{rules_of};
 ghost use Rattle.rpl_types.specs.Judged.{rules_judged};
 ghost use Rattle.rpl_verify.specs.Verified.{verified};
-ghost use Rattle.rw_top.specs.Policy.{Ruleset, Code};
+ghost use Rattle.rw_top.specs.Policy.{PolicyFile, Ruleset, Code};
 ghost use Rattle.rw_top.specs.Ready.{IsFit};
-ghost use Rattle.rw_top.specs.RunText.{ComesBy, IsRulesText};
+ghost use Rattle.rw_top.specs.RunText.{ComesBy, IsCodeOf, IsRulesText};
 ghost use Rattle.rw_top.specs.Seen.{policy_of};
 
 use crate::coded::{code_of_rules, code_runs};
@@ -135,30 +135,31 @@ pub(crate) fn run_by_policy<L: Ledger>(
     }
 }
 
-/// Tells the section of the run by a policy that is accepted for the basin, from inputs, and answers how the run ended.
-pub(crate) fn tell_by_policy<L: Ledger>(
+/// Tells the section of the run by code that is verified for the basin, from inputs, and answers how the run ended.
+pub(crate) fn tell_by_code<L: Ledger>(
     alloc: Global,
     setup: &RunSetup<'_>,
-    policy: &Policy,
+    by: &Verified,
     extras: Extras,
     number: u32,
     inputs: &Inputs,
     steps: &mut Steps<L>,
     sheet: &mut Sheet<'_>,
 ) -> Result<RunEnd, NoMemory>
-    requires fits { IsFit setup.now.basin.now policy.now }
+    requires fits { verified setup.now.basin.now by.now.blocks ≡ Ok by.now }
     requires order { AreInOrder
         (map (λ b. code (b.vtable, b.value)) setup.now.methods.now.methods.items) }
     requires inputs { IsInputsOf setup.now.basin.now inputs.now }
     requires plain { extras.reuse ≡ false }
     requires sheet { sheet.old.basin ≡ setup.now.basin.now }
-    ensures text { (before : Option Rows) → IfOk result (λ end. IsRulesText setup.now.basin.now
-        (policy_of policy.now) extras number (record { before = before; inputs = inputs.now })
-        end sheet.new.text) }
+    ensures text { (policy : PolicyFile) (before : Option Rows)
+        → IsCodeOf setup.now.basin.now policy by.now
+        → IfOk result (λ end. IsRulesText setup.now.basin.now policy extras
+        number (record { before = before; inputs = inputs.now }) end sheet.new.text) }
     ensures sheet { sheet.new.basin ≡ sheet.old.basin }
 {
     texts_of_runs();
-    let run = run_by_policy(alloc, setup, policy, extras.trace, inputs, steps)?;
+    let run = run_by_code(alloc, setup, by, extras.trace, inputs, steps)?;
     sheet.tell(number, &run, None, extras.flags, extras.trace, 0)?;
     Ok(run.end)
 }

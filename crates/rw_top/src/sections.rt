@@ -1,20 +1,20 @@
-// The sections of a run by a policy, each written as soon as it is made.
-ghost use Rattle.std.specs.Prelude.{◌≡◌, ◌≤◌, ◌+◌, [], ◌∷◌, false, length, map, IfOk, MatchOption, MatchResult, Option};
+// The sections of a run by code, each written as soon as it is made.
+ghost use Rattle.std.specs.Prelude.{◌≡◌, ◌≤◌, ◌+◌, [], ◌∷◌, false, length, map, IfOk, MatchOption, MatchResult, Ok, Option};
 ghost use Rattle.std.specs.List.{All};
 ghost use Rattle.rw_inputs.specs.Edits.{IsBatch, after_batch};
 ghost use Rattle.rw_inputs.specs.Inputs.{Inputs as Rows, IsInputsOf, value_at};
 ghost use Rattle.rw_io.specs.Outside.{change};
 ghost use Rattle.rw_method.specs.Catalogue.{AreInOrder};
-ghost use Rattle.rw_top.specs.Ready.{IsFit};
-ghost use Rattle.rw_top.specs.RunText.{IsRulesText};
+ghost use Rattle.rpl_verify.specs.Verified.{verified};
+ghost use Rattle.rw_top.specs.Policy.{PolicyFile as Rules};
+ghost use Rattle.rw_top.specs.RunText.{IsCodeOf, IsRulesText};
 ghost use Rattle.rw_top.specs.Sections.{AppendsAll, AppendsOne, StopsAmong, StopsAtOne, first_given};
-ghost use Rattle.rw_top.specs.Seen.{policy_of};
 
 use crate::Refusal;
 use crate::extras::Extras;
-use crate::policy::Policy;
-use crate::run::tell_by_policy;
+use crate::run::tell_by_code;
 use crate::setup::RunSetup;
+use rpl_verify::Verified;
 use rw_base::{Ledger, NoMemory, Steps};
 use rw_engine::RunEnd;
 use rw_inputs::{Batch, Inputs, apply};
@@ -27,7 +27,7 @@ use std::alloc::Global;
 fn write_section<K: Sink, L: Ledger>(
     alloc: Global,
     setup: &RunSetup<'_>,
-    policy: &Policy,
+    by: &Verified,
     extras: Extras,
     number: u32,
     inputs: &Inputs,
@@ -37,20 +37,21 @@ fn write_section<K: Sink, L: Ledger>(
 ) -> Result<RunEnd, Refusal>
     requires order { AreInOrder
         (map (λ b. code (b.vtable, b.value)) setup.now.methods.now.methods.items) }
-    requires fits { IsFit setup.now.basin.now policy.now }
+    requires fits { verified setup.now.basin.now by.now.blocks ≡ Ok by.now }
     requires inputs { IsInputsOf setup.now.basin.now inputs.now }
     requires plain { extras.reuse ≡ false }
     requires sheet { sheet.old.basin ≡ setup.now.basin.now }
-    ensures out { (before : Option Rows) → MatchResult result
-        (AppendsOne (IsRulesText setup.now.basin.now (policy_of policy.now) extras)
+    ensures out { (policy : Rules) (before : Option Rows)
+        → IsCodeOf setup.now.basin.now policy by.now → MatchResult result
+        (AppendsOne (IsRulesText setup.now.basin.now policy extras)
         number (record { before = before; inputs = inputs.now })
         (change (K.seen out.old) (K.seen out.new)))
-        (StopsAtOne (IsRulesText setup.now.basin.now (policy_of policy.now) extras)
+        (StopsAtOne (IsRulesText setup.now.basin.now policy extras)
         number (record { before = before; inputs = inputs.now })
         (change (K.seen out.old) (K.seen out.new))) }
     ensures sheet { sheet.new.basin ≡ sheet.old.basin }
 {
-    let end = match tell_by_policy(alloc, setup, policy, extras, number, inputs, steps, sheet) {
+    let end = match tell_by_code(alloc, setup, by, extras, number, inputs, steps, sheet) {
         Ok(end) => end,
         Err(NoMemory) => return Err(Refusal::NoMemory),
     };
@@ -86,7 +87,7 @@ pub(crate) fn first_of(batches: &[Batch]) -> Option<(&Batch, &[Batch])>
 fn write_from<K: Sink, L: Ledger>(
     alloc: Global,
     setup: &RunSetup<'_>,
-    policy: &Policy,
+    by: &Verified,
     extras: Extras,
     number: u32,
     inputs: Inputs,
@@ -97,23 +98,22 @@ fn write_from<K: Sink, L: Ledger>(
 ) -> Result<RunEnd, Refusal>
     requires order { AreInOrder
         (map (λ b. code (b.vtable, b.value)) setup.now.methods.now.methods.items) }
-    requires fits { IsFit setup.now.basin.now policy.now }
+    requires fits { verified setup.now.basin.now by.now.blocks ≡ Ok by.now }
     requires inputs { IsInputsOf setup.now.basin.now inputs }
     requires batches { All (IsBatch setup.now.basin.now) batches.now }
     requires few { number + length batches.now ≤ 64 }
     requires plain { extras.reuse ≡ false }
     requires sheet { sheet.old.basin ≡ setup.now.basin.now }
-    ensures { (before : Option Rows) → MatchResult result
-        (AppendsAll (IsRulesText setup.now.basin.now (policy_of policy.now) extras)
+    ensures { (policy : Rules) (before : Option Rows)
+        → IsCodeOf setup.now.basin.now policy by.now → MatchResult result
+        (AppendsAll (IsRulesText setup.now.basin.now policy extras)
         number (record { before = before; inputs = inputs }) batches.now
         (change (K.seen out.old) (K.seen out.new)))
-        (StopsAmong (IsRulesText setup.now.basin.now (policy_of policy.now) extras)
+        (StopsAmong (IsRulesText setup.now.basin.now policy extras)
         number (record { before = before; inputs = inputs }) batches.now
         (change (K.seen out.old) (K.seen out.new))) }
 {
-    let end = match write_section(
-        alloc, setup, policy, extras, number, &inputs, steps, sheet, out,
-    ) {
+    let end = match write_section(alloc, setup, by, extras, number, &inputs, steps, sheet, out) {
         Ok(end) => end,
         Err(refusal) => return Err(refusal),
     };
@@ -123,7 +123,7 @@ fn write_from<K: Sink, L: Ledger>(
             Ok(edited) => write_from(
                 alloc,
                 setup,
-                policy,
+                by,
                 extras,
                 number + 1,
                 edited,
@@ -141,7 +141,7 @@ fn write_from<K: Sink, L: Ledger>(
 pub(crate) fn write_sections<K: Sink, L: Ledger>(
     alloc: Global,
     setup: &RunSetup<'_>,
-    policy: &Policy,
+    by: &Verified,
     extras: Extras,
     inputs: Inputs,
     batches: &[Batch],
@@ -150,19 +150,19 @@ pub(crate) fn write_sections<K: Sink, L: Ledger>(
 ) -> Result<RunEnd, Refusal>
     requires order { AreInOrder
         (map (λ b. code (b.vtable, b.value)) setup.now.methods.now.methods.items) }
-    requires fits { IsFit setup.now.basin.now policy.now }
+    requires fits { verified setup.now.basin.now by.now.blocks ≡ Ok by.now }
     requires inputs { IsInputsOf setup.now.basin.now inputs }
     requires batches { All (IsBatch setup.now.basin.now) batches.now }
     requires few { length batches.now ≤ 64 }
     requires plain { extras.reuse ≡ false }
-    ensures { MatchResult result
-        (AppendsAll (IsRulesText setup.now.basin.now (policy_of policy.now) extras)
+    ensures { (policy : Rules) → IsCodeOf setup.now.basin.now policy by.now → MatchResult result
+        (AppendsAll (IsRulesText setup.now.basin.now policy extras)
         0 (first_given inputs) batches.now (change (K.seen out.old) (K.seen out.new)))
-        (StopsAmong (IsRulesText setup.now.basin.now (policy_of policy.now) extras)
+        (StopsAmong (IsRulesText setup.now.basin.now policy extras)
         0 (first_given inputs) batches.now (change (K.seen out.old) (K.seen out.new))) }
 {
     let mut sheet = Sheet::new(alloc, setup.basin, !batches.is_empty());
     write_from(
-        alloc, setup, policy, extras, 0, inputs, batches, steps, &mut sheet, out,
+        alloc, setup, by, extras, 0, inputs, batches, steps, &mut sheet, out,
     )
 }

@@ -9,7 +9,7 @@ use Rattle.rw_top.specs.declared.refusal.Refusal.TheVariants.{NoMemory}
 use Rattle.rw_top.proofs.SameValues.{none_told}
 use Rattle.rw_top.proofs.SectionLemmas.{stops_here}
 use Rattle.rw_top.proofs.SessionSections.{all_counted, first_next}
-use Rattle.rw_top.proofs.reused.write_by_code.Goals as goal
+use Rattle.rw_top.proofs.reused.write_reused.Goals as goal
 
 pub returns-in-Err-clause-text : goal.returns-in-Err-clause-text
 returns-in-Err-clause-text g c = λ policy means.
