@@ -2,7 +2,7 @@
 use Rattle.std.specs.Prelude.{◌≡◌, ◌≤◌, ◌+◌, ℕ, ℤ, List, [], ◌∷◌, Option, Some, None}
 use Rattle.rw_base.specs.declared.number.Cell.{Cell}
 use Rattle.rw_model.specs.Draft.{Draft}
-use Rattle.rw_series.specs.Fire.{Fire}
+use Rattle.rw_firing.specs.Fire.{Fire}
 use Rattle.rpl_code.specs.declared.block.Block.{Block}
 use Rattle.rpl_tree.specs.Outcome.{Outcome}
 use Rattle.rpl_tree.specs.World.{World}

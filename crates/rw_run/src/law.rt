@@ -5,7 +5,7 @@ ghost use Rattle.std.specs.Prelude.{◌≡◌, ◌↔◌, ◌<◌, ◌≤◌, �
 ghost use Rattle.rw_base.specs.declared.number.Cell.{Cell};
 ghost use Rattle.rw_model.specs.Draft.{Draft};
 ghost use Rattle.rw_series.specs.Series.{is_shared};
-ghost use Rattle.rw_series.specs.declared.look.Look.{Look};
+ghost use Rattle.rw_firing.specs.declared.look.Look.{Look};
 ghost use Rattle.rw_run.specs.declared.fault.RunFault.{RunFault};
 ghost use Rattle.rw_run.specs.Log.{Asked, Cells, Dispatch, Event, Firing, Log, placed, opened, closed, idle, solved, fired, fault, cells_of, input_content, last_put, written_by};
 ghost use Rattle.rw_run.specs.Dispatch.{cell_at};
