@@ -1,6 +1,6 @@
 //! The values of a run, cell by cell. `Series` keeps what each slot of a basin holds at each timestep, and `put` takes a
 //! new content by the put rules: a cell is written together with every cell that a link joins to it, or nothing changes.
-//! `hold` makes them hold a content whatever they hold. `at_step` lends the cells of one timestep, for who reads many of them.
+//! `restore` makes them hold a content whatever they hold. `at_step` lends the cells of one timestep, for who reads many of them.
 //! `is_shared` tells whether two cells are joined so. Only `sized` and `copy` take memory.
 #![tactic(auto)]
 
