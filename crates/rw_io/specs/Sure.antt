@@ -29,3 +29,10 @@ shelf_seen shelf = record {
 -- a sink: it tells what it holds until a piece doesn't fit
 abbrev pub sink_seen : SureSink → SinkView
 sink_seen sink = record { contents = if sink.told then Some sink.bytes.items else None; faults = 0 }
+
+-- what it keeps, and how much that can be
+abbrev pub kept_of : SureSink → List ℕ
+kept_of sink = sink.bytes.items
+
+abbrev pub room_of : SureSink → ℕ
+room_of sink = sink.room
