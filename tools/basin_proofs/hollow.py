@@ -44,12 +44,16 @@ def owner_of(head):
 
 
 def body_of(lines, at, indent):
-    """The body of the function whose head begins at this line; None where it has none, or an empty one."""
+    """The body of the function whose head begins at this line; None where it has none, or an empty one.
+
+    Behind clauses a body's bracket stands in a line of its own."""
+    has_clauses = False
     for first in range(at, len(lines)):
         line = lines[first]
-        if line == f"{indent}{{}}" or line.endswith((" {}", ";")) and not CLAUSE.match(line):
+        has_clauses = has_clauses or bool(CLAUSE.match(line))
+        if line == f"{indent}{{}}" or not has_clauses and line.endswith((" {}", ";")):
             return None
-        if line == f"{indent}{{" or line.endswith(" {") and not CLAUSE.match(line):
+        if line == f"{indent}{{" or not has_clauses and line.endswith(" {"):
             return Body(first, lines.index(f"{indent}}}", first), indent)
     return None
 

@@ -31,8 +31,8 @@ abbrev pub sink_seen : SureSink → SinkView
 sink_seen sink = record { contents = if sink.told then Some sink.bytes.items else None; faults = 0 }
 
 -- what it keeps, and how much that can be
-abbrev pub kept_of : SureSink → List ℕ
-kept_of sink = sink.bytes.items
+abbrev pub sink_kept : SureSink → List ℕ
+sink_kept sink = sink.bytes.items
 
-abbrev pub room_of : SureSink → ℕ
-room_of sink = sink.room
+abbrev pub sink_room : SureSink → ℕ
+sink_room sink = sink.room
