@@ -9,7 +9,7 @@ use Rattle.rpl_tree.specs.World.{World}
 use Rattle.rpl_tree.specs.Tree.{Tree, Act, Declared}
 use Rattle.rpl_tree.specs.Mean.{fire_of, mean}
 use Rattle.rpl_tree.specs.Worked.{basin_over_days, numbers_object, pool, rule_of, unknown_cells, with_functions, x_rule}
-use Rattle.rpl_parse.specs.Bounds.{rule_count}
+use Rattle.rpl_tree.specs.Bounds.{rule_count}
 use Rattle.rpl_verify.specs.Machine.{Frame, fire_of_code, first_frame, run}
 use Rattle.rpl_compile.specs.Translate.{translate}
 

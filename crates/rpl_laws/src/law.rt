@@ -7,7 +7,7 @@ ghost use Rattle.rw_run.specs.Log.{Log};
 ghost use Rattle.rw_run.specs.RunOf.{IsRunOf};
 ghost use Rattle.rw_run.specs.Runs.{IsRun};
 ghost use Rattle.rw_run.specs.declared.run.Run.{Run};
-ghost use Rattle.rpl_parse.specs.Bounds.{function_count, rule_count};
+ghost use Rattle.rpl_tree.specs.Bounds.{function_count, rule_count};
 ghost use Rattle.rpl_rulesets.specs.RulesPolicy.{policy_of_rules};
 ghost use Rattle.rpl_tree.specs.Tree.{Declared};
 ghost use Rattle.rpl_types.specs.HasType.{IsTyped};
