@@ -19,7 +19,7 @@ use Rattle.rpl_verify.specs.Budget.{ruling}
 use Rattle.rw_top.proofs.OneAnswer.{AreBoth, one_log, one_sections, one_why}
 use Rattle.rw_top.proofs.OneReading.{one_kind, one_ruleset, same_values}
 use Rattle.rw_top.proofs.OneText.{one_simulated}
-use Rattle.rw_top.specs.Alike.{AppendAlike, AskAlike, HoldAlike}
+use Rattle.rw_top.specs.Alike.{AppendAlike, AskAlike, TellAlike}
 use Rattle.rw_top.specs.Call.{Call}
 use Rattle.rw_top.specs.Cell.{cell_asked}
 use Rattle.rw_top.specs.Command.{AskForCommand, AtPath, OfSample, Source, extras_of, path_in, source_of}
@@ -92,7 +92,7 @@ record SayAlike (a b : FilesRead) : Type 0 where
   edits : a.edits ≡ b.edits
   cell : a.cell ≡ b.cell
 
-module _ (command : Command) (one other : Holds) (alike : HoldAlike command one other) where
+module _ (command : Command) (one other : Holds) (alike : TellAlike command one other) where
   one_text_of : (file : File) (text more : List ℕ) → WasRead command one file text → WasRead command other file more → text ≡ more
   one_text_of file text more left right = from_there (source_of command file) one other file text more (alike file) left right
 

@@ -8,13 +8,13 @@ use Rattle.rw_top.specs.Command.{AskForCommand, path_of}
 use Rattle.rw_top.specs.declared.refusal.File.{File}
 
 -- each file of the command is told, and is the same in both places
-abbrev pub HoldAlike : Command → Holds → Holds → Type 0
-HoldAlike command one other = (file : File) → IfSome (path_of command file) (λ path. IsSome (one path) × (one path ≡ other path))
+abbrev pub TellAlike : Command → Holds → Holds → Type 0
+TellAlike command one other = (file : File) → IfSome (path_of command file) (λ path. IsSome (one path) × (one path ≡ other path))
 
 -- the words are the same, and so are the files of the command that they ask for
 pub record AskAlike (one other : Call) : Type 0 where
   pub words : one.words ≡ other.words
-  pub files : (command : Command) → AskForCommand one.words command → HoldAlike command one.shelf.before.holds other.shelf.before.holds
+  pub files : (command : Command) → AskForCommand one.words command → TellAlike command one.shelf.before.holds other.shelf.before.holds
 
 -- to both the same text was appended
 abbrev pub AppendAlike : Change SinkView → Change SinkView → Type 0
