@@ -13,7 +13,6 @@ import shutil
 import subprocess
 import tempfile
 from collections.abc import Callable, Iterator
-from concurrent.futures import ThreadPoolExecutor
 from dataclasses import dataclass, field
 from html.parser import HTMLParser
 from pathlib import Path
@@ -167,9 +166,8 @@ def of_hostile_names(run: Callable, tools: Path) -> Iterator[tuple[str, str | No
     there = {path.name for path in tools.iterdir() if path.is_file() and os.access(path, os.X_OK)}
     yield "hostile names: each tool", None if there == set(CALLS) else f"{there ^ set(CALLS)} are due, or not"
     rooms = [(name, "") for name in (WORST, *FORMULAS)] + [(WORST, bad) for bad in BAD]
-    with ThreadPoolExecutor(2) as pool:
-        for found in pool.map(lambda room: list(of_room(*room, run)), rooms):
-            yield from found
+    for name, bad in rooms:
+        yield from of_room(name, bad, run)
     yield "hostile names: a page", of_page(run)
     yield "hostile names: a plot's title", of_title(run)
 
