@@ -63,18 +63,20 @@ BAD = {
 # How each tool is called; words in braces name files, and {name} is the text itself.
 CALLS = {
     "compare": ["{table} {table}", "{table} --batches 0 1"],
-    "doctor": ["{model}", "{model} {inputs}", "{model} {inputs} --policy {policy}"],
+    "doctor": ["{model}", "{model} {inputs}", "{model} {inputs} --policy {policy} --edits {edits}"],
     "effect": ["{model} {policy} {inputs}", "{model} {policy} {inputs} --edits {edits} --batch 1 --csv"],
     "inputs": ["{wide} --model {model}", "{table} --model {model} --only {name} --unknown {name}"],
     "map": ["{model} --text"],
-    "plot": ["{table} --text", "{table} {name} --text"],
+    "plot": ["{table} --flags --text", "{table} {name} --text --with {table} --from {name}"],
     "report": ["{model} {policy} {inputs}"],
+    "restart": ["{model} {table} --policy {policy}", "{model} {table} --step 1 --inputs {inputs} --edits {edits} --batch 1"],
     "rules": ["{model} {policy}", "{model} {policy} --csv", "{model} {policy} --code"],
     "slots": ["{model} {inputs}", "{model} --csv"],
-    "table": ["{table} --model {model}", "{table} --model {model} --unit {name}"],
+    "table": ["{table} --model {model} --long", "{table} --model {model} --unit {name} --wanted {name}={name}"],
     "why": ["{model} {policy} {inputs} Dam.Outflow 1", "{model} {policy} {inputs} {name} 1"],
 }
 OF_CSV = ("inputs", "table")  # tools that write CSV without --csv
+OF_PROOFS = {"recheck"}  # tools that read nothing but the repository itself
 
 
 @dataclass
@@ -164,7 +166,7 @@ def is_formula(cell: str) -> bool:
 def of_hostile_names(run: Callable, tools: Path) -> Iterator[tuple[str, str | None]]:
     """All tools on hostile names: good files, bad ones, files that aren't there, and words that are none."""
     there = {path.name for path in tools.iterdir() if path.is_file() and os.access(path, os.X_OK)}
-    yield "hostile names: each tool", None if there == set(CALLS) else f"{there ^ set(CALLS)} are due, or not"
+    yield "hostile names: each tool", None if there - OF_PROOFS == set(CALLS) else f"{there ^ set(CALLS)} are due, or not"
     rooms = [(name, "") for name in (WORST, *FORMULAS)] + [(WORST, bad) for bad in BAD]
     for name, bad in rooms:
         yield from of_room(name, bad, run)

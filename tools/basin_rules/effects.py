@@ -1,7 +1,7 @@
 """What became of what each rule wanted to set, over a whole run."""
 
 from collections import Counter, defaultdict
-from collections.abc import Iterator
+from collections.abc import Callable, Iterator
 from dataclasses import dataclass, field
 
 from basin_files.listing import aligned
@@ -80,18 +80,18 @@ class Effects:
 
     # ---- what is told
 
-    def rows(self) -> list[list[str]]:
-        """The list: a row for each rule and slot that it sets, below the headings."""
+    def rows(self, written: Callable[[int], str] = str) -> list[list[str]]:
+        """The list: a row for each rule and slot that it sets, below the headings; how a count is written may be told."""
         rows = [["rule", "sets", *HEADINGS]]
         for rule, slots in enumerate(self.sets, 1):
             for slot in slots:
                 count = self.counts[(rule, slot)]
-                rows.append([self.names[rule - 1], slot, *(f"{count[one]:,}" if count[one] else "." for one in HEADINGS)])
+                rows.append([self.names[rule - 1], slot, *(written(count[one]) for one in HEADINGS)])
         return rows
 
     def lines(self) -> Iterator[str]:
         """The list, and what is worth a look."""
-        yield from aligned(self.rows(), 2)
+        yield from aligned(self.rows(lambda count: f"{count:,}" if count else "."), 2)
         yield from self.sentences()
 
     def sentences(self) -> Iterator[str]:
