@@ -58,7 +58,7 @@ BAD = {
     "inputs": "slot,step,value\n{name},1,5\nDam.Inflow,{name},5\nDam.Inflow,1,{name}\n",
     "edits": "batch,slot,step,value\n{name},Dam.Inflow,1,5\n1,{name},1,5\n1,Dam.Inflow,1,{name}\n",
     "wide": "{name},Dam.Inflow [{name}],Dam.{name}\n{name},{name},5\n",
-    "table": "# batch 0 fault {name}\nstep,stamp,{name}\n1,2024-03-31T00:00,{name}\n",
+    "table": "# batch 0 settled\nstep,stamp,{name}\n1,2024-03-31T00:00,1\n2,2024-04-01T00:00,3\n",
 }
 # How each tool is called; words in braces name files, and {name} is the text itself.
 CALLS = {
@@ -101,9 +101,12 @@ def tags_of(page: str) -> list[tuple[str, list[str]]]:
 
 
 def within(sort: str, name: str) -> str:
-    """A name as it may stand in a file: no control characters in a model's remark, no quotes in a rule's name."""
+    """A name as it may stand in a file: no control characters in a model's remark, no quotes in a rule's name, no commas
+    in a table's headings."""
     if sort == "model":
         return re.sub(r"[\x00-\x1f\x7f]", "", name)
+    if sort == "table":
+        return re.sub("[,\n\r]", " ", name)
     return re.sub('["\n]', "'", name) if sort == "policy" else '"' + name.replace('"', '""') + '"'
 
 
@@ -115,7 +118,7 @@ class Room:
         self.files = {}
         for sort, text in FILES.items():
             self.write(sort, (BAD if bad == sort else FILES)[sort].format(name=within(sort, name)))
-        self.write("table", BAD["table"].format(name=name) if bad == "table" else self.table())
+        self.write("table", BAD["table"].format(name=within("table", name)) if bad == "table" else self.table())
 
     def write(self, sort: str, text: str) -> None:
         """Makes a file, whose name is the hostile one where that can be a file's."""
@@ -184,9 +187,11 @@ def of_room(name: str, bad: str, run: Callable) -> Iterator[tuple[str, str | Non
                 if f"{{{bad}}}" in call if bad else name == WORST or "--csv" in call or tool in OF_CSV:
                     refused = () if bad or "{name}" in call else (2,)
                     yield f"{what}: {tool} {call}", room.call(tool, call, refused=refused)[0]
-            if name == WORST and not bad:
-                yield f"{what}: {tool}, no such option", room.call(tool, calls[0], f"--{name}")[0]
-                yield f"{what}: {tool}, no such file", room.call(tool, re.sub(r"\}", "}none", calls[0]))[0]
+        if bad == "table":
+            yield f"{what}: plot, drawn", room.call("plot", "{table}")[0]
+        for tool, calls in CALLS.items() if name == WORST and not bad else ():
+            yield f"{what}: {tool}, no such option", room.call(tool, calls[0], f"--{name}")[0]
+            yield f"{what}: {tool}, no such file", room.call(tool, re.sub(r"\}", "}none", calls[0]))[0]
 
 
 def of_page(run: Callable) -> str | None:
