@@ -1,6 +1,6 @@
 -- Rules that looked at nothing are known to hold what they saw.
 use Rattle.rw_base.proofs.Common.{◌≡◌, ℕ, zero, suc, ◌-◌, false, List, [], ◌∷◌, Option, Some, None, refl, ap, subst, none-some, slice_index_or}
-use Rattle.rw_series.specs.declared.look.Look.{Look}
+use Rattle.rw_firing.specs.declared.look.Look.{Look}
 use Rattle.rw_run.specs.Index.{IsIndex}
 use Rattle.rw_run.specs.Log.{Cells}
 use Rattle.rw_run.specs.Next.{is_changed}

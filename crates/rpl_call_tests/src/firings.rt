@@ -11,8 +11,9 @@ use rpl_predef::{
 use rpl_verify::{Verified, verify};
 use rw_base::{RuleNo, SlotNo, StepNo};
 use rw_calendar::{Stamps, Start, StepLength};
+use rw_firing::{FireEnd, RulePut};
 use rw_model::{AgendaOrder, Basin, BasinBuilder, Kind, RunControl};
-use rw_series::{FireEnd, RulePut, Series};
+use rw_series::Series;
 use rw_table::Rating;
 use std::alloc::{AllocError, Global};
 use std::process::Abort;

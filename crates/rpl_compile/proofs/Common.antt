@@ -56,7 +56,7 @@ pub use Rattle.rpl_tree.specs.declared.words.OneWord.TheVariants.{Day, Known, Le
 pub use Rattle.rpl_tree.specs.declared.words.TwoWord.{TwoWord}
 pub use Rattle.rpl_tree.specs.declared.words.TwoWord.TheVariants.{And, Append, Divide, Equal, Greater, GreaterEqual, Item, Less, LessEqual}
 pub use Rattle.rpl_tree.specs.declared.words.TwoWord.TheVariants.{Minus as Less_by, Or, Plus, Times, Unequal}
-pub use Rattle.rpl_parse.specs.Bounds.{AreLimited, AreWithin, function_count, rule_count}
+pub use Rattle.rpl_tree.specs.Bounds.{AreLimited, AreWithin, function_count, rule_count}
 pub use Rattle.rpl_types.specs.Fits.{Typed, arguments_misfit, joined_type, length_misfit, longest, misfit, misfit_among, misfit_in_places}
 pub use Rattle.rpl_types.specs.Fits.{refusal_order, sooner, unit_misfit}
 pub use Rattle.rpl_types.specs.Forms.{TypeScope, a_dimension, answers, append_type, asks, compared_type, convert_type, difference_type, element_type}

@@ -4,7 +4,7 @@ use Rattle.rpl_compile.proofs.Common.{Refusal, Result, Some, State, Trail, World
 use Rattle.rpl_compile.proofs.Common.{gives, goes_on, joined, mean, most_steps, numbered, option_and_then, option_map, predefined_callees}
 use Rattle.rpl_compile.proofs.Common.{predefined_functions, refl, rule_done, ruling, run, spent, step, stuck, subst, suc, sym, translate, value}
 use Rattle.rpl_compile.proofs.Common.{verified, with_budgets, zero, ℕ, ℤ, ◌+◌, ◌>>=◌, ◌∙◌, ◌∷◌, ◌≡◌}
-use Rattle.rw_series.specs.Fire.{Fire}
+use Rattle.rw_firing.specs.Fire.{Fire}
 use Rattle.rpl_verify.proofs.Accepted.{safe}
 use Rattle.rpl_verify.specs.Safety.{AreSafe, IsSafe}
 use Rattle.rpl_compile.specs.Fires.{EndsAlike, FiresAlike, HasRule, fired_in}

@@ -1,8 +1,8 @@
 -- The machine does what an outcome says.
 use Rattle.rpl_compile.proofs.Common.{Answer, Block, Cell, Frame, List, Outcome, State, Trail, World, after, ap, append-nil, append_assoc, arith}
 use Rattle.rpl_compile.proofs.Common.{ended, gives, goes_on, joined, refl, run, spent, step, stuck, suc, sym, value, ℕ, ◌>>=◌, ◌∙◌, ◌∷◌, ◌≡◌}
-use Rattle.rw_series.specs.declared.fire.FireEnd.{FireEnd}
-use Rattle.rw_series.specs.declared.fire.RulePut.{RulePut}
+use Rattle.rw_firing.specs.declared.fire.FireEnd.{FireEnd}
+use Rattle.rw_firing.specs.declared.fire.RulePut.{RulePut}
 
 -- ---- trails
 

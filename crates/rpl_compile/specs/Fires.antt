@@ -2,14 +2,14 @@
 use Rattle.std.specs.Prelude.{◌≡◌, ◌≤◌, ◌+◌, ℕ, ℤ, List, [], ◌∷◌, Option, Some, None}
 use Rattle.rw_base.specs.declared.number.Cell.{Cell}
 use Rattle.rw_model.specs.Draft.{Draft}
-use Rattle.rw_series.specs.Fire.{Fire}
+use Rattle.rw_firing.specs.Fire.{Fire}
 use Rattle.rpl_code.specs.declared.block.Block.{Block}
 use Rattle.rpl_tree.specs.Outcome.{Outcome}
 use Rattle.rpl_tree.specs.World.{World}
 use Rattle.rpl_tree.specs.Tree.{Tree, Act, Declared}
 use Rattle.rpl_tree.specs.Mean.{fire_of, mean}
 use Rattle.rpl_tree.specs.Worked.{basin_over_days, numbers_object, pool, rule_of, unknown_cells, with_functions, x_rule}
-use Rattle.rpl_parse.specs.Bounds.{rule_count}
+use Rattle.rpl_tree.specs.Bounds.{rule_count}
 use Rattle.rpl_verify.specs.Machine.{Frame, fire_of_code, first_frame, run}
 use Rattle.rpl_compile.specs.Translate.{translate}
 

@@ -4,7 +4,7 @@ ghost use Rattle.rw_model.specs.Draft.{Draft};
 ghost use Rattle.rpl_tree.specs.Tree.{Declared};
 ghost use Rattle.rw_model.specs.Basin.{IsBasin};
 ghost use Rattle.rpl_code.specs.Bounds.{IsCode};
-ghost use Rattle.rpl_parse.specs.Bounds.{AreLimited, function_count, rule_count};
+ghost use Rattle.rpl_tree.specs.Bounds.{AreLimited, function_count, rule_count};
 ghost use Rattle.rpl_types.specs.HasType.{IsTyped};
 ghost use Rattle.rpl_verify.specs.Budget.{ruling};
 ghost use Rattle.rpl_verify.specs.Fits.{AreFit};

@@ -6,7 +6,6 @@ ghost use Rattle.rpl_compile.specs.Translate.{translate};
 
 use crate::ruleset::blocks_of;
 use rpl_code::Code;
-use rpl_parse::law::bounds;
 use rpl_types::Typed;
 use rpl_verify::{Verified, VerifyFault, verify};
 use rw_base::NoMemory;
@@ -18,7 +17,6 @@ fn code_of(alloc: Global, typed: &Typed, basin: &Basin) -> Result<Code, NoMemory
     requires { IsOk (rules_judged basin.now (rules_of typed.now.rules)) }
     ensures { IfOk result (λ code. code ≡ translate (rules_of typed.now.rules)) }
 {
-    bounds();
     let rules = typed.rules();
     let _objects = basin.object_count();
     let blocks = blocks_of(alloc, rules, basin)?;
@@ -34,7 +32,6 @@ pub fn compile(alloc: Global, typed: &Typed, basin: &Basin) -> Result<Verified, 
     ensures verified { IfOk result (λ code.
         verified basin.now (translate (rules_of typed.now.rules)) ≡ Ok code) }
 {
-    bounds();
     let _rules = typed.rules();
     let code = code_of(alloc, typed, basin)?;
     match verify(alloc, code, basin) {

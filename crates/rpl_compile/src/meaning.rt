@@ -4,7 +4,7 @@ ghost use Rattle.rw_base.specs.declared.number.Cell.{Cell};
 ghost use Rattle.rw_model.specs.Draft.{Draft};
 ghost use Rattle.rpl_tree.specs.Mean.{mean};
 ghost use Rattle.rpl_tree.specs.Tree.{Declared};
-ghost use Rattle.rpl_parse.specs.Bounds.{function_count, rule_count};
+ghost use Rattle.rpl_tree.specs.Bounds.{function_count, rule_count};
 ghost use Rattle.rpl_types.specs.HasType.{IsTyped};
 ghost use Rattle.rpl_verify.specs.Verified.{Accepted, verified};
 ghost use Rattle.rpl_compile.specs.Fires.{EndsAlike, FiresAlike, HasRule};

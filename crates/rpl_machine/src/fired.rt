@@ -1,4 +1,4 @@
-use rw_series::{FireEnd, Look, RulePut};
+use rw_firing::{FireEnd, Look, RulePut};
 
 /// What a firing did.
 #[derive(Clone, Copy, Debug)]

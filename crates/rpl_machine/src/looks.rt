@@ -3,7 +3,7 @@ ghost use Rattle.rpl_machine.specs.Steps.{looks_max};
 
 use rw_base::limits::LOOKS_MAX;
 use rw_base::{Cell, NoMemory, Qty};
-use rw_series::Look;
+use rw_firing::Look;
 use std::alloc::Global;
 use std::marker::Model;
 
@@ -18,7 +18,7 @@ pub(crate) struct Looks {
 
 impl Model for Looks {
     ghost use Rattle.std.specs.Prelude.{List, ◌≤◌};
-    ghost use Rattle.rw_series.specs.declared.look.Look.{Look};
+    ghost use Rattle.rw_firing.specs.declared.look.Look.{Look};
     ghost use Rattle.rpl_machine.specs.Steps.{looks_max};
 
     ghost Value = { List Look };

@@ -3,7 +3,7 @@ ghost use Rattle.rpl_machine.specs.Steps.{puts_max};
 
 use rw_base::NoMemory;
 use rw_base::limits::PUTS_MAX;
-use rw_series::RulePut;
+use rw_firing::RulePut;
 use std::alloc::Global;
 use std::marker::Model;
 
@@ -18,7 +18,7 @@ pub(crate) struct Puts {
 
 impl Model for Puts {
     ghost use Rattle.std.specs.Prelude.{List, ◌≤◌};
-    ghost use Rattle.rw_series.specs.declared.fire.RulePut.{RulePut};
+    ghost use Rattle.rw_firing.specs.declared.fire.RulePut.{RulePut};
     ghost use Rattle.rpl_machine.specs.Steps.{puts_max};
 
     ghost Value = { List RulePut };

@@ -7,7 +7,7 @@ use Rattle.rpl_parse.specs.declared.token.Mark.{Mark}
 use Rattle.rpl_parse.specs.declared.token.Mark.TheVariants as M
 use Rattle.rpl_parse.specs.declared.token.TokenAt.{TokenAt}
 use Rattle.rpl_parse.specs.Tokens.{Tok, mark, word, digits, text, toks}
-use Rattle.rpl_parse.specs.Depth.{depth, acts_depth}
+use Rattle.rpl_tree.specs.Depth.{depth, acts_depth}
 use Rattle.rpl_parse.specs.Grammar.{◌⨾◌, sign, token, Spells}
 use Rattle.rpl_parse.specs.Statements.{SpellsActs, SpellsType, SpellsParameter, SpellsParameters, SpellsMoreParameters, IsDeclaration}
 use Rattle.rpl_parse.specs.Reading.{◌>>=◌, Got, got, Named, read_tree, behind, behind_name, closed_by_mark}

@@ -4,10 +4,10 @@ use Rattle.rpl_tree.proofs.Common.{Declared, rule, function, rules_of, nodes_of}
 use Rattle.rpl_tree.specs.declared.rules.ParsedRules.{ParsedRules}
 use Rattle.rpl_parse.specs.Tokens.{Tok, Lined}
 use Rattle.rpl_parse.specs.Scan.{Scanned, all, bad_at, tokens}
-use Rattle.rpl_parse.specs.Depth.{declared_depth}
+use Rattle.rpl_tree.specs.Depth.{declared_depth}
 use Rattle.rpl_parse.specs.Statements.{IsDeclaration}
 use Rattle.rpl_parse.specs.Declarations.{Piece, pieces, begins_rule, begins_function, one_more_if, is_full, Due, IsDue, IsDueOf, IsRuleset}
-use Rattle.rpl_parse.specs.Bounds.{rule_count, function_count, AreWithin, AreLimited}
+use Rattle.rpl_tree.specs.Bounds.{rule_count, function_count, AreWithin, AreLimited}
 use Rattle.rpl_parse.proofs.NodeFacts.{nodes_within, tokens_few, ArePieces, pieces_within}
 
 -- one more at the end

@@ -13,7 +13,7 @@ use Rattle.rpl_tree.specs.declared.words.ConvertWord.TheVariants as C
 use Rattle.rpl_parse.specs.Tokens.{Tok, mark, word, digits, text, same}
 use Rattle.rpl_tree.specs.Tree.{Tree, Trees, literal, truth, now, slot, name, call, brackets, list, choice, bind, each, mapped, one, two, convert, at}
 use Rattle.rpl_tree.specs.Tree.{no_trees, tree}
-use Rattle.rpl_parse.specs.Depth.{depth, depths}
+use Rattle.rpl_tree.specs.Depth.{depth, depths}
 use Rattle.rpl_parse.specs.Grammar.{Part, ◌⨾◌, sign, token, form, at_most, Spells, SpellsList, SpellsMore, looseness, looseness_of, looseness_of_one}
 use Rattle.rpl_parse.specs.Grammar.{looseness_on_left, mark_of, mark_of_one, mark_of_truth, mark_of_convert, is_prefix, is_operator}
 use Rattle.rpl_parse.specs.Reading.{Read, got, Many, many, ◌>>=◌, behind, behind_name, name_before, up_to, items, some_items, word_of_one}

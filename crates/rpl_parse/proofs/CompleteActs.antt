@@ -6,7 +6,7 @@ use Rattle.rpl_tree.specs.Tree.{Tree, Act, Acts, assign, branch, with_name, no_a
 use Rattle.rpl_parse.specs.declared.token.Mark.{Mark}
 use Rattle.rpl_parse.specs.declared.token.Mark.TheVariants as M
 use Rattle.rpl_parse.specs.Tokens.{Tok, mark, word, digits, same}
-use Rattle.rpl_parse.specs.Depth.{depth, act_depth, acts_depth}
+use Rattle.rpl_tree.specs.Depth.{depth, act_depth, acts_depth}
 use Rattle.rpl_parse.specs.Grammar.{Part, ◌⨾◌, sign, token, Spells}
 use Rattle.rpl_parse.specs.Statements.{SpellsAct, SpellsActs, if_none, if_zero, ◌or◌}
 use Rattle.rpl_parse.specs.Reading.{got, ◌>>=◌, behind, behind_name, closed_by_mark, read_tree}

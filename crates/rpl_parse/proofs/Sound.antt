@@ -12,7 +12,7 @@ use Rattle.rpl_tree.specs.declared.words.ConvertWord.{ConvertWord}
 use Rattle.rpl_tree.specs.declared.words.ConvertWord.TheVariants as C
 use Rattle.rpl_parse.specs.Tokens.{Tok, mark, word, digits, text, same}
 use Rattle.rpl_tree.specs.Tree.{Tree, literal, truth, now, slot, name, call, list, no_trees}
-use Rattle.rpl_parse.specs.Depth.{depth, depths}
+use Rattle.rpl_tree.specs.Depth.{depth, depths}
 use Rattle.rpl_parse.specs.Grammar.{Part, ◌⨾◌, sign, form, Spells, SpellsMore, looseness, looseness_of, looseness_of_one, looseness_on_left, mark_of}
 use Rattle.rpl_parse.specs.Grammar.{mark_of_one, mark_of_convert, is_prefix, is_operator}
 use Rattle.rpl_parse.specs.Reading.{Read, Got, got, Many, many, Named, Turn, ◌>>=◌, behind, behind_name, name_before, kept, closed_by_mark, up_to}

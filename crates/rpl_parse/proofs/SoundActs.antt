@@ -6,7 +6,7 @@ use Rattle.rpl_tree.specs.Tree.{Act, assign, branch, with_name}
 use Rattle.rpl_parse.specs.declared.token.Mark.{Mark}
 use Rattle.rpl_parse.specs.declared.token.Mark.TheVariants as M
 use Rattle.rpl_parse.specs.Tokens.{Tok, mark, word, digits, text}
-use Rattle.rpl_parse.specs.Depth.{depth, act_depth, acts_depth}
+use Rattle.rpl_tree.specs.Depth.{depth, act_depth, acts_depth}
 use Rattle.rpl_parse.specs.Grammar.{◌⨾◌, sign, token, Spells}
 use Rattle.rpl_parse.specs.Statements.{SpellsAct, SpellsActs, if_none, if_zero, ◌or◌}
 use Rattle.rpl_parse.specs.Reading.{Read, Got, ◌>>=◌, behind, behind_name, name_before, closed_by_mark, if_found, read_tree}

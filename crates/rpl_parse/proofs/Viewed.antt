@@ -1,63 +1,32 @@
--- The plain tree of a list of expressions, and of a list of statements, by the elements of its vector.
-use Rattle.rw_base.proofs.Common.{◌≡◌, ℕ, List, [], ◌∷◌, map, refl, ap, ap₂, ◌∙◌, Vec, Global, Count}
-use Rattle.rpl_tree.specs.declared.expression.Expr.{Expr, Row_of-Expr, end_of-Expr, more_of-Expr, items-the_row-Expr, items_hidden-the_row-Expr-0}
-use Rattle.rpl_tree.specs.declared.expression.Expr.TheVariants.{Call, Call', List as Listed, List'}
-use Rattle.rpl_tree.specs.declared.statement.Statement.{Statement, Row_of-Statement, end_of-Statement, more_of-Statement, items-the_row-Statement}
-use Rattle.rpl_tree.specs.declared.statement.Statement.{items_hidden-the_row-Statement-0}
-use Rattle.rpl_tree.specs.declared.statement.Statement.TheVariants.{If as Branched, If', With, With'}
-use Rattle.rpl_tree.proofs.Common.{Trees, tree, call, list, Acts, act, branch, with_name, tree_of, act_of}
-use Rattle.rpl_tree.specs.Seen as Seen
+-- The plain tree of a list of expressions, and of a list of statements, as the reading speaks of them.
+use Rattle.rw_base.proofs.Common.{◌≡◌, ℕ, List, [], ◌∷◌, map, refl, ap, ap₂, ◌∙◌, Vec, Global}
+use Rattle.rpl_tree.specs.declared.expression.Expr.{Expr}
+use Rattle.rpl_tree.specs.declared.expression.Expr.TheVariants.{Call, List as Listed}
+use Rattle.rpl_tree.specs.declared.statement.Statement.{Statement}
+use Rattle.rpl_tree.specs.declared.statement.Statement.TheVariants.{If as Branched, With}
+use Rattle.rpl_tree.proofs.Common.{tree, call, list, act, branch, with_name, tree_of, trees_in, act_of, acts_in}
+use Rattle.rpl_tree.proofs.Viewed as Tree
 use Rattle.rpl_parse.specs.Reading.{trees_of}
 use Rattle.rpl_parse.specs.ReadingActs.{acts_of}
 
-row_trees : (n : _) (row : Row_of-Expr n) → Seen.trees_of row ≡ trees_of (map tree_of (items-the_row-Expr n row))
-row_trees n end_of-Expr = refl
-row_trees n (more_of-Expr e rest) = ap (tree (tree_of e)) (row_trees _ rest)
+trees_listed : (es : List Expr) → trees_in es ≡ trees_of (map tree_of es)
+trees_listed [] = refl
+trees_listed (e ∷ es) = ap (tree (tree_of e)) (trees_listed es)
 
-abbrev row_of : Expr → (n : Count) × Row_of-Expr n
-row_of (List' shape row) = (_, row)
-row_of (Call' f shape row) = (_, row)
-row_of _ = (_, end_of-Expr)
-
-abbrev trees_by : List Expr → Trees
-trees_by es = trees_of (map tree_of es)
+pub acts_listed : (ss : List Statement) → acts_in ss ≡ acts_of (map act_of ss)
+acts_listed [] = refl
+acts_listed (s ∷ ss) = ap (act (act_of s)) (acts_listed ss)
 
 pub tree_of_list : (es : Vec Expr Global) → tree_of (Listed es) ≡ list (trees_of (map tree_of es.items))
-tree_of_list es = let row = row_of (Listed es) in ap list (row_trees row.0 row.1 ∙ ap trees_by (items_hidden-the_row-Expr-0 es))
+tree_of_list es = Tree.tree_of_list es ∙ ap list (trees_listed es.items)
 
 pub tree_of_call : (f : Vec ℕ Global) (es : Vec Expr Global) → tree_of (Call f es) ≡ call f.items (trees_of (map tree_of es.items))
-tree_of_call f es = let row = row_of (Call f es) in ap (call f.items) (row_trees row.0 row.1 ∙ ap trees_by (items_hidden-the_row-Expr-0 es))
-
-row_acts : (n : _) (row : Row_of-Statement n) → Seen.acts_of row ≡ acts_of (map act_of (items-the_row-Statement n row))
-row_acts n end_of-Statement = refl
-row_acts n (more_of-Statement s rest) = ap (act (act_of s)) (row_acts _ rest)
-
-abbrev first_row : Statement → (n : Count) × Row_of-Statement n
-first_row (If' c shape first shape2 second) = (_, first)
-first_row (With' x e shape body) = (_, body)
-first_row _ = (_, end_of-Statement)
-
-abbrev second_row : Statement → (n : Count) × Row_of-Statement n
-second_row (If' c shape first shape2 second) = (_, second)
-second_row _ = (_, end_of-Statement)
-
-abbrev acts_by : List Statement → Acts
-acts_by ss = acts_of (map act_of ss)
+tree_of_call f es = Tree.tree_of_call f es ∙ ap (call f.items) (trees_listed es.items)
 
 pub act_of_branch : (c : Expr) (ys ns : Vec Statement Global)
     → act_of (Branched c ys ns) ≡ branch (tree_of c) (acts_of (map act_of ys.items)) (acts_of (map act_of ns.items))
-act_of_branch c ys ns =
-    let first = first_row (Branched c ys ns) in
-    let second = second_row (Branched c ys ns) in
-    ap₂ (branch (tree_of c)) (row_acts first.0 first.1 ∙ ap acts_by (items_hidden-the_row-Statement-0 ys))
-    (row_acts second.0 second.1 ∙ ap acts_by (items_hidden-the_row-Statement-0 ns))
+act_of_branch c ys ns = Tree.act_of_branch c ys ns ∙ ap₂ (branch (tree_of c)) (acts_listed ys.items) (acts_listed ns.items)
 
 pub act_of_with : (x : Vec ℕ Global) (e : Expr) (body : Vec Statement Global)
     → act_of (With x e body) ≡ with_name x.items (tree_of e) (acts_of (map act_of body.items))
-act_of_with x e body = let row =
-    first_row (With x e body) in ap (with_name x.items (tree_of e)) (row_acts row.0 row.1 ∙ ap acts_by (items_hidden-the_row-Statement-0 body))
-
--- the definitions of trees and the reading speak of a list in two ways
-pub acts_listed : (ss : List Statement) → Seen.acts_in ss ≡ acts_of (map act_of ss)
-acts_listed [] = refl
-acts_listed (s ∷ ss) = ap (act (act_of s)) (acts_listed ss)
+act_of_with x e body = Tree.act_of_with x e body ∙ ap (with_name x.items (tree_of e)) (acts_listed body.items)

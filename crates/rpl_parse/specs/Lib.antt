@@ -1,7 +1,6 @@
 pub mod Tokens
 pub mod Scan
 pub mod Pieces
-pub mod Depth
 pub mod Grammar
 pub mod Reading
 pub mod Gives
@@ -12,6 +11,5 @@ pub mod GivesDeclared
 pub mod Statements
 pub mod Declarations
 pub mod Cut
-pub mod Bounds
 pub mod Parsing
 pub mod Worked

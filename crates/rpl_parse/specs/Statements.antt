@@ -3,7 +3,7 @@ use Rattle.std.specs.Prelude.{◌≡◌, ◌≤◌, ◌⊎◌, ℤ, pos, List, [
 use Rattle.rpl_tree.specs.Tree.{TypeName, numeric, boolean, datetime, slot_type, numeric_list, slot_list, Act, Acts, assign, branch, with_name, no_acts, act, Parameter, Declared, rule, function}
 use Rattle.rpl_parse.specs.declared.token.Mark.TheVariants as M
 use Rattle.rpl_parse.specs.Tokens.{Tok, word, digits, text}
-use Rattle.rpl_parse.specs.Depth.{declared_depth}
+use Rattle.rpl_tree.specs.Depth.{declared_depth}
 use Rattle.rpl_parse.specs.Grammar.{Part, ◌⨾◌, token, nothing, sign, Spells}
 
 -- one part or another

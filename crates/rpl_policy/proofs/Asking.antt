@@ -7,8 +7,8 @@ use Rattle.rw_base.specs.declared.number.Cell.{Cell}
 use Rattle.rw_base.proofs.Tests.{Decides-from_to}
 use Rattle.rw_model.proofs.Common.{Draft, Placed, all_slots, numbered, slot_at, slot_named}
 use Rattle.rw_model.proofs.Numbered.{numbered-found}
-use Rattle.rw_series.specs.Fire.{Fire}
-use Rattle.rw_series.specs.declared.fire.RulePut.{RulePut}
+use Rattle.rw_firing.specs.Fire.{Fire}
+use Rattle.rw_firing.specs.declared.fire.RulePut.{RulePut}
 use Rattle.rw_run.specs.Policy.{CanAsk}
 use Rattle.rpl_code.specs.declared.block.Block.{Block}
 use Rattle.rpl_code.specs.declared.instruction.Instruction.{Instruction}

@@ -3,7 +3,7 @@ use Rattle.rw_base.proofs.Common.{◌≡◌, ◌∙◌, ℕ, zero, suc, ◌≤�
 use Rattle.rw_base.proofs.Common.{slice_get-get_or}
 use Rattle.rw_base.specs.declared.number.Cell.{Cell}
 use Rattle.rw_model.proofs.Common.{Draft}
-use Rattle.rw_series.specs.Fire.{Fire}
+use Rattle.rw_firing.specs.Fire.{Fire}
 use Rattle.rw_run.specs.Frame.{AreAlike}
 use Rattle.rw_run.specs.Policy.{IsPolicyOf, IsRule}
 use Rattle.rpl_tree.specs.Budget.{Budget}

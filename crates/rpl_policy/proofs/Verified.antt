@@ -6,10 +6,10 @@ use Rattle.rw_base.specs.declared.number.Cell.{Cell}
 use Rattle.rw_model.proofs.Common.{Draft, numbered}
 use Rattle.rw_method.specs.declared.solved.Solved.{Solved}
 use Rattle.rw_method.specs.declared.solved.Solved.TheVariants.{Conflict, Idle, OutOfRange, Puts}
-use Rattle.rw_series.specs.Fire.{Fire}
-use Rattle.rw_series.specs.declared.fire.FireEnd.{FireEnd}
-use Rattle.rw_series.specs.declared.fire.FireEnd.TheVariants.{Done, OutOfRange as BeyondRange, Unknown, ZeroDivisor as DividesByZero}
-use Rattle.rw_series.specs.declared.look.Look.{Look}
+use Rattle.rw_firing.specs.Fire.{Fire}
+use Rattle.rw_firing.specs.declared.fire.FireEnd.{FireEnd}
+use Rattle.rw_firing.specs.declared.fire.FireEnd.TheVariants.{Done, OutOfRange as BeyondRange, Unknown, ZeroDivisor as DividesByZero}
+use Rattle.rw_firing.specs.declared.look.Look.{Look}
 use Rattle.rw_run.specs.declared.fault.RunFault.TheVariants.{ObjectLimit, RuleLimit}
 use Rattle.rw_run.proofs.Common.{Asked, Cells, Event, Leads, Log, after_objects, answered, asked_for, cells_of, denied_by, dispatch_of, dispatched}
 use Rattle.rw_run.proofs.Common.{dispatches, end_in, fault, first_due, first_waiting, follows_in, placed, inside, judged, looks_of, next_of, opened}

@@ -5,7 +5,7 @@ use Rattle.rw_model.specs.Draft.{Draft}
 use Rattle.rw_model.specs.declared.control.AgendaOrder.TheVariants.{LowFirst}
 use Rattle.rw_model.specs.declared.writer.Writer.{Writer}
 use Rattle.rw_model.specs.declared.writer.Writer.TheVariants.{Object, Rule}
-use Rattle.rw_series.specs.declared.look.Look.{Look}
+use Rattle.rw_firing.specs.declared.look.Look.{Look}
 use Rattle.rw_run.specs.Dispatch.{cell_at}
 use Rattle.rw_run.specs.Log.{Asked, Event, closed, fault, fired, idle, opened, solved}
 use Rattle.rw_run.specs.declared.fault.RunFault.TheVariants.{ZeroDivisor}

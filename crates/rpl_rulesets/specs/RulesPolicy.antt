@@ -3,7 +3,7 @@ use Rattle.std.specs.Prelude.{List}
 use Rattle.rw_model.specs.Draft.{Draft}
 use Rattle.rpl_tree.specs.Mean.{mean}
 use Rattle.rpl_tree.specs.Tree.{Declared}
-use Rattle.rpl_parse.specs.Bounds.{rule_count}
+use Rattle.rpl_tree.specs.Bounds.{rule_count}
 use Rattle.rw_run.specs.Next.{Policy}
 
 -- each rule does what it means

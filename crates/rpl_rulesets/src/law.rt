@@ -8,7 +8,7 @@ ghost use Rattle.rw_run.specs.Frame.{log_after};
 ghost use Rattle.rw_run.specs.Runs.{IsRun, with_inputs};
 ghost use Rattle.rpl_tree.specs.Tree.{Declared};
 ghost use Rattle.rpl_tree.specs.Worked.{cap_and_base};
-ghost use Rattle.rpl_parse.specs.Bounds.{function_count, rule_count};
+ghost use Rattle.rpl_tree.specs.Bounds.{function_count, rule_count};
 ghost use Rattle.rpl_types.specs.HasType.{IsTyped};
 ghost use Rattle.rpl_compile.specs.Budgets.{code_budgets_of};
 ghost use Rattle.rpl_compile.specs.Translate.{translate};

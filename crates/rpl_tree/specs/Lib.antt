@@ -8,6 +8,8 @@ pub mod Mean
 pub mod Seen
 pub mod Frame
 pub mod Count
+pub mod Depth
+pub mod Bounds
 pub mod Cost
 pub mod Locals
 pub mod Words

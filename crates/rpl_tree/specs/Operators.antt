@@ -4,7 +4,7 @@ use Rattle.std.specs.Ordering.{int_eq}
 use Rattle.rw_base.specs.Quantity.{quantity_max}
 use Rattle.rw_base.specs.Quotient.{floor_div}
 use Rattle.rw_model.specs.Objects.{numbered}
-use Rattle.rw_series.specs.declared.fire.FireEnd.TheVariants.{ZeroDivisor, OutOfRange}
+use Rattle.rw_firing.specs.declared.fire.FireEnd.TheVariants.{ZeroDivisor, OutOfRange}
 use Rattle.rpl_tree.specs.Value.{Kind, numbers_kind, slots_kind, Value, a_number, a_truth, a_date, a_slot, numbers, slots, kind_of_value, is_same_kind}
 use Rattle.rpl_tree.specs.Outcome.{Outcome, after, ends, gives, is_stuck, spent, ◌>>=◌}
 

@@ -1,8 +1,8 @@
 -- What a part of a rule comes to: its value or how the firing ends there, and what was done on the way.
 use Rattle.std.specs.Prelude.{ℕ, ◌+◌, List, [], ◌++◌}
 use Rattle.rw_base.specs.declared.number.Cell.{Cell}
-use Rattle.rw_series.specs.declared.fire.FireEnd.{FireEnd}
-use Rattle.rw_series.specs.declared.fire.RulePut.{RulePut}
+use Rattle.rw_firing.specs.declared.fire.FireEnd.{FireEnd}
+use Rattle.rw_firing.specs.declared.fire.RulePut.{RulePut}
 
 -- a value, the end of the firing, or nothing: a name that isn't there, or a value of a wrong kind, which a checked ruleset never has
 pub data Answer (A : Type 0) : Type 0 where

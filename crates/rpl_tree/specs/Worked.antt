@@ -9,10 +9,10 @@ use Rattle.rw_model.specs.Objects.{Object}
 use Rattle.rw_model.specs.Slot.{flow_unit}
 use Rattle.rw_model.specs.declared.control.AgendaOrder.TheVariants.{HighFirst}
 use Rattle.rw_model.specs.declared.kind.Kind.TheVariants.{Canal, DataObject, Reservoir}
-use Rattle.rw_series.specs.Fire.{Fire}
-use Rattle.rw_series.specs.declared.fire.RulePut.{RulePut}
-use Rattle.rw_series.specs.declared.fire.FireEnd.{FireEnd}
-use Rattle.rw_series.specs.declared.fire.FireEnd.TheVariants.{Done, Unknown}
+use Rattle.rw_firing.specs.Fire.{Fire}
+use Rattle.rw_firing.specs.declared.fire.RulePut.{RulePut}
+use Rattle.rw_firing.specs.declared.fire.FireEnd.{FireEnd}
+use Rattle.rw_firing.specs.declared.fire.FireEnd.TheVariants.{Done, Unknown}
 use Rattle.rpl_tree.specs.declared.words.OneWord.TheVariants.{Minus, Length}
 use Rattle.rpl_tree.specs.declared.words.TwoWord.TheVariants.{Item, Plus, Minus as Less_by, Times, Divide, Append}
 use Rattle.rpl_tree.specs.Tree.{numeric, numeric_list, Tree, Trees, literal, now, slot, name, call, list, choice, each, mapped, one, two, at, no_trees, tree, Act, Acts, assign, no_acts, act, Declared, rule, function}

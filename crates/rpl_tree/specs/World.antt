@@ -14,8 +14,8 @@ use Rattle.rw_model.specs.Draft.{Draft}
 use Rattle.rw_model.specs.Links.{bounds_in}
 use Rattle.rw_model.specs.Before.{before_of}
 use Rattle.rw_model.specs.Basin.{is_settable}
-use Rattle.rw_series.specs.declared.fire.FireEnd.TheVariants.{Unknown, OutOfRange}
-use Rattle.rw_series.specs.declared.fire.RulePut.{RulePut}
+use Rattle.rw_firing.specs.declared.fire.FireEnd.TheVariants.{Unknown, OutOfRange}
+use Rattle.rw_firing.specs.declared.fire.RulePut.{RulePut}
 use Rattle.rpl_tree.specs.declared.words.ConvertWord.{ConvertWord}
 use Rattle.rpl_tree.specs.declared.words.ConvertWord.TheVariants.{StorageToElevation, ElevationToStorage}
 use Rattle.rpl_tree.specs.Value.{Value, a_number, a_truth, a_date, a_slot}

@@ -3,8 +3,8 @@ ghost use Rattle.std.specs.Prelude.{◌≡◌, ◌≢◌, ◌↔◌, IsTrue, ℕ
 ghost use Rattle.rw_base.specs.Quantity.{IsQuantity, quantity_max};
 ghost use Rattle.rw_base.specs.declared.number.Cell.{Cell};
 ghost use Rattle.rw_model.specs.Draft.{Draft};
-ghost use Rattle.rw_series.specs.Fire.{Fire};
-ghost use Rattle.rw_series.specs.declared.fire.FireEnd.TheVariants.{Done, OutOfRange, Unknown, ZeroDivisor};
+ghost use Rattle.rw_firing.specs.Fire.{Fire};
+ghost use Rattle.rw_firing.specs.declared.fire.FireEnd.TheVariants.{Done, OutOfRange, Unknown, ZeroDivisor};
 ghost use Rattle.rpl_tree.specs.declared.words.ConvertWord.TheVariants.{ElevationToStorage, StorageToElevation};
 ghost use Rattle.rpl_tree.specs.declared.words.OneWord.TheVariants.{Day, Known, Length, Minus, Month, Not, Year};
 ghost use Rattle.rpl_tree.specs.declared.words.TwoWord.TheVariants.{And, Append, Divide, Equal, Greater, GreaterEqual, Item, Less, LessEqual, Minus as Less_by, Or, Plus, Times, Unequal};

@@ -3,7 +3,6 @@ pub mod Dimensions
 pub mod Searching
 pub mod Sooner
 pub mod Texts
-pub mod Viewed
 pub mod Visiting
 pub mod VisitingActs
 pub mod Heading

@@ -1,5 +1,5 @@
 ghost use Rattle.rw_base.specs.Answers.{Answers};
-ghost use Rattle.rpl_parse.specs.Declarations.{IsRuleset};
+ghost use Rattle.rpl_tree.specs.Bounds.{AreLimited};
 ghost use Rattle.rpl_tree.specs.Seen.{rules_of};
 ghost use Rattle.rpl_types.specs.Checked.{checked, checked_of};
 ghost use Rattle.rpl_types.specs.Refused.{type_refusal_of};
@@ -17,7 +17,7 @@ use std::alloc::Global;
 /// "Refusals" what is wrong where, and in which order. `NoMemory` says nothing of the ruleset, which is dropped with either
 /// fault.
 pub fn check(alloc: Global, rules: ParsedRules, basin: &Basin) -> Result<Typed, TypeFault>
-    requires ruleset { IsRuleset rules }
+    requires limited { AreLimited (rules_of rules) }
     ensures answers { Answers Fault.NoMemory type_refusal_of checked_of result
         (checked basin.now (rules_of rules)) }
 {

@@ -68,7 +68,7 @@ pub(crate) fn statements<'a>(
 
 /// A statement.
 #[cycle(statements)]
-#[tactic(auto, using(crate::proofs::Viewed::act_of_branch, crate::proofs::Viewed::act_of_with))]
+#[tactic(auto, using(rpl_tree::proofs::Viewed::act_of_branch, rpl_tree::proofs::Viewed::act_of_with))]
 fn visit_statement<'a>(
     known: &Known,
     progress: &mut Progress<'a>,

@@ -2,8 +2,7 @@ ghost use Rattle.std.specs.Prelude.{◌≡◌, ◌≤◌, ◌+◌, Some, IsSome,
 ghost use Rattle.rw_base.specs.declared.limits.TheConstants.{RULES_MAX};
 ghost use Rattle.rpl_budget.specs.Seen.{budget_seen};
 ghost use Rattle.rpl_tree.specs.Seen.{declared_of, rules_of};
-ghost use Rattle.rpl_parse.specs.Bounds.{function_count, rule_count};
-ghost use Rattle.rpl_parse.specs.Declarations.{IsRuleset};
+ghost use Rattle.rpl_tree.specs.Bounds.{AreLimited, function_count, rule_count};
 ghost use Rattle.rpl_types.specs.Checked.{declaration_of_rule, rule_budget};
 ghost use Rattle.rpl_types.specs.Judged.{type_at};
 
@@ -26,7 +25,7 @@ impl Model for Typed {
     ghost use Rattle.std.specs.Coded.{codes};
     ghost use Rattle.rpl_budget.specs.Budgets.{budgets_of};
     ghost use Rattle.rpl_budget.specs.Seen.{budget_seen};
-    ghost use Rattle.rpl_parse.specs.Declarations.{IsRuleset};
+    ghost use Rattle.rpl_tree.specs.Bounds.{AreLimited};
     ghost use Rattle.rpl_tree.specs.Seen.{rules_of};
     ghost use Rattle.rpl_tree.specs.contracts.expression.Expr as e;
     ghost use Rattle.rpl_tree.specs.contracts.statement.Statement as s;
@@ -37,7 +36,7 @@ impl Model for Typed {
     ghost view = { λ t.
         record { rules = t.rules; types = map (λ types. types.items) t.types.items } };
 
-    ghost invariant = { λ t. IsRuleset t.rules
+    ghost invariant = { λ t. AreLimited (rules_of t.rules)
         × (map budget_seen t.costs.items ≡ budgets_of (rules_of t.rules)) };
 
     ghost coded = { Prim.hlevel (codes, e.the_row.coded, s.the_row.coded) };
@@ -92,7 +91,7 @@ impl Typed {
     /// The rules and functions, as they were parsed.
     pub fn rules(&self) -> &ParsedRules
         ensures rules { result.now ≡ self.now.rules }
-        ensures ruleset { IsRuleset result.now }
+        ensures limited { AreLimited (rules_of result.now) }
     {
         &self.rules
     }

@@ -4,7 +4,7 @@ use Rattle.rw_base.proofs.Common.{take, Option, Some, None, Result, Ok, Err, ref
 use Rattle.rw_base.proofs.Common.{length-append, if◌then◌else◌, slice_get, option_and_then, option_map, slice_get_within, length-take, nat_tests}
 use Rattle.rw_base.specs.declared.number.Cell.{Cell}
 use Rattle.rw_model.proofs.Common.{Draft, numbered}
-use Rattle.rw_series.specs.Fire.{Fire}
+use Rattle.rw_firing.specs.Fire.{Fire}
 use Rattle.rpl_code.specs.declared.block.Block.{Block}
 use Rattle.rpl_code.specs.declared.block.BlockHead.{BlockHead}
 use Rattle.rpl_code.specs.declared.block.BlockHead.TheVariants.{Rule, Function}

@@ -7,7 +7,7 @@ ghost use Rattle.rpl_code.specs.declared.instruction.Instruction.TheVariants as 
 ghost use Rattle.rpl_code.specs.declared.block.Block.{Block};
 ghost use Rattle.rpl_code.specs.Worked.{plain_rule, seven_kept, two_puts};
 ghost use Rattle.rw_model.specs.Draft.{Draft};
-ghost use Rattle.rw_series.specs.declared.fire.FireEnd.TheVariants.{Done, OutOfRange, Unknown, ZeroDivisor};
+ghost use Rattle.rw_firing.specs.declared.fire.FireEnd.TheVariants.{Done, OutOfRange, Unknown, ZeroDivisor};
 ghost use Rattle.rpl_tree.specs.Budget.{Budget, budget};
 ghost use Rattle.rpl_tree.specs.World.{cell_of, put_to};
 ghost use Rattle.rpl_tree.specs.Worked.{all_cells, done_by, ended_early, fire, only_slot, unknown_cells, x_ends, x_is};

@@ -4,7 +4,7 @@ use Rattle.rw_base.proofs.Common.{get_or-set_other, get_or-set_same, inl, inr, l
 use Rattle.rw_base.proofs.Common.{subst, sym}
 use Rattle.std.proofs.lemmas.Bool.{cases_lt}
 use Rattle.std.proofs.lemmas.List.{get_or_past}
-use Rattle.rw_series.specs.declared.look.Look.{Look}
+use Rattle.rw_firing.specs.declared.look.Look.{Look}
 use Rattle.rw_run.specs.Index.{IsIndex}
 use Rattle.rw_run.specs.Log.{Cells}
 use Rattle.rw_run.specs.Next.{is_changed}

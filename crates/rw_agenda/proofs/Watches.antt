@@ -10,7 +10,7 @@ use Rattle.std.specs.List.{slice_get}
 use Rattle.rw_base.specs.declared.number.Cell.{Cell}
 use Rattle.rw_model.proofs.Numbered.{numbered-found, numbered-known}
 use Rattle.rw_model.specs.Objects.{numbered}
-use Rattle.rw_series.specs.declared.look.Look.{Look}
+use Rattle.rw_firing.specs.declared.look.Look.{Look}
 use Rattle.rw_agenda.specs.CellIndex.{CellIndex, before_in, is_met, is_watching, newest_at, index_position}
 use Rattle.rw_agenda.specs.declared.watch.Watch.{Watch}
 

@@ -10,8 +10,9 @@ use crate::limits::RULES_MAX;
 use crate::marks::Marks;
 use crate::turns::rule_in_turn;
 use rw_base::{Cell, NoMemory, RuleNo};
+use rw_firing::Look;
 use rw_model::Basin;
-use rw_series::{Look, Series};
+use rw_series::Series;
 use std::alloc::Global;
 use std::marker::Model;
 

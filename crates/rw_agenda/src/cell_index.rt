@@ -4,7 +4,7 @@ ghost use Rattle.rw_base.specs.declared.number.Cell.{Cell};
 ghost use Rattle.rw_model.specs.Kept.{numbers_of};
 ghost use Rattle.rw_model.specs.Objects.{numbered};
 ghost use Rattle.rw_run.specs.Dispatch.{cell_at};
-ghost use Rattle.rw_series.specs.declared.look.Look.{Look};
+ghost use Rattle.rw_firing.specs.declared.look.Look.{Look};
 ghost use Rattle.rw_agenda.specs.CellIndex.{CanWatch, before_in, is_met, is_watching, newest_at, index_position};
 ghost use Rattle.rw_agenda.specs.Marks.{MarksMore};
 ghost use Rattle.rw_agenda.specs.declared.watch.Watch.{Watch};
@@ -12,8 +12,8 @@ ghost use Rattle.rw_agenda.specs.declared.watch.Watch.{Watch};
 use crate::marks::Marks;
 use crate::watch::Watch;
 use rw_base::{Cell, NoMemory, SlotNo, StepNo};
+use rw_firing::Look;
 use rw_model::Basin;
-use rw_series::Look;
 use std::alloc::Global;
 use std::marker::Model;
 

@@ -5,7 +5,8 @@ ghost use Rattle.rw_series.specs.Series.{held};
 ghost use Rattle.rw_agenda.specs.Agenda.{unfired};
 
 use rw_base::NoMemory;
-use rw_series::{Look, Series};
+use rw_firing::Look;
+use rw_series::Series;
 use std::alloc::Global;
 use std::marker::Model;
 

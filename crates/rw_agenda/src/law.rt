@@ -3,7 +3,7 @@ ghost use Rattle.std.specs.Option.{option_or};
 ghost use Rattle.std.specs.Prelude.{◌≡◌, ℕ, List, [], ◌∷◌, None, Some, false, pos};
 ghost use Rattle.rw_model.specs.Draft.{Draft};
 ghost use Rattle.rw_model.specs.declared.control.AgendaOrder.TheVariants.{HighFirst, LowFirst};
-ghost use Rattle.rw_series.specs.declared.look.Look.{Look};
+ghost use Rattle.rw_firing.specs.declared.look.Look.{Look};
 ghost use Rattle.rw_run.specs.Log.{Asked, Cells, last_put};
 ghost use Rattle.rw_run.specs.Next.{is_changed};
 ghost use Rattle.rw_agenda.specs.Agenda.{Agenda, IsIndexed, IsListed, KeepsOtherMarks, MarksThose, after_firing, first_due_in};

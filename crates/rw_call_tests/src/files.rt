@@ -5,7 +5,7 @@ ghost use Rattle.std.specs.Option.{option_map};
 use rw_base::NoMemory;
 use rw_io::{
     FILE_MAX, FileShelf, MemShelf, MemSink, PIECE_MAX, ReadEnd, Shelf, ShelfFault, Sink, StdSink,
-    read_all, write_all,
+    SureShelf, SureSink, read_all, write_all,
 };
 use std::alloc::Global;
 use std::fs;
@@ -92,6 +92,29 @@ fn calls_of_a_sink_fail_by_number(rt: HostRuntime) -> Result<(), Fail> {
     let alloc = rt.alloc();
     let mut sink = MemSink::of(alloc, numbers(alloc, &[2])?);
     assert!(rt; second_call_fails(&mut sink));
+    Ok(())
+}
+
+// Whether a path that isn't held is an empty file.
+fn unheld_is_empty(alloc: Global, shelf: &mut SureShelf) -> bool {
+    is_read(alloc, shelf, "a", b"one") && is_read(alloc, shelf, "b", b"")
+}
+
+// Whether a piece for which there is no room, and each one behind it, is taken and not kept.
+fn no_piece_fails(sink: &mut SureSink) -> bool {
+    write_all(sink, b"one").is_ok()
+        && write_all(sink, b"two").is_ok()
+        && write_all(sink, b"3").is_ok()
+        && sink.held() == b"one".as_slice()
+}
+
+#[test]
+fn no_call_of_a_sure_shelf_or_sink_fails(rt: HostRuntime) -> Result<(), Fail> {
+    let alloc = rt.alloc();
+    let mut shelf = SureShelf::of(owned(alloc, &[("a", b"one")])?);
+    assert!(rt; unheld_is_empty(alloc, &mut shelf));
+    let mut sink = SureSink::of(alloc, 4)?;
+    assert!(rt; no_piece_fails(&mut sink));
     Ok(())
 }
 

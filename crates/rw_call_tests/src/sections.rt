@@ -12,11 +12,11 @@ use std::process::Abort;
 fn passing(rt: &impl Abort, alloc: Global, basin: &Basin) -> Series {
     let mut series = Series::sized(alloc, basin).expect(rt, "memory");
     let comes = cell(rt, basin, "Up", "GageInflow", 1);
-    series.hold(basin, comes, Some(given(rt, 70)));
+    series.restore(basin, comes, Some(given(rt, 70)));
     let passes = cell(rt, basin, "Low", "GageInflow", 1);
-    series.hold(basin, passes, Some(given(rt, -5)));
+    series.restore(basin, passes, Some(given(rt, -5)));
     let leaves = cell(rt, basin, "Low", "GageOutflow", 2);
-    series.hold(basin, leaves, Some(given(rt, 100_000_000_000_000_000)));
+    series.restore(basin, leaves, Some(given(rt, 100_000_000_000_000_000)));
     series
 }
 

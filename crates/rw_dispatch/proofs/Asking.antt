@@ -3,7 +3,7 @@ use Rattle.rw_dispatch.proofs.Common.{List, None, Option, Some, [], ap, refl, su
 use Rattle.rw_model.specs.Draft.{Draft}
 use Rattle.rw_method.specs.declared.solved.Solved.{Solved}
 use Rattle.rw_method.specs.declared.solved.Solved.TheVariants.{Idle, Puts, Conflict, OutOfRange}
-use Rattle.rw_series.specs.declared.look.Look.{Look}
+use Rattle.rw_firing.specs.declared.look.Look.{Look}
 use Rattle.rw_run.specs.Dispatch.{answered, asked_for, denied_by, dispatch_of, end_in, judged, or_fault}
 use Rattle.rw_run.specs.Frame.{IsFault}
 use Rattle.rw_run.specs.Log.{Asked, Cells, Event, asked_in, looks_in}

@@ -2,7 +2,7 @@
 use Rattle.rw_dispatch.proofs.Common.{ArePuts, Cell, List, Option, Some, [], ap, append-nil, arith, held, length, option_or, Put, refl, subst, sym, ℕ}
 use Rattle.rw_dispatch.proofs.Common.{◌++◌, ◌∙◌, ◌≡◌}
 use Rattle.rw_model.specs.Draft.{Draft}
-use Rattle.rw_series.specs.declared.look.Look.{Look}
+use Rattle.rw_firing.specs.declared.look.Look.{Look}
 use Rattle.rw_run.specs.Dispatch.{asked_for}
 use Rattle.rw_run.specs.Log.{Asked, Event, last_put, written_by}
 use Rattle.rw_run.specs.Waiting.{is_woken, queued_after, slots_at, woken}

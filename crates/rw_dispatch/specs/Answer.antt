@@ -4,7 +4,7 @@ use Rattle.rw_model.specs.Draft.{Draft}
 use Rattle.rw_method.specs.declared.put.Put.{Put}
 use Rattle.rw_method.specs.declared.solved.Solved.{Solved as Solution}
 use Rattle.rw_method.specs.declared.solved.Solved.TheVariants.{Puts}
-use Rattle.rw_series.specs.declared.look.Look.{Look}
+use Rattle.rw_firing.specs.declared.look.Look.{Look}
 use Rattle.rw_run.specs.declared.fault.RunFault.TheVariants.{Conflict as FaultConflict, ObjectOutOfRange}
 use Rattle.rw_run.specs.Log.{Event, idle, solved, fault}
 use Rattle.rw_run.specs.Dispatch.{asked_for}

@@ -5,7 +5,7 @@ ghost use Rattle.rw_method.specs.View.{IsViewOf};
 ghost use Rattle.rw_method.specs.Catalogue.{AreInOrder};
 ghost use Rattle.rw_run.specs.Log.{Cells};
 ghost use Rattle.rw_dispatch.specs.Judged.{HasJudged};
-ghost use Rattle.rw_series.specs.declared.look.Look.{Look};
+ghost use Rattle.rw_firing.specs.declared.look.Look.{Look};
 ghost use Rattle.rw_series.specs.Series.{held};
 ghost use Rattle.rw_run.specs.Dispatch.{answered, asked_for, dispatched, looks_of, put_by, view_of};
 ghost use Rattle.rw_dispatch.specs.Answer.{Ends, Tells, answer_of, asked_by_solution, written_in};

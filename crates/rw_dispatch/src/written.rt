@@ -44,7 +44,7 @@ fn make_one(basin: &Basin, series: &mut Series, write: &Write)
     ensures cells { (cell : Cell) → held series.new cell
         ≡ option_or (last_put basin.now (write.now ∷ []) cell) (held series.old cell) }
 {
-    series.hold(basin, write.cell, Some(write.content));
+    series.restore(basin, write.cell, Some(write.content));
 }
 
 /// Makes what an event writes, one after another.

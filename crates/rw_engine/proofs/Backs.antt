@@ -11,7 +11,7 @@ use Rattle.std.proofs.Math.Seq.{take-append_seam}
 use Rattle.std.proofs.lemmas.List.Elements.{Contains-append_left, Contains-append_right}
 use Rattle.rw_model.specs.Links.{IsBetween, bounds_in}
 use Rattle.rw_model.specs.declared.content.Content.{Content}
-use Rattle.rw_series.specs.Fire.{Fire}
+use Rattle.rw_firing.specs.Fire.{Fire}
 use Rattle.rw_series.specs.Series.{is_shared}
 use Rattle.rw_series.proofs.Bounds.{bounds-shared}
 use Rattle.rw_run.specs.Dispatch.{dispatched}

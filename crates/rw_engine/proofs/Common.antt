@@ -34,5 +34,5 @@ pub use Rattle.rw_run.proofs.Common.{waiting, written_by}
 pub use Rattle.rw_run.specs.declared.fault.RunFault.{RunFault}
 pub use Rattle.rw_run.specs.declared.run.RunEnd.TheVariants.{Fault, Settled}
 pub use Rattle.rw_series.specs.Series.{IsCell, IsSeriesOf, Series, Sets, held, is_shared}
-pub use Rattle.rw_series.specs.declared.look.Look.{Look}
+pub use Rattle.rw_firing.specs.declared.look.Look.{Look}
 pub use Rattle.std.proofs.Math.Numerals.{add-one}

@@ -17,9 +17,9 @@ use Rattle.rw_run.specs.declared.trace.TraceEvent.{TraceEvent}
 use Rattle.rw_run.specs.declared.trace.TraceEvent.TheVariants.{Fire as FireLine, Fault as FaultLine}
 use Rattle.rw_agenda.specs.Agenda.{Entry, unfired}
 use Rattle.rw_rules.specs.Rules.{Rules, ShowsLooks}
-use Rattle.rw_series.specs.Fire.{Fire}
-use Rattle.rw_series.specs.declared.fire.FireEnd.{FireEnd}
-use Rattle.rw_series.specs.declared.fire.FireEnd.TheVariants.{Done, Unknown, ZeroDivisor as DividesByZero, OutOfRange}
+use Rattle.rw_firing.specs.Fire.{Fire}
+use Rattle.rw_firing.specs.declared.fire.FireEnd.{FireEnd}
+use Rattle.rw_firing.specs.declared.fire.FireEnd.TheVariants.{Done, Unknown, ZeroDivisor as DividesByZero, OutOfRange}
 use Rattle.rw_engine.proofs.Events.{settled_inside}
 use Rattle.rw_engine.proofs.Raises.{raised_at}
 use Rattle.rw_engine.proofs.Traces.{shown_more}

@@ -10,10 +10,10 @@ use Rattle.rw_base.specs.declared.memory.NoMemory.{NoMemory}
 use Rattle.rw_dispatch.proofs.Asking.{looks_told}
 use Rattle.rw_method.specs.declared.solved.Solved.{Solved}
 use Rattle.rw_method.specs.declared.solved.Solved.TheVariants.{Idle, Puts, Conflict, OutOfRange}
-use Rattle.rw_series.specs.Fire.{Fire}
-use Rattle.rw_series.specs.declared.fire.FireEnd.{FireEnd}
-use Rattle.rw_series.specs.declared.fire.FireEnd.TheVariants.{Done, Unknown, ZeroDivisor as DividesByZero, OutOfRange as EndsOutside}
-use Rattle.rw_series.specs.declared.look.Look.{Look}
+use Rattle.rw_firing.specs.Fire.{Fire}
+use Rattle.rw_firing.specs.declared.fire.FireEnd.{FireEnd}
+use Rattle.rw_firing.specs.declared.fire.FireEnd.TheVariants.{Done, Unknown, ZeroDivisor as DividesByZero, OutOfRange as EndsOutside}
+use Rattle.rw_firing.specs.declared.look.Look.{Look}
 use Rattle.rw_run.specs.Dispatch.{answered, asked_for, denied_by, dispatch_of, dispatched, end_in, is_written, judged, looked_cells}
 use Rattle.rw_run.specs.Dispatch.{looks_at, looks_of, or_fault, solved_by}
 use Rattle.rw_run.specs.Next.{asked_of_rule, ended, is_put_again, last_ones}

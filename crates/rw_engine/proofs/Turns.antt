@@ -17,9 +17,9 @@ use Rattle.rw_run.specs.Log.{dispatched_in}
 use Rattle.rw_run.specs.Next.{ended}
 use Rattle.rw_run.specs.Runs.{follows_by, standing}
 use Rattle.rw_run.specs.Waiting.{waiting}
-use Rattle.rw_series.specs.Fire.{Fire}
-use Rattle.rw_series.specs.declared.fire.FireEnd.{FireEnd}
-use Rattle.rw_series.specs.declared.fire.FireEnd.TheVariants.{Done, Unknown, ZeroDivisor as DividesByZero, OutOfRange}
+use Rattle.rw_firing.specs.Fire.{Fire}
+use Rattle.rw_firing.specs.declared.fire.FireEnd.{FireEnd}
+use Rattle.rw_firing.specs.declared.fire.FireEnd.TheVariants.{Done, Unknown, ZeroDivisor as DividesByZero, OutOfRange}
 use Rattle.rw_engine.specs.Picked.{CountsTurns, LeadsBy, most_turns, next_turn_number, turn_after, turn_behind, turns_after}
 use Rattle.rw_engine.specs.State.{CountsTurn, turns_at_most}
 use Rattle.rw_engine.specs.declared.step_end.StepEnd.{StepEnd}

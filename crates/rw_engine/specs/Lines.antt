@@ -3,8 +3,8 @@ use Rattle.std.specs.Prelude.{ℕ, Bool, true, false, List, [], ◌∷◌, ◌�
 use Rattle.rw_base.specs.declared.memory.NoMemory.{NoMemory}
 use Rattle.rw_run.specs.declared.fault.RunFault.{RunFault}
 use Rattle.rw_run.specs.declared.fault.RunFault.TheVariants.{Conflict, ObjectOutOfRange, ZeroDivisor, RuleOutOfRange}
-use Rattle.rw_series.specs.declared.fire.FireEnd.{FireEnd}
-use Rattle.rw_series.specs.declared.fire.FireEnd.TheVariants.{Done, Unknown, ZeroDivisor as DividesByZero, OutOfRange}
+use Rattle.rw_firing.specs.declared.fire.FireEnd.{FireEnd}
+use Rattle.rw_firing.specs.declared.fire.FireEnd.TheVariants.{Done, Unknown, ZeroDivisor as DividesByZero, OutOfRange}
 use Rattle.rw_run.specs.declared.trace.TraceEvent.{TraceEvent}
 use Rattle.rw_run.specs.declared.trace.TraceEvent.TheVariants.{Idle, Solve, Fire, Fault}
 use Rattle.rw_run.specs.Log.{Asked}

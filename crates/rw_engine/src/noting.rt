@@ -11,10 +11,11 @@ ghost use Rattle.rw_engine.specs.Noting.{NotesAll};
 
 use rw_base::{Cell, NoMemory, ObjectNo, StepNo};
 use rw_dispatch::past_cell;
+use rw_firing::Look;
 use rw_model::Basin;
 use rw_record::Noted;
 use rw_run::Write;
-use rw_series::{Look, Series};
+use rw_series::Series;
 
 // Notes a cell, if there is one.
 #[inline(always)]

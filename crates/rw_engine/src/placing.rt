@@ -44,7 +44,7 @@ fn place_cell(basin: &Basin, inputs: &Inputs, series: &mut Series, cell: Cell)
             number: 0,
             writer: Writer::Input,
         };
-        series.hold(basin, cell, Some(content));
+        series.restore(basin, cell, Some(content));
     }
 }
 

@@ -456,7 +456,7 @@ impl State {
         ensures gives { GivesInput basin.now cell value (seen self.old) (seen self.new) }
         ensures sound { IsSoundState self.old → IsSoundState self.new }
     {
-        self.run.series.hold(basin, cell, input(value));
+        self.run.series.restore(basin, cell, input(value));
     }
 
     /// What the run comes to so far.

@@ -7,9 +7,9 @@ ghost use Rattle.rw_engine.specs.Lines.{lines_by, lines_of_rule, fault_by, fault
 
 use rw_base::{NoMemory, ObjectNo, RuleNo, StepNo};
 use rw_dispatch::DispatchEnd;
+use rw_firing::FireEnd;
 use rw_rules::RuleFired;
 use rw_run::{RunFault, Trace, TraceEvent, Write};
-use rw_series::FireEnd;
 use std::alloc::Global;
 
 /// A trace without lines, where lines are to be kept, and one that keeps none elsewhere.

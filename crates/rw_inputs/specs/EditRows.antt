@@ -1,4 +1,4 @@
--- What a text of edits is read as: its batches, or the first refusal.
+-- What a text of edits or of traces is read as: its batches, or the first refusal.
 use Rattle.std.specs.Prelude.{ℕ, ◌+◌, ◌-◌, ◌==◌, nat_le, ℤ, Bool, false, ◌&&◌, ◌||◌, if◌then◌else◌, List, [], ◌∷◌, ◌++◌, length, slice_index_or, slice_set, Option, Some, None, Result, Ok, Err, bytes_eq, codes}
 use Rattle.std.specs.List.{list_any}
 use Rattle.rw_base.specs.Answers.{unless_refused}
@@ -132,25 +132,45 @@ more_batches basin row batches [] = Ok batches
 more_batches basin row batches (fields ∷ rows) =
     at_row row (batches_with basin row batches (four_fields fields)) (λ more. more_batches basin (row + 1) more rows)
 
--- the fields of the first record
-abbrev pub edit_header : Fields
-edit_header = codes "batch" ∷ codes "slot" ∷ codes "step" ∷ codes "value" ∷ []
+-- the fields of the first record, which name the columns, the first of them by this word
+abbrev pub header_of : List ℕ → Fields
+header_of word = word ∷ codes "slot" ∷ codes "step" ∷ codes "value" ∷ []
 
-abbrev pub names_edits : Option (List ℕ × List ℕ × List ℕ × List ℕ) → Bool
-names_edits None = false
-names_edits (Some fields) =
-    bytes_eq fields.0 (codes "batch")
+abbrev pub names_columns : List ℕ → Option (List ℕ × List ℕ × List ℕ × List ℕ) → Bool
+names_columns word None = false
+names_columns word (Some fields) =
+    bytes_eq fields.0 word
     && (bytes_eq fields.1 (codes "slot") && (bytes_eq fields.2 (codes "step") && bytes_eq fields.3 (codes "value")))
 
-abbrev pub is_edit_header : Fields → Bool
-is_edit_header fields = names_edits (four_fields fields)
+abbrev pub is_header_of : List ℕ → Fields → Bool
+is_header_of word fields = names_columns word (four_fields fields)
 
--- the batches that records give, or the first refusal
+-- the batches that records under the header of this word give, or the first refusal
+abbrev pub read_under : List ℕ → Draft → List Fields → Result (List Batch) InputRefusal
+read_under word basin [] = Err (refused_at Header 1 0)
+read_under word basin (header ∷ rows) =
+    if is_header_of word header then more_batches basin 2 [] rows else Err (refused_at Header 1 0)
+
+-- ---- edits, whose batches count one over another
+
+abbrev pub edit_header : Fields
+edit_header = header_of (codes "batch")
+
 abbrev pub read_batches : Draft → List Fields → Result (List Batch) InputRefusal
-read_batches basin [] = Err (refused_at Header 1 0)
-read_batches basin (header ∷ rows) =
-    if is_edit_header header then more_batches basin 2 [] rows else Err (refused_at Header 1 0)
+read_batches basin records = read_under (codes "batch") basin records
 
 -- the batches that a text gives, or why it is refused
 abbrev pub edits_of : Draft → List ℕ → Result (List Batch) InputRefusal
 edits_of basin text = read_batches basin (records_of text)
+
+-- ---- scenarios, the batches of a text of traces, each of which counts over the inputs alone
+
+abbrev pub scenario_header : Fields
+scenario_header = header_of (codes "trace")
+
+abbrev pub read_scenarios : Draft → List Fields → Result (List Batch) InputRefusal
+read_scenarios basin records = read_under (codes "trace") basin records
+
+-- the scenarios that a text gives, or why it is refused
+abbrev pub scenarios_of : Draft → List ℕ → Result (List Batch) InputRefusal
+scenarios_of basin text = read_scenarios basin (records_of text)

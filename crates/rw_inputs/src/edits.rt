@@ -5,7 +5,7 @@ ghost use Rattle.csv.specs.Records.{fields_of};
 ghost use Rattle.rw_base.specs.Answers.{Answers, IsWhy};
 ghost use Rattle.rw_model.specs.Draft.{Draft};
 ghost use Rattle.rw_inputs.specs.declared.fault.InputFault.TheVariants as InputFault;
-ghost use Rattle.rw_inputs.specs.EditRows.{at_row, batch_at, batches_with, edit_column, edits_of, four_fields, is_edit_header, meets, more_batches, batches_opened, read_batches, with_edit, wrong_among};
+ghost use Rattle.rw_inputs.specs.EditRows.{at_row, batch_at, batches_with, edit_column, edits_of, four_fields, is_header_of, meets, more_batches, batches_opened, read_under, scenarios_of, with_edit, wrong_among};
 ghost use Rattle.rw_inputs.specs.Edits.{IsBatch, IsEdit};
 ghost use Rattle.rw_inputs.specs.Records.{Fields};
 ghost use Rattle.rw_inputs.specs.Refusal.{input_refusal_of};
@@ -47,12 +47,12 @@ fn refused(number: u32, wrong: Wrong) -> InputFault
     }
 }
 
-// Whether the row names the columns.
-fn is_header(row: &ByteRecord) -> bool
-    ensures { result ≡ is_edit_header (fields_of row.now) }
+// Whether the row names the columns, the first of them by this word.
+fn is_header(row: &ByteRecord, word: &str) -> bool
+    ensures { result ≡ is_header_of word.now (fields_of row.now) }
 {
     match four_fields(row) {
-        Some((batch, slot, step, value)) => batch == b"batch".as_slice()
+        Some((batch, slot, step, value)) => batch == word.as_bytes()
             && (slot == b"slot".as_slice()
                 && (step == b"step".as_slice() && value == b"value".as_slice())),
         None => false,
@@ -201,17 +201,17 @@ fn take_rows(
     unreachable!()
 }
 
-// Reads the row that names the columns.
-fn read_header(alloc: Global, records: &mut Records<'_>) -> Result<(), InputFault>
+// Reads the row that names the columns, the first of them by this word.
+fn read_header(alloc: Global, word: &str, records: &mut Records<'_>) -> Result<(), InputFault>
     ensures named { OnOk result ((header : Fields) × (records.old ≡ header ∷ records.new)
-        × (is_edit_header header ≡ true)) }
+        × (is_header_of word.now header ≡ true)) }
     ensures refused { IfErr result
         (λ fault. (basin : Draft) → IsWhy InputFault.NoMemory input_refusal_of
-        (read_batches basin records.old) fault) }
+        (read_under word.now basin records.old) fault) }
 {
     let mut row = ByteRecord::new(alloc);
     match records.read(&mut row) {
-        Ok(true) => if is_header(&row) {
+        Ok(true) => if is_header(&row, word) {
             Ok(())
         } else {
             Err(no_header())
@@ -224,14 +224,15 @@ fn read_header(alloc: Global, records: &mut Records<'_>) -> Result<(), InputFaul
 // The batches that the records give, or the first refusal.
 fn read_batches(
     alloc: Global,
+    word: &str,
     basin: &Basin,
     records: &mut Records<'_>,
 ) -> Result<Vec<Batch>, InputFault>
     ensures answers { Answers InputFault.NoMemory input_refusal_of (λ batches. batches.items) result
-        (read_batches basin.now records.old) }
+        (read_under word.now basin.now records.old) }
     ensures made { IfOk result (λ batches. All (IsBatch basin.now) batches.items) }
 {
-    read_header(alloc, records)?;
+    read_header(alloc, word, records)?;
     let mut batches = Vec::new(alloc);
     take_rows(alloc, basin, &mut batches, records)?;
     Ok(batches)
@@ -251,5 +252,19 @@ pub fn read_edits(alloc: Global, basin: &Basin, text: &[u8]) -> Result<Vec<Batch
     ensures made { IfOk result (λ batches. All (IsBatch basin.now) batches.items) }
 {
     let mut records = Records::of(alloc, text);
-    read_batches(alloc, basin, &mut records)
+    read_batches(alloc, "batch", basin, &mut records)
+}
+
+/// Reads the traces of a basin's inputs from a text of comma-separated fields, each as the batch of edits by which it differs
+/// from the inputs.
+///
+/// The first row is `trace,slot,step,value`. Each later one is read or refused as a row of edits is, with traces in place of
+/// batches.
+pub fn read_traces(alloc: Global, basin: &Basin, text: &[u8]) -> Result<Vec<Batch>, InputFault>
+    ensures answers { Answers InputFault.NoMemory input_refusal_of (λ batches. batches.items) result
+        (scenarios_of basin.now text.now) }
+    ensures made { IfOk result (λ batches. All (IsBatch basin.now) batches.items) }
+{
+    let mut records = Records::of(alloc, text);
+    read_batches(alloc, "trace", basin, &mut records)
 }

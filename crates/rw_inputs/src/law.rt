@@ -6,7 +6,7 @@ ghost use Rattle.rw_model.specs.Draft.{Draft};
 ghost use Rattle.rw_inputs.specs.declared.edit.Edit.{Edit};
 ghost use Rattle.rw_inputs.specs.declared.fault.InputKind.TheVariants as InputKind;
 ghost use Rattle.rw_inputs.specs.declared.wrong.Part.TheVariants as Part;
-ghost use Rattle.rw_inputs.specs.EditRows.{admit, edit_header, edits_said, meets, more_batches, read_batch, read_batches};
+ghost use Rattle.rw_inputs.specs.EditRows.{admit, edit_header, edits_said, meets, more_batches, read_batch, read_batches, read_scenarios, scenario_header};
 ghost use Rattle.rw_inputs.specs.Edits.{Batch, Values, after_batch, after_batches, after_edit, edit_of, edits_in, names};
 ghost use Rattle.rw_inputs.specs.Inputs.{Inputs, value_at};
 ghost use Rattle.rw_inputs.specs.Reading.{Reads, Refuses};
@@ -149,4 +149,16 @@ pub fn worked_texts()
         → slot_of_text basin slot ≡ None
         → read_batches basin (edit_header ∷ (codes "1" ∷ slot ∷ step ∷ value ∷ []) ∷ rows)
         ≡ Err (refused_at InputKind.UnknownSlot 2 2) }
+{}
+
+/// Worked texts of traces, as records, for any basin: a header alone gives none, neither of the two headers stands for the
+/// other, and rows behind it are those of edits.
+pub fn worked_scenarios()
+    ensures header { (basin : Draft) → read_scenarios basin (scenario_header ∷ []) ≡ Ok [] }
+    ensures edits { (basin : Draft) (rows : List Fields)
+        → read_scenarios basin (edit_header ∷ rows) ≡ Err (refused_at InputKind.Header 1 0) }
+    ensures scenarios { (basin : Draft) (rows : List Fields)
+        → read_batches basin (scenario_header ∷ rows) ≡ Err (refused_at InputKind.Header 1 0) }
+    ensures same { (basin : Draft) (rows : List Fields)
+        → read_scenarios basin (scenario_header ∷ rows) ≡ read_batches basin (edit_header ∷ rows) }
 {}

@@ -29,7 +29,7 @@ mod wrong;
 pub use batch::Batch;
 pub use change::apply;
 pub use edit::Edit;
-pub use edits::read_edits;
+pub use edits::{read_edits, read_traces};
 pub use fault::{InputFault, InputKind};
 pub use inputs::Inputs;
 pub use reading::read_inputs;

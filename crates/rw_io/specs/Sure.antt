@@ -29,3 +29,10 @@ shelf_seen shelf = record {
 -- a sink: it tells what it holds until a piece doesn't fit
 abbrev pub sink_seen : SureSink → SinkView
 sink_seen sink = record { contents = if sink.told then Some sink.bytes.items else None; faults = 0 }
+
+-- what it keeps, and how much that can be
+abbrev pub sink_kept : SureSink → List ℕ
+sink_kept sink = sink.bytes.items
+
+abbrev pub sink_room : SureSink → ℕ
+sink_room sink = sink.room

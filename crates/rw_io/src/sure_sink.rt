@@ -28,12 +28,12 @@ fn add(bytes: &mut Vec<u8>, piece: &[u8])
 }
 
 impl SureSink {
-    ghost use Rattle.rw_io.specs.Sure.{sink_seen};
+    ghost use Rattle.rw_io.specs.Sure.{sink_kept, sink_room, sink_seen};
 
     /// An empty sink with room for so many bytes. The one error is want of memory.
     pub fn of(alloc: Global, room: usize) -> Result<SureSink, NoMemory>
         ensures empty { IfOk result (λ sink. (sink_seen sink).contents ≡ Some []) }
-        ensures room { IfOk result (λ sink. sink.room ≡ room) }
+        ensures room { IfOk result (λ sink. sink_room sink ≡ room) }
     {
         let bytes = Vec::with_capacity(alloc, room)?;
         Ok(SureSink {
@@ -45,7 +45,7 @@ impl SureSink {
 
     /// What was kept.
     pub fn held(&self) -> &[u8]
-        ensures kept { result.now ≡ self.now.bytes.items }
+        ensures kept { result.now ≡ sink_kept self.now }
         ensures told { IfSome (sink_seen self.now).contents (λ held. held ≡ result.now) }
     {
         &self.bytes
@@ -53,7 +53,7 @@ impl SureSink {
 }
 
 impl Sink for SureSink {
-    ghost use Rattle.rw_io.specs.Sure.{sink_seen};
+    ghost use Rattle.rw_io.specs.Sure.{sink_kept, sink_room, sink_seen};
     ghost use Rattle.rw_io.specs.Calls.{TakesWrite};
     ghost use Rattle.rw_io.specs.Outside.{change};
 
@@ -64,15 +64,13 @@ impl Sink for SureSink {
             (change (sink_seen self.old) (sink_seen self.new)) result }
         ensures whole { result ≡ Ok (length piece.now) }
         ensures kept { (held : List ℕ) → (sink_seen self.old).contents ≡ Some held
-            → length held + length piece.now ≤ self.old.room
+            → length held + length piece.now ≤ sink_room self.old
             → (sink_seen self.new).contents ≡ Some (held ++ piece.now) }
-        ensures full { self.old.room < length self.old.bytes.items + length piece.now
-            → ((sink_seen self.new).contents ≡ None)
-            × (self.new.bytes.items ≡ self.old.bytes.items) }
+        ensures full { sink_room self.old < length (sink_kept self.old) + length piece.now
+            → ((sink_seen self.new).contents ≡ None) × (sink_kept self.new ≡ sink_kept self.old) }
         ensures lost { (sink_seen self.old).contents ≡ None
-            → ((sink_seen self.new).contents ≡ None)
-            × (self.new.bytes.items ≡ self.old.bytes.items) }
-        ensures room { self.new.room ≡ self.old.room }
+            → ((sink_seen self.new).contents ≡ None) × (sink_kept self.new ≡ sink_kept self.old) }
+        ensures room { sink_room self.new ≡ sink_room self.old }
     {
         if piece.is_empty() {
             return Ok(0);

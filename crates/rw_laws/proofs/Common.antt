@@ -40,12 +40,12 @@ pub use Rattle.rw_method.specs.declared.solved.Solved.{Solved}
 pub use Rattle.rw_method.specs.declared.solved.Solved.TheVariants.{Puts}
 pub use Rattle.rw_method.specs.declared.view.View.{View}
 pub use Rattle.rw_series.proofs.Sharing.{Shared-of, among_group, known_number, linked_alike, same_turned, together_alike, together_turned}
-pub use Rattle.rw_series.specs.Fire.{Fire}
+pub use Rattle.rw_firing.specs.Fire.{Fire}
 pub use Rattle.rw_series.specs.Series.{held, is_shared}
-pub use Rattle.rw_series.specs.declared.fire.FireEnd.{FireEnd}
-pub use Rattle.rw_series.specs.declared.fire.FireEnd.TheVariants.{Done, OutOfRange as EndsOutside, Unknown, ZeroDivisor as DividesByZero}
-pub use Rattle.rw_series.specs.declared.fire.RulePut.{RulePut}
-pub use Rattle.rw_series.specs.declared.look.Look.{Look}
+pub use Rattle.rw_firing.specs.declared.fire.FireEnd.{FireEnd}
+pub use Rattle.rw_firing.specs.declared.fire.FireEnd.TheVariants.{Done, OutOfRange as EndsOutside, Unknown, ZeroDivisor as DividesByZero}
+pub use Rattle.rw_firing.specs.declared.fire.RulePut.{RulePut}
+pub use Rattle.rw_firing.specs.declared.look.Look.{Look}
 pub use Rattle.rw_run.proofs.Lists.{times-numbers}
 pub use Rattle.rw_run.proofs.SameRuns.{due_is_rule, on_agenda}
 pub use Rattle.rw_run.proofs.Sinces.{none_bits}

@@ -19,4 +19,3 @@ pub mod Staying
 pub mod Settles
 pub mod Closed
 pub mod Laws
-pub mod Rulesets

@@ -3,9 +3,9 @@ use Rattle.std.specs.Prelude.{◌≡◌, ◌≢◌, ◌⊎◌, ℕ, ◌≤◌, B
 use Rattle.rw_model.specs.Draft.{Draft}
 use Rattle.rw_model.specs.declared.content.Content.{Content}
 use Rattle.rw_model.specs.declared.writer.Writer.TheVariants.{Rule}
-use Rattle.rw_series.specs.Fire.{Fire}
-use Rattle.rw_series.specs.declared.fire.FireEnd.{FireEnd}
-use Rattle.rw_series.specs.declared.fire.FireEnd.TheVariants.{Done, Unknown, ZeroDivisor, OutOfRange}
+use Rattle.rw_firing.specs.Fire.{Fire}
+use Rattle.rw_firing.specs.declared.fire.FireEnd.{FireEnd}
+use Rattle.rw_firing.specs.declared.fire.FireEnd.TheVariants.{Done, Unknown, ZeroDivisor, OutOfRange}
 use Rattle.rw_run.specs.Frame.{cells_looked}
 use Rattle.rw_run.specs.Log.{Asked, Cells, Firing, Log, cells_of, value_in}
 use Rattle.rw_run.specs.Next.{Policy, asked_of_rule, last_firing, last_ones}

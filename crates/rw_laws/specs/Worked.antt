@@ -10,9 +10,9 @@ use Rattle.rw_model.specs.declared.kind.Kind.{Kind}
 use Rattle.rw_model.specs.declared.kind.Kind.TheVariants.{Gage, Reservoir}
 use Rattle.rw_model.specs.declared.writer.Writer.{Writer}
 use Rattle.rw_model.specs.declared.writer.Writer.TheVariants.{Object as ByObject, Rule}
-use Rattle.rw_series.specs.Fire.{Fire}
-use Rattle.rw_series.specs.declared.fire.FireEnd.TheVariants.{Done, Unknown}
-use Rattle.rw_series.specs.declared.look.Look.{Look}
+use Rattle.rw_firing.specs.Fire.{Fire}
+use Rattle.rw_firing.specs.declared.fire.FireEnd.TheVariants.{Done, Unknown}
+use Rattle.rw_firing.specs.declared.look.Look.{Look}
 use Rattle.rw_run.specs.Dispatch.{cell_at}
 use Rattle.rw_run.specs.Frame.{log_after}
 use Rattle.rw_run.specs.Log.{Asked, Cells, Event, Log, closed, fired, placed, idle, opened, solved}

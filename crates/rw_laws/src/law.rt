@@ -20,10 +20,6 @@ ghost use Rattle.rpl_verify.specs.Verified.{verified};
 ghost use Rattle.rpl_verify.specs.Verified.{Accepted};
 ghost use Rattle.rw_rules.specs.Rules.{policy_in};
 ghost use Rattle.rw_engine.specs.Passing.{ComesTo};
-ghost use Rattle.rpl_parse.specs.Bounds.{function_count, rule_count};
-ghost use Rattle.rpl_rulesets.specs.RulesPolicy.{policy_of_rules};
-ghost use Rattle.rpl_tree.specs.Tree.{Declared};
-ghost use Rattle.rpl_types.specs.HasType.{IsTyped};
 ghost use Rattle.rw_dispatch.specs.Pick.{Picking};
 ghost use Rattle.rw_engine.specs.Picked.{ComesToPicked};
 ghost use Rattle.rw_laws.specs.AnyOrder.{IsLed};
@@ -35,7 +31,6 @@ ghost use Rattle.rw_laws.specs.Rules.{AllStandBy};
 ghost use Rattle.rw_laws.specs.Worked.{apart, by_rule, changed_after, dam_alone, dam_events, dam_log, gage, held_low, inflow, put_at, started, torn, weakened};
 
 use rpl_policy::law::code_keeps_promises;
-use rpl_rulesets::law::{rules_keep_promises, rulesets_have_runs};
 use rpl_verify::law::answered_code_is_safe;
 use rw_run::law::choices;
 
@@ -77,19 +72,6 @@ pub fn every_run_of_code()
     every_run();
     code_keeps_promises();
     answered_code_is_safe();
-}
-
-/// And so does the table of a run by an accepted ruleset, by what its rules mean: the one that `run` writes.
-pub fn every_run_of_rules()
-    ensures { (basin : Draft) (rules : List Declared) (inputs : List (Cell × ℤ)) (log : Log)
-        (run : Run) → IsBasin basin → IsTyped basin rules
-        → rule_count rules ≤ 200 → function_count rules ≤ 200
-        → IsRun basin (policy_of_rules basin rules) inputs log → IsRunOf basin log run
-        → KeepsLaws basin (policy_of_rules basin rules) log run }
-{
-    every_run();
-    rules_keep_promises();
-    rulesets_have_runs();
 }
 
 /// All cells of a link group are held alike after any log.

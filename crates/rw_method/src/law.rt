@@ -43,7 +43,8 @@ pub fn number_of_a_solved_term()
         → IsGreatestBeside place terms number }
 {}
 
-/// The least inflow of a canal conveys the outflow, and each lesser inflow conveys less. No outflow comes from no inflow.
+/// The least inflow of a canal conveys the outflow, and each lesser inflow conveys less, but for an outflow of 0: that comes
+/// from no inflow.
 #[tactic(auto, using(crate::proofs::LeastInflow::conveyed, crate::proofs::LeastInflow::least))]
 pub fn least_inflow_of_a_canal()
     ensures conveyed { (seepage : ℕ) (outflow : ℤ) → seepage ≤ 999

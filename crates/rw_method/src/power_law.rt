@@ -103,8 +103,8 @@ pub fn low_dam_values()
         ≡ Solved.Conflict 2 (pos 3000) (pos 2600) }
 {}
 
-/// What ends a run before all else: a request that no release gives, also where the inflow isn't known, and a storage before that
-/// the table doesn't have. Where the storage before isn't known, nothing is put.
+/// What ends a run before all else: a request that no release gives, also where the inflow isn't known, and before that a
+/// storage before that the table doesn't have. Where the storage before isn't known, nothing is put.
 pub fn low_dam_faults()
     ensures too_much { (own : ObjectNo)
         → solve_of low_dam
@@ -112,6 +112,10 @@ pub fn low_dam_faults()
         ≡ Solved.OutOfRange 4 (pos 3) }
     ensures past_outside { (own : ObjectNo)
         → solve_of low_dam (view_with low_dam own (Some (pos 9999)) [])
+        ≡ Solved.OutOfRange 2 (pos 9999) }
+    ensures past_first { (own : ObjectNo)
+        → solve_of low_dam
+        (view_with low_dam own (Some (pos 9999)) (None ∷ None ∷ None ∷ None ∷ input (pos 3) ∷ []))
         ≡ Solved.OutOfRange 2 (pos 9999) }
     ensures no_past { (own : ObjectNo)
         → solve_of low_dam

@@ -73,7 +73,7 @@ pub use Rattle.rw_method.specs.declared.view.View.{View}
 pub use Rattle.rw_series.proofs.Bounds.{bounds-shared}
 pub use Rattle.rw_series.proofs.Sharing.{Shared-of, among_group, known_number, linked_alike, together_alike, together_turned}
 pub use Rattle.rw_series.specs.Series.{is_shared}
-pub use Rattle.rw_series.specs.declared.look.Look.{Look}
+pub use Rattle.rw_firing.specs.declared.look.Look.{Look}
 pub use Rattle.rw_inputs.specs.Placings.{placings, placings_of, placings_to, if_placed}
 pub use Rattle.rw_inputs.specs.Inputs.{Inputs, IsInputsOf, value_at}
 pub use Rattle.rw_run.proofs.Lists.{any-times, times-numbers}

@@ -10,7 +10,7 @@ use Rattle.rw_model.specs.declared.kind.Kind.{Kind}
 use Rattle.rw_model.specs.declared.kind.Kind.TheVariants.{Bifurcation, Canal, Confluence, DataObject, Gage, Reach, Reservoir, WaterUser}
 use Rattle.rw_model.specs.declared.kind.Supply.TheVariants.{Request}
 use Rattle.rw_model.specs.declared.writer.Writer.TheVariants.{Object as ByObject}
-use Rattle.rw_series.specs.declared.look.Look.{Look}
+use Rattle.rw_firing.specs.declared.look.Look.{Look}
 use Rattle.rw_run.specs.declared.fault.RunFault.{RunFault}
 use Rattle.rw_run.specs.declared.fault.RunFault.TheVariants.{Conflict}
 use Rattle.rw_run.specs.Dispatch.{cell_at}

@@ -16,4 +16,4 @@ pub use Rattle.rw_plain_reservoir.specs.Table.{IsFirstText, columns_line, headin
 pub use Rattle.rw_run.specs.declared.fault.RunFault.TheVariants.{ObjectLimit, ObjectOutOfRange}
 pub use Rattle.rw_run.specs.declared.run.RunEnd.TheVariants.{Fault, Settled}
 pub use Rattle.rw_run.specs.declared.run.RunEnd.{RunEnd}
-pub use Rattle.rw_series.specs.declared.look.Look.{Look}
+pub use Rattle.rw_firing.specs.declared.look.Look.{Look}

@@ -5,7 +5,7 @@ use Rattle.rw_record.proofs.Common.{take-append-drop, take_more, ℕ, ◌+◌, �
 use Rattle.rw_record.proofs.Common.{sym, with_noted, ◌++◌, ◌∙◌, ◌≡◌}
 use Rattle.std.specs.Prelude.{Err, Ok, Result}
 use Rattle.rw_base.specs.declared.number.SlotNo.{SlotNo}
-use Rattle.rw_series.specs.declared.look.Look.{Look}
+use Rattle.rw_firing.specs.declared.look.Look.{Look}
 use Rattle.rw_base.specs.declared.memory.NoMemory.{NoMemory}
 use Rattle.rw_record.proofs.Noting.{joined}
 

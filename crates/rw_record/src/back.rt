@@ -55,6 +55,6 @@ fn put_one(basin: &Basin, series: &mut Series, one: &Held)
     ensures passed { IsFalse (is_cell basin.now one.now.cell) → series.new ≡ series.old }
 {
     if is_cell(basin, one.cell) {
-        series.hold(basin, one.cell, one.content);
+        series.restore(basin, one.cell, one.content);
     }
 }

@@ -13,9 +13,10 @@ ghost use Rattle.rw_record.specs.Noted.{AddsNotes, AreOnce, is_noted, noted_afte
 
 use crate::marks::{has_mark, is_marked, set_mark};
 use rw_base::{Cell, NoMemory, SlotNo, StepNo};
+use rw_firing::Look;
 use rw_model::Basin;
 use rw_run::{Held, Write};
-use rw_series::{Look, Series};
+use rw_series::Series;
 use std::alloc::Global;
 use std::marker::Model;
 

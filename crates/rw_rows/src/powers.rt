@@ -111,5 +111,8 @@ pub(crate) const HIGH_POWERS: Table<'static> = Table {
 pub(crate) const POWERS_OUTSIDE_THE_TABLE: Table<'static> = Table {
     past: Some(9999),
     bounds: &[],
-    rows: &[TableRow(&[], OutOfRange(2, 9999))],
+    rows: &[
+        TableRow(&[], OutOfRange(2, 9999)),
+        TableRow(&[(4, 3, Input)], OutOfRange(2, 9999)),
+    ],
 };

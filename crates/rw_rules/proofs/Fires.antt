@@ -4,9 +4,9 @@ use Rattle.rw_base.proofs.Common.{length, none-some, option_and_then, option_map
 use Rattle.rw_base.specs.declared.number.Cell.{Cell}
 use Rattle.rw_model.proofs.Common.{Draft, numbered}
 use Rattle.rw_model.proofs.Numbered.{numbered-found}
-use Rattle.rw_series.specs.Fire.{Fire}
-use Rattle.rw_series.specs.declared.fire.FireEnd.{FireEnd}
-use Rattle.rw_series.specs.declared.fire.FireEnd.TheVariants.{Done}
+use Rattle.rw_firing.specs.Fire.{Fire}
+use Rattle.rw_firing.specs.declared.fire.FireEnd.{FireEnd}
+use Rattle.rw_firing.specs.declared.fire.FireEnd.TheVariants.{Done}
 use Rattle.rw_run.specs.Log.{Cells, asked_in, written_by}
 use Rattle.rw_run.specs.Next.{asked_of_rule, ended}
 use Rattle.rw_writes.specs.Writes.{writes_of}

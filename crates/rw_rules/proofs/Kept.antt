@@ -5,7 +5,7 @@ use Rattle.rw_base.proofs.Common.{subst, sym}
 use Rattle.rw_base.specs.declared.number.Cell.{Cell}
 use Rattle.rw_model.proofs.Common.{Draft}
 use Rattle.rw_model.specs.declared.content.Content.{Content}
-use Rattle.rw_series.specs.declared.look.Look.{Look}
+use Rattle.rw_firing.specs.declared.look.Look.{Look}
 use Rattle.rw_run.specs.Dispatch.{looks_at}
 use Rattle.rw_run.specs.Index.{IsIndex}
 use Rattle.rw_run.specs.Log.{Asked, Cells, Firing, Log, fired, last_put, value_in}

@@ -2,7 +2,7 @@
 use Rattle.rw_base.proofs.Common.{◌≡◌, ◌∙◌, ℕ, zero, suc, ◌-◌, ◌<◌, List, [], ◌∷◌, None, Some, ap, arith, get_or-map, get_or-set_same, length}
 use Rattle.rw_base.proofs.Common.{length-map, map, refl, slice_index_or}
 use Rattle.rw_model.proofs.Common.{Draft}
-use Rattle.rw_series.specs.declared.look.Look.{Look}
+use Rattle.rw_firing.specs.declared.look.Look.{Look}
 use Rattle.rw_run.specs.Log.{Asked}
 use Rattle.rw_agenda.specs.Agenda.{Agenda, Entry, IsListed, after_firing, forgotten, looked_by, look_room, unfired}
 use Rattle.rpl_verify.specs.Verified.{Accepted}

@@ -1,7 +1,7 @@
 -- The rules of a policy in a run, and what they show of a log.
 use Rattle.std.specs.Prelude.{◌≡◌, ℕ, ◌≤◌, List, ◌∷◌, length, Some}
 use Rattle.rw_model.specs.Draft.{Draft}
-use Rattle.rw_series.specs.Fire.{Fire}
+use Rattle.rw_firing.specs.Fire.{Fire}
 use Rattle.rw_run.specs.Dispatch.{looks_at}
 use Rattle.rw_dispatch.specs.Writes.{AreWrites}
 use Rattle.rw_run.specs.Log.{Asked, Cells, Firing, Log, asked_in, fired, written_by}

@@ -1,4 +1,4 @@
-use rw_series::FireEnd;
+use rw_firing::FireEnd;
 
 /// How a firing ended, and how much it counted.
 #[derive(Clone, Copy, Debug, PartialEq, Eq)]

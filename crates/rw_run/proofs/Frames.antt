@@ -8,10 +8,10 @@ use Rattle.rw_model.proofs.Common.{before_of, Draft, Object, object_at, end_of_p
 use Rattle.rw_method.specs.declared.solved.Solved.{Solved}
 use Rattle.rw_method.specs.declared.solved.Solved.TheVariants.{Idle, Puts, Conflict, OutOfRange}
 use Rattle.rw_method.specs.Solve.{solve_of}
-use Rattle.rw_series.specs.Fire.{Fire}
-use Rattle.rw_series.specs.declared.fire.FireEnd.{FireEnd}
-use Rattle.rw_series.specs.declared.fire.FireEnd.TheVariants.{Done, Unknown, ZeroDivisor as DividesByZero, OutOfRange as EndsOutside}
-use Rattle.rw_series.specs.declared.look.Look.{Look}
+use Rattle.rw_firing.specs.Fire.{Fire}
+use Rattle.rw_firing.specs.declared.fire.FireEnd.{FireEnd}
+use Rattle.rw_firing.specs.declared.fire.FireEnd.TheVariants.{Done, Unknown, ZeroDivisor as DividesByZero, OutOfRange as EndsOutside}
+use Rattle.rw_firing.specs.declared.look.Look.{Look}
 use Rattle.rw_run.specs.declared.fault.RunFault.TheVariants.{ObjectLimit, RuleLimit}
 use Rattle.rw_run.specs.Log.{Asked, Cells, Log, Event, Firing, opened, idle, solved, fired, fault, cells_of, firing_in, is_opened, last_put}
 use Rattle.rw_run.specs.Log.{written_by, value_in}

@@ -5,7 +5,7 @@ use Rattle.rw_base.specs.declared.number.Cell.{Cell}
 use Rattle.rw_model.specs.declared.content.Content.{Content}
 use Rattle.rw_model.specs.Draft.{Draft}
 use Rattle.rw_series.specs.Series.{is_shared}
-use Rattle.rw_series.specs.declared.look.Look.{Look}
+use Rattle.rw_firing.specs.declared.look.Look.{Look}
 use Rattle.rw_run.specs.Log.{Asked, Cells, Log, Event, placed, opened, closed, fault, cells_of, last_put}
 use Rattle.rw_run.specs.Next.{Policy, next, is_changed, is_same_value}
 use Rattle.rw_run.specs.Runs.{Leads, follows, follows_in, standing, Standing, rests, inside, over}

@@ -5,7 +5,7 @@ use Rattle.rw_base.specs.declared.number.Cell.{Cell}
 use Rattle.rw_model.specs.Draft.{Draft}
 use Rattle.rw_model.specs.declared.control.AgendaOrder.{AgendaOrder}
 use Rattle.rw_model.specs.declared.control.AgendaOrder.TheVariants.{HighFirst, LowFirst}
-use Rattle.rw_series.specs.Fire.{Fire}
+use Rattle.rw_firing.specs.Fire.{Fire}
 use Rattle.rw_run.specs.declared.fault.RunFault.TheVariants.{RuleLimit}
 use Rattle.rw_run.specs.Log.{Cells, Event, Log, cells_of, fault, value_in}
 use Rattle.rw_run.specs.Times.{times}

@@ -5,10 +5,10 @@ use Rattle.rw_model.specs.Draft.{Draft}
 use Rattle.rw_method.specs.declared.put.Put.{Put}
 use Rattle.rw_method.specs.declared.solved.Solved.{Solved}
 use Rattle.rw_method.specs.declared.solved.Solved.TheVariants.{Idle, Puts, Conflict, OutOfRange}
-use Rattle.rw_series.specs.Fire.{Fire}
-use Rattle.rw_series.specs.declared.fire.FireEnd.{FireEnd}
-use Rattle.rw_series.specs.declared.fire.FireEnd.TheVariants.{Done, Unknown, ZeroDivisor as DividesByZero, OutOfRange as EndsOutside}
-use Rattle.rw_series.specs.declared.look.Look.{Look}
+use Rattle.rw_firing.specs.Fire.{Fire}
+use Rattle.rw_firing.specs.declared.fire.FireEnd.{FireEnd}
+use Rattle.rw_firing.specs.declared.fire.FireEnd.TheVariants.{Done, Unknown, ZeroDivisor as DividesByZero, OutOfRange as EndsOutside}
+use Rattle.rw_firing.specs.declared.look.Look.{Look}
 use Rattle.rw_run.specs.declared.fault.RunFault.TheVariants.{ObjectLimit, RuleLimit}
 use Rattle.rw_run.specs.Dispatch.{asked_by, answered, denied_by, dispatch_of, dispatched, end_in, judged, looks_of, or_fault, solved_by}
 use Rattle.rw_run.specs.Log.{Asked, Cells, Event, Log, cells_of, opened, closed, idle, solved, fired, fault, value_in}

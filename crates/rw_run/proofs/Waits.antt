@@ -5,7 +5,7 @@ use Rattle.rw_base.proofs.Common.{nat_tests, filter-append, same_Some, none-some
 use Rattle.std.proofs.lemmas.List.{append-nil}
 use Rattle.rw_base.specs.declared.number.Cell.{Cell}
 use Rattle.rw_model.specs.Draft.{Draft}
-use Rattle.rw_series.specs.declared.look.Look.{Look}
+use Rattle.rw_firing.specs.declared.look.Look.{Look}
 use Rattle.rw_run.specs.declared.fault.RunFault.{RunFault}
 use Rattle.rw_run.specs.Log.{Asked, Log, Event, Dispatch, Firing, placed, opened, closed, idle, solved, fired, fault, is_number}
 use Rattle.rw_run.specs.Times.{times}

@@ -18,7 +18,7 @@ use Rattle.rw_method.specs.declared.solved.Solved.TheVariants.{Idle, Puts, Confl
 use Rattle.rw_method.specs.declared.view.View.{View}
 use Rattle.rw_method.specs.Past.{past_in}
 use Rattle.rw_method.specs.Solve.{solve_of}
-use Rattle.rw_series.specs.declared.look.Look.{Look}
+use Rattle.rw_firing.specs.declared.look.Look.{Look}
 use Rattle.rw_run.specs.declared.fault.RunFault.TheVariants.{Conflict as FaultConflict, ObjectOutOfRange}
 use Rattle.rw_run.specs.Log.{Asked, Cells, Event, idle, solved, fault, value_in}
 

@@ -3,7 +3,7 @@ use Rattle.std.specs.Prelude.{◌≡◌, ℕ, Bool, false, List, Option, Some}
 use Rattle.std.specs.List.{list_any}
 use Rattle.rw_model.specs.Draft.{Draft}
 use Rattle.rw_series.specs.Series.{is_shared}
-use Rattle.rw_series.specs.declared.look.Look.{Look}
+use Rattle.rw_firing.specs.declared.look.Look.{Look}
 use Rattle.rw_run.specs.Log.{Asked, Cells}
 use Rattle.rw_run.specs.Next.{is_changed}
 

@@ -6,7 +6,7 @@ use Rattle.rw_model.specs.declared.content.Content.{Content}
 use Rattle.rw_model.specs.declared.writer.Writer.TheVariants.{Input}
 use Rattle.rw_model.specs.Draft.{Draft}
 use Rattle.rw_series.specs.Series.{is_shared}
-use Rattle.rw_series.specs.declared.look.Look.{Look}
+use Rattle.rw_firing.specs.declared.look.Look.{Look}
 use Rattle.rw_run.specs.declared.fault.RunFault.{RunFault}
 use Rattle.rw_run.specs.declared.write.Write.{Write}
 

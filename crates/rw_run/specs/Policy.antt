@@ -6,9 +6,9 @@ use Rattle.rw_model.specs.Basin.{is_settable}
 use Rattle.rw_model.specs.Draft.{Draft, IsSlot}
 use Rattle.rw_model.specs.Links.{IsBetween, bounds_in}
 use Rattle.rw_model.specs.Objects.{slot_at}
-use Rattle.rw_series.specs.Fire.{Fire}
-use Rattle.rw_series.specs.declared.fire.FireEnd.TheVariants.{Done}
-use Rattle.rw_series.specs.declared.fire.RulePut.{RulePut}
+use Rattle.rw_firing.specs.Fire.{Fire}
+use Rattle.rw_firing.specs.declared.fire.FireEnd.TheVariants.{Done}
+use Rattle.rw_firing.specs.declared.fire.RulePut.{RulePut}
 use Rattle.rw_run.specs.Frame.{IsFramed}
 use Rattle.rw_run.specs.Next.{Policy}
 

@@ -1,18 +1,18 @@
 //! What the definitions of this crate come to in plain words. Each law is the `ensures` of a function that does
 //! nothing.
 ghost use Rattle.std.specs.Option.{option_or};
-ghost use Rattle.std.specs.Prelude.{◌≡◌, ◌↔◌, ◌<◌, ◌≤◌, ◌+◌, ℕ, ℤ, Bool, IsTrue, IsFalse, List, [], ◌∷◌, ◌++◌, Option, None, Some, IsSome, Contains, length};
+ghost use Rattle.std.specs.Prelude.{◌≡◌, ◌↔◌, ◌<◌, ◌≤◌, ◌+◌, ℕ, ℤ, pos, Bool, IsTrue, IsFalse, List, [], ◌∷◌, ◌++◌, Option, None, Some, IsSome, Contains, length};
 ghost use Rattle.rw_base.specs.declared.number.Cell.{Cell};
 ghost use Rattle.rw_model.specs.Draft.{Draft};
 ghost use Rattle.rw_series.specs.Series.{is_shared};
-ghost use Rattle.rw_series.specs.declared.look.Look.{Look};
+ghost use Rattle.rw_firing.specs.declared.look.Look.{Look};
 ghost use Rattle.rw_run.specs.declared.fault.RunFault.{RunFault};
 ghost use Rattle.rw_run.specs.Log.{Asked, Cells, Dispatch, Event, Firing, Log, placed, opened, closed, idle, solved, fired, fault, cells_of, input_content, last_put, written_by};
 ghost use Rattle.rw_run.specs.Dispatch.{cell_at};
 ghost use Rattle.rw_run.specs.Waiting.{all_waiting, since, slots_at, waiting, woken};
 ghost use Rattle.rw_run.specs.Since.{WaitsSince};
 ghost use Rattle.rw_run.specs.Next.{Policy, no_rules};
-ghost use Rattle.rw_run.specs.Policy.{FireAlike, IsPolicyOf};
+ghost use Rattle.rw_run.specs.Policy.{CanAsk, FireAlike, IsPolicyOf};
 ghost use Rattle.rw_run.specs.Runs.{IsRun, Leads, follows, inside, with_inputs, rests, standing};
 ghost use Rattle.rw_run.specs.Behind.{IsBehind};
 ghost use Rattle.rw_run.specs.Choice.{MayFollow, MayLead};
@@ -21,7 +21,7 @@ ghost use Rattle.rw_run.specs.Step.{before_closing, before_opening, cell_count, 
 ghost use Rattle.rw_run.specs.Reuse.{AreOpened, AreRerun, AreRising, IsHeldAlike, IsReused, most_kept};
 ghost use Rattle.rw_run.specs.Timestep.{AreLooked, IsTimestep};
 ghost use Rattle.rw_run.specs.declared.held.Held.{Held};
-ghost use Rattle.rw_run.specs.Worked.{across, across_run, sets_ahead, ahead_run, data_object_basin, both_days, both_days_run, both_ends, both_ends_run, counts_up, counted_run, divided, divided_run, faulty_run, five, first_of_ahead, followed, followed_run, given_once, given_run, given_seven_run, linked_basin, needy, needy_run, one_end_run, one_of_each, outranked, outranked_run, put_twice, put_twice_run, raises_x, raised_run, raised_twice, seven, three};
+ghost use Rattle.rw_run.specs.Worked.{rule_put, across, across_run, sets_ahead, ahead_run, data_object_basin, both_days, both_days_run, both_ends, both_ends_run, counts_up, counted_run, divided, divided_run, faulty_run, five, first_of_ahead, followed, followed_run, given_once, given_run, given_seven_run, linked_basin, needy, needy_run, one_end_run, one_of_each, outranked, outranked_run, put_twice, put_twice_run, raises_x, raised_run, raised_twice, seven, three};
 ghost use Rattle.rw_model.specs.declared.control.AgendaOrder.TheVariants.{HighFirst, LowFirst};
 ghost use Rattle.rw_run.specs.Frame.{AreAlike, FollowInStep, IsFramed, IsStepFrom, looked_in, log_after};
 ghost use Rattle.rw_run.specs.Index.{IsIndex, MarksTouched};
@@ -165,6 +165,13 @@ pub fn worked_reruns()
     ensures opened { AreRerun (data_object_basin HighFirst 2) (log_after faulty_run [])
         (log_after needy_run (with_inputs [] five)) (1 ∷ 2 ∷ []) }
     ensures rising { (first later : ℕ) → AreRising (first ∷ later ∷ []) → first < later }
+{}
+
+/// What a rule may put: up to so far ahead as the model says and no further, and no value that the slot can't have.
+pub fn worked_puts()
+    ensures furthest { CanAsk (data_object_basin HighFirst 1) (rule_put 1 30 (pos 5)) }
+    ensures further { ¬ CanAsk (data_object_basin HighFirst 1) (rule_put 1 31 (pos 5)) }
+    ensures nowhere { ¬ CanAsk (data_object_basin HighFirst 1) (rule_put 3 0 (pos 5)) }
 {}
 
 /// Which timesteps a run opened, and how large one is that is kept.

@@ -2,4 +2,3 @@ pub mod Kept
 pub mod Columns
 pub mod Cells
 pub mod Series
-pub mod Fire

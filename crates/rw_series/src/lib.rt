@@ -1,21 +1,16 @@
 //! The values of a run, cell by cell. `Series` keeps what each slot of a basin holds at each timestep, and `put` takes a
 //! new content by the put rules: a cell is written together with every cell that a link joins to it, or nothing changes.
-//! `hold` makes them hold a content whatever they hold. `at_step` lends the cells of one timestep, for who reads many of them.
-//! `is_shared` tells whether two cells are joined so. Only `sized` and `copy` take memory. Beside it stand the types that a
-//! firing of a rule and its meaning share: what was seen at a cell, how a firing ends, and what it asks for.
+//! `restore` makes them hold a content whatever they hold. `at_step` lends the cells of one timestep, for who reads many of them.
+//! `is_shared` tells whether two cells are joined so. Only `sized` and `copy` take memory.
 #![tactic(auto)]
 
 mod cells;
 mod columns;
-mod fire;
 mod kept;
-mod look;
 mod series;
 mod shared;
 mod step_cells;
 
-pub use fire::{FireEnd, RulePut};
-pub use look::Look;
 pub use rw_model::{Content, PutEnd, Writer};
 pub use series::Series;
 pub use shared::is_shared;

@@ -120,14 +120,14 @@ impl Series {
     {
         let end = end_of(self.get(c), &new);
         if is_written(&end) {
-            self.hold(basin, c, Some(new));
+            self.restore(basin, c, Some(new));
         }
         end
     }
 
     /// Makes a cell hold a content, with its value in the base units of the slot's dimension, or be unknown, whatever it
     /// holds, and so each cell of a slot that a link joins to its slot, at the same timestep.
-    pub fn hold(&mut self, basin: &Basin, c: Cell, held: Option<Content>)
+    pub fn restore(&mut self, basin: &Basin, c: Cell, held: Option<Content>)
         requires made { IsSeriesOf basin.now self.old }
         requires cell { IsCell basin.now c }
         ensures cells { Sets basin.now c held self.old self.new }

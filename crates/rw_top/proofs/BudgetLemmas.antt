@@ -4,7 +4,7 @@ use Rattle.rw_top.proofs.Common.{length, refl, rule, suc, true, zero, ℕ, ◌+�
 use Rattle.rpl_code.specs.declared.block.Block.{Block}
 use Rattle.rpl_code.specs.declared.block.BlockHead.TheVariants.{Rule}
 use Rattle.rpl_verify.proofs.Common.{is_alike, rule_from}
-use Rattle.rpl_parse.specs.Bounds.{rule_count}
+use Rattle.rpl_tree.specs.Bounds.{rule_count}
 
 -- a rule within the count is declared
 declared_from : (k : ℕ) (ds : List Declared) (n : ℕ) → 1 ≤ n → n ≤ rule_count ds → IsSome (declaration_from k ds n)

@@ -9,7 +9,7 @@ use Rattle.rpl_tree.specs.Budget.{budget_of}
 use Rattle.rpl_tree.specs.Kinds.{kind_of_type}
 use Rattle.rpl_tree.specs.Mean.{param_kinds}
 use Rattle.rpl_tree.specs.Tree.{Parameter, TypeName}
-use Rattle.rpl_parse.specs.Bounds.{function_count, rule_count}
+use Rattle.rpl_tree.specs.Bounds.{function_count, rule_count}
 use Rattle.rpl_code.specs.declared.block.Block.{Block}
 use Rattle.rpl_code.specs.declared.block.BlockHead.TheVariants.{Rule}
 use Rattle.rpl_verify.specs.Fits.{count_alike}

@@ -5,8 +5,8 @@ use Rattle.rw_base.proofs.Common.{length-append, length-set, nat_le}
 use Rattle.rw_base.specs.Answers.{unless_refused}
 use Rattle.rw_model.specs.Draft.{Draft}
 use Rattle.rw_inputs.specs.declared.wrong.Wrong.{Wrong}
-use Rattle.rw_inputs.specs.EditRows.{at_row, batch_behind, batches_with, edits_of, batch_follows, four_fields, is_edit_header, more_batches}
-use Rattle.rw_inputs.specs.EditRows.{batches_opened, read_batch, read_batches, read_edit, with_edit, wrong_among}
+use Rattle.rw_inputs.specs.EditRows.{at_row, batch_behind, batches_with, edits_of, batch_follows, four_fields, is_header_of, more_batches}
+use Rattle.rw_inputs.specs.EditRows.{batches_opened, read_batch, read_edit, read_under, with_edit, wrong_among}
 use Rattle.rw_inputs.specs.Edits.{Batch}
 use Rattle.rw_inputs.specs.Number.{read_number}
 use Rattle.rw_inputs.specs.Records.{Fields, records_of}
@@ -76,9 +76,9 @@ few_behind : (basin : Draft) (named : Bool) (rows : List Fields) (all : List Bat
 few_behind basin true rows all w is = few_rows basin 2 [] all rows (omega arith) is
 few_behind basin false rows all w is = absurd cc
 
-few_read : (basin : Draft) (records : List Fields) (all : List Batch) → read_batches basin records ≡ Ok all → length all ≤ 64
-few_read basin [] all is = absurd cc
-few_read basin (header ∷ rows) all is = few_behind basin (is_edit_header header) rows all _ is
+few_read : (word : List ℕ) (basin : Draft) (records : List Fields) (all : List Batch) → read_under word basin records ≡ Ok all → length all ≤ 64
+few_read word basin [] all is = absurd cc
+few_read word basin (header ∷ rows) all is = few_behind basin (is_header_of word header) rows all _ is
 
 pub few_batches : (basin : Draft) (text : List ℕ) (all : List Batch) → edits_of basin text ≡ Ok all → length all ≤ 64
-few_batches basin text all is = few_read basin (records_of text) all is
+few_batches basin text all is = few_read _ basin (records_of text) all is

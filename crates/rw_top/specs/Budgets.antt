@@ -3,7 +3,7 @@ use Rattle.std.specs.Prelude.{ℕ, List, [], ◌++◌, codes, Option, Some, None
 use Rattle.std.specs.Fmt.{decimal}
 use Rattle.rw_model.specs.Objects.{numbered}
 use Rattle.rpl_tree.specs.Budget.{Budget}
-use Rattle.rpl_parse.specs.Bounds.{function_count, rule_count}
+use Rattle.rpl_tree.specs.Bounds.{function_count, rule_count}
 use Rattle.rw_report.specs.Section.{for_each}
 use Rattle.rpl_types.specs.Checked.{rule_budget}
 use Rattle.rpl_code.specs.declared.block.BlockHead.TheVariants as Head

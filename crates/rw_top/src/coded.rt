@@ -12,7 +12,6 @@ ghost use Rattle.rw_top.specs.Seen.{policy_of};
 use crate::policy::Policy;
 use rpl_compile::accepted::compiled_budgets;
 use rpl_compile::compile;
-use rpl_parse::law::bounds;
 use rpl_policy::law::firings_are_verified;
 use rpl_rulesets::law::{firings_of_rules_are_verified, rulesets_have_runs};
 use rpl_types::Typed;
@@ -43,7 +42,6 @@ pub(crate) fn code_of_rules(
     ensures runs { IfOk result (IsCodeOf basin.now (Ruleset (rules_of typed.now.rules))) }
 {
     accepted();
-    bounds();
     compiled_budgets();
     rulesets_have_runs();
     firings_of_rules_are_verified();

@@ -6,8 +6,9 @@ ghost use Rattle.rw_base.specs.Answers.{IsWhy as IsWhyOf};
 ghost use Rattle.rpl_code.specs.declared.fault.CodeFault.TheVariants as CodeFault;
 ghost use Rattle.rpl_code.specs.Answers.{code_refusal_of as refusal_of_code};
 ghost use Rattle.rpl_code.specs.Reading.{read};
-ghost use Rattle.rpl_parse.specs.Declarations.{IsReading, IsRuleset};
+ghost use Rattle.rpl_parse.specs.Declarations.{IsReading};
 ghost use Rattle.rpl_parse.specs.Parsing.{AnswersReading};
+ghost use Rattle.rpl_tree.specs.Bounds.{AreLimited};
 ghost use Rattle.rpl_tree.specs.Seen.{rules_of};
 ghost use Rattle.rpl_types.specs.Refused.{type_refusal_of};
 ghost use Rattle.rpl_verify.specs.Verified.{misfit_refusal_of as refusal_of_verify};
@@ -23,6 +24,7 @@ ghost use Rattle.rw_top.specs.Refusal.{IsEditRefusal, IsInputRefusal, IsModelRef
 use crate::Refusal;
 use crate::policy::Policy;
 use rpl_code::{Code, CodeFault, read_code};
+use rpl_parse::law::bounds;
 use rpl_parse::{ParseFault, parse};
 use rpl_tree::ParsedRules;
 use rpl_types::{TypeFault, Typed, check};
@@ -96,8 +98,9 @@ fn parse_rules(alloc: Global, text: &[u8]) -> Result<ParsedRules, Refusal>
     requires { length text.now ≤ TEXT_MAX }
     ensures read { MatchResult result (λ rules. IsReading text.now (Ok (rules_of rules)))
         (λ why. (basin : Draft) → IsPolicyRefusal false basin text.now why) }
-    ensures ruleset { IfOk result (λ rules. IsRuleset rules) }
+    ensures limited { IfOk result (λ rules. AreLimited (rules_of rules)) }
 {
+    bounds();
     match parse(alloc, text) {
         Ok(rules) => Ok(rules),
         Err(fault) => Err(refusal_of_grammar(text, fault)),

@@ -15,7 +15,7 @@ ghost use Rattle.rw_inputs.specs.Reading.{Reads, Refuses};
 ghost use Rattle.rw_run.specs.declared.run.RunEnd.{RunEnd};
 ghost use Rattle.rw_model_toml.specs.Refusal.{ModelRefusal};
 ghost use Rattle.rpl_tree.specs.Tree.{Declared};
-ghost use Rattle.rpl_parse.specs.Bounds.{function_count, rule_count};
+ghost use Rattle.rpl_tree.specs.Bounds.{function_count, rule_count};
 ghost use Rattle.rpl_types.specs.HasType.{IsTyped};
 ghost use Rattle.rpl_verify.specs.Budget.{AreAccepted};
 ghost use Rattle.rpl_compile.specs.Budgets.{code_budgets_of};

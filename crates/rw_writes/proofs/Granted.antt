@@ -2,7 +2,7 @@
 use Rattle.rw_base.proofs.Common.{◌≡◌, ℕ, ◌+◌, ◌≤◌, Bool, true, false, nat_le, List, [], ◌∷◌, All, All-cons, All-filter, All-head, All-nil, All-tail}
 use Rattle.rw_base.proofs.Common.{arith, cond, if◌then◌else◌, nat_tests, refl}
 use Rattle.rw_model.proofs.Common.{Draft}
-use Rattle.rw_series.specs.declared.fire.RulePut.{RulePut}
+use Rattle.rw_firing.specs.declared.fire.RulePut.{RulePut}
 use Rattle.rw_run.proofs.Common.{Asked, Cells, end_in, is_written}
 use Rattle.rw_run.specs.Next.{asked_by_rule, asked_of_rule, is_put_again, last_ones}
 use Rattle.rw_run.specs.Policy.{CanAsk}

@@ -5,7 +5,7 @@ use Rattle.std.proofs.lemmas.Bool.{or_parts}
 use Rattle.std.proofs.lemmas.List.{take_more}
 use Rattle.rw_model.proofs.Common.{Draft}
 use Rattle.rw_series.specs.Series.{is_shared}
-use Rattle.rw_series.specs.declared.look.Look.{Look}
+use Rattle.rw_firing.specs.declared.look.Look.{Look}
 use Rattle.rw_run.specs.Index.{is_touched}
 use Rattle.rw_run.specs.Log.{Asked}
 use Rattle.rw_agenda.specs.Agenda.{Agenda, Entry, MarksThose, looked_by}

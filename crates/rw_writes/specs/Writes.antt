@@ -1,7 +1,7 @@
 -- The puts of a firing, and those of them that are written.
 use Rattle.std.specs.Prelude.{ℕ, ◌≤◌, List}
 use Rattle.rw_model.specs.Draft.{Draft}
-use Rattle.rw_series.specs.declared.fire.RulePut.{RulePut}
+use Rattle.rw_firing.specs.declared.fire.RulePut.{RulePut}
 use Rattle.rw_run.specs.Dispatch.{puts_written}
 use Rattle.rw_run.specs.Index.{MarksTouched}
 use Rattle.rw_run.specs.Log.{Asked, Cells}

@@ -5,9 +5,9 @@ ghost use Rattle.rw_run.specs.Log.{Asked};
 ghost use Rattle.rw_run.specs.Next.{asked_by_rule, asked_of_rule};
 
 use rw_base::{Cell, RuleNo, StepNo};
+use rw_firing::RulePut;
 use rw_model::{Basin, Content, Writer};
 use rw_run::Write;
-use rw_series::RulePut;
 
 // What a put asks for.
 fn asked_by(rule: RuleNo, step: StepNo, put: RulePut) -> Write

@@ -10,9 +10,10 @@ use crate::asked::ask_all;
 use crate::limits::PUTS_MAX;
 use crate::passed::keep_written;
 use rw_base::{NoMemory, RuleNo, StepNo};
+use rw_firing::RulePut;
 use rw_model::Basin;
 use rw_run::Write;
-use rw_series::{RulePut, Series};
+use rw_series::Series;
 use std::alloc::Global;
 use std::marker::Model;
 

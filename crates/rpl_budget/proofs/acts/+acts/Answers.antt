@@ -2,7 +2,7 @@ use Rattle.std.proofs.Common.{◌∷◌, ap, ap₂, sym, ◌∙◌}
 use Rattle.rpl_tree.specs.Seen.{act_of, acts_in, tree_of}
 use Rattle.rpl_budget.specs.Pass.{Measured, measured_binding, load_of_branches, pass, pass_act, pass_acts}
 use Rattle.rpl_budget.specs.Seen.{functions_of, tree_kind_seen, measured_seen, names_of}
-use Rattle.rpl_budget.proofs.Viewed.{act_of_branch, act_of_with}
+use Rattle.rpl_tree.proofs.Viewed.{act_of_branch, act_of_with}
 use Rattle.rpl_budget.proofs.acts.+acts.Goals as goal
 
 pub act-returns-in_ok-second-in-If-clause-found : goal.act-returns-in_ok-second-in-If-clause-found

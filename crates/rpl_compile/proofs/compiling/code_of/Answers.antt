@@ -20,4 +20,4 @@ of-requires c =
     subst IsCode (sym c.in_ok-blocks.ensures)
     (compiled_can_be_spelt c.args.basin.now (rules_of c.rules-rules.result.now) c.object_count-objects.ensures.valid
     (typed_rules c.args.basin.now c.args.typed.now.rules c.rules-rules.result.now c.rules-rules.ensures.rules c.requires)
-    (c.bounds.ensures.all c.rules-rules.result.now c.rules-rules.ensures.ruleset))
+    c.rules-rules.ensures.limited)

@@ -6,5 +6,5 @@ pub unreachable-requires : goal.unreachable-requires
 unreachable-requires c =
     let why = refusal c.in-Err-Refused.field-0-0 c.in-Err-Refused.field-0-1 c.in-Err-Refused.field-0-2 in
     never_refused c.args.basin.now c.args.typed.now.rules c.rules-rules.result.now c.in_ok-code.code why c.rules-rules.ensures.rules
-    (c.bounds.ensures.all c.rules-rules.result.now c.rules-rules.ensures.ruleset) c.requires c.in_ok-code.ensures
+    c.rules-rules.ensures.limited c.requires c.in_ok-code.ensures
     (c.in-Err-Refused.ensures.0 why (ap misfit_refusal_of c.in-Err-Refused.field-0-is))

@@ -1,6 +1,6 @@
 use Rattle.rpl_compile.proofs.Common.{Acts, List, Written, acts_in, ap, ap₂, branch, callees_of, compiled_act, compiled_acts, subst, sym, tree_of}
 use Rattle.rpl_compile.proofs.Common.{with_name, without_name, written_of, ℕ, ◌∙◌}
-use Rattle.rpl_types.proofs.Viewed.{act_of_branch, act_of_with}
+use Rattle.rpl_tree.proofs.Viewed.{act_of_branch, act_of_with}
 use Rattle.rpl_compile.specs.Writes.{LeavesWritten}
 use Rattle.rpl_compile.proofs.Acts.{branch_written}
 use Rattle.rpl_compile.proofs.statement.+statements.Goals as goal

@@ -3,7 +3,7 @@ use Rattle.rpl_tree.proofs.Common.{Act, Acts, branch, with_name, acts_in, tree_o
 use Rattle.rpl_types.specs.Gives.{VisitsAct, callable_in}
 use Rattle.rpl_types.specs.Stopped.{progress_of}
 use Rattle.rpl_types.specs.Visited.{visited_act}
-use Rattle.rpl_types.proofs.Viewed.{act_of_branch, act_of_with}
+use Rattle.rpl_tree.proofs.Viewed.{act_of_branch, act_of_with}
 use Rattle.rpl_types.proofs.statements.+statements.Goals as goal
 
 pub visit_statement-returns-in_err-statements-in-If : goal.visit_statement-returns-in_err-statements-in-If

@@ -2,7 +2,7 @@ use Rattle.rw_base.proofs.Common.{false, list_any, not, take, ◌≡◌}
 use Rattle.rw_run.specs.Log.{value_in}
 use Rattle.rw_run.specs.Next.{is_same_value}
 use Rattle.rw_series.specs.Series.{held}
-use Rattle.rw_series.specs.declared.look.Look.{Look}
+use Rattle.rw_firing.specs.declared.look.Look.{Look}
 use Rattle.rw_agenda.proofs.last_looks.any_changed.Given as goal
 
 abbrev pub invariant-loop-look : goal.invariant-loop-look

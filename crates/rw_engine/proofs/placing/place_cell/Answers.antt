@@ -4,16 +4,16 @@ use Rattle.rw_engine.proofs.placing.place_cell.Goals as goal
 
 pub returns-in-Some-clause-made : goal.returns-in-Some-clause-made
 returns-in-Some-clause-made c = record {
-  made = c.hold.ensures.made;
+  made = c.restore.ensures.made;
   bounded =
-      given-bounded c.args.basin.now c.args.inputs.now c.args.cell _ c.args.series.now c.hold.new.self c.requires.inputs
-      (sym c.value.ensures ∙ c.in-Some.is) c.requires.made.bounded c.hold.ensures.cells;
+      given-bounded c.args.basin.now c.args.inputs.now c.args.cell _ c.args.series.now c.restore.new.self c.requires.inputs
+      (sym c.value.ensures ∙ c.in-Some.is) c.requires.made.bounded c.restore.ensures.cells;
 }
 
 pub returns-in-Some-clause-placed : goal.returns-in-Some-clause-placed
 returns-in-Some-clause-placed c log holds cell =
-    put-set c.args.basin.now (record { cell = c.args.cell; content = input_content c.in-Some.value }) c.args.series.now c.hold.new.self
-    c.hold.ensures.cells cell
+    put-set c.args.basin.now (record { cell = c.args.cell; content = input_content c.in-Some.value }) c.args.series.now c.restore.new.self
+    c.restore.ensures.cells cell
     ∙ ap (option_or (last_put c.args.basin.now (record { cell = c.args.cell; content = input_content c.in-Some.value } ∷ []) cell)) (holds cell)
     ∙ ap (λ given. cells_of c.args.basin.now (with_inputs log (if_placed c.args.cell.slot.0 c.args.cell.step.0 given)) cell)
     (sym (sym c.value.ensures ∙ c.in-Some.is))

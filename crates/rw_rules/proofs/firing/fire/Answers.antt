@@ -1,7 +1,7 @@
 use Rattle.rw_base.proofs.Common.{ap, length-map, option_map, refl, subst, sym, ◌∙◌, ◌≤◌}
-use Rattle.rw_series.specs.Fire.{Fire}
+use Rattle.rw_firing.specs.Fire.{Fire}
 use Rattle.rw_series.specs.Series.{held}
-use Rattle.rw_series.specs.declared.look.Look.{Look}
+use Rattle.rw_firing.specs.declared.look.Look.{Look}
 use Rattle.rw_run.specs.Next.{ended}
 use Rattle.rpl_machine.specs.Fired.{fire_seen}
 use Rattle.rpl_machine.specs.Steps.{value_in_series}

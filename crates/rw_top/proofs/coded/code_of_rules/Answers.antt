@@ -1,6 +1,6 @@
 use Rattle.rw_top.proofs.Common.{ap, subst, ◌∙◌}
 use Rattle.rw_inputs.specs.Placings.{placings}
-use Rattle.rpl_parse.specs.Bounds.{AreLimited}
+use Rattle.rpl_tree.specs.Bounds.{AreLimited}
 use Rattle.rpl_tree.specs.Seen.{rules_of}
 use Rattle.rpl_tree.specs.declared.rules.ParsedRules.{ParsedRules}
 use Rattle.rpl_types.specs.Judged.{rules_judged}
@@ -18,8 +18,7 @@ returns-clause-runs c =
     let types = types_of (rules_judged basin rules) c.requires in
     let typed = c.accepted.ensures basin rules types.0 types.1 in
     let bounded : AreLimited rules =
-    subst (λ (r : ParsedRules). AreLimited (rules_of r)) c.rules-rules.ensures.rules
-    (c.bounds.ensures.all c.rules-rules.result.now c.rules-rules.ensures.ruleset) in
+    subst (λ (r : ParsedRules). AreLimited (rules_of r)) c.rules-rules.ensures.rules c.rules-rules.ensures.limited in
     code_of_ruleset basin rules c.in_ok-code.code c.in_ok-code.ensures.code
     (c.compiled_budgets.ensures basin rules typed bounded.rules bounded.functions)
     (λ inputs log. (c.rulesets_have_runs.ensures.same basin rules (placings basin inputs) log typed bounded.rules bounded.functions).1)

@@ -1,5 +1,5 @@
 use Rattle.rw_base.proofs.Common.{All, ap, arith, subst, take_all, true, ◌∙◌, ◌≡◌}
-use Rattle.rw_series.specs.declared.look.Look.{Look}
+use Rattle.rw_firing.specs.declared.look.Look.{Look}
 use Rattle.rw_agenda.specs.CellIndex.{is_watching}
 use Rattle.rw_agenda.proofs.Watches.{watching_more}
 use Rattle.rw_agenda.proofs.cell_index.CellIndex.watch_all.Goals as goal

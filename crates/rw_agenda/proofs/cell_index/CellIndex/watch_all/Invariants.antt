@@ -1,6 +1,6 @@
 use Rattle.rw_base.proofs.Common.{All, IfSome, take, true, ℕ, ◌≡◌}
 use Rattle.rw_base.specs.declared.number.Cell.{Cell}
-use Rattle.rw_series.specs.declared.look.Look.{Look}
+use Rattle.rw_firing.specs.declared.look.Look.{Look}
 use Rattle.rw_agenda.specs.CellIndex.{is_watching}
 use Rattle.rw_agenda.proofs.cell_index.CellIndex.watch_all.Given as goal
 

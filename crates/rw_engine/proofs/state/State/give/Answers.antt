@@ -4,5 +4,5 @@ use Rattle.rw_engine.proofs.state.State.give.Goals as goal
 
 pub returns-clause-gives : goal.returns-clause-gives
 returns-clause-gives c =
-    gives c.args.basin.now c.args.cell c.args.value c.args.self.now _ c.hold.new.self refl c.requires.within c.requires.made c.hold.ensures.made
-    (subst (λ content. Sets c.args.basin.now c.args.cell content c.args.self.now.run.series c.hold.new.self) c.input.ensures c.hold.ensures.cells)
+    gives c.args.basin.now c.args.cell c.args.value c.args.self.now _ c.restore.new.self refl c.requires.within c.requires.made c.restore.ensures.made
+    (subst (λ content. Sets c.args.basin.now c.args.cell content c.args.self.now.run.series c.restore.new.self) c.input.ensures c.restore.ensures.cells)

@@ -4,7 +4,7 @@ use Rattle.rw_series.specs.Columns.{column_of}
 use Rattle.rw_series.specs.Series.{Series, held, is_shared}
 use Rattle.rw_series.proofs.Setting.{column_kept, shared_test}
 use Rattle.rw_series.proofs.Sharing.{Sets-made}
-use Rattle.rw_series.proofs.series.Series.hold.Goals as goal
+use Rattle.rw_series.proofs.series.Series.restore.Goals as goal
 
 pub keep_at-requires-clause-kept : goal.keep_at-requires-clause-kept
 keep_at-requires-clause-kept c =

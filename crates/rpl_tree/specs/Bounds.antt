@@ -2,7 +2,7 @@
 use Rattle.std.specs.Prelude.{◌≤◌, ◌+◌, ℕ, List, [], ◌∷◌}
 use Rattle.rpl_tree.specs.Tree.{Declared, rule, function}
 use Rattle.rpl_tree.specs.Count.{nodes_of}
-use Rattle.rpl_parse.specs.Depth.{declared_depth}
+use Rattle.rpl_tree.specs.Depth.{declared_depth}
 
 abbrev pub rule_count : List Declared → ℕ
 rule_count [] = 0
