@@ -2,7 +2,7 @@
 use Rattle.rw_engine.proofs.Common.{Cell, Cells, Draft, Event, Leads, List, Log, None, Option, Policy, Some, State, [], ap, append_assoc, cells_of}
 use Rattle.rw_engine.proofs.Common.{closed, held, last_put, length, lines, opened, option_or, refl, rests, seen, standing, subst, sym, trace_of, ℕ}
 use Rattle.rw_engine.proofs.Common.{◌++◌, ◌+◌, ◌∙◌, ◌∷◌, ◌≡◌, ◌≤◌}
-use Rattle.std.specs.Prelude.{Contains, Err, IfSome, IsErrAnd, Ok, Result, ◌⊎◌}
+use Rattle.std.specs.Prelude.{Contains, Err, IfSome, Ok, Result, ◌⊎◌}
 use Rattle.std.specs.List.{flat_map}
 use Rattle.rw_base.proofs.Common.{arith, inl, inr}
 use Rattle.rw_base.specs.declared.memory.NoMemory.{NoMemory}
@@ -82,13 +82,6 @@ noted_again basin before was now events looked old new is are same =
       looked_again basin before was now events looked are same,
       once now [] (cells_noted looked) (nothing_noted basin before).once,
     )
-
--- memory wants for it
-pub unpassed_again : (basin : Draft) (kept : StepRecord) (old new : State) (result : Result (Unit {0}) NoMemory) (why : NoMemory)
-    → IsErrAnd result (λ fault. fault ≡ why)
-    → HasReplayed basin kept old new (Err why) → HasReplayed basin kept old new result
-unpassed_again basin kept old new (Ok done) why is has = absurd is
-unpassed_again basin kept old new (Err want) why is has = rw is has
 
 pub sound_again : (basin : Draft) (kept : StepRecord) (old new : State) (result : Result (Unit {0}) NoMemory) → HasReplayed basin kept old new result
     → IsSoundState old → IsSoundState new

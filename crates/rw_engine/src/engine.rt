@@ -143,6 +143,8 @@ impl Engine {
         steps: &mut Steps<L>,
     ) -> Result<StepEnd, NoMemory>
         requires made { IsEngineOf setup.now.basin.now setup.now.policy.now self.old }
+        requires order { AreInOrder
+            (map (λ b. code (b.vtable, b.value)) setup.now.methods.now.methods.items) }
         requires step { IsStep setup.now.basin.now step.0 }
         ensures runs { RunsStep setup.now.basin.now setup.now.policy.now step.0
             self.old self.new result }
@@ -160,6 +162,8 @@ impl Engine {
         steps: &mut Steps<L>,
     ) -> Result<StepEnd, NoMemory>
         requires made { IsEngineOf setup.now.basin.now setup.now.policy.now self.old }
+        requires order { AreInOrder
+            (map (λ b. code (b.vtable, b.value)) setup.now.methods.now.methods.items) }
         requires step { IsStep setup.now.basin.now step.0 }
         ensures runs { RunsStepBy setup.now.basin.now setup.now.policy.now (P.rule pick.now) step.0
             self.old self.new result }

@@ -28,6 +28,8 @@ fn pass_all<L: Ledger, P: Pick>(
     requires made { IsEngineOf setup.now.basin.now setup.now.policy.now engine }
     requires begun { engine.closed ≡ 0 }
     requires turns { engine.turns ≡ 0 }
+    requires order { AreInOrder
+        (map (λ b. code (b.vtable, b.value)) setup.now.methods.now.methods.items) }
     ensures { RunsAllBy setup.now.basin.now setup.now.policy.now (P.rule pick.now) engine
         steps.old steps.new result }
 {
@@ -97,6 +99,8 @@ pub fn run_all_of<L: Ledger>(
     steps: &mut Steps<L>,
 ) -> Result<Run, NoMemory>
     requires can { CanRun setup.now.basin.now setup.now.policy.now inputs.now }
+    requires order { AreInOrder
+        (map (λ b. code (b.vtable, b.value)) setup.now.methods.now.methods.items) }
     ensures run { IfOk result (ComesTo setup.now.basin.now
         (policy_in setup.now.basin.now setup.now.policy.now) inputs.now) }
     ensures closed { IfOk result (λ run. run.closed ≤ setup.now.basin.now.control.stamps.count) }
@@ -170,6 +174,8 @@ pub fn run_by_of<L: Ledger, P: Pick>(
     steps: &mut Steps<L>,
 ) -> Result<Run, NoMemory>
     requires can { CanRun setup.now.basin.now setup.now.policy.now inputs.now }
+    requires order { AreInOrder
+        (map (λ b. code (b.vtable, b.value)) setup.now.methods.now.methods.items) }
     ensures run { IfOk result (ComesToPicked setup.now.basin.now
         (policy_in setup.now.basin.now setup.now.policy.now) (P.rule pick.now) inputs.now) }
     ensures closed { IfOk result (λ run. run.closed ≤ setup.now.basin.now.control.stamps.count) }

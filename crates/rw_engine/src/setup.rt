@@ -1,12 +1,9 @@
-ghost use Rattle.std.specs.Prelude.{map};
-ghost use Rattle.rw_method.specs.Catalogue.{AreInOrder};
-
 use rpl_predef::Predefs;
 use rpl_verify::Verified;
 use rw_method::Catalogue;
 use rw_model::Basin;
 
-/// What a run goes by, whatever its inputs. The methods stand in the order of the kinds' numbers.
+/// What a run goes by, whatever its inputs.
 #[derive(Drop)]
 pub struct RunSetup<'a> {
     /// The basin.
@@ -17,5 +14,4 @@ pub struct RunSetup<'a> {
     pub policy: &'a Verified,
     /// The functions that rules call by name.
     pub predefs: &'a Predefs,
-    ghost order: { AreInOrder (map (λ b. code (b.vtable, b.value)) methods.now.methods.items) },
 }

@@ -1,5 +1,6 @@
-ghost use Rattle.std.specs.Prelude.{◌≡◌, ◌<◌, [], ℕ, List, Option, Some, None, Ok, IfOk, IfErr, IfSome, IsSome, is_some};
+ghost use Rattle.std.specs.Prelude.{◌≡◌, ◌<◌, [], ℕ, map, List, Option, Some, None, Ok, IfOk, IfErr, IfSome, IsSome, is_some};
 ghost use Rattle.rw_model.specs.Draft.{Draft};
+ghost use Rattle.rw_method.specs.Catalogue.{AreInOrder};
 ghost use Rattle.rw_run.specs.Log.{Event, Log, fault};
 ghost use Rattle.rpl_verify.specs.Verified.{Accepted};
 ghost use Rattle.rw_rules.specs.Firing.{IsRuleTurn};
@@ -172,6 +173,8 @@ impl State {
     // Dispatches the object that was taken out of the queue, below its limit.
     fn act(&mut self, setup: &RunSetup, object: ObjectNo, step: StepNo) -> Result<bool, NoMemory>
         requires within { IsWithinStep setup.now.basin.now setup.now.policy.now self.old }
+        requires order { AreInOrder
+            (map (λ b. code (b.vtable, b.value)) setup.now.methods.now.methods.items) }
         requires turn { IsTurn setup.now.basin.now object.0 step.0 }
         requires below { count_of_number self.old.counts object.0
             < setup.now.basin.now.control.object_limit }
@@ -213,6 +216,8 @@ impl State {
     // Dispatches the object that was taken out of the queue, unless its limit is reached.
     fn ask(&mut self, setup: &RunSetup, object: ObjectNo, step: StepNo) -> Result<bool, NoMemory>
         requires within { IsWithinStep setup.now.basin.now setup.now.policy.now self.old }
+        requires order { AreInOrder
+            (map (λ b. code (b.vtable, b.value)) setup.now.methods.now.methods.items) }
         requires turn { IsTurn setup.now.basin.now object.0 step.0 }
         ensures { (place : ℕ) (waits : List ℕ)
             → IsTaken place waits object.0 self.old.queue.waiting
@@ -306,6 +311,8 @@ impl State {
     // The event that follows in the open timestep, where one of those that wait is picked.
     fn event<P: Pick>(&mut self, setup: &RunSetup, pick: &P, step: StepNo) -> Result<bool, NoMemory>
         requires within { IsWithinStep setup.now.basin.now setup.now.policy.now self.old }
+        requires order { AreInOrder
+            (map (λ b. code (b.vtable, b.value)) setup.now.methods.now.methods.items) }
         requires step { IsStep setup.now.basin.now step.0 }
         ensures does { DoesEvent setup.now.basin.now setup.now.policy.now
             (picked_at (P.rule pick.now) self.old.turns self.old.queue.waiting)
@@ -329,6 +336,8 @@ impl State {
         step: StepNo,
     ) -> Result<StepEnd, NoMemory>
         requires fresh { IsCleared setup.now.basin.now setup.now.policy.now self.old }
+        requires order { AreInOrder
+            (map (λ b. code (b.vtable, b.value)) setup.now.methods.now.methods.items) }
         requires step { IsStep setup.now.basin.now step.0 }
         ensures { HasPassed setup.now.basin.now setup.now.policy.now (P.rule pick.now) step.0
             self.old self.new result }
@@ -350,6 +359,8 @@ impl State {
         step: StepNo,
     ) -> Result<StepEnd, NoMemory>
         requires made { IsStateOf setup.now.basin.now setup.now.policy.now self.old }
+        requires order { AreInOrder
+            (map (λ b. code (b.vtable, b.value)) setup.now.methods.now.methods.items) }
         requires step { IsStep setup.now.basin.now step.0 }
         ensures made { IsStateOf setup.now.basin.now setup.now.policy.now self.new }
         ensures runs { RunsStepBy setup.now.basin.now setup.now.policy.now (P.rule pick.now) step.0

@@ -1,9 +1,10 @@
 // The run after a batch, from behind the timesteps that the batch leaves.
-ghost use Rattle.std.specs.Prelude.{◌≡◌, ◌≤◌, All, IfOk, IsSome, length, Ok};
+ghost use Rattle.std.specs.Prelude.{◌≡◌, ◌≤◌, All, IfOk, IsSome, length, map, Ok};
 ghost use Rattle.rpl_verify.specs.Verified.{verified};
 ghost use Rattle.rw_engine.specs.Passing.{CanRun};
 ghost use Rattle.rw_engine.specs.Shows.{IsEngineOf};
 ghost use Rattle.rw_inputs.specs.Inputs.{IsInputsOf};
+ghost use Rattle.rw_method.specs.Catalogue.{AreInOrder};
 ghost use Rattle.rw_series.specs.Series.{IsCell};
 ghost use Rattle.rw_rerun.specs.Next.{IsSpareReady, PassesBehind, PassesFrom};
 ghost use Rattle.rw_rerun.specs.Spare.{AreKeptFirst, AreKeptFrom, IsSpare, IsSpareBy};
@@ -52,6 +53,8 @@ fn pass_others<L: Ledger>(
 ) -> Result<Pass, NoMemory>
     requires fits { verified setup.now.basin.now setup.now.policy.now.blocks
         ≡ Ok setup.now.policy.now }
+    requires order { AreInOrder
+        (map (λ b. code (b.vtable, b.value)) setup.now.methods.now.methods.items) }
     requires kept { CanGoBy setup.now.basin.now kept.now }
     requires made { IsEngineOf setup.now.basin.now setup.now.policy.now spare.engine }
     requires noted { IsSome spare.engine.noted }
@@ -78,6 +81,8 @@ pub(crate) fn pass_behind<L: Ledger>(
     steps: &mut Steps<L>,
 ) -> Result<Pass, NoMemory>
     requires can { CanRun setup.now.basin.now setup.now.policy.now inputs.now }
+    requires order { AreInOrder
+        (map (λ b. code (b.vtable, b.value)) setup.now.methods.now.methods.items) }
     requires kept { CanGoBy setup.now.basin.now kept.now }
     requires stands { IsSpareBy setup.now.basin.now setup.now.policy.now kept.now spare }
     requires known { AreKeptFrom kept.now 0 spare.behind }

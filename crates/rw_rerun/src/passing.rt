@@ -1,7 +1,8 @@
 // A run, timestep by timestep: each is taken over from an earlier run, or run.
-ghost use Rattle.std.specs.Prelude.{◌≡◌, ◌≤◌, ℕ, ⊤, IfSome, false, true, Ok, Some};
+ghost use Rattle.std.specs.Prelude.{◌≡◌, ◌≤◌, ℕ, ⊤, map, IfSome, false, true, Ok, Some};
 ghost use Rattle.rpl_verify.specs.Verified.{verified};
 ghost use Rattle.rw_engine.specs.Passing.{CanRun};
+ghost use Rattle.rw_method.specs.Catalogue.{AreInOrder};
 ghost use Rattle.rw_model.specs.Turn.{IsStep};
 ghost use Rattle.rw_record.specs.Noted.{AreHeld};
 ghost use Rattle.rw_series.specs.Series.{held};
@@ -55,6 +56,8 @@ fn run_anew<L: Ledger>(
     step: StepNo,
     steps: &mut Steps<L>,
 ) -> Result<(), NoMemory>
+    requires order { AreInOrder
+        (map (λ b. code (b.vtable, b.value)) setup.now.methods.now.methods.items) }
     requires made { IsPassOf setup.now.basin.now setup.now.policy.now pass.old }
     requires step { IsStep setup.now.basin.now step.0 }
     requires goes { pass.old.over ≡ false }
@@ -87,6 +90,8 @@ fn pass_step<L: Ledger>(
     step: StepNo,
     steps: &mut Steps<L>,
 ) -> Result<(), NoMemory>
+    requires order { AreInOrder
+        (map (λ b. code (b.vtable, b.value)) setup.now.methods.now.methods.items) }
     requires made { IsPassOf setup.now.basin.now setup.now.policy.now pass.old }
     requires step { IsStep setup.now.basin.now step.0 }
     requires can { IfSome entry.now (IsReplayable setup.now.basin.now step.0) }
@@ -118,6 +123,8 @@ pub(crate) fn pass_rest<L: Ledger>(
 ) -> Result<(), NoMemory>
     requires fits { verified setup.now.basin.now setup.now.policy.now.blocks
         ≡ Ok setup.now.policy.now }
+    requires order { AreInOrder
+        (map (λ b. code (b.vtable, b.value)) setup.now.methods.now.methods.items) }
     requires made { IsPassOf setup.now.basin.now setup.now.policy.now pass.old }
     requires kept { CanGoBy setup.now.basin.now kept.now }
     requires some { behind ≤ setup.now.basin.now.control.stamps.count }
@@ -143,6 +150,8 @@ pub(crate) fn pass_all<L: Ledger>(
     steps: &mut Steps<L>,
 ) -> Result<Pass, NoMemory>
     requires can { CanRun setup.now.basin.now setup.now.policy.now inputs.now }
+    requires order { AreInOrder
+        (map (λ b. code (b.vtable, b.value)) setup.now.methods.now.methods.items) }
     requires kept { CanGoBy setup.now.basin.now kept.now }
     ensures { PassesAll setup.now.basin.now setup.now.policy.now inputs.now traced kept.now
         steps.old steps.new result }

@@ -48,10 +48,12 @@ impl<'a> Session<'a> {
             (λ session. IsStarted basin.entry.now policy.entry.now inputs session.state) }
         ensures traced { IfOk result
             (λ session. is_some session.state.engine.trace ≡ traced) }
-        ensures setup { IfOk result (λ session. (session.setup.basin ≡ basin.entry)
-            × ((session.setup.methods ≡ methods.entry)
-            × ((session.setup.policy ≡ policy.entry)
-            × (session.setup.predefs ≡ predefs.entry)))) }
+        ensures setup { IfOk result (λ session. session.setup ≡ record {
+          basin = basin.entry;
+          methods = methods.entry;
+          policy = policy.entry;
+          predefs = predefs.entry;
+        }) }
         ensures counted { CountsRuns basin.entry.now steps.old steps.new result
             (λ session. session.state.reran) }
     {
@@ -73,6 +75,8 @@ impl<'a> Session<'a> {
         steps: &mut Steps<L>,
     ) -> Result<Session<'a>, NoMemory>
         requires can { CanRun setup.basin.now setup.policy.now inputs }
+        requires order { AreInOrder
+            (map (λ b. code (b.vtable, b.value)) setup.methods.now.methods.items) }
         ensures started { IfOk result (λ session. IsStarted setup.entry.basin.now
             setup.entry.policy.now inputs session.state) }
         ensures traced { IfOk result
@@ -94,6 +98,8 @@ impl<'a> Session<'a> {
     pub fn apply<L: Ledger>(&mut self, batch: &Batch, steps: &mut Steps<L>) -> Result<(), NoMemory>
         requires made { IsSessionOf self.old.setup.basin.now
             self.old.setup.policy.now self.old.state }
+        requires order { AreInOrder
+            (map (λ b. code (b.vtable, b.value)) self.old.setup.methods.now.methods.items) }
         requires batch { IsBatch self.old.setup.basin.now batch.now }
         ensures applied { IfOk result (λ done. Applies self.old.setup.basin.now
             self.old.setup.policy.now batch.now self.old.state self.new.state) }

@@ -1,8 +1,9 @@
-ghost use Rattle.std.specs.Prelude.{◌≡◌, ◌≤◌, All, length, IfErr, IfOk, is_some};
+ghost use Rattle.std.specs.Prelude.{◌≡◌, ◌≤◌, All, length, map, IfErr, IfOk, is_some};
 ghost use Rattle.rpl_verify.specs.Verified.{Accepted};
 ghost use Rattle.rw_engine.specs.Passing.{CanRun, ComesTo};
 ghost use Rattle.rw_inputs.specs.Edits.{IsBatch};
 ghost use Rattle.rw_inputs.specs.Inputs.{IsInputsOf};
+ghost use Rattle.rw_method.specs.Catalogue.{AreInOrder};
 ghost use Rattle.rw_model.specs.Draft.{Draft};
 ghost use Rattle.rw_rules.specs.Rules.{policy_in};
 ghost use Rattle.rw_series.specs.Series.{IsCell};
@@ -81,6 +82,8 @@ impl<'a> State<'a> {
         steps: &mut Steps<L>,
     ) -> Result<State<'a>, NoMemory>
         requires can { CanRun setup.now.basin.now setup.now.policy.now inputs }
+        requires order { AreInOrder
+            (map (λ b. code (b.vtable, b.value)) setup.now.methods.now.methods.items) }
         ensures started { IfOk result (IsStarted setup.now.basin.now setup.now.policy.now inputs) }
         ensures traced { IfOk result (λ state. is_some state.engine.trace ≡ traced) }
         ensures counted { CountsRuns setup.now.basin.now steps.old steps.new result
@@ -118,6 +121,8 @@ impl<'a> State<'a> {
         steps: &mut Steps<L>,
     ) -> Result<Pass, NoMemory>
         requires made { IsSessionOf setup.now.basin.now setup.now.policy.now self.old }
+        requires order { AreInOrder
+            (map (λ b. code (b.vtable, b.value)) setup.now.methods.now.methods.items) }
         requires inputs { IsInputsOf setup.now.basin.now inputs.now }
         requires cells { All (IsCell setup.now.basin.now) cells.now }
         requires near { behind ≤ length self.old.kept }
@@ -187,6 +192,8 @@ impl<'a> State<'a> {
         steps: &mut Steps<L>,
     ) -> Result<(), NoMemory>
         requires made { IsSessionOf setup.now.basin.now setup.now.policy.now self.old }
+        requires order { AreInOrder
+            (map (λ b. code (b.vtable, b.value)) setup.now.methods.now.methods.items) }
         requires batch { IsBatch setup.now.basin.now batch.now }
         ensures applied { IfOk result (λ done. Applies setup.now.basin.now setup.now.policy.now
             batch.now self.old self.new) }

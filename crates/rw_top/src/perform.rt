@@ -207,6 +207,8 @@ fn write_runs<K: Sink, L: Ledger>(
     steps: &mut Steps<L>,
     out: &mut K,
 ) -> Result<RunEnd, Refusal>
+    requires order { AreInOrder
+        (map (λ b. code (b.vtable, b.value)) setup.now.methods.now.methods.items) }
     requires fits { verified setup.now.basin.now setup.now.policy.now.blocks
         ≡ Ok setup.now.policy.now }
     requires inputs { IsInputsOf setup.now.basin.now inputs }

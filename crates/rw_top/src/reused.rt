@@ -1,10 +1,11 @@
 // The sections of a run by a policy that takes timesteps over after a batch of edits.
-ghost use Rattle.std.specs.Prelude.{◌≡◌, ◌≤◌, ◌+◌, length, option_map, IfOk, MatchResult, Ok, true};
+ghost use Rattle.std.specs.Prelude.{◌≡◌, ◌≤◌, ◌+◌, length, map, option_map, IfOk, MatchResult, Ok, true};
 ghost use Rattle.std.specs.List.{All};
 ghost use Rattle.rpl_verify.specs.Verified.{verified};
 ghost use Rattle.rw_inputs.specs.Edits.{IsBatch};
 ghost use Rattle.rw_inputs.specs.Inputs.{IsInputsOf};
 ghost use Rattle.rw_io.specs.Outside.{change};
+ghost use Rattle.rw_method.specs.Catalogue.{AreInOrder};
 ghost use Rattle.rw_report.specs.Sheet.{AreToldOf};
 ghost use Rattle.rw_series.specs.Series.{held};
 ghost use Rattle.rw_top.specs.Policy.{PolicyFile as Rules};
@@ -112,6 +113,8 @@ fn write_from<K: Sink, L: Ledger>(
 ) -> Result<RunEnd, Refusal>
     requires can { CanTell session.old.setup.basin.now session.old.setup.policy.now extras
         session.old.state sheet.old }
+    requires order { AreInOrder
+        (map (λ b. code (b.vtable, b.value)) session.old.setup.methods.now.methods.items) }
     requires batches { All (IsBatch session.old.setup.basin.now) batches.now }
     requires few { number + length batches.now ≤ 64 }
     ensures { (policy : Rules) (given : GivenInputs)
@@ -147,6 +150,8 @@ pub(crate) fn write_reused<K: Sink, L: Ledger>(
 ) -> Result<RunEnd, Refusal>
     requires fits { verified setup.now.basin.now setup.now.policy.now.blocks
         ≡ Ok setup.now.policy.now }
+    requires order { AreInOrder
+        (map (λ b. code (b.vtable, b.value)) setup.now.methods.now.methods.items) }
     requires inputs { IsInputsOf setup.now.basin.now inputs }
     requires batches { All (IsBatch setup.now.basin.now) batches.now }
     requires few { length batches.now ≤ 64 }

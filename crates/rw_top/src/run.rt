@@ -1,6 +1,7 @@
 // A run by the policy of a file, and its text.
-ghost use Rattle.std.specs.Prelude.{◌≡◌, ◌≤◌, IfOk, IsOk, IsSome, IsTrue, Ok, Option, false};
+ghost use Rattle.std.specs.Prelude.{◌≡◌, ◌≤◌, map, IfOk, IsOk, IsSome, IsTrue, Ok, Option, false};
 ghost use Rattle.rw_inputs.specs.Inputs.{Inputs as Rows, IsInputsOf};
+ghost use Rattle.rw_method.specs.Catalogue.{AreInOrder};
 ghost use Rattle.rpl_tree.specs.Seen.{rules_of};
 ghost use Rattle.rpl_types.specs.Judged.{rules_judged};
 ghost use Rattle.rpl_verify.specs.Verified.{verified};
@@ -31,6 +32,8 @@ fn run_by_verified<L: Ledger>(
     steps: &mut Steps<L>,
 ) -> Result<Run, NoMemory>
     requires fits { verified setup.now.basin.now policy.now.blocks ≡ Ok policy.now }
+    requires order { AreInOrder
+        (map (λ b. code (b.vtable, b.value)) setup.now.methods.now.methods.items) }
     requires inputs { IsInputsOf setup.now.basin.now inputs.now }
     ensures run { IfOk result (ComesBy setup.now.basin.now
         (Code policy.now.blocks policy.now.budgets) inputs.now) }
@@ -58,6 +61,8 @@ fn run_by_ruleset<L: Ledger>(
     steps: &mut Steps<L>,
 ) -> Result<Run, NoMemory>
     requires fits { IsOk (rules_judged setup.now.basin.now (rules_of typed.now.rules)) }
+    requires order { AreInOrder
+        (map (λ b. code (b.vtable, b.value)) setup.now.methods.now.methods.items) }
     requires inputs { IsInputsOf setup.now.basin.now inputs.now }
     ensures run { IfOk result (ComesBy setup.now.basin.now
         (Ruleset (rules_of typed.now.rules)) inputs.now) }
@@ -85,6 +90,8 @@ pub(crate) fn run_by_policy<L: Ledger>(
     steps: &mut Steps<L>,
 ) -> Result<Run, NoMemory>
     requires fits { IsFit setup.now.basin.now policy.now }
+    requires order { AreInOrder
+        (map (λ b. code (b.vtable, b.value)) setup.now.methods.now.methods.items) }
     requires inputs { IsInputsOf setup.now.basin.now inputs.now }
     ensures run { IfOk result (ComesBy setup.now.basin.now (policy_of policy.now) inputs.now) }
     ensures closed { IfOk result (λ run. run.closed ≤ setup.now.basin.now.control.stamps.count) }
@@ -108,6 +115,8 @@ pub(crate) fn tell_by_code<L: Ledger>(
 ) -> Result<RunEnd, NoMemory>
     requires fits { verified setup.now.basin.now setup.now.policy.now.blocks
         ≡ Ok setup.now.policy.now }
+    requires order { AreInOrder
+        (map (λ b. code (b.vtable, b.value)) setup.now.methods.now.methods.items) }
     requires inputs { IsInputsOf setup.now.basin.now inputs.now }
     requires plain { extras.reuse ≡ false }
     requires sheet { sheet.old.basin ≡ setup.now.basin.now }

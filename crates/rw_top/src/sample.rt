@@ -1,6 +1,7 @@
 // The sample of a seed: the texts of its files, and the line on its run.
-ghost use Rattle.std.specs.Prelude.{◌≡◌, IfOk};
+ghost use Rattle.std.specs.Prelude.{◌≡◌, map, IfOk};
 ghost use Rattle.rw_inputs.specs.Inputs.{IsInputsOf};
+ghost use Rattle.rw_method.specs.Catalogue.{AreInOrder};
 ghost use Rattle.rw_top.specs.Command.{sample_text};
 ghost use Rattle.rw_top.specs.Ready.{IsFit};
 ghost use Rattle.rw_top.specs.RunText.{IsSampleText};
@@ -38,6 +39,8 @@ pub(crate) fn sample_by_policy<L: Ledger>(
     steps: &mut Steps<L>,
 ) -> Result<Vec<u8>, NoMemory>
     requires fits { IsFit setup.now.basin.now policy.now }
+    requires order { AreInOrder
+        (map (λ b. code (b.vtable, b.value)) setup.now.methods.now.methods.items) }
     requires inputs { IsInputsOf setup.now.basin.now inputs.now }
     ensures { IfOk result (λ text. IsSampleText setup.now.basin.now (policy_of policy.now)
         inputs.now seed text.items) }

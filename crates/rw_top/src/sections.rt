@@ -1,9 +1,10 @@
 // The sections of a run by code, each written as soon as it is made.
-ghost use Rattle.std.specs.Prelude.{◌≡◌, ◌≤◌, ◌+◌, [], ◌∷◌, false, length, IfOk, MatchOption, MatchResult, Ok, Option};
+ghost use Rattle.std.specs.Prelude.{◌≡◌, ◌≤◌, ◌+◌, [], ◌∷◌, false, length, map, IfOk, MatchOption, MatchResult, Ok, Option};
 ghost use Rattle.std.specs.List.{All};
 ghost use Rattle.rw_inputs.specs.Edits.{IsBatch, after_batch};
 ghost use Rattle.rw_inputs.specs.Inputs.{Inputs as Rows, IsInputsOf, value_at};
 ghost use Rattle.rw_io.specs.Outside.{change};
+ghost use Rattle.rw_method.specs.Catalogue.{AreInOrder};
 ghost use Rattle.rpl_verify.specs.Verified.{verified};
 ghost use Rattle.rw_top.specs.Policy.{PolicyFile as Rules};
 ghost use Rattle.rw_top.specs.RunText.{IsCodeOf, IsRulesText};
@@ -31,6 +32,8 @@ fn write_section<K: Sink, L: Ledger>(
     sheet: &mut Sheet<'_>,
     out: &mut K,
 ) -> Result<RunEnd, Refusal>
+    requires order { AreInOrder
+        (map (λ b. code (b.vtable, b.value)) setup.now.methods.now.methods.items) }
     requires fits { verified setup.now.basin.now setup.now.policy.now.blocks
         ≡ Ok setup.now.policy.now }
     requires inputs { IsInputsOf setup.now.basin.now inputs.now }
@@ -90,6 +93,8 @@ fn write_from<K: Sink, L: Ledger>(
     sheet: &mut Sheet<'_>,
     out: &mut K,
 ) -> Result<RunEnd, Refusal>
+    requires order { AreInOrder
+        (map (λ b. code (b.vtable, b.value)) setup.now.methods.now.methods.items) }
     requires fits { verified setup.now.basin.now setup.now.policy.now.blocks
         ≡ Ok setup.now.policy.now }
     requires inputs { IsInputsOf setup.now.basin.now inputs }
@@ -139,6 +144,8 @@ pub(crate) fn write_sections<K: Sink, L: Ledger>(
     steps: &mut Steps<L>,
     out: &mut K,
 ) -> Result<RunEnd, Refusal>
+    requires order { AreInOrder
+        (map (λ b. code (b.vtable, b.value)) setup.now.methods.now.methods.items) }
     requires fits { verified setup.now.basin.now setup.now.policy.now.blocks
         ≡ Ok setup.now.policy.now }
     requires inputs { IsInputsOf setup.now.basin.now inputs }

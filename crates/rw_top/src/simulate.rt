@@ -1,6 +1,7 @@
 // The text of a run without rules.
-ghost use Rattle.std.specs.Prelude.{◌≡◌, [], IfOk, None};
+ghost use Rattle.std.specs.Prelude.{◌≡◌, [], map, IfOk, None};
 ghost use Rattle.rw_inputs.specs.Inputs.{IsInputsOf};
+ghost use Rattle.rw_method.specs.Catalogue.{AreInOrder};
 ghost use Rattle.rw_run.specs.Next.{no_rules};
 ghost use Rattle.rw_top.specs.RunText.{IsNewestText, IsRunText, IsSimulated};
 
@@ -24,6 +25,8 @@ fn text_of_oldest<L: Ledger>(
     steps: &mut Steps<L>,
 ) -> Result<(Vec<u8>, RunEnd), NoMemory>
     requires none { setup.now.policy.now ≡ record { blocks = []; budgets = []; resolved = [] } }
+    requires order { AreInOrder
+        (map (λ b. code (b.vtable, b.value)) setup.now.methods.now.methods.items) }
     requires inputs { IsInputsOf setup.now.basin.now inputs.now }
     ensures { IfOk result (λ pair. IsRunText setup.now.basin.now no_rules extras None 0
         inputs.now pair.1 pair.0.items) }
@@ -50,6 +53,8 @@ fn text_of_newest(
     extras: Extras,
     inputs: &Inputs,
 ) -> Result<(Vec<u8>, RunEnd), NoMemory>
+    requires order { AreInOrder
+        (map (λ b. code (b.vtable, b.value)) setup.now.methods.now.methods.items) }
     requires inputs { IsInputsOf setup.now.basin.now inputs.now }
     ensures { IfOk result (λ pair. IsNewestText setup.now.basin.now extras 0
         inputs.now pair.1 pair.0.items) }
@@ -77,6 +82,8 @@ pub(crate) fn text_without_rules<L: Ledger>(
     steps: &mut Steps<L>,
 ) -> Result<(Vec<u8>, RunEnd), NoMemory>
     requires none { setup.now.policy.now ≡ record { blocks = []; budgets = []; resolved = [] } }
+    requires order { AreInOrder
+        (map (λ b. code (b.vtable, b.value)) setup.now.methods.now.methods.items) }
     requires inputs { IsInputsOf setup.now.basin.now inputs.now }
     ensures { IfOk result (λ pair. IsSimulated extras.order setup.now.basin.now extras 0
         inputs.now pair.1 pair.0.items) }

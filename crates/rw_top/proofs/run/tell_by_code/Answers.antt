@@ -19,5 +19,5 @@ returns-clause-text g c = λ policy before means.
     c.requires.plain)
     (of_basin c.args.sheet.now.basin basin c.args.number c.in_ok-run.run' None c.args.extras _ c.requires.sheet c.in_ok-tell.ensures.text)
 
-pub run_all_of-requires : goal.run_all_of-requires
-run_all_of-requires g c = record { fits = c.requires.fits; inputs = c.requires.inputs }
+pub run_all_of-requires-clause-can : goal.run_all_of-requires-clause-can
+run_all_of-requires-clause-can g c = record { fits = c.requires.fits; inputs = c.requires.inputs }

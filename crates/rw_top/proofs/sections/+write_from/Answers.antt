@@ -41,10 +41,13 @@ write_from-requires g t c κs within =
         (
           within.1,
           (
-            c.requires.fits,
+            c.requires.order,
             (
-              c.in-Ok-changed.ensures.made,
-              (batches, (omega (arith, few, shorter), (c.requires.plain, c.in-Ok.ensures.sheet ∙ c.requires.sheet))),
+              c.requires.fits,
+              (
+                c.in-Ok-changed.ensures.made,
+                (batches, (omega (arith, few, shorter), (c.requires.plain, c.in-Ok.ensures.sheet ∙ c.requires.sheet))),
+              ),
             ),
           ),
         ),

@@ -12,8 +12,8 @@ returns g c =
     (text_is_run c.texts_of_runs.ensures.whole basin _ c.args.extras None _ inputs c.in_ok-run.run' _ c.in_ok-run.ensures.run c.in_ok-run.ensures.kept
     c.in_ok-text.ensures.text)
 
-pub run_all_of-requires : goal.run_all_of-requires
-run_all_of-requires g c = record {
+pub run_all_of-requires-clause-can : goal.run_all_of-requires-clause-can
+run_all_of-requires-clause-can g c = record {
   fits = subst (λ (a : Accepted). verified c.args.setup.now.basin.now a.blocks ≡ Ok a) (sym c.requires.none) refl;
   inputs = c.requires.inputs;
 }

@@ -1,0 +1,14 @@
+use Rattle.std.proofs.Common.{Bor, List, ap, option_map, ◌∙◌}
+use Rattle.rw_base.specs.declared.number.StepNo.{StepNo}
+use Rattle.rw_report.specs.Outcome.{outcome_of}
+use Rattle.rw_report.specs.Sheet.{Sheet}
+use Rattle.rw_report.specs.Whole.{whole_of}
+use Rattle.rw_report.proofs.texts.section.Goals as goal
+
+pub returns : goal.returns
+returns c = record {
+  text = c.into_text.ensures
+      ∙ c.in_ok-tell.ensures.text
+      ∙ ap (λ (sheet : Sheet). whole_of sheet.basin c.args.batch (outcome_of c.args.run.now)
+      (option_map (λ (steps : Bor (List StepNo)). steps.now) c.args.reran) c.args.flags c.args.trace) c.new-sheet.ensures;
+}
