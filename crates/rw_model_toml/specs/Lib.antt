@@ -12,3 +12,4 @@ pub mod Kinds
 pub mod Control
 pub mod Told
 pub mod Model
+pub mod Migrated

@@ -6,12 +6,14 @@
 
 mod bound_table;
 mod data;
+mod depth;
 mod fault;
 mod history;
 mod key;
 pub mod law;
 mod link_table;
 mod listed;
+mod migration;
 mod model;
 mod name;
 mod object_kind;
@@ -28,4 +30,5 @@ mod value;
 mod word;
 
 pub use fault::ModelFault;
+pub use migration::migrate;
 pub use model::read_model;

@@ -78,8 +78,8 @@ fn finish(alloc: Global, builder: BasinBuilder) -> Result<Basin, ModelFault>
     }
 }
 
-// The table that the bytes are.
-fn read_table(alloc: Global, text: &[u8]) -> Result<Table, ModelFault>
+/// The table that the bytes are.
+pub(crate) fn read_table(alloc: Global, text: &[u8]) -> Result<Table, ModelFault>
     ensures { Gives (λ table. table_view table) result (table_or (toml_of text.now)) }
 {
     match toml::table_from_slice(alloc, text) {
@@ -94,7 +94,7 @@ fn read_table(alloc: Global, text: &[u8]) -> Result<Table, ModelFault>
 }
 
 #[tactic(auto, unfolding(crate::specs::Model::basin_of))]
-fn read_basin(alloc: Global, table: &Table) -> Result<Basin, ModelFault>
+pub(crate) fn read_basin(alloc: Global, table: &Table) -> Result<Basin, ModelFault>
     ensures read { Gives (λ basin. basin) result (basin_of (table_view table.now)) }
     ensures valid { IfOk result IsBasin }
 {
