@@ -196,7 +196,7 @@ pub(crate) fn push_headed(
 }
 
 /// Appends the first line of the section of a batch.
-pub(crate) fn push_heading(
+pub fn push_heading(
     text: &mut String,
     basin: &Basin,
     batch: u32,

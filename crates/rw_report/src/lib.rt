@@ -3,7 +3,7 @@
 //! tells such texts of a basin's runs one after another, and tells again those lines of the table alone of which a value
 //! changed. `why` answers how one cell came to what it holds. Each answers exactly the text that `specs/` defines, for any run
 //! that closed no more timesteps than the basin has, and want of memory is its one other answer. Each cell and each line of a
-//! trace is read once.
+//! trace is read once. Names, numbers and a heading are told alone, too, for texts of other crates.
 #![tactic(auto)]
 
 mod cell;
@@ -21,7 +21,10 @@ mod value;
 mod whole;
 
 pub use cell::why;
+pub use heading::push_heading;
 pub use lines::line_at;
+pub use names::{object_words, push_slot};
+pub use numbers::{push_count, push_number};
 pub use sheet::Sheet;
 pub use texts::{section, trace_section};
 pub use whole::Telling;

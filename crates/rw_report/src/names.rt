@@ -18,7 +18,7 @@ fn is_slot(basin: &Basin, slot: SlotNo) -> bool
 }
 
 /// The name of an object, and nothing where there is none of its number.
-pub(crate) fn object_words(basin: &Basin, object: ObjectNo) -> &str
+pub fn object_words(basin: &Basin, object: ObjectNo) -> &str
     ensures { result.now ≡ object_words basin.now object.0 }
 {
     if is_object(basin, object) {
@@ -29,7 +29,7 @@ pub(crate) fn object_words(basin: &Basin, object: ObjectNo) -> &str
 }
 
 /// Appends the name of a slot behind that of its object, and nothing where there is none of its number.
-pub(crate) fn push_slot(text: &mut String, basin: &Basin, slot: SlotNo) -> Result<(), NoMemory>
+pub fn push_slot(text: &mut String, basin: &Basin, slot: SlotNo) -> Result<(), NoMemory>
     ensures { OnOk result
         (string_bytes text.new ≡ string_bytes text.old ++ slot_words basin.now slot.0) }
 {

@@ -4,8 +4,9 @@ ghost use Rattle.std.specs.Fmt.{decimal, signed_decimal};
 use itoa::Buffer;
 use rw_base::NoMemory;
 
+/// Appends a number.
 #[inline(always)]
-pub(crate) fn push_number(text: &mut String, number: i64) -> Result<(), NoMemory>
+pub fn push_number(text: &mut String, number: i64) -> Result<(), NoMemory>
     ensures { OnOk result (string_bytes text.new ≡ string_bytes text.old ++ signed_decimal number) }
 {
     let mut buffer = Buffer::new();
@@ -13,7 +14,8 @@ pub(crate) fn push_number(text: &mut String, number: i64) -> Result<(), NoMemory
     Ok(())
 }
 
-pub(crate) fn push_count(text: &mut String, count: u64) -> Result<(), NoMemory>
+/// Appends a count.
+pub fn push_count(text: &mut String, count: u64) -> Result<(), NoMemory>
     ensures { OnOk result (string_bytes text.new ≡ string_bytes text.old ++ decimal count) }
 {
     let mut buffer = Buffer::new();
