@@ -14,6 +14,8 @@ TABLE_ROWS = (2, 200)
 DATA_SLOTS = (1, 8)
 LINK_SLOTS = (2, 8)
 NAME_LENGTH = 32  # in bytes
+MOST_BATCHES = 64  # of edits
+MOST_EDITS = 10_000  # rows behind the header
 
 MOST_AHEAD = {1: 0, 2: 30}  # timesteps that a rule puts ahead, by the format of the model
 
@@ -273,8 +275,8 @@ SECONDS = {"s": 1, "min": 60, "h": 3600, "d": 86400, "day": 86400}
 RATES = {"cms": "m3/s", "cfs": "ft3/s", "kcfs": "kft3/s"}  # flows that have a word of their own
 SPELLINGS = {  # other words of the same amounts, in small letters
     **dict.fromkeys(("af", "acft", "ac-ft", "acre-feet", "acre-foot", "acrefeet"), "acre-ft"),
-    **dict.fromkeys(("feet", "foot"), "ft"),
-    **dict.fromkeys(("inch", "inches"), "in"),
+    **dict.fromkeys(("ft", "feet", "foot"), "ft"),
+    **dict.fromkeys(("in", "inch", "inches"), "in"),
     "kaf": "TAF",
 }
 
@@ -336,6 +338,11 @@ INPUTS_REFUSALS = {
     "twice": (
         "An earlier row gives a value to the same cell, or to that of a slot that is linked to the slot."
     ),
+}
+# Of edits there are these besides.
+EDITS_REFUSALS = {
+    "batch order": "The first row's batch is 1, and that of a later row the one of the row before it, or one more.",
+    "too many": f"There are at most {MOST_BATCHES} batches, and {MOST_EDITS:,} rows.",
 }
 OTHER_REFUSALS = {
     "words refused": "The command is `simulate MODEL INPUTS`: three words, and a path doesn't begin with -.",

@@ -1,34 +1,63 @@
 """Why cells of a settled run are empty: which objects wait for what, back to the missing input."""
 
 from collections import deque
+from collections.abc import Iterator
 from dataclasses import dataclass
 
 from .dispatch import missing, past_ago, past_name, past_value
 from .formats import LEVELS
 from .inputs import folded
+from .model import Model
 from .moments import stamp_of
+from .sections import Row, Section
 
 MOST_TOLD = 20  # objects that wait, and inputs that are missing
 
 
 def tell_empty(model, inputs, section):
     """Lines that tell of the empty cells of a settled section; none where there are none."""
-    empty = [row for row in section.rows if None in row.values.values()]
+    empty = empty_rows(model, section)
     if not empty:
         return []
-    count = sum(value is None for row in empty for value in row.values.values())
-    lines = [
-        f"The run settled, and {count:,} of {len(section.rows) * len(section.slots):,} cells are empty; "
-        f"the first timestep with one is {empty[0].step}."
-    ]
+    lines = [how_many_empty(model, section, empty)]
     for row in empty:
         waiting = Waiting(model, inputs, section.rows, row)
         if waiting.objects:
             return lines + waiting.lines()
-    names = [name for name in section.slots if any(row.values[name] is None for row in empty)]
+    missed = {name for row in empty for name in empty_in(model, row)}
+    names = [name for name in section.slots if name in missed]
     return lines + [
         "No object waits for another value. These are only what nothing gives: " + ", ".join(names) + "."
     ]
+
+
+def unasked_in(model: Model, row: Row) -> Iterator[str]:
+    """Slots that a row leaves empty and for which nothing asks: requests where what they would ask for is known."""
+    for thing in model.objects:
+        for request, given in (("EnergyRequest", "Outflow"), ("DiversionRequest", "Diversion")):
+            name = f"{thing.name}.{request}"
+            slot = model.slots.get(name) if thing.kind != "data" else None
+            if slot and slot.role == "neither" and row.values[name] is None and row.values[f"{thing.name}.{given}"] is not None:
+                yield name
+
+
+def empty_in(model: Model, row: Row) -> list[str]:
+    """The slots that a row leaves empty and that are missed."""
+    empty = [name for name, value in row.values.items() if value is None]
+    unasked = set(unasked_in(model, row)) if empty else ()
+    return [name for name in empty if name not in unasked]
+
+
+def empty_rows(model: Model, section: Section) -> list[Row]:
+    """The rows in which a cell is empty that is missed."""
+    return [row for row in section.rows if empty_in(model, row)]
+
+
+def how_many_empty(model: Model, section: Section, rows: list[Row]) -> str:
+    """The line that tells how many cells of these rows are empty."""
+    count = sum(len(empty_in(model, row)) for row in rows)
+    whole = len(section.rows) * len(section.slots)
+    return f"The run settled, and {count:,} of {whole:,} cells are empty; the first timestep with one is {rows[0].step}."
 
 
 def is_solved(slot, thing):

@@ -7,7 +7,7 @@ from dataclasses import dataclass
 from pathlib import Path
 
 LEFT_OUT = shutil.ignore_patterns("out", "must-fail", "more-edits")
-HEAD_OF_IMPL = re.compile(r"impl(?:<.*?>)? (.*?)(?: \{| where|$)")
+HEAD_OF_IMPL = re.compile(r"impl(?:<(.*?)>)? (.*?)(?: \{| where|$)")
 HEAD_OF_TRAIT = re.compile(r"(?:pub(?:\([a-z]+\))? )?trait ")
 DECLARED = re.compile(r"^(?:pub(?:\([a-z]+\))? )?(?:struct|enum) (\w+)", re.MULTILINE)
 HEAD_OF_FUNCTION = re.compile(r"( *)(?:pub(?:\([a-z]+\))? )?fn (\w+)")
@@ -37,10 +37,11 @@ class Owner:
     trait: str
 
 
-def owner_of(head):
-    """What the head of an `impl` says that it is of."""
+def owner_of(parameters, head):
+    """What the head of an `impl` with such parameters says that it is of."""
     trait, _, owner = head.rpartition(" for ")
-    return Owner(re.sub(r"<.*", "", owner).strip("& "), "".join(re.findall(r"\w+", trait)))
+    free = re.findall(r"\w+", parameters or "")
+    return Owner(re.sub(r"<.*", "", owner).strip("& "), "".join(w for w in re.findall(r"\w+", trait) if w not in free))
 
 
 def body_of(lines, at, indent):
@@ -63,7 +64,7 @@ def functions_of(lines):
     owner, in_trait, found = None, False, []
     for at, line in enumerate(lines):
         if head := HEAD_OF_IMPL.match(line):
-            owner = owner_of(head[1])
+            owner = owner_of(head[1], head[2])
         elif HEAD_OF_TRAIT.match(line):
             in_trait = True
         elif line == "}":
@@ -120,6 +121,8 @@ def hollow(source: Path, copy: Path, kept=frozenset()):
     """Copies a crate without its bodies and proofs, but for those of the functions whose names are kept."""
     shutil.rmtree(copy, ignore_errors=True)
     shutil.copytree(source, copy, ignore=LEFT_OUT)
+    for cycle in copy.glob("proofs/**/+*"):
+        shutil.rmtree(cycle)
     homes = homes_of(copy)
     for file in sorted(copy.glob("src/**/*.rt")):
         hollow_file(copy, file, homes, kept)

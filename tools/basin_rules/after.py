@@ -7,7 +7,7 @@ from dataclasses import dataclass
 from basin_files.faults import beyond_plant
 from basin_files.formats import GREATEST_QUANTITY, amount
 from basin_files.moments import stamp_of
-from basin_files.waiting import Waiting
+from basin_files.waiting import Waiting, empty_rows, how_many_empty
 from basin_files.walking import END, OtherPolicy, told
 
 MOST_TOLD = 20  # rules and objects
@@ -61,16 +61,10 @@ def lines_of_run(run):
 
 def lines_of_empty(run):
     """Lines that tell of the empty cells of a settled run; none where there are none."""
-    section = run.section
-    empty = [row for row in section.rows if None in row.values.values()]
+    empty = empty_rows(run.model, run.section)
     if not empty:
         return []
-    count = sum(value is None for row in empty for value in row.values.values())
-    lines = [
-        f"The run settled, and {count:,} of {len(section.rows) * len(section.slots):,} cells are empty; "
-        f"the first timestep with one is {empty[0].step}."
-    ]
-    return lines + lines_of_waiting(run, empty[0])
+    return [how_many_empty(run.model, run.section, empty), *lines_of_waiting(run, empty[0])]
 
 
 def lines_of_waiting(run, row):
@@ -127,11 +121,13 @@ def lacked(run, event):
 
 
 def lines_of_most(run):
-    """The rule that was fired most."""
+    """The rule that was fired most; of several that were fired as often nothing is told."""
     counts = Counter(event.rule for event in run.firings)
     if not counts:
         return []
-    rule, times = counts.most_common(1)[0]
+    (rule, times), *others = counts.most_common(2)
+    if others and others[0][1] == times:
+        return []
     steps = Counter(event.step for event in run.firings if event.rule == rule)
     step, most = max(steps.items(), key=lambda item: (item[1], -item[0]))
     if len(steps) == 1:

@@ -281,16 +281,17 @@ class Judge:
         )
         return known.result
 
-    def count(self, node, count):
-        """Judges how many arguments a call has."""
+    def count(self, node, count, hint=""):
+        """Judges how many arguments a call has; the hint is for one that has too few."""
         if len(node.parts) != count:
             given = f"{len(node.parts)} argument{'s' * (len(node.parts) != 1)}"
             says = f"{node.name} has {given} here, and takes {count}"
-            raise Wrong("wrong count", says, meant.COUNTS.get(node.name, "") if len(node.parts) > count else "")
+            raise Wrong("wrong count", says, meant.COUNTS.get(node.name, "") if len(node.parts) > count else hint)
 
     def predefined(self, node, given):
         """A call of a predefined function."""
-        self.count(node, PREDEFINED[node.name])
+        of_list = meant.OF_LISTS.get(node.name, "") if given and given[0].is_list else ""
+        self.count(node, PREDEFINED[node.name], of_list)
         if node.name == "MulDiv":
             return self.product_over(node, *given)
         self.is_number(node.parts[0], given[0], f"an argument of {node.name}")

@@ -60,6 +60,10 @@ NOT_EARLIER = (
     "the function stands here or later, and a function calls those that stand before it",
     "move it up; what calls itself is a FOR with what it carries along",
 )
+OF_LISTS = {  # functions of two numbers that are given a list
+    "Min": "FOR x IN list WITH least := ITEM(list, 1) DO Min(least, x) ENDFOR",
+    "Max": "FOR x IN list WITH most := ITEM(list, 1) DO Max(most, x) ENDFOR",
+}
 COUNTS = {
     "Min": "Min(a, Min(b, c)) for three",
     "Max": "Max(a, Max(b, c)) for three",

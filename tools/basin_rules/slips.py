@@ -206,6 +206,15 @@ def two_words(stop):
     return ""
 
 
+def function_heads(stop):
+    """`FUNCTION "Half" (NUMERIC x) RETURN NUMERIC IS`."""
+    if stop.is_kind(0, "string") and stop.is_mark(1, "FUNCTION"):
+        return "a name without quotes, as FUNCTION Half(NUMERIC \"m3\" x) : NUMERIC \"m3\" IS"
+    if stop.is_kind(0, "name") and stop.token().text.upper() in ("RETURN", "RETURNS") and stop.is_mark(1, ")"):
+        return "`:`, and behind it the type of what the function answers"
+    return ""
+
+
 def other_words(stop):
     """Words of other languages."""
     for back in (0, 1):
@@ -357,6 +366,7 @@ def heads(stop):
 HINTS = (
     brackets,
     two_words,
+    function_heads,
     other_words,
     small_letters,
     assignment,

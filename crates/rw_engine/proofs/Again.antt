@@ -117,6 +117,7 @@ replays basin kept old new (Err want) again step can has = record {
   };
   passes = λ policy log framed records shows before alike. tt;
   before = λ log shows. rw has.unchanged (record { cells = shows.cells; trace = shows.trace; closed_steps = shows.closed_steps; end = shows.end });
+  untold = has.untold;
   keeps = record { trace = has.keeps_trace; noted = has.notes };
   closed_steps = tt;
 }
@@ -181,6 +182,7 @@ replays basin kept old new (Ok done) again step can has = record {
         };
       };
   before = λ log shows. tt;
+  untold = tt;
   keeps = record { trace = has.keeps_trace; noted = has.notes };
   closed_steps = has.ends.1;
 }

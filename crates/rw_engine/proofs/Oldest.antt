@@ -92,6 +92,7 @@ runs_oldest basin policy step old new (Ok end) runs = record {
   made = runs.made;
   passes = λ log shows before. passes basin (policy_in basin policy) old.turns step end log new (runs.passes log shows before);
   before = λ log shows. tt;
+  untold = tt;
   kept = runs.kept;
   closed_steps = runs.closed_steps;
 }
@@ -99,6 +100,7 @@ runs_oldest basin policy step old new (Err fault) runs = record {
   made = runs.made;
   passes = λ log shows before. tt;
   before = runs.before;
+  untold = runs.untold;
   kept = runs.kept;
   closed_steps = tt;
 }

@@ -175,6 +175,18 @@ record_or_not basin step old events engine kept has is result = by kept result
     )
 
 -- what is so of a result, as another thing
+-- a timestep that is noted has a line, that of its opening
+pub told_some : (step : ℕ) (events : List Event) (noted : Option (List TraceEvent)) → noted ≡ Some (lines_of_step step events)
+    → length (lines_in noted) ≡ 0 → ⊥
+told_some step events noted is none =
+    let some : length (lines_of_step step events) ≡ 0 = sym (ap (λ told. length (lines_in told)) is) ∙ none in
+    let one : length (lines_of_step step events) ≡ suc (length (flat_map lines events)) = refl in omega (arith, some, one)
+
+-- and one of which no line is noted has none
+pub untold_none : (noted : Option (List TraceEvent)) → IfSome noted (λ told. told ≡ []) → length (lines_in noted) ≡ 0
+untold_none None none = refl
+untold_none (Some told) none = ap length none
+
 pub if_ok : {A E : Type 0} {P Q : A → Type 0} (result : Result A E) → ((a : A) → P a → Q a) → IfOk result P → IfOk result Q
 if_ok (Ok a) leads holds = leads a holds
 if_ok (Err why) leads holds = tt

@@ -16,7 +16,7 @@ use Rattle.rw_record.specs.Record.{StepRecord}
 use Rattle.rw_inputs.specs.Inputs.{Inputs, IsInputsOf}
 use Rattle.rw_inputs.specs.Placings.{placings}
 use Rattle.rw_engine.specs.Engine.{Engine}
-use Rattle.rw_engine.specs.Records.{HasNoted, Records, RecordsThese}
+use Rattle.rw_engine.specs.Records.{HasNoted, IsUntold, Records, RecordsThese}
 use Rattle.rw_engine.specs.declared.step_end.StepEnd.{StepEnd}
 use Rattle.rw_engine.specs.declared.step_end.StepEnd.TheVariants.{Closed as IsClosed, Fault as IsFault}
 use Rattle.rpl_verify.specs.Verified.{Accepted, verified}
@@ -57,20 +57,23 @@ pub record Passes (basin : Draft) (policy : Policy) (log : Log) (end : StepEnd) 
   pub shows : Shows basin engine (last ∷ before)
   pub closes : EndsStep basin policy end step log (last ∷ before) engine
 
--- a call passes the timestep after the last closed one. After want of memory the engine shows what it showed before
+-- a call passes the timestep after the last closed one. After want of memory the engine shows what it showed before, and no timestep is noted
 pub record RunsStep (basin : Draft) (policy : Accepted) (step : ℕ) (old new : Engine) (result : Result StepEnd NoMemory) : Type 0 where
   pub made : IsEngineOf basin policy new
   pub passes : (log : Log) → Shows basin old log → IsBefore basin step log → IfOk result (λ end. Passes basin (policy_in basin policy) log end new step)
   pub before : (log : Log) → Shows basin old log → IfErr result (λ fault. Shows basin new log)
+  pub untold : IfErr result (λ fault. IsUntold new)
   pub kept : KeepsOn old new
   pub closed_steps : IfOk result (λ end. new.closed ≡ closed_by end step old.closed)
 
--- a call passes again the timestep of which this is the record. After want of memory the engine shows what it showed before
+-- a call passes again the timestep of which this is the record. After want of memory the engine shows what it showed before, and no
+-- timestep is noted
 pub record Replays (basin : Draft) (kept : StepRecord) (old new : Engine) (result : Result (Unit {0}) NoMemory) : Type 0 where
   pub made : (policy : Accepted) → IsEngineOf basin policy old → IsEngineOf basin policy new
   pub passes : (policy : Policy) (log : Log) → IsFramed policy → Records basin policy kept → Shows basin old log → IsBefore basin kept.step log
       → AreHeld (held old.series) kept.looked → IfOk result (λ done. Passes basin policy log IsClosed new kept.step)
   pub before : (log : Log) → Shows basin old log → IfErr result (λ fault. Shows basin new log)
+  pub untold : IfErr result (λ fault. IsUntold new)
   pub keeps : KeepsOn old new
   pub closed_steps : IfOk result (λ done. new.closed ≡ kept.step)
 

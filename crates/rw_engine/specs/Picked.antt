@@ -16,7 +16,7 @@ use Rattle.rw_inputs.specs.Placings.{placings}
 use Rattle.rpl_verify.specs.Verified.{Accepted}
 use Rattle.rw_rules.specs.Rules.{policy_in}
 use Rattle.rw_engine.specs.Engine.{Engine}
-use Rattle.rw_engine.specs.Records.{HasNoted}
+use Rattle.rw_engine.specs.Records.{HasNoted, IsUntold}
 use Rattle.rw_engine.specs.Shows.{IsBefore, IsEngineOf, KeepsOn, Shows, EndsBy, closed_by}
 use Rattle.rw_engine.specs.declared.step_end.StepEnd.{StepEnd}
 use Rattle.rw_engine.specs.declared.step_end.StepEnd.TheVariants.{Closed as IsClosed, Fault as IsFault}
@@ -97,12 +97,13 @@ pub record PassesBy (basin : Draft) (policy : Policy) (rule : Picking) (turn : �
   pub closes : EndsStepBy basin policy rule turn end step log (last ∷ before) engine
   pub turned : CountsTurns end turn engine.turns events
 
--- a call passes the timestep after the last closed one. After want of memory the engine shows what it showed before
+-- a call passes the timestep after the last closed one. After want of memory the engine shows what it showed before, and no timestep is noted
 pub record RunsStepBy (basin : Draft) (policy : Accepted) (rule : Picking) (step : ℕ) (old new : Engine) (result : Result StepEnd NoMemory) : Type 0 where
   pub made : IsEngineOf basin policy new
   pub passes : (log : Log) → Shows basin old log → IsBefore basin step log
       → IfOk result (λ end. PassesBy basin (policy_in basin policy) rule old.turns log end new step)
   pub before : (log : Log) → Shows basin old log → IfErr result (λ fault. Shows basin new log)
+  pub untold : IfErr result (λ fault. IsUntold new)
   pub kept : KeepsOn old new
   pub closed_steps : IfOk result (λ end. new.closed ≡ closed_by end step old.closed)
   pub few : IfOk result (λ end. new.turns ≤ old.turns + most_turns basin)

@@ -252,6 +252,7 @@ pub record HasReplayed (basin : Draft) (kept : StepRecord) (old new : State) (re
   pub keeps_lines : is_some new.lines ≡ is_some old.lines
   pub keeps_trace : is_some new.run.trace ≡ is_some old.run.trace
   pub unchanged : IfErr result (λ want. new.run ≡ old.run)
+  pub untold : IfErr result (λ want. IfSome new.lines (λ these. these ≡ []))
   pub noted : IfOk result (λ done. new.noted ≡ with_noted (held old.run.series) (cells_noted kept.looked) (cleared old.noted))
   pub lines_are : IfOk result (λ done. IfSome new.lines (λ these. these ≡ kept.lines))
   pub trace : IfOk result (λ done. new.run.trace ≡ told old.run.trace kept.lines)

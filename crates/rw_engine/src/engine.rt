@@ -1,4 +1,4 @@
-ghost use Rattle.std.specs.Prelude.{◌≤◌, ◌+◌, ◌↔◌, ℕ, List, map, IfOk, IfSome, ◌≡◌, IsSome, is_some, true};
+ghost use Rattle.std.specs.Prelude.{◌≤◌, ◌+◌, ◌↔◌, ℕ, List, map, IfOk, IfSome, ◌≡◌, IsSome, None, is_some, true};
 ghost use Rattle.rw_model.specs.Draft.{Draft};
 ghost use Rattle.rw_method.specs.Catalogue.{AreInOrder};
 ghost use Rattle.rpl_verify.specs.Verified.{Accepted};
@@ -11,7 +11,7 @@ ghost use Rattle.rw_record.specs.Noted.{AreHeld};
 ghost use Rattle.rw_engine.specs.Shows.{CanReplay, IsEngineOf, Shows};
 ghost use Rattle.rw_engine.specs.Passing.{BeginsRun, CanRun, GivesInput, Replays, RunsStep, TakesBack, steps_of};
 ghost use Rattle.rw_engine.specs.Picked.{RunsStepBy};
-ghost use Rattle.rw_engine.specs.Records.{CanWriteLines, HasNoted, RecordsOrNot};
+ghost use Rattle.rw_engine.specs.Records.{CanWriteLines, HasNoted, IsUntold, RecordsOrNot};
 
 use crate::setup::RunSetup;
 use crate::state::State;
@@ -108,7 +108,8 @@ impl Engine {
     }
 
     /// Passes the timestep after the last closed one: it is opened, event follows event, and it is closed or ends by a
-    /// fault, and is counted in `steps`. After want of memory it isn't, and the engine shows the log that it showed before.
+    /// fault, and is counted in `steps`. After want of memory it isn't, and the engine shows the log that it showed before,
+    /// and has no timestep noted.
     pub fn run_step<L: Ledger>(
         &mut self,
         basin: &Basin,
@@ -131,7 +132,23 @@ impl Engine {
             policy,
             predefs,
         };
-        self.run_step_by(&setup, &Oldest, step, steps)
+        self.run_step_of(&setup, step, steps)
+    }
+
+    /// The same of a setup.
+    pub fn run_step_of<L: Ledger>(
+        &mut self,
+        setup: &RunSetup<'_>,
+        step: StepNo,
+        steps: &mut Steps<L>,
+    ) -> Result<StepEnd, NoMemory>
+        requires made { IsEngineOf setup.now.basin.now setup.now.policy.now self.old }
+        requires step { IsStep setup.now.basin.now step.0 }
+        ensures runs { RunsStep setup.now.basin.now setup.now.policy.now step.0
+            self.old self.new result }
+        ensures counted { steps.new ≡ steps.old + steps_of result }
+    {
+        self.run_step_by(setup, &Oldest, step, steps)
     }
 
     // The same where it is picked who is dispatched.
@@ -143,8 +160,6 @@ impl Engine {
         steps: &mut Steps<L>,
     ) -> Result<StepEnd, NoMemory>
         requires made { IsEngineOf setup.now.basin.now setup.now.policy.now self.old }
-        requires order { AreInOrder
-            (map (λ b. code (b.vtable, b.value)) setup.now.methods.now.methods.items) }
         requires step { IsStep setup.now.basin.now step.0 }
         ensures runs { RunsStepBy setup.now.basin.now setup.now.policy.now (P.rule pick.now) step.0
             self.old self.new result }
@@ -166,11 +181,12 @@ impl Engine {
     }
 
     /// The record of the timestep that was closed last, of an engine that notes timesteps. `None` exactly where it has too many cells
-    /// or lines to be kept.
+    /// or lines to be kept, or isn't noted: after want of memory, or once a timestep was taken back.
     pub fn last_record(&self, alloc: Global) -> Result<Option<StepRecord>, NoMemory>
-        ensures { (basin : Draft) (step : ℕ) (old : Log) (events : List Event)
+        ensures noted { (basin : Draft) (step : ℕ) (old : Log) (events : List Event)
             → HasNoted basin step old events self.now → self.now.closed ≡ step
             → IfOk result (RecordsOrNot basin step old events) }
+        ensures untold { IsUntold self.now → IfOk result (λ kept. kept ≡ None) }
     {
         self.state.last_record(alloc)
     }
@@ -183,7 +199,8 @@ impl Engine {
     }
 
     /// Passes a timestep again, by its record, without asking methods and rules. Where its cells are alike, and it comes after the
-    /// last closed one, that is what `run_step` would do. After want of memory the engine shows the log that it showed before.
+    /// last closed one, that is what `run_step` would do. After want of memory the engine shows the log that it showed before,
+    /// and has no timestep noted.
     pub fn replay(&mut self, basin: &Basin, kept: &StepRecord) -> Result<(), NoMemory>
         requires step { IsStep basin.now kept.now.step }
         requires can { CanWriteLines basin.now kept.now.lines }

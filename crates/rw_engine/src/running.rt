@@ -1,7 +1,7 @@
-ghost use Rattle.std.specs.Prelude.{◌≡◌, ◌≤◌, map, IfOk, IsSome};
+ghost use Rattle.std.specs.Prelude.{◌≡◌, ◌≤◌, map, IfOk, IsSome, IsTrue};
 ghost use Rattle.rw_method.specs.Catalogue.{AreInOrder};
 ghost use Rattle.rw_rules.specs.Rules.{policy_in};
-ghost use Rattle.rw_engine.specs.Passing.{CanRun, ComesTo, CountsSteps};
+ghost use Rattle.rw_engine.specs.Passing.{BeginsRun, CanRun, ComesTo, CountsSteps};
 ghost use Rattle.rw_engine.specs.Picked.{ComesToPicked, RunsAllBy};
 ghost use Rattle.rw_engine.specs.Shows.{IsEngineOf};
 
@@ -28,8 +28,6 @@ fn pass_all<L: Ledger, P: Pick>(
     requires made { IsEngineOf setup.now.basin.now setup.now.policy.now engine }
     requires begun { engine.closed ≡ 0 }
     requires turns { engine.turns ≡ 0 }
-    requires order { AreInOrder
-        (map (λ b. code (b.vtable, b.value)) setup.now.methods.now.methods.items) }
     ensures { RunsAllBy setup.now.basin.now setup.now.policy.now (P.rule pick.now) engine
         steps.old steps.new result }
 {
@@ -41,6 +39,25 @@ fn pass_all<L: Ledger, P: Pick>(
         }
     }
     Ok(engine.finish())
+}
+
+// The engine of a run before its first timestep, with a trace where one is asked for.
+fn begin(
+    alloc: Global,
+    setup: &RunSetup<'_>,
+    inputs: &Inputs,
+    traced: bool,
+) -> Result<Engine, NoMemory>
+    requires can { CanRun setup.now.basin.now setup.now.policy.now inputs.now }
+    ensures begun { IfOk result
+        (BeginsRun setup.now.basin.now setup.now.policy.now inputs.now) }
+    ensures kept { IsTrue traced → IfOk result (λ engine. IsSome engine.trace) }
+{
+    if traced {
+        Engine::for_run(alloc, setup.basin, setup.policy, inputs)
+    } else {
+        Engine::without_trace(alloc, setup.basin, setup.policy, inputs)
+    }
 }
 
 /// Runs all timesteps of a basin from its inputs, up to the last one or to a fault, and answers what the run comes to, as
@@ -62,14 +79,32 @@ pub fn run_all<L: Ledger>(
     ensures kept { IfOk result (λ run. IsSome run.trace) }
     ensures counted { CountsSteps basin.now steps.old steps.new result }
 {
-    let engine = Engine::for_run(alloc, basin, policy, inputs)?;
     let setup = RunSetup {
         basin,
         methods,
         policy,
         predefs,
     };
-    pass_all(engine, &setup, &Oldest, steps)
+    run_all_of(alloc, &setup, inputs, true, steps)
+}
+
+/// The same of a setup. Without a trace it is what the run comes to but for its lines.
+pub fn run_all_of<L: Ledger>(
+    alloc: Global,
+    setup: &RunSetup<'_>,
+    inputs: &Inputs,
+    traced: bool,
+    steps: &mut Steps<L>,
+) -> Result<Run, NoMemory>
+    requires can { CanRun setup.now.basin.now setup.now.policy.now inputs.now }
+    ensures run { IfOk result (ComesTo setup.now.basin.now
+        (policy_in setup.now.basin.now setup.now.policy.now) inputs.now) }
+    ensures closed { IfOk result (λ run. run.closed ≤ setup.now.basin.now.control.stamps.count) }
+    ensures kept { IsTrue traced → IfOk result (λ run. IsSome run.trace) }
+    ensures counted { CountsSteps setup.now.basin.now steps.old steps.new result }
+{
+    let engine = begin(alloc, setup, inputs, traced)?;
+    pass_all(engine, setup, &Oldest, steps)
 }
 
 /// The same without a trace: what the run comes to but for its lines. The one error is want of memory.
@@ -88,14 +123,13 @@ pub fn run_without_trace<L: Ledger>(
     ensures closed { IfOk result (λ run. run.closed ≤ basin.now.control.stamps.count) }
     ensures counted { CountsSteps basin.now steps.old steps.new result }
 {
-    let engine = Engine::without_trace(alloc, basin, policy, inputs)?;
     let setup = RunSetup {
         basin,
         methods,
         policy,
         predefs,
     };
-    pass_all(engine, &setup, &Oldest, steps)
+    run_all_of(alloc, &setup, inputs, false, steps)
 }
 
 /// Runs all timesteps as `run_all` does, but where it is picked which of the objects that wait is dispatched. The one error
@@ -118,12 +152,30 @@ pub fn run_by<L: Ledger, P: Pick>(
     ensures kept { IfOk result (λ run. IsSome run.trace) }
     ensures counted { CountsSteps basin.now steps.old steps.new result }
 {
-    let engine = Engine::for_run(alloc, basin, policy, inputs)?;
     let setup = RunSetup {
         basin,
         methods,
         policy,
         predefs,
     };
-    pass_all(engine, &setup, pick, steps)
+    run_by_of(alloc, &setup, inputs, pick, steps)
+}
+
+/// The same of a setup.
+pub fn run_by_of<L: Ledger, P: Pick>(
+    alloc: Global,
+    setup: &RunSetup<'_>,
+    inputs: &Inputs,
+    pick: &P,
+    steps: &mut Steps<L>,
+) -> Result<Run, NoMemory>
+    requires can { CanRun setup.now.basin.now setup.now.policy.now inputs.now }
+    ensures run { IfOk result (ComesToPicked setup.now.basin.now
+        (policy_in setup.now.basin.now setup.now.policy.now) (P.rule pick.now) inputs.now) }
+    ensures closed { IfOk result (λ run. run.closed ≤ setup.now.basin.now.control.stamps.count) }
+    ensures kept { IfOk result (λ run. IsSome run.trace) }
+    ensures counted { CountsSteps setup.now.basin.now steps.old steps.new result }
+{
+    let engine = Engine::for_run(alloc, setup.basin, setup.policy, inputs)?;
+    pass_all(engine, setup, pick, steps)
 }

@@ -1,17 +1,21 @@
+ghost use Rattle.std.specs.Prelude.{map};
+ghost use Rattle.rw_method.specs.Catalogue.{AreInOrder};
+
 use rpl_predef::Predefs;
 use rpl_verify::Verified;
 use rw_method::Catalogue;
 use rw_model::Basin;
 
-/// What a run goes by.
+/// What a run goes by, whatever its inputs. The methods stand in the order of the kinds' numbers.
 #[derive(Drop)]
-pub(crate) struct RunSetup<'a> {
+pub struct RunSetup<'a> {
     /// The basin.
-    pub(crate) basin: &'a Basin,
+    pub basin: &'a Basin,
     /// The methods of its objects.
-    pub(crate) methods: &'a Catalogue,
+    pub methods: &'a Catalogue,
     /// The rules.
-    pub(crate) policy: &'a Verified,
+    pub policy: &'a Verified,
     /// The functions that rules call by name.
-    pub(crate) predefs: &'a Predefs,
+    pub predefs: &'a Predefs,
+    ghost order: { AreInOrder (map (λ b. code (b.vtable, b.value)) methods.now.methods.items) },
 }

@@ -1,6 +1,5 @@
-ghost use Rattle.std.specs.Prelude.{◌≡◌, ◌<◌, [], ℕ, List, Option, map, Some, None, Ok, IfOk, IfErr, IfSome, IsSome, is_some};
+ghost use Rattle.std.specs.Prelude.{◌≡◌, ◌<◌, [], ℕ, List, Option, Some, None, Ok, IfOk, IfErr, IfSome, IsSome, is_some};
 ghost use Rattle.rw_model.specs.Draft.{Draft};
-ghost use Rattle.rw_method.specs.Catalogue.{AreInOrder};
 ghost use Rattle.rw_run.specs.Log.{Event, Log, fault};
 ghost use Rattle.rpl_verify.specs.Verified.{Accepted};
 ghost use Rattle.rw_rules.specs.Firing.{IsRuleTurn};
@@ -17,7 +16,7 @@ ghost use Rattle.rw_engine.specs.Picked.{PicksAt, RunsStepBy};
 ghost use Rattle.rw_engine.specs.Shows.{CanReplay, IsEngineOf, Shows};
 ghost use Rattle.rw_engine.specs.State.{seen, Begins, DoesEvent, HasPassed, HasReplayed, HoldsBefore, HoldsDue, HoldsWithin, IsCleared, IsOpened, IsSoundState, IsStateOf, IsWithinStep, OnlyTells, ended_by, step_end};
 ghost use Rattle.rw_dispatch.specs.Stage.{IsHeldIn};
-ghost use Rattle.rw_engine.specs.Records.{CanWriteLines, HasNoted, RecordsOrNot};
+ghost use Rattle.rw_engine.specs.Records.{CanWriteLines, HasNoted, IsUntold, RecordsOrNot};
 
 use crate::counts::Counts;
 use crate::noting::{note_dispatch, note_firing};
@@ -173,8 +172,6 @@ impl State {
     // Dispatches the object that was taken out of the queue, below its limit.
     fn act(&mut self, setup: &RunSetup, object: ObjectNo, step: StepNo) -> Result<bool, NoMemory>
         requires within { IsWithinStep setup.now.basin.now setup.now.policy.now self.old }
-        requires order { AreInOrder
-            (map (λ b. code (b.vtable, b.value)) setup.now.methods.now.methods.items) }
         requires turn { IsTurn setup.now.basin.now object.0 step.0 }
         requires below { count_of_number self.old.counts object.0
             < setup.now.basin.now.control.object_limit }
@@ -216,8 +213,6 @@ impl State {
     // Dispatches the object that was taken out of the queue, unless its limit is reached.
     fn ask(&mut self, setup: &RunSetup, object: ObjectNo, step: StepNo) -> Result<bool, NoMemory>
         requires within { IsWithinStep setup.now.basin.now setup.now.policy.now self.old }
-        requires order { AreInOrder
-            (map (λ b. code (b.vtable, b.value)) setup.now.methods.now.methods.items) }
         requires turn { IsTurn setup.now.basin.now object.0 step.0 }
         ensures { (place : ℕ) (waits : List ℕ)
             → IsTaken place waits object.0 self.old.queue.waiting
@@ -311,8 +306,6 @@ impl State {
     // The event that follows in the open timestep, where one of those that wait is picked.
     fn event<P: Pick>(&mut self, setup: &RunSetup, pick: &P, step: StepNo) -> Result<bool, NoMemory>
         requires within { IsWithinStep setup.now.basin.now setup.now.policy.now self.old }
-        requires order { AreInOrder
-            (map (λ b. code (b.vtable, b.value)) setup.now.methods.now.methods.items) }
         requires step { IsStep setup.now.basin.now step.0 }
         ensures does { DoesEvent setup.now.basin.now setup.now.policy.now
             (picked_at (P.rule pick.now) self.old.turns self.old.queue.waiting)
@@ -336,8 +329,6 @@ impl State {
         step: StepNo,
     ) -> Result<StepEnd, NoMemory>
         requires fresh { IsCleared setup.now.basin.now setup.now.policy.now self.old }
-        requires order { AreInOrder
-            (map (λ b. code (b.vtable, b.value)) setup.now.methods.now.methods.items) }
         requires step { IsStep setup.now.basin.now step.0 }
         ensures { HasPassed setup.now.basin.now setup.now.policy.now (P.rule pick.now) step.0
             self.old self.new result }
@@ -359,8 +350,6 @@ impl State {
         step: StepNo,
     ) -> Result<StepEnd, NoMemory>
         requires made { IsStateOf setup.now.basin.now setup.now.policy.now self.old }
-        requires order { AreInOrder
-            (map (λ b. code (b.vtable, b.value)) setup.now.methods.now.methods.items) }
         requires step { IsStep setup.now.basin.now step.0 }
         ensures made { IsStateOf setup.now.basin.now setup.now.policy.now self.new }
         ensures runs { RunsStepBy setup.now.basin.now setup.now.policy.now (P.rule pick.now) step.0
@@ -374,6 +363,7 @@ impl State {
             Err(NoMemory) => {
                 self.run.trace.truncate(before);
                 take_back(setup.basin, &mut self.run.series, &self.noted);
+                self.lines.truncate(0);
                 Err(NoMemory)
             }
         }
@@ -390,12 +380,17 @@ impl State {
         self.run
     }
 
-    /// The record of the timestep that was closed last, if it isn't too large.
+    /// The record of the timestep that was closed last, if its lines are noted and it isn't too large.
     pub(crate) fn last_record(&self, alloc: Global) -> Result<Option<StepRecord>, NoMemory>
-        ensures { (basin : Draft) (step : ℕ) (old : Log) (events : List Event)
+        ensures noted { (basin : Draft) (step : ℕ) (old : Log) (events : List Event)
             → HasNoted basin step old events (seen self.now) → self.now.run.closed ≡ step
             → IfOk result (RecordsOrNot basin step old events) }
+        ensures untold { IsUntold (seen self.now) → IfOk result (λ kept. kept ≡ None) }
     {
+        let count = self.lines.len();
+        if count == 0 {
+            return Ok(None);
+        }
         StepRecord::of(alloc, StepNo(self.run.closed), &self.noted, &self.lines, 0)
     }
 
@@ -407,13 +402,19 @@ impl State {
     {
         self.noted.begin_step();
         self.lines.truncate(0);
-        retell(
+        match retell(
             &mut self.noted,
             &mut self.lines,
             &mut self.run.trace,
             &self.run.series,
             kept,
-        )?;
+        ) {
+            Ok(()) => {}
+            Err(NoMemory) => {
+                self.lines.truncate(0);
+                return Err(NoMemory);
+            }
+        }
         write_again(basin, &mut self.run.series, kept.lines());
         self.run.closed = kept.step().0;
         self.run.end = RunEnd::Settled;

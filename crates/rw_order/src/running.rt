@@ -16,7 +16,7 @@ use rpl_predef::{
 use rpl_verify::Verified;
 use rw_base::{Blank, Ledger, NoMemory, Steps};
 use rw_dispatch::Pick;
-use rw_engine::run_by;
+use rw_engine::{RunSetup, run_by_of};
 use rw_inputs::Inputs;
 use rw_method::Catalogue;
 use rw_model::Basin;
@@ -55,9 +55,13 @@ fn run_counted<L: Ledger, P: Pick>(
         return Err(NoMemory);
     };
     let empty = Verified::none(alloc);
-    run_by(
-        alloc, basin, methods, &empty, &predefs, inputs, pick, &mut steps,
-    )
+    let setup = RunSetup {
+        basin,
+        methods,
+        policy: &empty,
+        predefs: &predefs,
+    };
+    run_by_of(alloc, &setup, inputs, pick, &mut steps)
 }
 
 // What a basin is, it always is.

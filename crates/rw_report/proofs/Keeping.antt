@@ -12,7 +12,7 @@ use Rattle.rw_report.specs.Kept.{AreInPlace, IsTold, TellFirst, TellsKeptLine}
 use Rattle.rw_report.specs.Section.{row, values_in}
 use Rattle.rw_report.specs.Sheet.{AreToldBefore, AreToldOf, sheet_line, values_listed, values_of}
 use Rattle.rw_report.specs.declared.kept.KeptLine.{KeptLine}
-use Rattle.rw_report.proofs.Telling.{row_told}
+use Rattle.rw_report.proofs.Listing.{row_told}
 
 -- ---- lists
 

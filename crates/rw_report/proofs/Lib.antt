@@ -1,5 +1,5 @@
 pub mod Growing
 pub mod Runs
-pub mod Telling
+pub mod Listing
 pub mod Worked
 pub mod Keeping

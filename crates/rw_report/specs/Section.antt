@@ -62,6 +62,10 @@ end_words basin (Fault fault) = codes "fault " ++ fault_words basin fault
 abbrev pub heading : Draft → ℕ → RunEnd → List ℕ
 heading basin batch end = codes "# batch " ++ (decimal batch ++ (codes " " ++ (end_words basin end ++ codes "\n")))
 
+-- the same of the run of a trace
+abbrev pub trace_heading : Draft → ℕ → RunEnd → List ℕ
+trace_heading basin trace end = codes "# trace " ++ (decimal trace ++ (codes " " ++ (end_words basin end ++ codes "\n")))
+
 -- ---- the table
 
 -- what is written of the numbers 1, 2, .. up to this one, one after another

@@ -3,7 +3,7 @@ use Rattle.std.specs.Prelude.{ℕ, Bool, if◌then◌else◌, List, [], ◌∷�
 use Rattle.std.specs.Fmt.{decimal}
 use Rattle.rw_base.specs.declared.number.StepNo.{StepNo}
 use Rattle.rw_model.specs.Draft.{Draft}
-use Rattle.rw_report.specs.Section.{columns, heading, rows, values_in}
+use Rattle.rw_report.specs.Section.{columns, heading, rows, trace_heading, values_in}
 use Rattle.rw_report.specs.Flags.{flag_table}
 use Rattle.rw_report.specs.Lines.{trace_words}
 use Rattle.rw_report.specs.Outcome.{RunOutcome}
@@ -37,3 +37,7 @@ abbrev pub whole_of : Draft → (batch : ℕ) → RunOutcome → Option (List St
 whole_of basin batch run reran flags trace =
     section_top basin batch run reran ++ (run_table basin run
     ++ (if_asked flags (flag_table basin run.cells run.closed) ++ if_asked trace (trace_words basin run.lines)))
+
+-- the section of a trace: how its run ended, and the table
+abbrev pub trace_of_run : Draft → (trace : ℕ) → RunOutcome → List ℕ
+trace_of_run basin trace run = trace_heading basin trace run.end ++ run_table basin run

@@ -1,8 +1,10 @@
-ghost use Rattle.std.specs.Prelude.{◌≡◌, ◌++◌, OnOk, string_bytes};
+ghost use Rattle.std.specs.Prelude.{◌≡◌, ◌++◌, OnOk, string_bytes, codes};
+ghost use Rattle.std.specs.Fmt.{decimal};
 ghost use Rattle.rw_run.specs.declared.fault.RunFault.TheVariants as RunFault;
 ghost use Rattle.rw_report.specs.Section.{end_words, fault_words, heading, place_words};
 
 use crate::names::{object_words, push_slot};
+use crate::numbers::push_count;
 use rw_base::{NoMemory, ObjectNo, RuleNo, SlotNo, StepNo};
 use rw_model::Basin;
 use rw_run::{RunEnd, RunFault};
@@ -173,7 +175,27 @@ fn push_end(text: &mut String, basin: &Basin, end: &RunEnd) -> Result<(), NoMemo
     Ok(())
 }
 
-/// Appends the first line.
+/// Appends the first line, which begins with this word and number.
+pub(crate) fn push_headed(
+    text: &mut String,
+    basin: &Basin,
+    word: &str,
+    number: u32,
+    end: &RunEnd,
+) -> Result<(), NoMemory>
+    ensures { OnOk result (string_bytes text.new ≡ string_bytes text.old
+        ++ (word.now ++ (decimal number
+        ++ (codes " " ++ (end_words basin.now end.now ++ codes "\n"))))) }
+{
+    text.push_str(word)?;
+    push_count(text, u64::from(number))?;
+    text.push_str(" ")?;
+    push_end(text, basin, end)?;
+    text.push_str("\n")?;
+    Ok(())
+}
+
+/// Appends the first line of the section of a batch.
 pub(crate) fn push_heading(
     text: &mut String,
     basin: &Basin,
@@ -183,8 +205,5 @@ pub(crate) fn push_heading(
     ensures { OnOk result
         (string_bytes text.new ≡ string_bytes text.old ++ heading basin.now batch end.now) }
 {
-    write!(text, "# batch {batch} ")?;
-    push_end(text, basin, end)?;
-    text.push_str("\n")?;
-    Ok(())
+    push_headed(text, basin, "# batch ", batch, end)
 }

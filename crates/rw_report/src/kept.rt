@@ -27,6 +27,15 @@ pub(crate) struct KeptLine {
     pub(crate) text: String,
 }
 
+/// How many of the first lines stay as they are, and how many are kept.
+#[derive(Clone, Copy, Drop)]
+pub(crate) struct Extent {
+    /// The lines that tell what they told.
+    pub(crate) first: u16,
+    /// The lines that are kept, those among them.
+    pub(crate) kept: u16,
+}
+
 // A line that tells of no timestep yet.
 fn blank(alloc: Global) -> KeptLine
     ensures { result.step ≡ 0 }
@@ -210,20 +219,19 @@ pub(crate) fn push_kept(
     lines: &mut Vec<KeptLine>,
     basin: &Basin,
     series: &Series,
-    first: u16,
-    kept: u16,
+    extent: Extent,
 ) -> Result<(), NoMemory>
-    requires kept { kept ≤ basin.now.control.stamps.count }
-    requires lines { AreKeptLines basin.now (held series.now) first lines.old.items }
-    requires first { first ≤ kept }
+    requires kept { extent.kept ≤ basin.now.control.stamps.count }
+    requires lines { AreKeptLines basin.now (held series.now) extent.first lines.old.items }
+    requires first { extent.first ≤ extent.kept }
     ensures told { All (IsTold basin.now) lines.new.items }
     ensures lines { OnOk result
-        (AreKeptLines basin.now (held series.now) kept lines.new.items) }
+        (AreKeptLines basin.now (held series.now) extent.kept lines.new.items) }
     ensures rows { OnOk result (string_bytes text.new
-        ≡ string_bytes text.old ++ rows basin.now (values_in (held series.now)) kept) }
+        ≡ string_bytes text.old ++ rows basin.now (values_in (held series.now)) extent.kept) }
 {
-    push_first(text, lines.as_slice(), first)?;
-    for before in first..kept {
+    push_first(text, lines.as_slice(), extent.first)?;
+    for before in extent.first..extent.kept {
         make_room(alloc, basin, lines, before)?;
         push_line(alloc, text, lines, basin, series, before + 1)?;
     }

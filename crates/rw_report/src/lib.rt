@@ -16,10 +16,12 @@ mod names;
 mod numbers;
 mod sheet;
 mod table;
+mod texts;
 mod value;
 mod whole;
 
 pub use cell::why;
 pub use lines::line_at;
 pub use sheet::Sheet;
-pub use whole::section;
+pub use texts::{section, trace_section};
+pub use whole::Telling;

@@ -1,15 +1,12 @@
-ghost use Rattle.std.specs.Prelude.{◌≡◌, ◌≤◌, ◌<◌, ◌+◌, ◌++◌, ℕ, IfErr, IfOk, OnOk, option_map, string_bytes, []};
-ghost use Rattle.std.specs.List.{All};
+ghost use Rattle.std.specs.Prelude.{◌≡◌, ◌≤◌, ◌<◌, ◌+◌, ℕ, IfErr, IfOk, option_map, []};
 ghost use Rattle.rw_series.specs.Series.{held};
-ghost use Rattle.rw_report.specs.Kept.{AreKeptLines, IsTold};
 ghost use Rattle.rw_report.specs.Outcome.{outcome_of};
 ghost use Rattle.rw_report.specs.Sheet.{AreToldBefore, AreToldOf};
-ghost use Rattle.rw_report.specs.Whole.{run_table, whole_of};
+ghost use Rattle.rw_report.specs.Whole.{whole_of};
 
-use crate::kept::{KeptLine, push_kept};
-use crate::table::{push_columns, push_rows};
-use crate::whole::{push_flags_if, push_top, push_trace_if};
-use rw_base::{NoMemory, StepNo};
+use crate::kept::{Extent, KeptLine};
+use crate::whole::{Telling, push_section};
+use rw_base::NoMemory;
 use rw_model::Basin;
 use rw_run::Run;
 use std::alloc::Global;
@@ -44,62 +41,6 @@ impl<'a> Model for Sheet<'a> {
 
     ghost invariant = { λ s. All (IsTold s.basin.now) s.lines.items
         × (s.told ≤ vec_len s.lines × AreInPlace s.told s.lines.items) };
-}
-
-// Appends the table of a run, and keeps the lines of the first timesteps, so many of them.
-fn push_table(
-    alloc: Global,
-    text: &mut String,
-    lines: &mut Vec<KeptLine>,
-    basin: &Basin,
-    run: &Run,
-    first: u16,
-    kept: u16,
-) -> Result<(), NoMemory>
-    requires closed { run.now.closed ≤ basin.now.control.stamps.count }
-    requires kept { kept ≤ run.now.closed }
-    requires lines { AreKeptLines basin.now (held run.now.series) first lines.old.items }
-    requires first { first ≤ kept }
-    ensures told { All (IsTold basin.now) lines.new.items }
-    ensures lines { OnOk result
-        (AreKeptLines basin.now (held run.now.series) kept lines.new.items) }
-    ensures table { OnOk result (string_bytes text.new
-        ≡ string_bytes text.old ++ run_table basin.now (outcome_of run.now)) }
-{
-    push_columns(text, basin)?;
-    push_kept(alloc, text, lines, basin, &run.series, first, kept)?;
-    push_rows(alloc, text, basin, &run.series, kept, run.closed)
-}
-
-// Appends the text of a section, and keeps such lines.
-fn push_section(
-    alloc: Global,
-    text: &mut String,
-    lines: &mut Vec<KeptLine>,
-    basin: &Basin,
-    batch: u32,
-    run: &Run,
-    reran: Option<&[StepNo]>,
-    flags: bool,
-    trace: bool,
-    first: u16,
-    kept: u16,
-) -> Result<(), NoMemory>
-    requires closed { run.now.closed ≤ basin.now.control.stamps.count }
-    requires kept { kept ≤ run.now.closed }
-    requires lines { AreKeptLines basin.now (held run.now.series) first lines.old.items }
-    requires first { first ≤ kept }
-    ensures told { All (IsTold basin.now) lines.new.items }
-    ensures lines { OnOk result
-        (AreKeptLines basin.now (held run.now.series) kept lines.new.items) }
-    ensures section { OnOk result (string_bytes text.new
-        ≡ string_bytes text.old ++ whole_of basin.now batch (outcome_of run.now)
-        (option_map (λ steps. steps.now) reran.entry) flags trace) }
-{
-    push_top(text, basin, batch, &run.end, reran)?;
-    push_table(alloc, text, lines, basin, run, first, kept)?;
-    push_flags_if(text, basin, run, flags)?;
-    push_trace_if(text, basin, run, trace)
 }
 
 // The lesser of two numbers.
@@ -143,22 +84,14 @@ impl<'a> Sheet<'a> {
         }
     }
 
-    /// Tells the section of the batch of this number, as `section` does, in the place of what was told: of timesteps before `same`
-    /// the values are those that it told last. After want of memory nothing is told.
-    pub fn tell(
-        &mut self,
-        batch: u32,
-        run: &Run,
-        reran: Option<&[StepNo]>,
-        flags: bool,
-        trace: bool,
-        same: u16,
-    ) -> Result<(), NoMemory>
+    /// Tells the section of a batch, as `section` does, in the place of what was told: of timesteps before `same` the values are
+    /// those that it told last. After want of memory nothing is told.
+    pub fn tell(&mut self, run: &Run, telling: &Telling<'_>, same: u16) -> Result<(), NoMemory>
         requires closed { run.now.closed ≤ self.old.basin.control.stamps.count }
         requires same { AreToldBefore self.old.basin (held run.now.series) same self.old.values }
         ensures text { IfOk result (λ done. self.new.text
-            ≡ whole_of self.old.basin batch (outcome_of run.now)
-            (option_map (λ steps. steps.now) reran.entry) flags trace) }
+            ≡ whole_of self.old.basin telling.now.batch (outcome_of run.now)
+            (option_map (λ steps. steps.now) telling.now.reran) telling.now.flags telling.now.trace) }
         ensures values { IfOk result (λ done. AreToldOf self.old.basin (held run.now.series)
             self.new.values) }
         ensures untold { IfErr result (λ fault. self.new.text ≡ []) }
@@ -173,13 +106,9 @@ impl<'a> Sheet<'a> {
             &mut self.text,
             &mut self.lines,
             self.basin,
-            batch,
             run,
-            reran,
-            flags,
-            trace,
-            first,
-            kept,
+            telling,
+            Extent { first, kept },
         ) {
             Ok(()) => {
                 self.told = kept;
@@ -197,5 +126,11 @@ impl<'a> Sheet<'a> {
         ensures { result.now ≡ self.now.text }
     {
         self.text.as_bytes()
+    }
+    /// What was told last, and no sheet any more. It takes no memory.
+    pub(crate) fn into_text(self) -> Vec<u8>
+        ensures { result.items ≡ self.entry.text }
+    {
+        self.text.into_bytes()
     }
 }

@@ -1,22 +1,38 @@
-ghost use Rattle.std.specs.Prelude.{◌≡◌, ◌≤◌, ◌++◌, IfOk, OnOk, option_map, string_bytes, codes};
+ghost use Rattle.std.specs.Prelude.{◌≡◌, ◌≤◌, ◌++◌, OnOk, option_map, string_bytes, codes};
+ghost use Rattle.std.specs.List.{All};
 ghost use Rattle.std.specs.Fmt.{decimal};
 ghost use Rattle.rw_series.specs.Series.{held};
 ghost use Rattle.rw_run.specs.Trace.{lines_in};
 ghost use Rattle.rw_report.specs.Section.{heading};
 ghost use Rattle.rw_report.specs.Flags.{flag_table};
+ghost use Rattle.rw_report.specs.Kept.{AreKeptLines, IsTold};
 ghost use Rattle.rw_report.specs.Lines.{trace_words};
 ghost use Rattle.rw_report.specs.Outcome.{outcome_of};
-ghost use Rattle.rw_report.specs.Whole.{if_asked, reran_words, some_words, steps_words, run_table, section_top, whole_of};
+ghost use Rattle.rw_report.specs.Whole.{if_asked, reran_words, run_table, some_words, steps_words, whole_of};
 
 use crate::flags::push_flags;
 use crate::heading::push_heading;
+use crate::kept::{Extent, KeptLine, push_kept};
 use crate::lines::push_trace;
 use crate::numbers::push_count;
 use crate::table::{push_columns, push_rows};
 use rw_base::{NoMemory, StepNo};
 use rw_model::Basin;
-use rw_run::{Run, RunEnd};
+use rw_run::Run;
 use std::alloc::Global;
+
+/// What is told of a run in the section of a batch, besides how it ended and its table.
+#[derive(Clone, Copy, Drop)]
+pub struct Telling<'a> {
+    /// The number of the batch.
+    pub batch: u32,
+    /// The timesteps that were run again, where that is told.
+    pub reran: Option<&'a [StepNo]>,
+    /// Whether a table tells who wrote each value and its priority.
+    pub flags: bool,
+    /// Whether what happened is told line by line.
+    pub trace: bool,
+}
 
 // Appends a space and the number of a timestep.
 fn push_step(text: &mut String, step: StepNo) -> Result<(), NoMemory>
@@ -68,36 +84,22 @@ fn push_reran(text: &mut String, reran: Option<&[StepNo]>) -> Result<(), NoMemor
     }
 }
 
-pub(crate) fn push_top(
-    text: &mut String,
-    basin: &Basin,
-    batch: u32,
-    end: &RunEnd,
-    reran: Option<&[StepNo]>,
-) -> Result<(), NoMemory>
-    ensures { OnOk result (string_bytes text.new ≡ string_bytes text.old
-        ++ (heading basin.now batch end.now
-        ++ reran_words (option_map (λ steps. steps.now) reran.entry))) }
-{
-    push_heading(text, basin, batch, end)?;
-    push_reran(text, reran)
-}
-
-fn push_table(alloc: Global, text: &mut String, basin: &Basin, run: &Run) -> Result<(), NoMemory>
-    requires closed { run.now.closed ≤ basin.now.control.stamps.count }
-    ensures { OnOk result (string_bytes text.new
-        ≡ string_bytes text.old ++ run_table basin.now (outcome_of run.now)) }
-{
-    push_columns(text, basin)?;
-    push_rows(alloc, text, basin, &run.series, 0, run.closed)
-}
-
-pub(crate) fn push_flags_if(
+// Appends the first line, and which timesteps were run again.
+fn push_top(
     text: &mut String,
     basin: &Basin,
     run: &Run,
-    flags: bool,
+    telling: &Telling<'_>,
 ) -> Result<(), NoMemory>
+    ensures { OnOk result (string_bytes text.new ≡ string_bytes text.old
+        ++ (heading basin.now telling.now.batch run.now.end
+        ++ reran_words (option_map (λ steps. steps.now) telling.now.reran))) }
+{
+    push_heading(text, basin, telling.batch, &run.end)?;
+    push_reran(text, telling.reran)
+}
+
+fn push_flags_if(text: &mut String, basin: &Basin, run: &Run, flags: bool) -> Result<(), NoMemory>
     ensures { OnOk result (string_bytes text.new ≡ string_bytes text.old
         ++ if_asked flags (flag_table basin.now (held run.now.series) run.now.closed)) }
 {
@@ -108,12 +110,7 @@ pub(crate) fn push_flags_if(
     }
 }
 
-pub(crate) fn push_trace_if(
-    text: &mut String,
-    basin: &Basin,
-    run: &Run,
-    trace: bool,
-) -> Result<(), NoMemory>
+fn push_trace_if(text: &mut String, basin: &Basin, run: &Run, trace: bool) -> Result<(), NoMemory>
     ensures { OnOk result (string_bytes text.new ≡ string_bytes text.old
         ++ if_asked trace (trace_words basin.now (lines_in run.now.trace))) }
 {
@@ -124,31 +121,53 @@ pub(crate) fn push_trace_if(
     }
 }
 
-/// The text of the section of the batch of this number: a line on how its run ended; where timesteps are given that were run
-/// again, a line on them; a line of column names, and a line for each closed timestep with its number, the moment at which
-/// it ends and the values of all slots, in the base units of their dimensions and in the order of their numbers; with
-/// `flags` a table of who wrote each value and its priority; with `trace` what happened, line by line. What isn't asked for
-/// isn't made, and of a trace that wasn't kept no line is told. Every line ends in a line feed, and an unknown value is
-/// nothing. An object or a slot that a fault names and the basin doesn't have is written as nothing. The one error is want
-/// of memory. `docs/FORMATS.md` has it under "Table" and "Reruns, flags and trace".
-pub fn section(
+/// Appends the table of a run, and keeps lines of it.
+pub(crate) fn push_table(
     alloc: Global,
+    text: &mut String,
+    lines: &mut Vec<KeptLine>,
     basin: &Basin,
-    batch: u32,
     run: &Run,
-    reran: Option<&[StepNo]>,
-    flags: bool,
-    trace: bool,
-) -> Result<Vec<u8>, NoMemory>
+    extent: Extent,
+) -> Result<(), NoMemory>
     requires closed { run.now.closed ≤ basin.now.control.stamps.count }
-    ensures text { IfOk result (λ text. text.items
-        ≡ whole_of basin.now batch (outcome_of run.now)
-        (option_map (λ steps. steps.now) reran.entry) flags trace) }
+    requires kept { extent.kept ≤ run.now.closed }
+    requires lines { AreKeptLines basin.now (held run.now.series) extent.first lines.old.items }
+    requires first { extent.first ≤ extent.kept }
+    ensures told { All (IsTold basin.now) lines.new.items }
+    ensures lines { OnOk result
+        (AreKeptLines basin.now (held run.now.series) extent.kept lines.new.items) }
+    ensures table { OnOk result (string_bytes text.new
+        ≡ string_bytes text.old ++ run_table basin.now (outcome_of run.now)) }
 {
-    let mut text = String::new(alloc);
-    push_top(&mut text, basin, batch, &run.end, reran)?;
-    push_table(alloc, &mut text, basin, run)?;
-    push_flags_if(&mut text, basin, run, flags)?;
-    push_trace_if(&mut text, basin, run, trace)?;
-    Ok(text.into_bytes())
+    push_columns(text, basin)?;
+    push_kept(alloc, text, lines, basin, &run.series, extent)?;
+    push_rows(alloc, text, basin, &run.series, extent.kept, run.closed)
+}
+
+/// Appends the text of a section, and keeps lines of its table.
+pub(crate) fn push_section(
+    alloc: Global,
+    text: &mut String,
+    lines: &mut Vec<KeptLine>,
+    basin: &Basin,
+    run: &Run,
+    telling: &Telling<'_>,
+    extent: Extent,
+) -> Result<(), NoMemory>
+    requires closed { run.now.closed ≤ basin.now.control.stamps.count }
+    requires kept { extent.kept ≤ run.now.closed }
+    requires lines { AreKeptLines basin.now (held run.now.series) extent.first lines.old.items }
+    requires first { extent.first ≤ extent.kept }
+    ensures told { All (IsTold basin.now) lines.new.items }
+    ensures lines { OnOk result
+        (AreKeptLines basin.now (held run.now.series) extent.kept lines.new.items) }
+    ensures section { OnOk result (string_bytes text.new ≡ string_bytes text.old
+        ++ whole_of basin.now telling.now.batch (outcome_of run.now)
+        (option_map (λ steps. steps.now) telling.now.reran) telling.now.flags telling.now.trace) }
+{
+    push_top(text, basin, run, telling)?;
+    push_table(alloc, text, lines, basin, run, extent)?;
+    push_flags_if(text, basin, run, telling.flags)?;
+    push_trace_if(text, basin, run, telling.trace)
 }

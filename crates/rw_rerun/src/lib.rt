@@ -10,11 +10,9 @@ mod pass;
 mod passing;
 mod reach;
 mod session;
-mod setup;
 mod spare;
 mod state;
 mod touched;
 
 pub use session::Session;
-pub use setup::Setup;
 pub use state::State;

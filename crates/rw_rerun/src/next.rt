@@ -1,10 +1,9 @@
 // The run after a batch, from behind the timesteps that the batch leaves.
-ghost use Rattle.std.specs.Prelude.{◌≡◌, ◌≤◌, All, IfOk, IsSome, map, length, Ok};
+ghost use Rattle.std.specs.Prelude.{◌≡◌, ◌≤◌, All, IfOk, IsSome, length, Ok};
 ghost use Rattle.rpl_verify.specs.Verified.{verified};
 ghost use Rattle.rw_engine.specs.Passing.{CanRun};
 ghost use Rattle.rw_engine.specs.Shows.{IsEngineOf};
 ghost use Rattle.rw_inputs.specs.Inputs.{IsInputsOf};
-ghost use Rattle.rw_method.specs.Catalogue.{AreInOrder};
 ghost use Rattle.rw_series.specs.Series.{IsCell};
 ghost use Rattle.rw_rerun.specs.Next.{IsSpareReady, PassesBehind, PassesFrom};
 ghost use Rattle.rw_rerun.specs.Spare.{AreKeptFirst, AreKeptFrom, IsSpare, IsSpareBy};
@@ -12,12 +11,11 @@ ghost use Rattle.rw_rerun.specs.UnderWay.{CanGoBy};
 
 use crate::pass::Pass;
 use crate::passing::pass_rest;
-use crate::setup::Setup;
 use crate::spare::{Spare, bring, give_all, pass_from};
 use rpl_policy::law::code_keeps_promises;
 use rpl_verify::law::answered_code_is_safe;
 use rw_base::{Cell, Ledger, NoMemory, Steps};
-use rw_engine::StepRecord;
+use rw_engine::{RunSetup, StepRecord};
 use rw_inputs::Inputs;
 use rw_model::Basin;
 use std::alloc::Global;
@@ -47,15 +45,13 @@ fn made_ready(
 // Passes the timesteps before which it stands, one by one.
 fn pass_others<L: Ledger>(
     alloc: Global,
-    setup: &Setup<'_>,
+    setup: &RunSetup<'_>,
     kept: &[Option<StepRecord>],
     spare: Spare,
     steps: &mut Steps<L>,
 ) -> Result<Pass, NoMemory>
     requires fits { verified setup.now.basin.now setup.now.policy.now.blocks
         ≡ Ok setup.now.policy.now }
-    requires order { AreInOrder
-        (map (λ b. code (b.vtable, b.value)) setup.now.methods.now.methods.items) }
     requires kept { CanGoBy setup.now.basin.now kept.now }
     requires made { IsEngineOf setup.now.basin.now setup.now.policy.now spare.engine }
     requires noted { IsSome spare.engine.noted }
@@ -73,7 +69,7 @@ fn pass_others<L: Ledger>(
 /// anew, and the others are passed one by one.
 pub(crate) fn pass_behind<L: Ledger>(
     alloc: Global,
-    setup: &Setup<'_>,
+    setup: &RunSetup<'_>,
     kept: &[Option<StepRecord>],
     spare: Spare,
     inputs: &Inputs,
@@ -82,8 +78,6 @@ pub(crate) fn pass_behind<L: Ledger>(
     steps: &mut Steps<L>,
 ) -> Result<Pass, NoMemory>
     requires can { CanRun setup.now.basin.now setup.now.policy.now inputs.now }
-    requires order { AreInOrder
-        (map (λ b. code (b.vtable, b.value)) setup.now.methods.now.methods.items) }
     requires kept { CanGoBy setup.now.basin.now kept.now }
     requires stands { IsSpareBy setup.now.basin.now setup.now.policy.now kept.now spare }
     requires known { AreKeptFrom kept.now 0 spare.behind }

@@ -1,25 +1,23 @@
 // A run, timestep by timestep: each is taken over from an earlier run, or run.
-ghost use Rattle.std.specs.Prelude.{◌≡◌, ◌≤◌, ℕ, ⊤, map, IfSome, false, true, Ok, Some};
+ghost use Rattle.std.specs.Prelude.{◌≡◌, ◌≤◌, ℕ, ⊤, IfSome, false, true, Ok, Some};
 ghost use Rattle.rpl_verify.specs.Verified.{verified};
 ghost use Rattle.rw_engine.specs.Passing.{CanRun};
-ghost use Rattle.rw_method.specs.Catalogue.{AreInOrder};
 ghost use Rattle.rw_model.specs.Turn.{IsStep};
 ghost use Rattle.rw_record.specs.Noted.{AreHeld};
 ghost use Rattle.rw_series.specs.Series.{held};
 ghost use Rattle.rw_rerun.specs.UnderWay.{CanGoBy, IsReplayable, GoesOn, IsPassOf, IsUnlike, PassesAll, PassesRest};
 
 use crate::pass::Pass;
-use crate::setup::Setup;
 use rpl_policy::law::code_keeps_promises;
 use rpl_verify::law::answered_code_is_safe;
 use rw_base::{Ledger, NoMemory, StepNo, Steps};
-use rw_engine::{Engine, StepEnd, StepRecord};
+use rw_engine::{Engine, RunSetup, StepEnd, StepRecord};
 use rw_inputs::Inputs;
 use rw_record::law::how_many;
 use std::alloc::Global;
 
 // No timestep is opened behind a fault, and none is kept.
-fn skip(pass: &mut Pass, _setup: &Setup<'_>, _step: StepNo) -> Result<(), NoMemory>
+fn skip(pass: &mut Pass, _setup: &RunSetup<'_>, _step: StepNo) -> Result<(), NoMemory>
     requires made { IsPassOf _setup.now.basin.now _setup.now.policy.now pass.old }
     requires ended { pass.old.over ≡ true }
     ensures { (steps : ℕ) → GoesOn _setup.now.basin.now _setup.now.policy.now _step.0
@@ -32,7 +30,7 @@ fn skip(pass: &mut Pass, _setup: &Setup<'_>, _step: StepNo) -> Result<(), NoMemo
 // Takes a timestep over as its record has it.
 fn take_over(
     pass: &mut Pass,
-    setup: &Setup<'_>,
+    setup: &RunSetup<'_>,
     kept: &StepRecord,
     step: StepNo,
 ) -> Result<(), NoMemory>
@@ -53,12 +51,10 @@ fn take_over(
 fn run_anew<L: Ledger>(
     alloc: Global,
     pass: &mut Pass,
-    setup: &Setup<'_>,
+    setup: &RunSetup<'_>,
     step: StepNo,
     steps: &mut Steps<L>,
 ) -> Result<(), NoMemory>
-    requires order { AreInOrder
-        (map (λ b. code (b.vtable, b.value)) setup.now.methods.now.methods.items) }
     requires made { IsPassOf setup.now.basin.now setup.now.policy.now pass.old }
     requires step { IsStep setup.now.basin.now step.0 }
     requires goes { pass.old.over ≡ false }
@@ -66,14 +62,7 @@ fn run_anew<L: Ledger>(
         pass.old pass.new steps.old steps.new result }
 {
     how_many();
-    let end = pass.engine.run_step(
-        setup.basin,
-        setup.methods,
-        setup.policy,
-        setup.predefs,
-        step,
-        steps,
-    )?;
+    let end = pass.engine.run_step_of(setup, step, steps)?;
     pass.reran.push(step)?;
     match end {
         StepEnd::Closed => {
@@ -93,13 +82,11 @@ fn run_anew<L: Ledger>(
 fn pass_step<L: Ledger>(
     alloc: Global,
     pass: &mut Pass,
-    setup: &Setup<'_>,
+    setup: &RunSetup<'_>,
     entry: &Option<StepRecord>,
     step: StepNo,
     steps: &mut Steps<L>,
 ) -> Result<(), NoMemory>
-    requires order { AreInOrder
-        (map (λ b. code (b.vtable, b.value)) setup.now.methods.now.methods.items) }
     requires made { IsPassOf setup.now.basin.now setup.now.policy.now pass.old }
     requires step { IsStep setup.now.basin.now step.0 }
     requires can { IfSome entry.now (IsReplayable setup.now.basin.now step.0) }
@@ -124,15 +111,13 @@ fn pass_step<L: Ledger>(
 pub(crate) fn pass_rest<L: Ledger>(
     alloc: Global,
     pass: &mut Pass,
-    setup: &Setup<'_>,
+    setup: &RunSetup<'_>,
     kept: &[Option<StepRecord>],
     behind: u16,
     steps: &mut Steps<L>,
 ) -> Result<(), NoMemory>
     requires fits { verified setup.now.basin.now setup.now.policy.now.blocks
         ≡ Ok setup.now.policy.now }
-    requires order { AreInOrder
-        (map (λ b. code (b.vtable, b.value)) setup.now.methods.now.methods.items) }
     requires made { IsPassOf setup.now.basin.now setup.now.policy.now pass.old }
     requires kept { CanGoBy setup.now.basin.now kept.now }
     requires some { behind ≤ setup.now.basin.now.control.stamps.count }
@@ -151,15 +136,13 @@ pub(crate) fn pass_rest<L: Ledger>(
 /// Passes all timesteps from inputs, with what is kept of an earlier run to go by.
 pub(crate) fn pass_all<L: Ledger>(
     alloc: Global,
-    setup: &Setup<'_>,
+    setup: &RunSetup<'_>,
     kept: &[Option<StepRecord>],
     inputs: &Inputs,
     traced: bool,
     steps: &mut Steps<L>,
 ) -> Result<Pass, NoMemory>
     requires can { CanRun setup.now.basin.now setup.now.policy.now inputs.now }
-    requires order { AreInOrder
-        (map (λ b. code (b.vtable, b.value)) setup.now.methods.now.methods.items) }
     requires kept { CanGoBy setup.now.basin.now kept.now }
     ensures { PassesAll setup.now.basin.now setup.now.policy.now inputs.now traced kept.now
         steps.old steps.new result }

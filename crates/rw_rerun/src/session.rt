@@ -7,12 +7,11 @@ ghost use Rattle.rw_model.specs.Draft.{Draft};
 ghost use Rattle.rw_rules.specs.Rules.{policy_in};
 ghost use Rattle.rw_rerun.specs.Session.{Applies, CountsRuns, IsSessionOf, IsStarted};
 
-use crate::setup::Setup;
 use crate::state::State;
 use rpl_predef::Predefs;
 use rpl_verify::Verified;
 use rw_base::{Ledger, NoMemory, StepNo, Steps};
-use rw_engine::Run;
+use rw_engine::{Run, RunSetup};
 use rw_inputs::{Batch, Inputs};
 use rw_method::Catalogue;
 use rw_model::Basin;
@@ -23,7 +22,7 @@ use std::alloc::Global;
 pub struct Session<'a> {
     alloc: Global,
     /// What its runs go by.
-    pub setup: Setup<'a>,
+    pub setup: RunSetup<'a>,
     /// How far it has come.
     pub state: State<'a>,
 }
@@ -49,21 +48,39 @@ impl<'a> Session<'a> {
             (λ session. IsStarted basin.entry.now policy.entry.now inputs session.state) }
         ensures traced { IfOk result
             (λ session. is_some session.state.engine.trace ≡ traced) }
-        ensures setup { IfOk result (λ session. session.setup ≡ record {
-          basin = basin.entry;
-          methods = methods.entry;
-          policy = policy.entry;
-          predefs = predefs.entry;
-        }) }
+        ensures setup { IfOk result (λ session. (session.setup.basin ≡ basin.entry)
+            × ((session.setup.methods ≡ methods.entry)
+            × ((session.setup.policy ≡ policy.entry)
+            × (session.setup.predefs ≡ predefs.entry)))) }
         ensures counted { CountsRuns basin.entry.now steps.old steps.new result
             (λ session. session.state.reran) }
     {
-        let setup = Setup {
+        let setup = RunSetup {
             basin,
             methods,
             policy,
             predefs,
         };
+        Session::start_of(alloc, setup, inputs, traced, steps)
+    }
+
+    /// The same of a setup.
+    pub fn start_of<L: Ledger>(
+        alloc: Global,
+        setup: RunSetup<'a>,
+        inputs: Inputs,
+        traced: bool,
+        steps: &mut Steps<L>,
+    ) -> Result<Session<'a>, NoMemory>
+        requires can { CanRun setup.basin.now setup.policy.now inputs }
+        ensures started { IfOk result (λ session. IsStarted setup.entry.basin.now
+            setup.entry.policy.now inputs session.state) }
+        ensures traced { IfOk result
+            (λ session. is_some session.state.engine.trace ≡ traced) }
+        ensures setup { IfOk result (λ session. session.setup ≡ setup.entry) }
+        ensures counted { CountsRuns setup.entry.basin.now steps.old steps.new result
+            (λ session. session.state.reran) }
+    {
         let state = State::start(alloc, &setup, inputs, traced, steps)?;
         Ok(Session {
             alloc,
@@ -77,8 +94,6 @@ impl<'a> Session<'a> {
     pub fn apply<L: Ledger>(&mut self, batch: &Batch, steps: &mut Steps<L>) -> Result<(), NoMemory>
         requires made { IsSessionOf self.old.setup.basin.now
             self.old.setup.policy.now self.old.state }
-        requires order { AreInOrder
-            (map (λ b. code (b.vtable, b.value)) self.old.setup.methods.now.methods.items) }
         requires batch { IsBatch self.old.setup.basin.now batch.now }
         ensures applied { IfOk result (λ done. Applies self.old.setup.basin.now
             self.old.setup.policy.now batch.now self.old.state self.new.state) }

@@ -1,9 +1,8 @@
-ghost use Rattle.std.specs.Prelude.{◌≡◌, ◌≤◌, All, map, length, IfErr, IfOk, is_some};
+ghost use Rattle.std.specs.Prelude.{◌≡◌, ◌≤◌, All, length, IfErr, IfOk, is_some};
 ghost use Rattle.rpl_verify.specs.Verified.{Accepted};
 ghost use Rattle.rw_engine.specs.Passing.{CanRun, ComesTo};
 ghost use Rattle.rw_inputs.specs.Edits.{IsBatch};
 ghost use Rattle.rw_inputs.specs.Inputs.{IsInputsOf};
-ghost use Rattle.rw_method.specs.Catalogue.{AreInOrder};
 ghost use Rattle.rw_model.specs.Draft.{Draft};
 ghost use Rattle.rw_rules.specs.Rules.{policy_in};
 ghost use Rattle.rw_series.specs.Series.{IsCell};
@@ -16,14 +15,13 @@ use crate::exchange::{exchange, exchange_for, nothing_kept};
 use crate::next::pass_behind;
 use crate::pass::Pass;
 use crate::passing::pass_all;
-use crate::setup::Setup;
 use crate::spare::{Spare, found_or_fresh, spare_of};
 use crate::touched::{edited, left};
 use rpl_policy::law::code_keeps_promises;
 use rpl_verify::Verified;
 use rpl_verify::law::answered_code_is_safe;
 use rw_base::{Cell, Ledger, NoMemory, StepNo, Steps};
-use rw_engine::{Engine, Run, StepRecord};
+use rw_engine::{Engine, Run, RunSetup, StepRecord};
 use rw_inputs::{Batch, Inputs, apply};
 use rw_model::Basin;
 use std::alloc::Global;
@@ -77,14 +75,12 @@ impl<'a> State<'a> {
     // The run of inputs, of which no timestep is kept yet.
     pub(crate) fn start<L: Ledger>(
         alloc: Global,
-        setup: &Setup<'a>,
+        setup: &RunSetup<'a>,
         inputs: Inputs,
         traced: bool,
         steps: &mut Steps<L>,
     ) -> Result<State<'a>, NoMemory>
         requires can { CanRun setup.now.basin.now setup.now.policy.now inputs }
-        requires order { AreInOrder
-            (map (λ b. code (b.vtable, b.value)) setup.now.methods.now.methods.items) }
         ensures started { IfOk result (IsStarted setup.now.basin.now setup.now.policy.now inputs) }
         ensures traced { IfOk result (λ state. is_some state.engine.trace ≡ traced) }
         ensures counted { CountsRuns setup.now.basin.now steps.old steps.new result
@@ -115,15 +111,13 @@ impl<'a> State<'a> {
     fn pass_next<L: Ledger>(
         &mut self,
         alloc: Global,
-        setup: &Setup<'_>,
+        setup: &RunSetup<'_>,
         inputs: &Inputs,
         cells: &[Cell],
         behind: u16,
         steps: &mut Steps<L>,
     ) -> Result<Pass, NoMemory>
         requires made { IsSessionOf setup.now.basin.now setup.now.policy.now self.old }
-        requires order { AreInOrder
-            (map (λ b. code (b.vtable, b.value)) setup.now.methods.now.methods.items) }
         requires inputs { IsInputsOf setup.now.basin.now inputs.now }
         requires cells { All (IsCell setup.now.basin.now) cells.now }
         requires near { behind ≤ length self.old.kept }
@@ -150,7 +144,7 @@ impl<'a> State<'a> {
     // Gives way to the run after a batch. Its engine becomes the spare one, for the run after that.
     fn give_way(
         &mut self,
-        setup: &Setup<'_>,
+        setup: &RunSetup<'_>,
         inputs: Inputs,
         cells: &[Cell],
         behind: u16,
@@ -188,13 +182,11 @@ impl<'a> State<'a> {
     pub(crate) fn apply<L: Ledger>(
         &mut self,
         alloc: Global,
-        setup: &Setup<'_>,
+        setup: &RunSetup<'_>,
         batch: &Batch,
         steps: &mut Steps<L>,
     ) -> Result<(), NoMemory>
         requires made { IsSessionOf setup.now.basin.now setup.now.policy.now self.old }
-        requires order { AreInOrder
-            (map (λ b. code (b.vtable, b.value)) setup.now.methods.now.methods.items) }
         requires batch { IsBatch setup.now.basin.now batch.now }
         ensures applied { IfOk result (λ done. Applies setup.now.basin.now setup.now.policy.now
             batch.now self.old self.new) }

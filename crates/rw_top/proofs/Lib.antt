@@ -22,3 +22,4 @@ pub mod FewBatches
 pub mod WhyText
 pub mod SampleText
 pub mod OneSample
+pub mod OneOutput

@@ -68,7 +68,7 @@ one_numbered (step ∷ steps) (other ∷ others) same =
 
 -- ---- what is given
 
-abbrev AreBoth : Option Inputs → Option Inputs → Type 0
+abbrev pub AreBoth : Option Inputs → Option Inputs → Type 0
 AreBoth None None = Unit {0}
 AreBoth None (Some other) = ⊥
 AreBoth (Some one) None = ⊥
@@ -96,7 +96,7 @@ some_and_none (Some x) (Some y) P same has is = none-some _ (sym is)
 module _ (one_run : (basin : Draft) (policy : Policy) (inputs : List (Cell × ℤ)) (log other : Log) → IsRun basin policy inputs log
     → IsRun basin policy inputs other → log ≡ other) (basin : Draft) where
   -- inputs with the same values have one run
-  one_log : (policy : Policy) (inputs others : Inputs) (log other : Log) → value_at inputs ≡ value_at others
+  pub one_log : (policy : Policy) (inputs others : Inputs) (log other : Log) → value_at inputs ≡ value_at others
       → IsRun basin policy (placings basin inputs) log → IsRun basin policy (placings basin others) other → log ≡ other
   one_log policy inputs others log other same left right =
       let at : (slot step : ℕ) → value_at inputs slot step ≡ value_at others slot step = λ slot step. ap (λ (v : Values). v slot step) same in

@@ -16,3 +16,4 @@ pub mod Refusal
 pub mod Lines
 pub mod Promise
 pub mod FirstCall
+pub mod Alike

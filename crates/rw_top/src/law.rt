@@ -20,6 +20,7 @@ ghost use Rattle.rpl_types.specs.HasType.{IsTyped};
 ghost use Rattle.rpl_verify.specs.Budget.{AreAccepted};
 ghost use Rattle.rpl_compile.specs.Budgets.{code_budgets_of};
 ghost use Rattle.rpl_compile.specs.Translate.{translate};
+ghost use Rattle.rw_top.specs.Alike.{AppendAlike, AskAlike};
 ghost use Rattle.rw_top.specs.Budgets.{budget_in, check_text, rules_in};
 ghost use Rattle.rw_top.specs.Call.{Call};
 ghost use Rattle.rw_top.specs.Command.{AskOne, AskNothing, AskForCommand, order, simulation_of};
@@ -110,6 +111,15 @@ pub fn one_answer()
         → IsWhyOfRules basin policy inputs cell end text
         → IsWhyOfRules basin policy others cell other more
         → (end ≡ other) × (text ≡ more) }
+{
+    one_run();
+}
+
+/// Calls with the same words over shelves that tell the same files, which answer 0 or 1, answer the same and append the same bytes.
+pub fn one_output()
+    ensures { (one other : Call) (status more : ℕ) → AskAlike one other
+        → Promise one status → Promise other more → status ≤ 1 → more ≤ 1
+        → (status ≡ more) × AppendAlike one.out other.out }
 {
     one_run();
 }

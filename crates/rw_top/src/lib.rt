@@ -22,7 +22,6 @@ mod reused;
 mod run;
 mod sample;
 mod sections;
-mod setup;
 mod simulate;
 mod tell;
 mod top;

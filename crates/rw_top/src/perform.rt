@@ -25,13 +25,12 @@ use crate::files::{Files, read_files};
 use crate::reused::write_reused;
 use crate::sample::sample_by_policy;
 use crate::sections::write_sections;
-use crate::setup::RunSetup;
 use crate::simulate::text_without_rules;
 use crate::why::why_by_policy;
 use rpl_predef::Predefs;
 use rpl_verify::Verified;
 use rw_base::{Ledger, NoMemory, Steps};
-use rw_engine::RunEnd;
+use rw_engine::{RunEnd, RunSetup};
 use rw_inputs::{Batch, Inputs};
 use rw_io::{Shelf, Sink, WriteFault, write_all};
 use rw_method::Catalogue;
@@ -65,9 +64,11 @@ fn simulate<L: Ledger>(
     let Some(inputs) = &files.inputs else {
         unreachable!();
     };
+    let none = Verified::none(alloc);
     let setup = RunSetup {
         basin: &files.basin,
         methods,
+        policy: &none,
         predefs,
     };
     let (text, end) = text_without_rules(alloc, &setup, extras, inputs, steps)?;
@@ -120,9 +121,11 @@ fn tell_why<L: Ledger>(
     let Some(cell) = files.cell else {
         unreachable!();
     };
+    let none = Verified::none(alloc);
     let setup = RunSetup {
         basin: &files.basin,
         methods,
+        policy: &none,
         predefs,
     };
     let (text, end) = why_by_policy(alloc, &setup, policy, inputs, cell, steps)?;
@@ -149,9 +152,11 @@ fn sample<L: Ledger>(
     let Some(inputs) = &files.inputs else {
         unreachable!();
     };
+    let none = Verified::none(alloc);
     let setup = RunSetup {
         basin: &files.basin,
         methods,
+        policy: &none,
         predefs,
     };
     let text = sample_by_policy(alloc, &setup, policy, inputs, seed, steps)?;
@@ -196,34 +201,32 @@ fn batches_of(edits: &Option<Vec<Batch>>) -> &[Batch]
 fn write_runs<K: Sink, L: Ledger>(
     alloc: Global,
     setup: &RunSetup<'_>,
-    by: &Verified,
     extras: Extras,
     inputs: Inputs,
     batches: &[Batch],
     steps: &mut Steps<L>,
     out: &mut K,
 ) -> Result<RunEnd, Refusal>
-    requires order { AreInOrder
-        (map (λ b. code (b.vtable, b.value)) setup.now.methods.now.methods.items) }
-    requires fits { verified setup.now.basin.now by.now.blocks ≡ Ok by.now }
+    requires fits { verified setup.now.basin.now setup.now.policy.now.blocks
+        ≡ Ok setup.now.policy.now }
     requires inputs { IsInputsOf setup.now.basin.now inputs }
     requires batches { All (IsBatch setup.now.basin.now) batches.now }
     requires few { length batches.now ≤ 64 }
-    ensures text { (policy : PolicyFile) → IsCodeOf setup.now.basin.now policy by.now
+    ensures text { (policy : PolicyFile) → IsCodeOf setup.now.basin.now policy setup.now.policy.now
         → MatchResult result
         (AppendsAll (IsRulesText setup.now.basin.now policy extras)
         0 (first_given inputs) batches.now (change (K.seen out.old) (K.seen out.new)))
         (StopsAmong (IsRulesText setup.now.basin.now policy extras)
         0 (first_given inputs) batches.now (change (K.seen out.old) (K.seen out.new))) }
-    ensures counted { (policy : PolicyFile) → IsCodeOf setup.now.basin.now policy by.now
-        → IsTrue extras.reuse → IfOk result
+    ensures counted { (policy : PolicyFile)
+        → IsCodeOf setup.now.basin.now policy setup.now.policy.now → IsTrue extras.reuse → IfOk result
         (λ end. CountsSections setup.now.basin.now policy inputs batches.now
         (change steps.old steps.new)) }
 {
     if extras.reuse {
-        write_reused(alloc, setup, by, extras, inputs, batches, steps, out)
+        write_reused(alloc, setup, extras, inputs, batches, steps, out)
     } else {
-        write_sections(alloc, setup, by, extras, inputs, batches, steps, out)
+        write_sections(alloc, setup, extras, inputs, batches, steps, out)
     }
 }
 
@@ -266,9 +269,10 @@ fn run<K: Sink, L: Ledger>(
     let setup = RunSetup {
         basin: &basin,
         methods,
+        policy: &by,
         predefs,
     };
-    match write_runs(alloc, &setup, &by, extras, inputs, batches, steps, out) {
+    match write_runs(alloc, &setup, extras, inputs, batches, steps, out) {
         Ok(end) => Ok(status_of_run(&end)),
         Err(refusal) => Err(refusal),
     }

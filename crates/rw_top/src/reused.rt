@@ -1,11 +1,10 @@
 // The sections of a run by a policy that takes timesteps over after a batch of edits.
-ghost use Rattle.std.specs.Prelude.{◌≡◌, ◌≤◌, ◌+◌, length, map, option_map, IfOk, MatchResult, Ok, true};
+ghost use Rattle.std.specs.Prelude.{◌≡◌, ◌≤◌, ◌+◌, length, option_map, IfOk, MatchResult, Ok, true};
 ghost use Rattle.std.specs.List.{All};
 ghost use Rattle.rpl_verify.specs.Verified.{verified};
 ghost use Rattle.rw_inputs.specs.Edits.{IsBatch};
 ghost use Rattle.rw_inputs.specs.Inputs.{IsInputsOf};
 ghost use Rattle.rw_io.specs.Outside.{change};
-ghost use Rattle.rw_method.specs.Catalogue.{AreInOrder};
 ghost use Rattle.rw_report.specs.Sheet.{AreToldOf};
 ghost use Rattle.rw_series.specs.Series.{held};
 ghost use Rattle.rw_top.specs.Policy.{PolicyFile as Rules};
@@ -16,14 +15,12 @@ ghost use Rattle.rw_top.specs.Sections.{AppendsAll, AppendsOne, GivenInputs, Sto
 use crate::Refusal;
 use crate::extras::Extras;
 use crate::sections::first_of;
-use crate::setup::RunSetup;
-use rpl_verify::Verified;
 use rw_base::{Ledger, NoMemory, StepNo, Steps};
-use rw_engine::RunEnd;
+use rw_engine::{RunEnd, RunSetup};
 use rw_inputs::{Batch, Inputs};
 use rw_io::{Sink, WriteFault, write_all};
-use rw_report::Sheet;
 use rw_report::law::texts_of_runs;
+use rw_report::{Sheet, Telling};
 use rw_rerun::Session;
 use std::alloc::Global;
 
@@ -60,8 +57,14 @@ fn tell_run(
     texts_of_runs();
     let run = session.run();
     let reran = told(session, number);
+    let telling = Telling {
+        batch: number,
+        reran,
+        flags: extras.flags,
+        trace: extras.trace,
+    };
     let same = session.same();
-    sheet.tell(number, run, reran, extras.flags, extras.trace, same)?;
+    sheet.tell(run, &telling, same)?;
     Ok(run.end)
 }
 
@@ -109,8 +112,6 @@ fn write_from<K: Sink, L: Ledger>(
 ) -> Result<RunEnd, Refusal>
     requires can { CanTell session.old.setup.basin.now session.old.setup.policy.now extras
         session.old.state sheet.old }
-    requires order { AreInOrder
-        (map (λ b. code (b.vtable, b.value)) session.old.setup.methods.now.methods.items) }
     requires batches { All (IsBatch session.old.setup.basin.now) batches.now }
     requires few { number + length batches.now ≤ 64 }
     ensures { (policy : Rules) (given : GivenInputs)
@@ -138,40 +139,35 @@ fn write_from<K: Sink, L: Ledger>(
 pub(crate) fn write_reused<K: Sink, L: Ledger>(
     alloc: Global,
     setup: &RunSetup<'_>,
-    by: &Verified,
     extras: Extras,
     inputs: Inputs,
     batches: &[Batch],
     steps: &mut Steps<L>,
     out: &mut K,
 ) -> Result<RunEnd, Refusal>
-    requires fits { verified setup.now.basin.now by.now.blocks ≡ Ok by.now }
-    requires order { AreInOrder
-        (map (λ b. code (b.vtable, b.value)) setup.now.methods.now.methods.items) }
+    requires fits { verified setup.now.basin.now setup.now.policy.now.blocks
+        ≡ Ok setup.now.policy.now }
     requires inputs { IsInputsOf setup.now.basin.now inputs }
     requires batches { All (IsBatch setup.now.basin.now) batches.now }
     requires few { length batches.now ≤ 64 }
     requires reuse { extras.reuse ≡ true }
-    ensures text { (policy : Rules) → IsCodeOf setup.now.basin.now policy by.now
+    ensures text { (policy : Rules) → IsCodeOf setup.now.basin.now policy setup.now.policy.now
         → MatchResult result
         (AppendsAll (IsRulesText setup.now.basin.now policy extras)
         0 (first_given inputs) batches.now (change (K.seen out.old) (K.seen out.new)))
         (StopsAmong (IsRulesText setup.now.basin.now policy extras)
         0 (first_given inputs) batches.now (change (K.seen out.old) (K.seen out.new))) }
-    ensures counted { (policy : Rules) → IsCodeOf setup.now.basin.now policy by.now
+    ensures counted { (policy : Rules) → IsCodeOf setup.now.basin.now policy setup.now.policy.now
         → IfOk result (λ end. CountsSections setup.now.basin.now policy inputs batches.now
         (change steps.old steps.new)) }
 {
-    let mut session = match Session::start(
-        alloc,
-        setup.basin,
-        setup.methods,
-        by,
-        setup.predefs,
-        inputs,
-        extras.trace,
-        steps,
-    ) {
+    let own = RunSetup {
+        basin: setup.basin,
+        methods: setup.methods,
+        policy: setup.policy,
+        predefs: setup.predefs,
+    };
+    let mut session = match Session::start_of(alloc, own, inputs, extras.trace, steps) {
         Ok(session) => session,
         Err(NoMemory) => return Err(Refusal::NoMemory),
     };

@@ -1,9 +1,6 @@
 // A run by the policy of a file, and its text.
-ghost use Rattle.std.specs.Prelude.{◌≡◌, ◌≤◌, map, IfOk, IsOk, IsSome, IsTrue, Ok, Option, false};
-ghost use Rattle.rw_engine.specs.Passing.{ComesTo};
+ghost use Rattle.std.specs.Prelude.{◌≡◌, ◌≤◌, IfOk, IsOk, IsSome, IsTrue, Ok, Option, false};
 ghost use Rattle.rw_inputs.specs.Inputs.{Inputs as Rows, IsInputsOf};
-ghost use Rattle.rw_method.specs.Catalogue.{AreInOrder};
-ghost use Rattle.rw_rules.specs.Rules.{policy_in};
 ghost use Rattle.rpl_tree.specs.Seen.{rules_of};
 ghost use Rattle.rpl_types.specs.Judged.{rules_judged};
 ghost use Rattle.rpl_verify.specs.Verified.{verified};
@@ -15,56 +12,14 @@ ghost use Rattle.rw_top.specs.Seen.{policy_of};
 use crate::coded::{code_of_rules, code_runs};
 use crate::extras::Extras;
 use crate::policy::Policy;
-use crate::setup::RunSetup;
 use rpl_types::Typed;
 use rpl_verify::Verified;
 use rw_base::{Ledger, NoMemory, Steps};
-use rw_engine::{Run, RunEnd, run_all, run_without_trace};
+use rw_engine::{Run, RunEnd, RunSetup, run_all_of};
 use rw_inputs::Inputs;
-use rw_report::Sheet;
 use rw_report::law::texts_of_runs;
+use rw_report::{Sheet, Telling};
 use std::alloc::Global;
-
-/// The run by verified code, from inputs, with its trace where that is asked for.
-pub(crate) fn run_by_code<L: Ledger>(
-    alloc: Global,
-    setup: &RunSetup<'_>,
-    policy: &Verified,
-    trace: bool,
-    inputs: &Inputs,
-    steps: &mut Steps<L>,
-) -> Result<Run, NoMemory>
-    requires fits { verified setup.now.basin.now policy.now.blocks ≡ Ok policy.now }
-    requires order { AreInOrder
-        (map (λ b. code (b.vtable, b.value)) setup.now.methods.now.methods.items) }
-    requires inputs { IsInputsOf setup.now.basin.now inputs.now }
-    ensures run { IfOk result (ComesTo setup.now.basin.now
-        (policy_in setup.now.basin.now policy.now) inputs.now) }
-    ensures closed { IfOk result (λ run. run.closed ≤ setup.now.basin.now.control.stamps.count) }
-    ensures kept { IfOk result (λ run. IsTrue trace → IsSome run.trace) }
-{
-    if trace {
-        run_all(
-            alloc,
-            setup.basin,
-            setup.methods,
-            policy,
-            setup.predefs,
-            inputs,
-            steps,
-        )
-    } else {
-        run_without_trace(
-            alloc,
-            setup.basin,
-            setup.methods,
-            policy,
-            setup.predefs,
-            inputs,
-            steps,
-        )
-    }
-}
 
 // By code that is verified for the basin.
 fn run_by_verified<L: Ledger>(
@@ -76,8 +31,6 @@ fn run_by_verified<L: Ledger>(
     steps: &mut Steps<L>,
 ) -> Result<Run, NoMemory>
     requires fits { verified setup.now.basin.now policy.now.blocks ≡ Ok policy.now }
-    requires order { AreInOrder
-        (map (λ b. code (b.vtable, b.value)) setup.now.methods.now.methods.items) }
     requires inputs { IsInputsOf setup.now.basin.now inputs.now }
     ensures run { IfOk result (ComesBy setup.now.basin.now
         (Code policy.now.blocks policy.now.budgets) inputs.now) }
@@ -85,7 +38,13 @@ fn run_by_verified<L: Ledger>(
     ensures kept { IfOk result (λ run. IsTrue trace → IsSome run.trace) }
 {
     code_runs();
-    let run = run_by_code(alloc, setup, policy, trace, inputs, steps)?;
+    let by_code = RunSetup {
+        basin: setup.basin,
+        methods: setup.methods,
+        policy,
+        predefs: setup.predefs,
+    };
+    let run = run_all_of(alloc, &by_code, inputs, trace, steps)?;
     Ok(run)
 }
 
@@ -99,8 +58,6 @@ fn run_by_ruleset<L: Ledger>(
     steps: &mut Steps<L>,
 ) -> Result<Run, NoMemory>
     requires fits { IsOk (rules_judged setup.now.basin.now (rules_of typed.now.rules)) }
-    requires order { AreInOrder
-        (map (λ b. code (b.vtable, b.value)) setup.now.methods.now.methods.items) }
     requires inputs { IsInputsOf setup.now.basin.now inputs.now }
     ensures run { IfOk result (ComesBy setup.now.basin.now
         (Ruleset (rules_of typed.now.rules)) inputs.now) }
@@ -108,11 +65,17 @@ fn run_by_ruleset<L: Ledger>(
     ensures kept { IfOk result (λ run. IsTrue trace → IsSome run.trace) }
 {
     let code = code_of_rules(alloc, typed, setup.basin)?;
-    let run = run_by_code(alloc, setup, &code, trace, inputs, steps)?;
+    let by_code = RunSetup {
+        basin: setup.basin,
+        methods: setup.methods,
+        policy: &code,
+        predefs: setup.predefs,
+    };
+    let run = run_all_of(alloc, &by_code, inputs, trace, steps)?;
     Ok(run)
 }
 
-/// The run by a policy that is accepted for the basin, from inputs, with its trace where that is asked for.
+/// The run by a policy that is accepted for the basin, in the place of the setup's own, from inputs, with its trace where that is asked for.
 pub(crate) fn run_by_policy<L: Ledger>(
     alloc: Global,
     setup: &RunSetup<'_>,
@@ -122,8 +85,6 @@ pub(crate) fn run_by_policy<L: Ledger>(
     steps: &mut Steps<L>,
 ) -> Result<Run, NoMemory>
     requires fits { IsFit setup.now.basin.now policy.now }
-    requires order { AreInOrder
-        (map (λ b. code (b.vtable, b.value)) setup.now.methods.now.methods.items) }
     requires inputs { IsInputsOf setup.now.basin.now inputs.now }
     ensures run { IfOk result (ComesBy setup.now.basin.now (policy_of policy.now) inputs.now) }
     ensures closed { IfOk result (λ run. run.closed ≤ setup.now.basin.now.control.stamps.count) }
@@ -139,27 +100,31 @@ pub(crate) fn run_by_policy<L: Ledger>(
 pub(crate) fn tell_by_code<L: Ledger>(
     alloc: Global,
     setup: &RunSetup<'_>,
-    by: &Verified,
     extras: Extras,
     number: u32,
     inputs: &Inputs,
     steps: &mut Steps<L>,
     sheet: &mut Sheet<'_>,
 ) -> Result<RunEnd, NoMemory>
-    requires fits { verified setup.now.basin.now by.now.blocks ≡ Ok by.now }
-    requires order { AreInOrder
-        (map (λ b. code (b.vtable, b.value)) setup.now.methods.now.methods.items) }
+    requires fits { verified setup.now.basin.now setup.now.policy.now.blocks
+        ≡ Ok setup.now.policy.now }
     requires inputs { IsInputsOf setup.now.basin.now inputs.now }
     requires plain { extras.reuse ≡ false }
     requires sheet { sheet.old.basin ≡ setup.now.basin.now }
     ensures text { (policy : PolicyFile) (before : Option Rows)
-        → IsCodeOf setup.now.basin.now policy by.now
+        → IsCodeOf setup.now.basin.now policy setup.now.policy.now
         → IfOk result (λ end. IsRulesText setup.now.basin.now policy extras
         number (record { before = before; inputs = inputs.now }) end sheet.new.text) }
     ensures sheet { sheet.new.basin ≡ sheet.old.basin }
 {
     texts_of_runs();
-    let run = run_by_code(alloc, setup, by, extras.trace, inputs, steps)?;
-    sheet.tell(number, &run, None, extras.flags, extras.trace, 0)?;
+    let run = run_all_of(alloc, setup, inputs, extras.trace, steps)?;
+    let telling = Telling {
+        batch: number,
+        reran: None,
+        flags: extras.flags,
+        trace: extras.trace,
+    };
+    sheet.tell(&run, &telling, 0)?;
     Ok(run.end)
 }

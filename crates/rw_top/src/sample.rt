@@ -1,7 +1,6 @@
 // The sample of a seed: the texts of its files, and the line on its run.
-ghost use Rattle.std.specs.Prelude.{◌≡◌, map, IfOk};
+ghost use Rattle.std.specs.Prelude.{◌≡◌, IfOk};
 ghost use Rattle.rw_inputs.specs.Inputs.{IsInputsOf};
-ghost use Rattle.rw_method.specs.Catalogue.{AreInOrder};
 ghost use Rattle.rw_top.specs.Command.{sample_text};
 ghost use Rattle.rw_top.specs.Ready.{IsFit};
 ghost use Rattle.rw_top.specs.RunText.{IsSampleText};
@@ -10,8 +9,8 @@ ghost use Rattle.rw_top.specs.Seen.{policy_of};
 use crate::File;
 use crate::policy::Policy;
 use crate::run::run_by_policy;
-use crate::setup::RunSetup;
 use rw_base::{Ledger, NoMemory, Steps};
+use rw_engine::RunSetup;
 use rw_inputs::Inputs;
 use rw_report::law::texts_of_runs;
 use rw_sample::{sample_inputs, sample_line, sample_model, sample_rules};
@@ -39,8 +38,6 @@ pub(crate) fn sample_by_policy<L: Ledger>(
     steps: &mut Steps<L>,
 ) -> Result<Vec<u8>, NoMemory>
     requires fits { IsFit setup.now.basin.now policy.now }
-    requires order { AreInOrder
-        (map (λ b. code (b.vtable, b.value)) setup.now.methods.now.methods.items) }
     requires inputs { IsInputsOf setup.now.basin.now inputs.now }
     ensures { IfOk result (λ text. IsSampleText setup.now.basin.now (policy_of policy.now)
         inputs.now seed text.items) }

@@ -1,10 +1,9 @@
 // The sections of a run by code, each written as soon as it is made.
-ghost use Rattle.std.specs.Prelude.{◌≡◌, ◌≤◌, ◌+◌, [], ◌∷◌, false, length, map, IfOk, MatchOption, MatchResult, Ok, Option};
+ghost use Rattle.std.specs.Prelude.{◌≡◌, ◌≤◌, ◌+◌, [], ◌∷◌, false, length, IfOk, MatchOption, MatchResult, Ok, Option};
 ghost use Rattle.std.specs.List.{All};
 ghost use Rattle.rw_inputs.specs.Edits.{IsBatch, after_batch};
 ghost use Rattle.rw_inputs.specs.Inputs.{Inputs as Rows, IsInputsOf, value_at};
 ghost use Rattle.rw_io.specs.Outside.{change};
-ghost use Rattle.rw_method.specs.Catalogue.{AreInOrder};
 ghost use Rattle.rpl_verify.specs.Verified.{verified};
 ghost use Rattle.rw_top.specs.Policy.{PolicyFile as Rules};
 ghost use Rattle.rw_top.specs.RunText.{IsCodeOf, IsRulesText};
@@ -13,10 +12,8 @@ ghost use Rattle.rw_top.specs.Sections.{AppendsAll, AppendsOne, StopsAmong, Stop
 use crate::Refusal;
 use crate::extras::Extras;
 use crate::run::tell_by_code;
-use crate::setup::RunSetup;
-use rpl_verify::Verified;
 use rw_base::{Ledger, NoMemory, Steps};
-use rw_engine::RunEnd;
+use rw_engine::{RunEnd, RunSetup};
 use rw_inputs::{Batch, Inputs, apply};
 use rw_io::{Sink, WriteFault, write_all};
 use rw_model::Basin;
@@ -27,7 +24,6 @@ use std::alloc::Global;
 fn write_section<K: Sink, L: Ledger>(
     alloc: Global,
     setup: &RunSetup<'_>,
-    by: &Verified,
     extras: Extras,
     number: u32,
     inputs: &Inputs,
@@ -35,14 +31,13 @@ fn write_section<K: Sink, L: Ledger>(
     sheet: &mut Sheet<'_>,
     out: &mut K,
 ) -> Result<RunEnd, Refusal>
-    requires order { AreInOrder
-        (map (λ b. code (b.vtable, b.value)) setup.now.methods.now.methods.items) }
-    requires fits { verified setup.now.basin.now by.now.blocks ≡ Ok by.now }
+    requires fits { verified setup.now.basin.now setup.now.policy.now.blocks
+        ≡ Ok setup.now.policy.now }
     requires inputs { IsInputsOf setup.now.basin.now inputs.now }
     requires plain { extras.reuse ≡ false }
     requires sheet { sheet.old.basin ≡ setup.now.basin.now }
     ensures out { (policy : Rules) (before : Option Rows)
-        → IsCodeOf setup.now.basin.now policy by.now → MatchResult result
+        → IsCodeOf setup.now.basin.now policy setup.now.policy.now → MatchResult result
         (AppendsOne (IsRulesText setup.now.basin.now policy extras)
         number (record { before = before; inputs = inputs.now })
         (change (K.seen out.old) (K.seen out.new)))
@@ -51,7 +46,7 @@ fn write_section<K: Sink, L: Ledger>(
         (change (K.seen out.old) (K.seen out.new))) }
     ensures sheet { sheet.new.basin ≡ sheet.old.basin }
 {
-    let end = match tell_by_code(alloc, setup, by, extras, number, inputs, steps, sheet) {
+    let end = match tell_by_code(alloc, setup, extras, number, inputs, steps, sheet) {
         Ok(end) => end,
         Err(NoMemory) => return Err(Refusal::NoMemory),
     };
@@ -87,7 +82,6 @@ pub(crate) fn first_of(batches: &[Batch]) -> Option<(&Batch, &[Batch])>
 fn write_from<K: Sink, L: Ledger>(
     alloc: Global,
     setup: &RunSetup<'_>,
-    by: &Verified,
     extras: Extras,
     number: u32,
     inputs: Inputs,
@@ -96,16 +90,15 @@ fn write_from<K: Sink, L: Ledger>(
     sheet: &mut Sheet<'_>,
     out: &mut K,
 ) -> Result<RunEnd, Refusal>
-    requires order { AreInOrder
-        (map (λ b. code (b.vtable, b.value)) setup.now.methods.now.methods.items) }
-    requires fits { verified setup.now.basin.now by.now.blocks ≡ Ok by.now }
+    requires fits { verified setup.now.basin.now setup.now.policy.now.blocks
+        ≡ Ok setup.now.policy.now }
     requires inputs { IsInputsOf setup.now.basin.now inputs }
     requires batches { All (IsBatch setup.now.basin.now) batches.now }
     requires few { number + length batches.now ≤ 64 }
     requires plain { extras.reuse ≡ false }
     requires sheet { sheet.old.basin ≡ setup.now.basin.now }
     ensures { (policy : Rules) (before : Option Rows)
-        → IsCodeOf setup.now.basin.now policy by.now → MatchResult result
+        → IsCodeOf setup.now.basin.now policy setup.now.policy.now → MatchResult result
         (AppendsAll (IsRulesText setup.now.basin.now policy extras)
         number (record { before = before; inputs = inputs }) batches.now
         (change (K.seen out.old) (K.seen out.new)))
@@ -113,7 +106,7 @@ fn write_from<K: Sink, L: Ledger>(
         number (record { before = before; inputs = inputs }) batches.now
         (change (K.seen out.old) (K.seen out.new))) }
 {
-    let end = match write_section(alloc, setup, by, extras, number, &inputs, steps, sheet, out) {
+    let end = match write_section(alloc, setup, extras, number, &inputs, steps, sheet, out) {
         Ok(end) => end,
         Err(refusal) => return Err(refusal),
     };
@@ -123,7 +116,6 @@ fn write_from<K: Sink, L: Ledger>(
             Ok(edited) => write_from(
                 alloc,
                 setup,
-                by,
                 extras,
                 number + 1,
                 edited,
@@ -141,21 +133,20 @@ fn write_from<K: Sink, L: Ledger>(
 pub(crate) fn write_sections<K: Sink, L: Ledger>(
     alloc: Global,
     setup: &RunSetup<'_>,
-    by: &Verified,
     extras: Extras,
     inputs: Inputs,
     batches: &[Batch],
     steps: &mut Steps<L>,
     out: &mut K,
 ) -> Result<RunEnd, Refusal>
-    requires order { AreInOrder
-        (map (λ b. code (b.vtable, b.value)) setup.now.methods.now.methods.items) }
-    requires fits { verified setup.now.basin.now by.now.blocks ≡ Ok by.now }
+    requires fits { verified setup.now.basin.now setup.now.policy.now.blocks
+        ≡ Ok setup.now.policy.now }
     requires inputs { IsInputsOf setup.now.basin.now inputs }
     requires batches { All (IsBatch setup.now.basin.now) batches.now }
     requires few { length batches.now ≤ 64 }
     requires plain { extras.reuse ≡ false }
-    ensures { (policy : Rules) → IsCodeOf setup.now.basin.now policy by.now → MatchResult result
+    ensures { (policy : Rules) → IsCodeOf setup.now.basin.now policy setup.now.policy.now
+        → MatchResult result
         (AppendsAll (IsRulesText setup.now.basin.now policy extras)
         0 (first_given inputs) batches.now (change (K.seen out.old) (K.seen out.new)))
         (StopsAmong (IsRulesText setup.now.basin.now policy extras)
@@ -163,6 +154,6 @@ pub(crate) fn write_sections<K: Sink, L: Ledger>(
 {
     let mut sheet = Sheet::new(alloc, setup.basin, !batches.is_empty());
     write_from(
-        alloc, setup, by, extras, 0, inputs, batches, steps, &mut sheet, out,
+        alloc, setup, extras, 0, inputs, batches, steps, &mut sheet, out,
     )
 }

@@ -1,16 +1,12 @@
 // The text of a run without rules.
-ghost use Rattle.std.specs.Prelude.{map, IfOk, None};
+ghost use Rattle.std.specs.Prelude.{◌≡◌, [], IfOk, None};
 ghost use Rattle.rw_inputs.specs.Inputs.{IsInputsOf};
-ghost use Rattle.rw_method.specs.Catalogue.{AreInOrder};
 ghost use Rattle.rw_run.specs.Next.{no_rules};
 ghost use Rattle.rw_top.specs.RunText.{IsNewestText, IsRunText, IsSimulated};
 
 use crate::extras::Extras;
-use crate::run::run_by_code;
-use crate::setup::RunSetup;
-use rpl_verify::Verified;
 use rw_base::{Ledger, NoMemory, Steps};
-use rw_engine::RunEnd;
+use rw_engine::{RunEnd, RunSetup, run_all_of};
 use rw_inputs::Inputs;
 use rw_order::{Newest, run_any};
 use rw_report::law::texts_of_runs;
@@ -27,16 +23,14 @@ fn text_of_oldest<L: Ledger>(
     inputs: &Inputs,
     steps: &mut Steps<L>,
 ) -> Result<(Vec<u8>, RunEnd), NoMemory>
-    requires order { AreInOrder
-        (map (λ b. code (b.vtable, b.value)) setup.now.methods.now.methods.items) }
+    requires none { setup.now.policy.now ≡ record { blocks = []; budgets = []; resolved = [] } }
     requires inputs { IsInputsOf setup.now.basin.now inputs.now }
     ensures { IfOk result (λ pair. IsRunText setup.now.basin.now no_rules extras None 0
         inputs.now pair.1 pair.0.items) }
 {
     same_runs();
     texts_of_runs();
-    let empty = Verified::none(alloc);
-    let run = run_by_code(alloc, setup, &empty, extras.trace, inputs, steps)?;
+    let run = run_all_of(alloc, setup, inputs, extras.trace, steps)?;
     let text = section(
         alloc,
         setup.basin,
@@ -56,8 +50,6 @@ fn text_of_newest(
     extras: Extras,
     inputs: &Inputs,
 ) -> Result<(Vec<u8>, RunEnd), NoMemory>
-    requires order { AreInOrder
-        (map (λ b. code (b.vtable, b.value)) setup.now.methods.now.methods.items) }
     requires inputs { IsInputsOf setup.now.basin.now inputs.now }
     ensures { IfOk result (λ pair. IsNewestText setup.now.basin.now extras 0
         inputs.now pair.1 pair.0.items) }
@@ -76,7 +68,7 @@ fn text_of_newest(
     Ok((text, run.end))
 }
 
-/// The text of the run without rules, from inputs and in the order of dispatches that is asked for, and how the run ended.
+/// The text of the run of a setup without rules, from inputs and in the order of dispatches that is asked for, and how the run ended.
 pub(crate) fn text_without_rules<L: Ledger>(
     alloc: Global,
     setup: &RunSetup<'_>,
@@ -84,8 +76,7 @@ pub(crate) fn text_without_rules<L: Ledger>(
     inputs: &Inputs,
     steps: &mut Steps<L>,
 ) -> Result<(Vec<u8>, RunEnd), NoMemory>
-    requires order { AreInOrder
-        (map (λ b. code (b.vtable, b.value)) setup.now.methods.now.methods.items) }
+    requires none { setup.now.policy.now ≡ record { blocks = []; budgets = []; resolved = [] } }
     requires inputs { IsInputsOf setup.now.basin.now inputs.now }
     ensures { IfOk result (λ pair. IsSimulated extras.order setup.now.basin.now extras 0
         inputs.now pair.1 pair.0.items) }

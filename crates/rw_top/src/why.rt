@@ -1,7 +1,6 @@
 // How a cell came to what it holds in a run by the policy of a file.
-ghost use Rattle.std.specs.Prelude.{map, IfOk};
+ghost use Rattle.std.specs.Prelude.{IfOk};
 ghost use Rattle.rw_inputs.specs.Inputs.{IsInputsOf};
-ghost use Rattle.rw_method.specs.Catalogue.{AreInOrder};
 ghost use Rattle.rw_model.specs.Draft.{IsSlot};
 ghost use Rattle.rw_top.specs.Ready.{IsFit};
 ghost use Rattle.rw_top.specs.RunText.{IsWhyOfRules};
@@ -9,9 +8,8 @@ ghost use Rattle.rw_top.specs.Seen.{policy_of};
 
 use crate::policy::Policy;
 use crate::run::run_by_policy;
-use crate::setup::RunSetup;
 use rw_base::{Cell, Ledger, NoMemory, Steps};
-use rw_engine::RunEnd;
+use rw_engine::{RunEnd, RunSetup};
 use rw_inputs::Inputs;
 use rw_report::law::texts_of_runs;
 use rw_report::why;
@@ -27,8 +25,6 @@ pub(crate) fn why_by_policy<L: Ledger>(
     steps: &mut Steps<L>,
 ) -> Result<(Vec<u8>, RunEnd), NoMemory>
     requires fits { IsFit setup.now.basin.now policy.now }
-    requires order { AreInOrder
-        (map (λ b. code (b.vtable, b.value)) setup.now.methods.now.methods.items) }
     requires inputs { IsInputsOf setup.now.basin.now inputs.now }
     requires slot { IsSlot setup.now.basin.now.objects cell.slot.0 }
     ensures { IfOk result (λ pair. IsWhyOfRules setup.now.basin.now (policy_of policy.now)

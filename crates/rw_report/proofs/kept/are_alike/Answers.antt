@@ -2,7 +2,7 @@ use Rattle.std.proofs.Common.{Option, ap, arith, option_map, ℕ, ℤ, ◌∙◌
 use Rattle.rw_model.specs.declared.content.Content.{Content}
 use Rattle.rw_series.specs.Series.{held}
 use Rattle.rw_report.specs.Section.{values_in}
-use Rattle.rw_report.proofs.Telling.{alike_more}
+use Rattle.rw_report.proofs.Listing.{alike_more}
 use Rattle.rw_report.proofs.kept.are_alike.Goals as goal
 
 pub loop-before-preserved : goal.loop-before-preserved

@@ -2,7 +2,7 @@ use Rattle.std.proofs.Common.{ap₂, arith, sym, ◌∙◌}
 use Rattle.rw_series.specs.Series.{held}
 use Rattle.rw_report.specs.Section.{values_in}
 use Rattle.rw_report.specs.Sheet.{sheet_line}
-use Rattle.rw_report.proofs.Telling.{row_told}
+use Rattle.rw_report.proofs.Listing.{row_told}
 use Rattle.rw_report.proofs.kept.is_current.Goals as goal
 
 pub returns-clause-row : goal.returns-clause-row

@@ -2,7 +2,7 @@ use Rattle.std.proofs.Common.{Option, ap, option_map, ℕ, ℤ, ◌∙◌}
 use Rattle.rw_model.specs.declared.content.Content.{Content}
 use Rattle.rw_series.specs.Series.{held}
 use Rattle.rw_report.specs.Section.{values_in}
-use Rattle.rw_report.proofs.Telling.{value_put}
+use Rattle.rw_report.proofs.Listing.{value_put}
 use Rattle.rw_report.proofs.kept.list.Goals as goal
 
 pub loop-before-preserved : goal.loop-before-preserved

@@ -14,7 +14,7 @@ loop-before-init c =
     let there = c.requires.lines.there in
     let many = c.args.lines.now.ok.0 in (
       c.in_ok-push_first.ensures c.args.basin.now (held c.args.series.now) (subst (All (IsTold c.args.basin.now)) lent c.requires.lines.told)
-          (subst (TellFirst c.args.basin.now (held c.args.series.now) c.args.first) lent c.requires.lines.same),
+          (subst (TellFirst c.args.basin.now (held c.args.series.now) c.args.extent.first) lent c.requires.lines.same),
       (c.requires.lines.told, (omega (arith, many, there), (c.requires.first, c.requires.lines.same))),
     )
 
@@ -46,7 +46,7 @@ pub returns-clause-rows : goal.returns-clause-rows
 returns-clause-rows c =
     let done = c.loop-before-test.false in
     let few = c.loop-before.invariant.1.1.1.0 in
-    let same : c.loop-before.before ≡ c.args.kept = omega (arith, done, few) in
+    let same : c.loop-before.before ≡ c.args.extent.kept = omega (arith, done, few) in
     c.loop-before.invariant.0
     ∙ ap (λ n. string_bytes c.args.text.now ++ for_each (row c.args.basin.now (values_in (held c.args.series.now))) n) same
 
@@ -56,7 +56,7 @@ returns-clause-lines c =
     let room = c.loop-before.invariant.1.1.0 in
     let few = c.loop-before.invariant.1.1.1.0 in
     let many = c.loop-before.lines.ok.0 in
-    let same : c.loop-before.before ≡ c.args.kept = omega (arith, done, few) in record {
+    let same : c.loop-before.before ≡ c.args.extent.kept = omega (arith, done, few) in record {
       told = c.loop-before.invariant.1.0;
       there = omega (arith, done, room, many);
       same =

@@ -8,5 +8,5 @@ use Rattle.rw_report.proofs.kept.push_kept.Given as goal
 abbrev pub invariant-loop-before : goal.invariant-loop-before
 invariant-loop-before l =
     (string_bytes l.text ≡ string_bytes l.fn.text ++ for_each (row l.basin (values_in (held l.series))) l.before)
-    × (All (IsTold l.basin) l.lines.items × ((l.before ≤ vec_len l.lines) × (l.before ≤ l.kept
+    × (All (IsTold l.basin) l.lines.items × ((l.before ≤ vec_len l.lines) × (l.before ≤ l.extent.kept
     × TellFirst l.basin (held l.series) l.before l.lines.items)))

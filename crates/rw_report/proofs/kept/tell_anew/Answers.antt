@@ -2,7 +2,7 @@ use Rattle.std.proofs.Common.{ap, refl, sym, ◌++◌, ◌∙◌}
 use Rattle.rw_series.specs.Series.{held}
 use Rattle.rw_report.specs.Section.{row, values_in}
 use Rattle.rw_report.specs.Sheet.{sheet_line}
-use Rattle.rw_report.proofs.Telling.{row_told}
+use Rattle.rw_report.proofs.Listing.{row_told}
 use Rattle.rw_report.proofs.kept.tell_anew.Goals as goal
 
 pub returns-clause-told : goal.returns-clause-told

@@ -59,7 +59,7 @@ write_from-requires g t c κs within =
               own = rw kept (c.in-Ok.ensures.sheet ∙ c.requires.can.own);
               same = rw kept same;
             },
-            (rw kept c.requires.order, (rw kept batches, omega (arith, few, shorter))),
+            (rw kept batches, omega (arith, few, shorter)),
           ),
         ),
       ),

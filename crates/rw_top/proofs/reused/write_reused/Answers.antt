@@ -18,27 +18,29 @@ returns-in-Err-clause-text g c = λ policy means.
 pub returns-clause-text : goal.returns-clause-text
 returns-clause-text g c = λ policy means.
     let setup = c.in-Ok.ensures.setup in
-    let next = first_next c.args.setup.now.basin.now policy c.args.by.now means c.args.inputs c.in-Ok.session.state c.in-Ok.ensures.started in
+    let next =
+    first_next c.args.setup.now.basin.now policy c.args.setup.now.policy.now means c.args.inputs c.in-Ok.session.state c.in-Ok.ensures.started in
     let writes : WritesFrom c.args.setup.now.basin.now policy c.args.extras 0 (first_given c.args.inputs) c.args.batches.now
     (length c.in-Ok.session.state.reran) (change (g.K.Sink.seen c.args.out.now) (g.K.Sink.seen c.write_from.new.out))
-    (change c.start.new.steps c.write_from.new.steps) c.write_from.result =
+    (change c.start_of.new.steps c.write_from.new.steps) c.write_from.result =
     rw setup at (c.write_from.ensures policy (first_given c.args.inputs) (rw setup means) (rw setup next)) in
     writes.text
 
 pub returns-clause-counted : goal.returns-clause-counted
 returns-clause-counted g c = λ policy means.
     let setup = c.in-Ok.ensures.setup in
-    let next = first_next c.args.setup.now.basin.now policy c.args.by.now means c.args.inputs c.in-Ok.session.state c.in-Ok.ensures.started in
+    let next =
+    first_next c.args.setup.now.basin.now policy c.args.setup.now.policy.now means c.args.inputs c.in-Ok.session.state c.in-Ok.ensures.started in
     let writes : WritesFrom c.args.setup.now.basin.now policy c.args.extras 0 (first_given c.args.inputs) c.args.batches.now
     (length c.in-Ok.session.state.reran) (change (g.K.Sink.seen c.args.out.now) (g.K.Sink.seen c.write_from.new.out))
-    (change c.start.new.steps c.write_from.new.steps) c.write_from.result =
+    (change c.start_of.new.steps c.write_from.new.steps) c.write_from.result =
     rw setup at (c.write_from.ensures policy (first_given c.args.inputs) (rw setup means) (rw setup next)) in
     all_counted c.args.setup.now.basin.now policy c.args.inputs c.args.batches.now (length c.in-Ok.session.state.reran) c.args.steps.now
-    c.start.new.steps
+    c.start_of.new.steps
     c.write_from.new.steps c.write_from.result c.in-Ok.ensures.counted.each writes.counted
 
-pub start-requires-clause-can : goal.start-requires-clause-can
-start-requires-clause-can g c = record { fits = c.requires.fits; inputs = c.requires.inputs }
+pub start_of-requires-clause-can : goal.start_of-requires-clause-can
+start_of-requires-clause-can g c = record { fits = c.requires.fits; inputs = c.requires.inputs }
 
 pub write_from-requires-clause-can : goal.write_from-requires-clause-can
 write_from-requires-clause-can g c =

@@ -18,3 +18,6 @@ returns-clause-text g c = λ policy before means.
     (untold basin (policy_in_run basin policy) c.args.extras.reuse (record { before = before; inputs = c.args.inputs.now }) comes.log
     c.requires.plain)
     (of_basin c.args.sheet.now.basin basin c.args.number c.in_ok-run.run' None c.args.extras _ c.requires.sheet c.in_ok-tell.ensures.text)
+
+pub run_all_of-requires : goal.run_all_of-requires
+run_all_of-requires g c = record { fits = c.requires.fits; inputs = c.requires.inputs }

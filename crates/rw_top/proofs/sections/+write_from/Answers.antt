@@ -41,13 +41,10 @@ write_from-requires g t c κs within =
         (
           within.1,
           (
-            c.requires.order,
+            c.requires.fits,
             (
-              c.requires.fits,
-              (
-                c.in-Ok-changed.ensures.made,
-                (batches, (omega (arith, few, shorter), (c.requires.plain, c.in-Ok.ensures.sheet ∙ c.requires.sheet))),
-              ),
+              c.in-Ok-changed.ensures.made,
+              (batches, (omega (arith, few, shorter), (c.requires.plain, c.in-Ok.ensures.sheet ∙ c.requires.sheet))),
             ),
           ),
         ),

@@ -1,5 +1,5 @@
-use Rattle.rw_top.proofs.Common.{None, ap}
-use Rattle.rpl_verify.specs.Verified.{Accepted}
+use Rattle.rw_top.proofs.Common.{None, Ok, ap, refl, subst, sym, ◌≡◌}
+use Rattle.rpl_verify.specs.Verified.{Accepted, verified}
 use Rattle.rw_top.proofs.OneText.{text_is_run}
 use Rattle.rw_top.proofs.RulesText.{without_rules}
 use Rattle.rw_top.proofs.simulate.text_of_oldest.Goals as goal
@@ -8,6 +8,12 @@ pub returns : goal.returns
 returns g c =
     let basin = c.args.setup.now.basin.now in
     let inputs = c.args.inputs.now in
-    without_rules c.same_runs.ensures.alike basin _ c.args.extras None _ inputs _ _ (ap (λ (a : Accepted). a.blocks) c.none-empty.ensures)
+    without_rules c.same_runs.ensures.alike basin _ c.args.extras None _ inputs _ _ (ap (λ (a : Accepted). a.blocks) c.requires.none)
     (text_is_run c.texts_of_runs.ensures.whole basin _ c.args.extras None _ inputs c.in_ok-run.run' _ c.in_ok-run.ensures.run c.in_ok-run.ensures.kept
     c.in_ok-text.ensures.text)
+
+pub run_all_of-requires : goal.run_all_of-requires
+run_all_of-requires g c = record {
+  fits = subst (λ (a : Accepted). verified c.args.setup.now.basin.now a.blocks ≡ Ok a) (sym c.requires.none) refl;
+  inputs = c.requires.inputs;
+}

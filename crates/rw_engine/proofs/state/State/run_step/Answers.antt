@@ -58,8 +58,8 @@ returns-in-Err-clause-made g c = record {
     };
     closed_steps = c.pass.ensures.made.engine.closed_steps;
     notes =
-        alike_on c.pass.new.self.noted c.pass.new.self.noted c.pass.new.self.lines c.pass.new.self.lines c.pass.new.self.run.trace
-        c.truncate-in-Err.new.self refl refl
+        alike_on c.pass.new.self.noted c.pass.new.self.noted c.pass.new.self.lines c.truncate-in-Err-2.new.self c.pass.new.self.run.trace
+        c.truncate-in-Err.new.self refl (ap is_some c.truncate-in-Err-2.ensures ∙ short_some c.pass.new.self.lines 0)
         (ap is_some (same g c) ∙ sym (grows_some c.args.self.now.run.trace c.pass.new.self.run.trace c.pass.ensures.back.grows))
         c.pass.ensures.made.engine.notes;
   };
@@ -79,6 +79,7 @@ returns-in-Ok-clause-runs g c = record {
         end = shows.end;
       });
   before = λ log shows. tt;
+  untold = tt;
   kept = record {
     trace = grows_some c.args.self.now.run.trace c.pass.new.self.run.trace c.pass.ensures.back.grows;
     noted = c.pass.ensures.back.notes ∙ ap is_some c.begin_step.ensures ∙ cleared_some c.args.self.now.noted;
@@ -97,6 +98,7 @@ returns-in-Err-clause-runs g c = record {
     closed_steps = c.in-Err.ensures.still.closed_steps ∙ shows.closed_steps;
     end = c.in-Err.ensures.still.end ∙ shows.end;
   };
+  untold = rw c.truncate-in-Err-2.ensures (emptied c.pass.new.self.lines);
   kept = record {
     trace = ap is_some (same g c);
     noted = c.pass.ensures.back.notes ∙ ap is_some c.begin_step.ensures ∙ cleared_some c.args.self.now.noted;

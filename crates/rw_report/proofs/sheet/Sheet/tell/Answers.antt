@@ -12,8 +12,8 @@ use Rattle.rw_report.proofs.sheet.Sheet.tell.Goals as goal
 pub returns-in-Ok-clause-text : goal.returns-in-Ok-clause-text
 returns-in-Ok-clause-text c =
     afresh (string_bytes c.clear.new.self) (string_bytes c.push_section.new.text) _ c.clear.ensures.bytes c.in-Ok.ensures.section
-    ∙ ap (λ (sheet : Sheet). whole_of sheet.basin c.args.batch (outcome_of c.args.run.now)
-    (option_map (λ (steps : Bor (List StepNo)). steps.now) c.args.reran) c.args.flags c.args.trace) c.self.view_is
+    ∙ ap (λ (sheet : Sheet). whole_of sheet.basin c.args.telling.now.batch (outcome_of c.args.run.now)
+    (option_map (λ (steps : Bor (List StepNo)). steps.now) c.args.telling.now.reran) c.args.telling.now.flags c.args.telling.now.trace) c.self.view_is
 
 pub push_section-requires-clause-lines : goal.push_section-requires-clause-lines
 push_section-requires-clause-lines c =

@@ -1,6 +1,6 @@
 use Rattle.rw_engine.proofs.Common.{[], placings, ◌∙◌}
 use Rattle.rw_run.proofs.Placed.{closed-placed}
-use Rattle.rw_engine.proofs.running.run_by.Goals as goal
+use Rattle.rw_engine.proofs.running.run_by_of.Goals as goal
 
 pub pass_all-requires-clause-made : goal.pass_all-requires-clause-made
 pass_all-requires-clause-made g c = c.in_ok-engine.ensures.begun.made
@@ -10,7 +10,7 @@ pass_all-requires-clause-turns g c = c.in_ok-engine.ensures.begun.turns
 
 pub pass_all-requires-clause-begun : goal.pass_all-requires-clause-begun
 pass_all-requires-clause-begun g c =
-    c.in_ok-engine.ensures.begun.shows.closed_steps ∙ closed-placed [] (placings c.args.basin.now c.args.inputs.now)
+    c.in_ok-engine.ensures.begun.shows.closed_steps ∙ closed-placed [] (placings c.args.setup.now.basin.now c.args.inputs.now)
 
 pub returns-clause-run : goal.returns-clause-run
 returns-clause-run g c = c.pass_all.ensures.comes c.args.inputs.now c.in_ok-engine.ensures.begun.shows

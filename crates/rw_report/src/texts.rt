@@ -1,0 +1,64 @@
+ghost use Rattle.std.specs.Prelude.{◌≡◌, ◌≤◌, IfOk, option_map};
+ghost use Rattle.rw_report.specs.Outcome.{outcome_of};
+ghost use Rattle.rw_report.specs.Whole.{trace_of_run, whole_of};
+
+use crate::heading::push_headed;
+use crate::kept::Extent;
+use crate::sheet::Sheet;
+use crate::whole::{Telling, push_table};
+use rw_base::{NoMemory, StepNo};
+use rw_model::Basin;
+use rw_run::Run;
+use std::alloc::Global;
+
+/// The text of the section of the batch of this number: a line on how its run ended; where timesteps are given that were run
+/// again, a line on them; a line of column names, and a line for each closed timestep with its number, the moment at which
+/// it ends and the values of all slots, in the base units of their dimensions and in the order of their numbers; with
+/// `flags` a table of who wrote each value and its priority; with `trace` what happened, line by line. What isn't asked for
+/// isn't made, and of a trace that wasn't kept no line is told. Every line ends in a line feed, and an unknown value is
+/// nothing. An object or a slot that a fault names and the basin doesn't have is written as nothing. The one error is want
+/// of memory. `docs/FORMATS.md` has it under "Table" and "Reruns, flags and trace".
+pub fn section(
+    alloc: Global,
+    basin: &Basin,
+    batch: u32,
+    run: &Run,
+    reran: Option<&[StepNo]>,
+    flags: bool,
+    trace: bool,
+) -> Result<Vec<u8>, NoMemory>
+    requires closed { run.now.closed ≤ basin.now.control.stamps.count }
+    ensures text { IfOk result (λ text. text.items
+        ≡ whole_of basin.now batch (outcome_of run.now)
+        (option_map (λ steps. steps.now) reran.entry) flags trace) }
+{
+    let mut sheet = Sheet::new(alloc, basin, false);
+    let telling = Telling {
+        batch,
+        reran,
+        flags,
+        trace,
+    };
+    sheet.tell(run, &telling, 0)?;
+    Ok(sheet.into_text())
+}
+
+/// The text of the section of the trace of this number: a line on how its run ended, and the table, as `section` writes them.
+/// The one error is want of memory.
+pub fn trace_section(
+    alloc: Global,
+    basin: &Basin,
+    trace: u32,
+    run: &Run,
+) -> Result<Vec<u8>, NoMemory>
+    requires closed { run.now.closed ≤ basin.now.control.stamps.count }
+    ensures text { IfOk result
+        (λ text. text.items ≡ trace_of_run basin.now trace (outcome_of run.now)) }
+{
+    let mut text = String::new(alloc);
+    let mut lines = Vec::new(alloc);
+    push_headed(&mut text, basin, "# trace ", trace, &run.end)?;
+    let none = Extent { first: 0, kept: 0 };
+    push_table(alloc, &mut text, &mut lines, basin, run, none)?;
+    Ok(text.into_bytes())
+}
