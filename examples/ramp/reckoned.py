@@ -11,16 +11,13 @@ from reckoning import DAY, Columns, column, volumes, write_batches  # noqa: E402
 
 def reckoned(inflow: list[int], first: int) -> Columns:
     """The run: the first day's outflow is given."""
-    storage, yesterday = 12_000_000, None
-    columns: Columns = {"Dam.Inflow": inflow, "Dam.Outflow": [], "Dam.Storage": []}
-    for comes in inflow:
-        wanted = max(comes + (storage - 12_000_000) // 20, 60_000)
-        outflow = first if yesterday is None else min(max(wanted, yesterday - 25_000), yesterday + 40_000)
-        storage += comes - outflow
-        yesterday = outflow
-        columns["Dam.Outflow"].append(outflow)
-        columns["Dam.Storage"].append(storage)
-    return columns
+    storages, outflows = [12_000_000], [first]
+    for day, comes in enumerate(inflow):
+        if day:
+            wanted = max(comes + (storages[-1] - 12_000_000) // 20, 60_000)
+            outflows.append(min(max(wanted, outflows[-1] - 25_000), outflows[-1] + 40_000))
+        storages.append(storages[-1] + comes - outflows[-1])
+    return {"Dam.Inflow": inflow, "Dam.Outflow": outflows, "Dam.Storage": storages[1:]}
 
 
 (given,) = volumes(column(HERE, "Dam.Outflow [m3/s]"), DAY)
