@@ -54,8 +54,8 @@ pub fn kept_laws()
         → AllBalanced basin step (held run.series) }
 {}
 
-/// Where a request puts the outflow, that is a release from 0 to the greatest one which gives the energy; no lesser one does; and what
-/// it gives is put as the energy.
+/// Where a request puts the outflow, that is a release from 0 to the greatest one which gives the energy; no lesser one does; and
+/// what it gives is put as the energy.
 pub fn requested_energy()
     ensures { (of : Plant) (view : View) (request : Content) (puts : List Put)
         → GivesRequest of view request puts
@@ -89,7 +89,8 @@ pub fn verified_firings()
         → AreVerified basin code budgets log }
 {}
 
-/// A verified firing is that of the machine on the block of its rule, for what the cells hold before it, and safe by the block's budget.
+/// A verified firing is that of the machine on the block of its rule, for what the cells hold before it, and safe by the block's
+/// budget.
 pub fn verified_firing()
     ensures { (basin : Draft) (code : List Block) (budgets : List Budget) (log : Log)
         (event : Event) (turn : RuleTurn) → IsVerified basin code budgets log event turn
@@ -100,8 +101,8 @@ pub fn verified_firing()
         ≡ ended basin (cells_of basin log) turn.rule turn.step safe.fire safe.fire.end) }
 {}
 
-/// A safe firing is never stuck. What it counts, at how many cells it looks and how often, how many puts it executes and the words that it
-/// keeps are at most those of the budget.
+/// A safe firing is never stuck. What it counts, at how many cells it looks and how often, how many puts it executes and the words
+/// that it keeps are at most those of the budget.
 pub fn safe_firing()
     ensures fires { (code : List Block) (basin : Draft) (rule step : ℕ)
         (values : Cell → Option ℤ) (budget : Budget)
@@ -127,8 +128,8 @@ pub fn safe_firing()
         (first_frame code rule)) ≤ budget.words }
 {}
 
-/// A run counts the timesteps that it opened, and at most all of them where memory was wanting. After want of memory a timestep, run or
-/// passed again, leaves the engine with the log that it showed.
+/// A run counts the timesteps that it opened, and at most all of them where memory was wanting. After want of memory a timestep, run
+/// or passed again, leaves the engine with the log that it showed.
 pub fn calls_of_an_engine()
     ensures counted { (basin : Draft) (before after : ℕ) (run : Run)
         → CountsSteps basin before after (Ok run)
