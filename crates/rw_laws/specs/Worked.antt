@@ -15,7 +15,7 @@ use Rattle.rw_firing.specs.declared.fire.FireEnd.TheVariants.{Done, Unknown}
 use Rattle.rw_firing.specs.declared.look.Look.{Look}
 use Rattle.rw_run.specs.Dispatch.{cell_at}
 use Rattle.rw_run.specs.Frame.{log_after}
-use Rattle.rw_run.specs.Log.{Asked, Cells, Event, Log, closed, fired, placed, idle, opened, solved}
+use Rattle.rw_run.specs.Log.{Asked, Cells, Event, Firing, Log, closed, fired, placed, idle, opened, solved}
 use Rattle.rw_run.specs.Next.{Policy}
 use Rattle.rw_run.specs.Runs.{with_inputs}
 
@@ -105,6 +105,10 @@ torn = placed (cell_at 2 1) (pos 2) ∷ placed (cell_at 1 1) (pos 1) ∷ []
 abbrev pub weakened : Log
 weakened = fires 2 [] [] (by_rule 2 1 (pos 6) ∷ []) 0 ∷ fires 1 [] [] (by_rule 1 1 (pos 5) ∷ []) 0 ∷ []
 
+-- another: the gage writes over what was given
+abbrev pub given_over : Log
+given_over = object_solves [] 1 (pos 7) 0 ∷ placed (cell_at 1 1) (pos 5) ∷ []
+
 -- another: no rule fired
 abbrev pub started : Log
 started = opened 1 ∷ []
@@ -116,3 +120,19 @@ changed_after = object_solves [] 2 (pos 3) 0 ∷ closed 1 ∷ torn
 -- cells that no log of a basin leaves whose slots 1 and 2 are linked
 abbrev pub apart : Cells
 apart cell = if cell.slot.0 == 1 then Some (by_rule 1 1 (pos 5)).content else None
+
+-- what rule 2 does on the dam's day
+abbrev pub lets_out : Firing
+lets_out = record {
+  rule = 2;
+  step = 1;
+  is_done = true;
+  looked = [];
+  asked = by_rule 2 2 (pos 50) ∷ [];
+  written = by_rule 2 2 (pos 50) ∷ [];
+  count = 2;
+}
+
+-- the day's log with that firing alone
+abbrev pub after_firing : Firing → Log
+after_firing firing = fired firing ∷ opened 1 ∷ []

@@ -1,5 +1,5 @@
 //! The laws. Each is the `ensures` of a function that does nothing.
-ghost use Rattle.std.specs.Prelude.{◌≡◌, ◌≤◌, ℕ, ℤ, pos, List, [], ◌∷◌, ◌++◌, Ok, Some};
+ghost use Rattle.std.specs.Prelude.{◌≡◌, ◌≤◌, ℕ, ℤ, pos, false, List, [], ◌∷◌, ◌++◌, Ok, None, Some};
 ghost use Rattle.rw_base.specs.declared.number.Cell.{Cell};
 ghost use Rattle.rw_model.specs.Basin.{IsBasin};
 ghost use Rattle.rw_model.specs.Draft.{Draft};
@@ -27,8 +27,8 @@ ghost use Rattle.rw_laws.specs.Balances.{AllBalanced};
 ghost use Rattle.rw_laws.specs.Laws.{KeepsLaws};
 ghost use Rattle.rw_laws.specs.Links.{HoldAsLinked};
 ghost use Rattle.rw_laws.specs.Priority.{KeepPriority};
-ghost use Rattle.rw_laws.specs.Rules.{AllStandBy};
-ghost use Rattle.rw_laws.specs.Worked.{apart, by_rule, changed_after, dam_alone, dam_events, dam_log, gage, held_low, inflow, put_at, started, torn, weakened};
+ghost use Rattle.rw_laws.specs.Rules.{AllStandBy, StandsBy};
+ghost use Rattle.rw_laws.specs.Worked.{after_firing, apart, by_rule, changed_after, dam_alone, dam_events, dam_log, gage, given_over, held_low, inflow, lets_out, put_at, saw_first_day, started, torn, weakened};
 
 use rpl_policy::law::code_keeps_promises;
 use rpl_verify::law::answered_code_is_safe;
@@ -145,13 +145,38 @@ pub fn a_link()
 {}
 
 /// The laws aren't true of any cells and any log. In cells that no log leaves linked slots differ. In logs that are of no run a
-/// gage lets out more than flows in, a rule writes over one of a higher priority, a rule never fired, and a timestep changes that
-/// was closed.
+/// gage lets out more than flows in, a rule writes over one of a higher priority, an object over an input, a rule never fired, and
+/// a timestep changes that was closed.
 pub fn no_runs()
     ensures links { ¬ HoldAsLinked linked_basin apart }
     ensures balance { ¬ AllBalanced gage 1 (cells_of gage torn) }
     ensures priority { ¬ KeepPriority gage weakened }
+    ensures input { ¬ KeepPriority gage given_over }
     ensures rules { ¬ AllStandBy dam_alone held_low 1 started }
     ensures closed { ¬ ((cell : Cell) → cell.step.0 ≤ 1
         → cells_of gage changed_after cell ≡ cells_of gage torn cell) }
+{}
+
+/// A rule that lets 50 out stands by just that. It doesn't where it let nothing out, wasn't done, looked at the storage, or
+/// counted 3.
+pub fn firings_stood_by()
+    ensures stands { StandsBy dam_alone held_low 1 (after_firing lets_out) 2 }
+    ensures asked { ¬ StandsBy dam_alone held_low 1
+        (after_firing (record lets_out { asked = []; written = [] })) 2 }
+    ensures end { ¬ StandsBy dam_alone held_low 1
+        (after_firing (record lets_out { is_done = false })) 2 }
+    ensures looked { ¬ StandsBy dam_alone held_low 1
+        (after_firing (record lets_out { looked = saw_first_day 3 None ∷ [] })) 2 }
+    ensures count { ¬ StandsBy dam_alone held_low 1
+        (after_firing (record lets_out { count = 3 })) 2 }
+{}
+
+/// Nor does it where its put doesn't stand: the cell is unknown, holds 50 of a lower priority, or 40 of the rule itself.
+pub fn puts_stood_by()
+    ensures unknown { ¬ StandsBy dam_alone held_low 1
+        (after_firing (record lets_out { written = [] })) 2 }
+    ensures number { ¬ StandsBy dam_alone held_low 1
+        (after_firing (record lets_out { written = by_rule 3 2 (pos 50) ∷ [] })) 2 }
+    ensures value { ¬ StandsBy dam_alone held_low 1
+        (after_firing (record lets_out { written = by_rule 2 2 (pos 40) ∷ [] })) 2 }
 {}

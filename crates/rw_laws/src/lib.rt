@@ -2,4 +2,5 @@
 //! inputs. They are over the definitions of a run alone.
 #![tactic(auto)]
 
+pub mod fact_law;
 pub mod law;

@@ -17,7 +17,7 @@ ghost use Rattle.rw_run.specs.Waiting.{waiting};
 ghost use Rattle.rw_run.specs.declared.run.Run.{Run};
 ghost use Rattle.rw_run.specs.declared.run.RunEnd.TheVariants.{Settled, Fault};
 ghost use Rattle.rw_dispatch.specs.Pick.{IsPickedRun, Picking, PicksOne, newest, oldest, picked};
-ghost use Rattle.rw_order.specs.AnyRun.{IsAnyRun, IsSettledLog, WaitsBefore};
+ghost use Rattle.rw_order.specs.AnyRun.{IsAnyRun, IsSettledLog, SettlesAs, WaitsBefore};
 ghost use Rattle.rw_order.specs.Free.{order_free};
 ghost use Rattle.rw_order.specs.Inside.{AreInside};
 ghost use Rattle.rw_order.specs.Worked.{chain, chain_inputs, chain_newest, chain_oldest, dry, gauged, losing, losing_fault, losing_inputs, losing_newest, losing_oldest, newest_first, pools, pools_fault, pools_inputs, pools_newest, pools_oldest, two_stores, stores_fault, stores_inputs, stores_newest, stores_oldest, valley, valley_with};
@@ -54,6 +54,15 @@ pub fn any_order_of_a_run()
     inputs_are_inside();
     orders();
 }
+
+/// What `run_any` says of a free basin: the run ended in no fault, with the values of the log.
+pub fn settled_values()
+    ensures end { (basin : Draft) (log : Log) (run : Run) → SettlesAs basin log run
+        → run.end ≡ Settled }
+    ensures values { (basin : Draft) (log : Log) (run : Run) (cell : Cell)
+        → SettlesAs basin log run
+        → value_in (held run.series) cell ≡ value_in (cells_of basin log) cell }
+{}
 
 /// A run in which a rule picks one of those that wait is one in any order. The run without rules is that of the rule which
 /// picks the one that has waited longest.

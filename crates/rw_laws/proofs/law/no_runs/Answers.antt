@@ -3,6 +3,7 @@ use Rattle.rw_model.specs.declared.kind.Kind.TheVariants.{Gage}
 use Rattle.rw_base.proofs.Common.{none-some, same_Some}
 use Rattle.rw_model.specs.declared.content.Content.{Content}
 use Rattle.rw_run.specs.Dispatch.{cell_at}
+use Rattle.rw_run.specs.Log.{input_content}
 use Rattle.rw_laws.specs.Worked.{by_rule}
 use Rattle.rw_laws.proofs.law.no_runs.Goals as goal
 
@@ -31,3 +32,8 @@ pub returns-clause-closed : goal.returns-clause-closed
 returns-clause-closed c = λ all.
     let same = ap (λ (content : Content). unsigned_abs content.value) (same_Some _ _ (all (cell_at 2 1) (omega arith))) in
     let differ : 3 ≡ 2 = same in omega (arith, differ)
+
+pub returns-clause-input : goal.returns-clause-input
+returns-clause-input c = λ all.
+    let same = ap (λ (content : Content). unsigned_abs content.value) (same_Some _ _ (all.0.inputs (cell_at 1 1) (input_content (pos 5)) refl refl)) in
+    let differ : 7 ≡ 5 = same in omega (arith, differ)
