@@ -1,0 +1,81 @@
+"""Inputs: of a path, of a text, or of a frame; and inputs over which traces are laid."""
+
+from __future__ import annotations
+
+from typing import Any, Iterable
+
+import pandas as pd
+
+from basin_files.inputs import read_inputs
+
+from .errors import Error
+from .files import File, Model, PathLike
+from .rows import Row, wide_rows
+
+HEADER = "slot,step,value\n"
+
+
+class Inputs(File):
+    """Inputs, as a file or a text has them."""
+
+    @classmethod
+    def from_frame(cls, model: Model | PathLike, frame: pd.DataFrame) -> Inputs:
+        """Inputs of a frame with timesteps by rows and slots by columns; what isn't known gives nothing."""
+        return cls(text=HEADER + "".join(f"{row.text}\n" for row in wide_rows(Model.of(model), frame)))
+
+
+def inputs_of(model: Model, given: Any) -> Inputs:
+    """The inputs of a frame, of a path, or those that are given."""
+    return Inputs.from_frame(model, given) if isinstance(given, pd.DataFrame) else Inputs.of(given)
+
+
+class LaidOver:
+    """Inputs, cell by cell, over which the rows of a trace are laid: they take the place of what linked slots give."""
+
+    def __init__(self, model: Model, inputs: Inputs) -> None:
+        read = read_inputs(inputs.content, model.read)
+        if read.findings:
+            finding = read.findings[0]
+            raise Error(f"the inputs can't be read, line {finding.line}: {finding.says}")
+        self.model = model
+        self.cells = {
+            group: {step: f"{given.slot},{step},{given.value}\n" for step, given in cells.items()}
+            for group, cells in read.cells.items()
+        }
+        self.texts = {group: "".join(cells.values()) for group, cells in self.cells.items()}
+
+    def twice(self, rows: Iterable[Row]) -> Row | None:
+        """The first row that names a cell which one before it names, too: a file of traces has none such."""
+        named: dict[str, set[int]] = {}
+        for row in rows:
+            if row.slot in self.model.read.slots:
+                before = named.setdefault(self.group(row.slot), set())
+                steps = range(row.first, row.last + 1)
+                if not before.isdisjoint(steps):
+                    return row
+                before.update(steps)
+        return None
+
+    def group(self, slot: str) -> str:
+        """The first of the slots that are linked to a slot."""
+        return str(self.model.read.group(slot)[0].full_name)
+
+    def under(self, rows: Iterable[Row]) -> str:
+        """The inputs with these rows over them. What the program would refuse of a row stands at the end."""
+        laid: dict[str, dict[int, str]] = {}
+        wrong = []
+        for row in rows:
+            if row.slot not in self.model.read.slots or not 1 <= row.first <= row.last <= self.model.steps:
+                wrong.append(f"{row.text}\n")
+                continue
+            group = self.group(row.slot)
+            if group not in laid:
+                laid[group] = dict(self.cells.get(group, {}))
+            steps = range(row.first, row.last + 1)
+            if row.value is None:
+                for step in steps:
+                    laid[group].pop(step, None)
+            else:
+                laid[group].update((step, f"{row.slot},{step},{row.value}\n") for step in steps)
+        texts = {**self.texts, **{group: "".join(cells.values()) for group, cells in laid.items()}}
+        return HEADER + "".join(texts.values()) + "".join(wrong)
