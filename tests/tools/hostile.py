@@ -210,7 +210,7 @@ def of_title(run: Callable) -> str | None:
         room = Room(Path(folder), WORST, run)
         wrong, text = room.call("plot", "{table} --text", f"--title={WORST}")
         title = plain(WORST, LONG)
-        if wrong or f"set title '{title.replace(chr(39), chr(39) * 2)}" not in text:
+        if wrong or f"title '{title.replace(chr(39), chr(39) * 2)}" not in text:
             return wrong or "the title isn't in the text"
         if not shutil.which("gnuplot"):
             return None
