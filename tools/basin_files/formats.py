@@ -273,8 +273,8 @@ SECONDS = {"s": 1, "min": 60, "h": 3600, "d": 86400, "day": 86400}
 RATES = {"cms": "m3/s", "cfs": "ft3/s", "kcfs": "kft3/s"}  # flows that have a word of their own
 SPELLINGS = {  # other words of the same amounts, in small letters
     **dict.fromkeys(("af", "acft", "ac-ft", "acre-feet", "acre-foot", "acrefeet"), "acre-ft"),
-    **dict.fromkeys(("feet", "foot"), "ft"),
-    **dict.fromkeys(("inch", "inches"), "in"),
+    **dict.fromkeys(("ft", "feet", "foot"), "ft"),
+    **dict.fromkeys(("in", "inch", "inches"), "in"),
     "kaf": "TAF",
 }
 

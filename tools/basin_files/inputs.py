@@ -6,6 +6,7 @@ As with models, what is wrong is judged in the order of docs/FORMATS.md, and `ba
 import csv
 import io
 import re
+from collections.abc import Iterator
 from dataclasses import dataclass
 
 from .formats import GREATEST_FILE, amount
@@ -222,6 +223,18 @@ def edited(inputs, content, batch):
                 if value:
                     cells[step] = Given(name, line, row, int(value))
     return inputs
+
+
+def rows_of(slot: str, values: dict[int, int]) -> Iterator[str]:
+    """The rows of inputs that give a slot these values by timestep: equal values of timesteps in a row are one."""
+    runs = []
+    for step, value in sorted(values.items()):
+        if runs and runs[-1][1] == step - 1 and runs[-1][2] == value:
+            runs[-1][1] = step
+        else:
+            runs.append([step, step, value])
+    for first, last, value in runs:
+        yield f"{slot},{first if first == last else f'{first}-{last}'},{value}"
 
 
 def folded(steps):

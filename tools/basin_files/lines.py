@@ -22,6 +22,17 @@ def lines_of(text):
     return LineReader(text).read()
 
 
+def with_values(text: str, values: dict[str, str]) -> str:
+    """The same text with other values at some paths, each as TOML spells it."""
+    reader = LineReader(text)
+    reader.read()
+    pieces, behind = [], 0
+    for (begin, end), value in sorted((reader.spans[path], value) for path, value in values.items()):
+        pieces += [text[behind:begin], value]
+        behind = end
+    return "".join(pieces) + text[behind:]
+
+
 def values_of(text):
     """The table that a TOML text spells. `tomllib.TOMLDecodeError` where Python's reader refuses it."""
     try:
@@ -53,6 +64,7 @@ class LineReader:
         self.line = 1  # of the place up to which lines were counted
         self.counted = 0
         self.lines = {}
+        self.spans = {}  # from where to where the value of each path stands
         self.gaps = []  # between the words of inline tables, with a comma that stands at their end
         self.counts = {}  # of arrays of tables: how many tables there were so far
 
@@ -149,6 +161,7 @@ class LineReader:
 
     def value(self, path):
         """A value at a path, with all that is in it."""
+        begin = self.place
         if self.skip("["):
             self.items(path)
         elif self.skip("{"):
@@ -157,6 +170,7 @@ class LineReader:
             self.text[self.place : self.place + 1] in ('"', "'") or not self.take(PLAIN)
         ):
             raise ValueError("a value was expected")
+        self.spans[path] = begin, begin + len(self.text[begin : self.place].rstrip())
 
     def items(self, path):
         """The items of an array, up to its end."""

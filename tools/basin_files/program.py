@@ -4,9 +4,12 @@ import argparse
 import os
 import subprocess
 import sys
+from collections.abc import Callable, Iterator
 from pathlib import Path
+from time import monotonic
 
 from .judging import read_model
+from .model import Model
 from .reasons import LONG, plain
 
 TOP = Path(__file__).resolve().parents[2]
@@ -16,6 +19,7 @@ HOW_BUILT = (
 )
 CANNOT = 2  # the status of a tool that can't do what it was asked
 INTERRUPTED = 130
+PATIENCE = 2  # seconds without a word
 
 
 class Unable(Exception):
@@ -25,18 +29,35 @@ class Unable(Exception):
 class Words(argparse.ArgumentParser):
     """The words of a tool. What is wrong with them is one line, with status 2."""
 
-    def error(self, message):
+    def error(self, message: str) -> None:
         raise Unable(f"{message} (--help tells the words)")
 
 
-def tool(main):
+class Progress:
+    """Tells on the error stream how far something long is: first after two seconds, and then each two seconds."""
+
+    def __init__(self, what: str):
+        self.what, self.due = what, monotonic() + PATIENCE
+
+    def at(self, done: int, whole: int, of: str) -> None:
+        """So many of the whole are done."""
+        self.tell(f"{done:,} of {whole:,} {of}")
+
+    def tell(self, how_far: str) -> None:
+        """Tells it, unless that was done a moment ago."""
+        if monotonic() >= self.due:
+            print(f"{Path(sys.argv[0]).name}: .. {self.what}, {how_far}", file=sys.stderr, flush=True)
+            self.due = monotonic() + PATIENCE
+
+
+def tool(main: Callable[[], int]) -> None:
     """Runs a tool's `main`, which answers its status; what it can't do is one line on the error stream."""
     name = Path(sys.argv[0]).name
     try:
         status = main()
         sys.stdout.flush()
     except Unable as unable:
-        print(f"{name}: {unable}", file=sys.stderr)
+        print(f"{name}: {plain(str(unable), LONG)}", file=sys.stderr)
         status = CANNOT
     except KeyboardInterrupt:
         status = INTERRUPTED
@@ -46,7 +67,7 @@ def tool(main):
     sys.exit(status)
 
 
-def bytes_of(path):
+def bytes_of(path: str | Path) -> bytes:
     """The bytes of a file, or of the standard input for `-`."""
     try:
         return sys.stdin.buffer.read() if path == "-" else Path(path).read_bytes()
@@ -54,7 +75,17 @@ def bytes_of(path):
         raise Unable(f"cannot read {plain(str(path))}: {error.strerror}") from None
 
 
-def good_model(path):
+def write_bytes(path: str | None, content: bytes) -> None:
+    """Writes bytes to a file, or to the output where none is told."""
+    try:
+        Path(path).write_bytes(content) if path else sys.stdout.buffer.write(content)
+    except BrokenPipeError:
+        raise
+    except OSError as error:
+        raise Unable(f"cannot write {plain(path or 'the output')}: {error.strerror}") from None
+
+
+def good_model(path: str | Path) -> Model:
     """The model of a file with which nothing is wrong, as these tools read it."""
     try:
         model = read_model(bytes_of(path))
@@ -70,7 +101,7 @@ def good_model(path):
     return model
 
 
-def built():
+def built() -> str | Path:
     """The program: the one that BASIN names, or this repository's. Nothing is built, since that takes long."""
     if named := os.environ.get("BASIN"):
         return named
@@ -82,18 +113,39 @@ def built():
     return program
 
 
-def sources():
+def sources() -> Iterator[Path]:
     """The files that the program is made of."""
     yield TOP / "crates.txt"
     for ending in ("*.rt", "*.antt"):
         yield from (path for path in (TOP / "crates").rglob(ending) if "out" not in path.parts)
 
 
-def basin(*words):
+def basin(*words: str | Path) -> tuple[int, str, str]:
     """Runs the program: its status, its output and its error line."""
     program = built()
     try:
-        done = subprocess.run([program, *words], stdin=subprocess.DEVNULL, capture_output=True, check=False)
+        running = subprocess.Popen(
+            [program, *words], stdin=subprocess.DEVNULL, stdout=subprocess.PIPE, stderr=subprocess.PIPE
+        )
     except OSError as error:
         raise Unable(f"cannot run {program}: {error.strerror}") from None
-    return done.returncode, done.stdout.decode(), done.stderr.decode("utf-8", "replace").removesuffix("\n")
+    output, errors = waited_for(running, f"basin {words[0]} goes on")
+    return running.returncode, output.decode("utf-8", "replace"), errors.decode("utf-8", "replace").removesuffix("\n")
+
+
+def waited_for(running: subprocess.Popen, what: str) -> tuple[bytes, bytes]:
+    """What a program writes, up to its end; that it takes long is told."""
+    progress, began = Progress(what), monotonic()
+    while True:
+        try:
+            return running.communicate(timeout=PATIENCE)
+        except subprocess.TimeoutExpired:
+            progress.tell(f"{monotonic() - began:.0f} seconds so far")
+
+
+def answered(*words: str | Path) -> str:
+    """What the program writes for these words, where it doesn't refuse them."""
+    status, output, refusal = basin(*words)
+    if status > 1:
+        raise Unable(refusal)
+    return output

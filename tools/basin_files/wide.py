@@ -35,6 +35,8 @@ DATES = (
 )
 STEP_WORDS = ("step", "timestep")
 END_WORDS = ("stamp", "end", "ends")
+BESIDE_STEPS = ("begin", "begins", *END_WORDS)  # what a column of timesteps makes needless
+BATCH, LONG_FORM = "batch", ("slot", "unit", "value")  # as `tools/table` writes them
 
 
 @dataclass
@@ -76,6 +78,37 @@ def read_sheet(text):
     return Sheet([field.strip() for field in rows[0][1]], rows[1:], comma)
 
 
+def of_batch(sheet: Sheet, batch: int | None) -> Sheet:
+    """The rows of a batch, or of the last one, where a column names batches; that column is left out."""
+    if BATCH not in sheet.headings:
+        return sheet
+    place = sheet.headings.index(BATCH)
+    batches = [row[place].strip() for _, row in sheet.rows]
+    wanted = batches[-1] if batch is None and batches else str(batch)
+    rows = [(number, row[:place] + row[place + 1 :]) for (number, row), one in zip(sheet.rows, batches) if one == wanted]
+    if not rows:
+        raise ValueError(f"the table has no batch {wanted}")
+    return Sheet(sheet.headings[:place] + sheet.headings[place + 1 :], rows, sheet.comma)
+
+
+def of_long(sheet: Sheet) -> Sheet:
+    """A table of one value a row, with its slot and its unit, as one with a column for each slot."""
+    if not set(LONG_FORM) <= set(sheet.headings):
+        return sheet
+    slot, unit, value = (sheet.headings.index(word) for word in LONG_FORM)
+    time = next((place for place, word in enumerate(sheet.headings) if word in STEP_WORDS), 0)
+    columns, rows = {}, {}
+    for number, row in sheet.rows:
+        heading = f"{row[slot]} [{row[unit]}]" if row[unit] else row[slot]
+        place = columns.setdefault(heading, len(columns) + 1)
+        cells = rows.setdefault(row[time], (number, {0: row[time]}))[1]
+        if place in cells:
+            raise ValueError(f"row {number} gives {plain(heading)} at {plain(row[time])} once more")
+        cells[place] = row[value]
+    whole = [(number, [cells.get(place, "") for place in range(len(columns) + 1)]) for number, cells in rows.values()]
+    return Sheet([sheet.headings[time], *columns], whole, sheet.comma)
+
+
 def slot_and_unit(heading):
     """The slot and the unit that a heading names, as texts; `None` for what it doesn't name."""
     found = HEADING.fullmatch(heading)
@@ -94,7 +127,7 @@ def factor_of(unit, slot_unit, timesteps):
     that of the slot.
     """
     word = unit.replace("³", "3").replace("^", "").replace(" ", "")
-    word = formats.RATES.get(word, word)
+    word = formats.RATES.get(word.lower(), word)
     first, slash, rest = word.partition("/")
     word = formats.SPELLINGS.get(first.lower(), first) + slash + rest
     whole, _, time = (word, "", "") if word in formats.AMOUNTS else word.partition("/")

@@ -2,6 +2,7 @@
 
 from basin_files.dispatch import missing, past_name
 from basin_files.formats import amount
+from basin_files.model import Model
 from basin_files.waiting import is_solved
 
 from . import trees
@@ -34,6 +35,17 @@ def is_request(slot, thing):
 def is_of_plant(slot, thing, name):
     """Whether a slot is this one of a power reservoir."""
     return thing.kind == "power_reservoir" and slot.name == name
+
+
+def has_past(model: Model, name: str, ago: int) -> bool:
+    """Whether a model gives a slot a value so many timesteps before the first one."""
+    slot = model.slots[name]
+    thing = model.object_named(slot.owner)
+    if slot.name == "PoolElevation" and thing.stores:
+        return ago == 1
+    if slot.name != past_name(thing):
+        return False
+    return ago <= (thing.options["lag"] if thing.kind == "reach" else 1)
 
 
 class Never:
@@ -110,7 +122,7 @@ class Never:
         for rule in self.rules:
             given = self.spread(self.may_be_given(), [one for one in self.rules if one.number != rule.number])
             for look in rule.needs():
-                early = look.ahead is not None and look.ahead < 0 and not self.has_past(look.slot, -look.ahead)
+                early = look.ahead is not None and look.ahead < 0 and not has_past(self.model, look.slot, -look.ahead)
                 if early and self.first[look.slot] not in given:
                     unless = "" if self.inputs else " (unless inputs give it)"
                     cell = f"{look.slot}{look.time}"
@@ -118,16 +130,6 @@ class Never:
                     hint = f"IF KNOWN({cell}) around it, or a lower rule or an input that sets the first one"
                     yield warn(look.span, says, hint, rule.called)
                     break
-
-    def has_past(self, name, ago):
-        """Whether a slot has a value so many timesteps before the first one."""
-        slot = self.model.slots[name]
-        thing = self.model.object_named(slot.owner)
-        if slot.name == "PoolElevation" and thing.stores:
-            return ago == 1
-        if slot.name != past_name(thing):
-            return False
-        return ago <= (thing.options["lag"] if thing.kind == "reach" else 1)
 
     def why_unknown(self, rule, look):
         """Why a slot is never known, and what to do."""

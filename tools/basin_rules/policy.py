@@ -2,7 +2,9 @@
 
 from dataclasses import dataclass, field
 
-from basin_files.program import bytes_of
+from basin_files.firing import Block, blocks_of
+from basin_files.model import Model
+from basin_files.program import Unable, answered, bytes_of
 from basin_files.reasons import LONG, plain
 
 from . import codefile, verifier
@@ -47,6 +49,14 @@ class Policy:
             return [rule.called for rule in self.ruleset.rules]
         return [f"rule {number}" for number in range(1, 1 + sum(block.is_rule for block in self.code.blocks))]
 
+    def compiled(self, model_path: str, path: str) -> str:
+        """The code of the policy, whose files these are: its own text, or what the program makes of the ruleset."""
+        return self.source.text if self.code else answered("compile", model_path, path)
+
+    def blocks(self, model_path: str, path: str) -> list[Block]:
+        """The blocks of that code."""
+        return blocks_of(self.compiled(model_path, path))
+
     def rows(self, model):
         """What is told of each rule; nothing is wrong with the policy."""
         return rows_of_code(self.code) if self.code else rows_of_ruleset(self.ruleset, model)
@@ -72,6 +82,16 @@ def read_policy(path, model):
         return Policy(source, code=code, findings=code.findings)
     ruleset = read_ruleset(source, model)
     return Policy(source, ruleset=ruleset, findings=ruleset.findings)
+
+
+def good_policy(path: str, model: Model, model_path: str) -> Policy:
+    """The policy of a file with which nothing is wrong, as these tools read it."""
+    policy = read_policy(path, model)
+    if policy.findings:
+        finding, source = policy.findings[0], policy.source
+        more = f"(tools/doctor {plain(model_path, LONG)} --policy {plain(path, LONG)} says more)"
+        raise Unable(f"{source.path} {source.place(finding.span.begin)}: {finding.says} {more}")
+    return policy
 
 
 def rows_of_ruleset(ruleset, model):
