@@ -3,8 +3,8 @@
 Nothing is reckoned here that the program answers: each call runs the program and reads what it writes.
 """
 
-from .answers import Answer, Book, Cell, Traces
-from .calls import balance, check, mrm, run, simulate, why
+from .answers import Answer, Book, Cell, Effects, Traces
+from .calls import balance, check, effects, mrm, run, simulate, why
 from .errors import Error, Fault, NoProgram, Refused, Stale
 from .files import Model, Policy
 from .inputs import Inputs
@@ -14,6 +14,7 @@ __all__ = [
     "Answer",
     "Book",
     "Cell",
+    "Effects",
     "Error",
     "Fault",
     "Inputs",
@@ -25,6 +26,7 @@ __all__ = [
     "Traces",
     "balance",
     "check",
+    "effects",
     "find_program",
     "mrm",
     "run",

@@ -1,4 +1,4 @@
-"""What calls answer: runs as frames by the begin of a timestep, with units; cells, budgets, books, traces."""
+"""What calls answer: runs as frames by the begin of a timestep, with units; cells, effects, books, traces."""
 
 from __future__ import annotations
 
@@ -55,6 +55,14 @@ class Book:
 
     table: pd.DataFrame
     fault: Fault | None
+
+
+@dataclass
+class Effects:
+    """What became of what each rule wanted: by rule and slot in how many timesteps, and what is worth a look."""
+
+    table: pd.DataFrame
+    sentences: list[str]
 
 
 @dataclass

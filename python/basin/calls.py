@@ -1,4 +1,4 @@
-"""One call for each command: `run`, `simulate`, `why`, `check`, `balance`, `mrm`."""
+"""One call for each command: `run`, `simulate`, `why`, `check`, `balance`, `mrm`; and the effects of rules."""
 
 from __future__ import annotations
 
@@ -9,8 +9,16 @@ from typing import Any, Iterable, Literal, Union, overload
 import numpy as np
 import pandas as pd
 
+from basin_files.firing import blocks_of
+from basin_files.inputs import read_inputs
+from basin_files.sections import read_sections
+from basin_files.walking import OtherPolicy, Walk
+from basin_rules import effects as of_rules
+from basin_rules.policy import read_policy
+
 from . import process
-from .answers import Answer, Book, Cell, Numbers, Traces, answer_of, book_of, cell_of
+from .answers import Answer, Book, Cell, Effects, Numbers, Traces, answer_of, book_of, cell_of
+from .errors import Error
 from .files import Model, PathLike, Policy
 from .inputs import Inputs, inputs_of
 from .rows import batches_of, batches_text, step_number
@@ -180,6 +188,41 @@ def check(model: ModelGiven, policy: PolicyGiven, *, program: str | None = None)
     frame = pd.DataFrame(rows, columns=["rule", "instructions", "reads", "puts", "words"]).set_index("rule")
     frame.insert(0, "name", [names[number - 1] if number <= len(names) else "" for number in frame.index])
     return frame
+
+
+def effects(
+    model: ModelGiven, policy: PolicyGiven, inputs: InputsGiven, *, program: str | None = None
+) -> Effects:
+    """In how many timesteps the last firing of each rule got what it wanted of each slot, and else what became of it.
+
+    What the columns mean `tools/effect --help` says: what stands, what gave way to an object, what was denied.
+    """
+    with Files(model, policy, inputs) as files:
+        assert files.policy is not None
+        names = files.policy.rule_names(files.model)
+        found = _effects(files, program)
+    headings = of_rules.HEADINGS
+    rows = [
+        (rule, slot, names[rule - 1] if rule <= len(names) else "", *(found.counts[(rule, slot)][one] for one in headings))
+        for rule, slots in enumerate(found.sets, 1)
+        for slot in slots
+    ]
+    table = pd.DataFrame(rows, columns=["rule", "slot", "name", *headings]).set_index(["rule", "slot"])
+    return Effects(table, list(found.sentences()))
+
+
+def _effects(files: Files, program: str | None) -> of_rules.Effects:
+    """Goes through each firing of a run again, as `tools/effect` does."""
+    assert files.inputs is not None
+    model, paths = files.model.read, files.paths
+    _, text = process.answer(["run", "--trace", *paths], program)
+    rules = read_policy(paths[1], model)
+    code = rules.source.text if rules.code else process.answer(["compile", *paths[:2]], program)[1]
+    given = read_inputs(files.inputs.content, model)
+    try:
+        return of_rules.Effects(model, rules, Walk(model, blocks_of(code), given, read_sections(text)[0]))
+    except OtherPolicy as error:
+        raise Error(str(error)) from None
 
 
 def balance(

@@ -137,6 +137,17 @@ def test_why_and_check() -> None:
     assert list(budgets["name"][:2]) == ["flood pool", "least release"]
 
 
+def test_effects_of_rules() -> None:
+    given = inputs(f"{INPUTS}Dam.Outflow,3-5,7\n")  # the rule wants 4
+    found = basin.effects(model(), policy(), given)
+    row = found.table.loc[(1, "Dam.Outflow")]
+    assert (row["name"], row["stands"], row["denied"], row["again"]) == ("let out", STEPS - 3, 3, 0)
+    valley = basin.effects(*VALLEY)
+    assert (valley.table.drop(columns="name").sum(axis=1) == 365).all()  # each rule fires each day
+    gave_way = valley.table["gave way"]
+    assert [f" {count} timesteps" in told for count, told in zip(gave_way[gave_way > 0], valley.sentences)] == [True]
+
+
 def test_order_of_dispatches() -> None:
     newest = basin.simulate(model(), inputs(f"{INPUTS}Dam.Outflow,1-{STEPS},4\n"), order="newest")
     assert list(newest.table["Dam.Storage"].iloc[:2]) == [1005, 1010]
