@@ -6,9 +6,8 @@ from typing import Any, Iterable
 
 import pandas as pd
 
-from basin_files.inputs import read_inputs
+from basin_files.inputs import records_of, steps_of
 
-from .errors import Error
 from .files import File, Model, PathLike
 from .rows import Row, wide_rows
 
@@ -30,45 +29,42 @@ def inputs_of(model: Model, given: Any) -> Inputs:
 
 
 class LaidOver:
-    """Inputs, cell by cell, over which the rows of a trace are laid: they take the place of what linked slots give."""
+    """Inputs that the program has taken, over which the rows of a trace are laid, cell by cell: they take the place
+    of what the inputs give to the same slot, or to one that is linked to it."""
 
     def __init__(self, model: Model, inputs: Inputs) -> None:
-        read = read_inputs(inputs.content, model.read)
-        if read.findings:
-            finding = read.findings[0]
-            raise Error(f"the inputs can't be read, line {finding.line}: {finding.says}")
         self.model = model
-        self.cells = {
-            group: {step: f"{given.slot},{step},{given.value}\n" for step, given in cells.items()}
-            for group, cells in read.cells.items()
-        }
+        self.groups = {name: str(model.read.group(name)[0].full_name) for name in model.slots}
+        self.cells: dict[str, dict[int, str]] = {}
+        records = records_of(inputs.content)
+        next(records)
+        for _, (slot, steps, value) in records:
+            first, last = steps_of(steps)
+            cells = self.cells.setdefault(self.groups[slot], {})
+            cells.update((step, f"{slot},{step},{value}\n") for step in range(first, last + 1))
         self.texts = {group: "".join(cells.values()) for group, cells in self.cells.items()}
 
     def twice(self, rows: Iterable[Row]) -> Row | None:
         """The first row that names a cell which one before it names, too: a file of traces has none such."""
         named: dict[str, set[int]] = {}
         for row in rows:
-            if row.slot in self.model.read.slots:
-                before = named.setdefault(self.group(row.slot), set())
+            if row.slot in self.groups:
+                before = named.setdefault(self.groups[row.slot], set())
                 steps = range(row.first, row.last + 1)
                 if not before.isdisjoint(steps):
                     return row
                 before.update(steps)
         return None
 
-    def group(self, slot: str) -> str:
-        """The first of the slots that are linked to a slot."""
-        return str(self.model.read.group(slot)[0].full_name)
-
     def under(self, rows: Iterable[Row]) -> str:
         """The inputs with these rows over them. What the program would refuse of a row stands at the end."""
         laid: dict[str, dict[int, str]] = {}
         wrong = []
         for row in rows:
-            if row.slot not in self.model.read.slots or not 1 <= row.first <= row.last <= self.model.steps:
+            if row.slot not in self.groups or not 1 <= row.first <= row.last <= self.model.steps:
                 wrong.append(f"{row.text}\n")
                 continue
-            group = self.group(row.slot)
+            group = self.groups[row.slot]
             if group not in laid:
                 laid[group] = dict(self.cells.get(group, {}))
             steps = range(row.first, row.last + 1)

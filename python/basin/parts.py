@@ -6,6 +6,7 @@ import os
 import tempfile
 import time as clock
 from dataclasses import dataclass
+from functools import lru_cache
 from pathlib import Path
 
 import numpy as np
@@ -16,7 +17,7 @@ from .errors import Refused
 from .files import Model
 from .inputs import Inputs, LaidOver
 from .netcdf import add_texts, add_time, add_whole, appearing
-from .plans import Plan
+from .plans import NAMES, Plan
 from .rows import Row, batches_text
 from .tables import UNKNOWN, Section, is_exact, numbers, sections
 from .traces import stored_rows
@@ -99,14 +100,20 @@ def at_once(plan: Plan, model: Model, rows: list[list[Row]]) -> Values:
     return values
 
 
+@lru_cache(maxsize=1)
+def laid_over(plan_folder: Path, _digest: str) -> LaidOver:
+    """The inputs of a plan, which a worker reads once for all its parts."""
+    model, inputs = Model(plan_folder / NAMES[0]), Inputs(plan_folder / NAMES[2])
+    return LaidOver(model, inputs)
+
+
 def one_by_one(plan: Plan, model: Model, rows: list[list[Row]]) -> Values:
     """By `run`, from inputs over which each trace is laid."""
     values = Values(plan, model, len(rows))
-    model_path, policy_path, inputs_path = map(str, plan.files)
-    inputs = LaidOver(model, Inputs(inputs_path))
+    inputs = laid_over(plan.folder, plan.digest)
     with tempfile.TemporaryDirectory(prefix="basin-") as name:
         path = Path(name) / "inputs.csv"
-        words = ["run", model_path, policy_path, str(path)]
+        words = ["run", *map(str, plan.files[:2]), str(path)]
         for trace, laid in enumerate(rows):
             if row := inputs.twice(laid):
                 values.refused[trace] = f"twice: {row.text}"

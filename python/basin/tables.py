@@ -13,7 +13,8 @@ Whole = npt.NDArray[np.int64]
 UNKNOWN: int = np.iinfo(np.int64).min  # what stands for a cell that isn't known
 EXACT = 2**53  # whole numbers up to this are exact as float64
 HEADING = re.compile(rb"# (?:batch|trace) (\d+) (?:settled|fault (.*))\n")
-COMMA, LINE_FEED, ZERO = b",\n0"
+ZERO = ord("0")
+BEHIND_COMMA = ord(",") + 1  # of all bytes that rows have only a comma and a line feed are below
 
 
 @dataclass
@@ -39,11 +40,11 @@ class Section:
         """Takes a line of one of its parts."""
         if part == "trace":
             self.trace.append(line[:-1].decode())
-        elif line.startswith(b"step,"):
-            self.columns = self.columns or line[:-1].decode().split(",")[2:]
-        elif part == "table":
+        elif part == "table" and self.columns:
             self.rows.append(line)
-        else:
+        elif part == "table":
+            self.columns = line[:-1].decode().split(",")[2:]
+        elif not line.startswith(b"step,"):
             self.flags.append(line)
 
 
@@ -52,16 +53,17 @@ def sections(lines: Iterable[bytes]) -> Iterator[Section]:
     now: Section | None = None
     part = ""
     for line in lines:
-        if found := HEADING.fullmatch(line):
+        if line[:1] != b"#":
+            if now:
+                now.take(part, line)
+        elif found := HEADING.fullmatch(line):
             if now:
                 yield now
             now, part = Section(int(found[1]), (found[2] or b"").decode()), "table"
         elif line.startswith(b"# summary"):
             break
-        elif now and line.startswith(b"# "):
-            part = now.heading(line)
         elif now:
-            now.take(part, line)
+            part = now.heading(line)
     if now:
         yield now
 
@@ -75,7 +77,7 @@ def numbers(rows: Sequence[bytes], count: int, picks: Sequence[int] | None = Non
     if not rows:
         return np.empty((0, len(where)), np.int64)
     text = np.frombuffer(b"".join(rows), dtype=np.uint8)
-    ends = np.flatnonzero((text == COMMA) | (text == LINE_FEED)).reshape(len(rows), count + 2)
+    ends = np.flatnonzero(text < BEHIND_COMMA).reshape(len(rows), count + 2)
     end = ends[:, where + 2].ravel()
     size = end - ends[:, where + 1].ravel() - 1
     found, minus = np.zeros(len(end), np.int64), np.zeros(len(end), bool)
