@@ -19,8 +19,9 @@ from basin_rules.policy import read_policy
 from . import process
 from .answers import Answer, Book, Cell, Effects, Numbers, Traces, answer_of, book_of, cell_of
 from .errors import Error
-from .files import Model, PathLike, Policy
+from .files import Model, Policy
 from .inputs import Inputs, inputs_of
+from .process import PathLike
 from .rows import batches_of, batches_text, step_number
 from .tables import sections
 
@@ -81,8 +82,9 @@ def run(
     asked: bool = False,
     numbers: Numbers = "float",
     errors: Errors = "raise",
-    program: str | None = None,
-) -> Answer: ...
+    program: PathLike | None = None,
+) -> Answer:
+    ...
 
 
 @overload
@@ -98,8 +100,9 @@ def run(
     asked: bool = False,
     numbers: Numbers = "float",
     errors: Errors = "raise",
-    program: str | None = None,
-) -> list[Answer]: ...
+    program: PathLike | None = None,
+) -> list[Answer]:
+    ...
 
 
 def run(
@@ -114,7 +117,7 @@ def run(
     asked: bool = False,
     numbers: Numbers = "float",
     errors: Errors = "raise",
-    program: str | None = None,
+    program: PathLike | None = None,
 ) -> Answer | list[Answer]:
     """A run as an `Answer`. With `edits` a list of them: the run from the inputs, and one after each batch.
 
@@ -139,7 +142,7 @@ def simulate(
     order: Literal["oldest", "newest"] | None = None,
     numbers: Numbers = "float",
     errors: Errors = "raise",
-    program: str | None = None,
+    program: PathLike | None = None,
 ) -> Answer:
     """A run without rules. `order` says which of several objects that wait is dispatched first."""
     asked_for = {"--flags": flags, "--trace": trace, f"--order={order}": order is not None}
@@ -148,7 +151,9 @@ def simulate(
         return _answers(files, words, numbers, errors, program)[0]
 
 
-def _answers(files: Files, words: list[str], form: Numbers, errors: Errors, program: str | None) -> list[Answer]:
+def _answers(
+    files: Files, words: list[str], form: Numbers, errors: Errors, program: PathLike | None
+) -> list[Answer]:
     """The runs that the program tells. A fault is raised where it isn't to be kept."""
     if errors not in ("raise", "keep"):
         raise ValueError(f'errors is "raise" or "keep", and not {errors!r}')
@@ -168,7 +173,7 @@ def why(
     slot: str,
     time: Any,
     *,
-    program: str | None = None,
+    program: PathLike | None = None,
 ) -> Cell:
     """How a cell came to what it holds. `time` is a timestep's number, or the moment at which it begins."""
     with Files(model, policy, inputs) as files:
@@ -178,7 +183,7 @@ def why(
         return cell_of(files.model, files.policy, text, status == 1)
 
 
-def check(model: ModelGiven, policy: PolicyGiven, *, program: str | None = None) -> pd.DataFrame:
+def check(model: ModelGiven, policy: PolicyGiven, *, program: PathLike | None = None) -> pd.DataFrame:
     """What a firing of each rule comes to at most, by the rule's number, with its name."""
     with Files(model, policy, None) as files:
         assert files.policy is not None
@@ -191,7 +196,7 @@ def check(model: ModelGiven, policy: PolicyGiven, *, program: str | None = None)
 
 
 def effects(
-    model: ModelGiven, policy: PolicyGiven, inputs: InputsGiven, *, program: str | None = None
+    model: ModelGiven, policy: PolicyGiven, inputs: InputsGiven, *, program: PathLike | None = None
 ) -> Effects:
     """In how many timesteps the last firing of each rule got what it wanted of each slot, and else what became of it.
 
@@ -203,7 +208,12 @@ def effects(
         found = _effects(files, program)
     headings = of_rules.HEADINGS
     rows = [
-        (rule, slot, names[rule - 1] if rule <= len(names) else "", *(found.counts[(rule, slot)][one] for one in headings))
+        (
+            rule,
+            slot,
+            names[rule - 1] if rule <= len(names) else "",
+            *(found.counts[(rule, slot)][one] for one in headings),
+        )
         for rule, slots in enumerate(found.sets, 1)
         for slot in slots
     ]
@@ -211,7 +221,7 @@ def effects(
     return Effects(table, list(found.sentences()))
 
 
-def _effects(files: Files, program: str | None) -> of_rules.Effects:
+def _effects(files: Files, program: PathLike | None) -> of_rules.Effects:
     """Goes through each firing of a run again, as `tools/effect` does."""
     assert files.inputs is not None
     model, paths = files.model.read, files.paths
@@ -226,7 +236,7 @@ def _effects(files: Files, program: str | None) -> of_rules.Effects:
 
 
 def balance(
-    model: ModelGiven, policy: PolicyGiven, inputs: InputsGiven, *, program: str | None = None
+    model: ModelGiven, policy: PolicyGiven, inputs: InputsGiven, *, program: PathLike | None = None
 ) -> Book:
     """The book of water of each object that stores some: initial, in, out, final."""
     with Files(model, policy, inputs) as files:
@@ -242,7 +252,7 @@ def mrm(
     traces: Any,
     *,
     numbers: Numbers = "float",
-    program: str | None = None,
+    program: PathLike | None = None,
 ) -> Traces:
     """Up to 64 traces, each over the inputs as they are, and their summary. A trace that faults is kept.
 

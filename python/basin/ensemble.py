@@ -20,10 +20,11 @@ import pandas as pd
 from .answers import fault_of
 from .calls import InputsGiven, ModelGiven, PolicyGiven
 from .errors import Error
-from .files import PathLike, Policy
+from .files import Policy
 from .netcdf import opened
 from .parts import Done, run_part
 from .plans import Plan, each_part, plan
+from .process import PathLike
 from .slurm import slurm
 from .statistics import STATISTICS, Percent, merge, rank_of
 from .tables import UNKNOWN
@@ -71,7 +72,7 @@ def run(
     client: Client | None = None,
     workers: int | None = None,
     progress: Progress | None = None,
-    program: str | None = None,
+    program: PathLike | None = None,
 ) -> Plan:
     """Plans, executes and merges: the folder has all values, and the statistics, behind it."""
     told = plan(folder, model, policy, inputs, traces, slots=slots, program=program)
@@ -99,7 +100,9 @@ def execute(
     done: list[Done] = []
     failed: list[tuple[int, BaseException]] = []
     here = client is None and workers == 0
-    for number, found in _here(told, missing) if here else _by_workers(told, missing, client, workers, retries):
+    for number, found in (
+        _here(told, missing) if here else _by_workers(told, missing, client, workers, retries)
+    ):
         if isinstance(found, BaseException):
             failed.append((number, found))
         elif found:
@@ -159,7 +162,7 @@ def _client(client: Client | None, workers: int | None) -> Iterator[Client]:
         cluster = LocalCluster(
             n_workers=workers or os.cpu_count(),
             threads_per_worker=1,
-            dashboard_address=None,
+            dashboard_address="127.0.0.1:0",
             local_directory=scratch,
         )
         opened_here.enter_context(cluster)
@@ -207,7 +210,9 @@ def _texts(told: Plan, variable: str) -> Iterator[tuple[str, str]]:
     """The traces that have a text, and the text."""
     for _, path in each_part(told):
         with opened(path) as part:
-            yield from ((str(name), str(text)) for name, text in zip(part["trace"][:], part[variable][:]) if text)
+            yield from (
+                (str(name), str(text)) for name, text in zip(part["trace"][:], part[variable][:]) if text
+            )
 
 
 def values(told: Plan, numbers: Kept = "float") -> xarray.Dataset:

@@ -47,13 +47,12 @@ class Stale(Error):
 class Refused(Error):
     """The program refused the words or a file, and what its line says of it.
 
-    `file` is model, rules, code, inputs, edits, traces, why, or "" where it is none of these. Of a trace of an
-    ensemble `trace` is its name, and `cells` the row that is refused.
+    `file` is model, rules, code, inputs, edits, traces, why, or "" where it is none of these.
     """
 
-    def __init__(self, status: int, said: str, trace: str = "", cells: str = "") -> None:
-        super().__init__(status, said, trace, cells)
-        self.status, self.said, self.trace, self.cells = status, said, trace, cells
+    def __init__(self, status: int, said: str) -> None:
+        super().__init__(status, said)
+        self.status, self.said = status, said
         words = said.removeprefix("basin: ")
         found = next(match for form in FORMS if (match := form.fullmatch(words))).groupdict()
         self.file: str = found.get("file") or ""
@@ -65,8 +64,7 @@ class Refused(Error):
         self.block, self.place = _number(found, "block"), _number(found, "place")
 
     def __str__(self) -> str:
-        words = plain(self.said, LONG) or f"the program ended with status {self.status}"
-        return f"trace {plain(self.trace)}: {words} ({plain(self.cells)})" if self.trace else words
+        return plain(self.said, LONG) or f"the program ended with status {self.status}"
 
 
 class Fault(Error):
@@ -94,6 +92,7 @@ class Fault(Error):
 
 
 def _number(found: dict[str, str | None], name: str) -> int | None:
+    """A number of a refusal's line, where the line has it."""
     number = found.get(name)
     return int(number) if number else None
 

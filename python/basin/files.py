@@ -5,7 +5,7 @@ from __future__ import annotations
 import os
 from functools import cached_property
 from pathlib import Path
-from typing import TypeVar, Union
+from typing import TypeVar
 
 import pandas as pd
 
@@ -18,10 +18,10 @@ from basin_rules.places import Source
 from basin_rules.rulesets import read_ruleset
 
 from .errors import Error
+from .process import PathLike
 
 FREQUENCIES = {"1h": "H", "6h": "6H", "12h": "12H", "24h": "D", "1month": "MS"}
 Given = TypeVar("Given", bound="File")
-PathLike = Union[str, "os.PathLike[str]"]
 
 
 class File:

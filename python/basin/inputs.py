@@ -8,7 +8,8 @@ import pandas as pd
 
 from basin_files.inputs import records_of, steps_of
 
-from .files import File, Model, PathLike
+from .files import File, Model
+from .process import PathLike
 from .rows import Row, wide_rows
 
 HEADER = "slot,step,value\n"

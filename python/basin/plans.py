@@ -16,8 +16,9 @@ from basin_files.reasons import LONG, plain
 from . import process
 from .calls import MOST_TRACES, InputsGiven, ModelGiven, PolicyGiven
 from .errors import Error, Stale
-from .files import File, Model, PathLike, Policy
+from .files import File, Model, Policy
 from .inputs import inputs_of
+from .process import PathLike
 from .traces import Traces, traces_of
 
 Way = Literal["mrm", "run"]
@@ -84,7 +85,7 @@ def plan(
     slots: Sequence[str] | Literal["all"],
     size: int = MOST_TRACES,
     way: Way | None = None,
-    program: str | None = None,
+    program: PathLike | None = None,
 ) -> Plan:
     """Writes what the folder is to hold, or finds it there. `Stale` where another ensemble is.
 
@@ -104,7 +105,9 @@ def plan(
         judge(new, path)
         chosen = chosen_slots(read_model, slots)
         with traces_of(read_model, traces) as given:
-            names, digest = store(new, given, size, [path, *map(digested, files), json.dumps(chosen).encode()])
+            names, digest = store(
+                new, given, size, [path, *map(digested, files), json.dumps(chosen).encode()]
+            )
         found = Plan(place, names, chosen, way or way_of(path), path, digest)
         settle(found, new)
     finally:
@@ -143,6 +146,8 @@ def digested(file: File) -> bytes:
 
 def store(folder: Path, traces: Traces, size: int, before: list[Any]) -> tuple[list[list[str]], str]:
     """Writes the traces, and answers their names by part, and the digest of all that the runs go by."""
+    if not traces.names:
+        raise ValueError("there is no trace")
     program, *texts = before
     digest = hashlib.sha256(Path(program).read_bytes())
     parts = [slice(low, low + size) for low in range(0, len(traces.names), size)]

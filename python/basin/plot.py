@@ -32,7 +32,14 @@ def bands(told: Plan, slot: str, ax: Axes | None = None, colour: str = "C0") -> 
         strength = PALEST + (DARKEST - PALEST) * (k + 1) / pairs
         label = f"{shares[k]} to {shares[-1 - k]} %"
         drawn.fill_between(
-            edges, heights[k], heights[-1 - k], step="post", alpha=strength, color=colour, linewidth=0, label=label
+            edges,
+            heights[k],
+            heights[-1 - k],
+            step="post",
+            alpha=strength,
+            color=colour,
+            linewidth=0,
+            label=label,
         )
     if len(shares) % 2:
         drawn.step(edges, heights[pairs], where="post", color=colour, label=f"{shares[pairs]} %")

@@ -8,13 +8,14 @@ import os
 import shutil
 import subprocess
 import tempfile
-from typing import IO, Iterator, Sequence
+from typing import IO, Iterator, Sequence, Union
 
 from basin_files.program import Unable, built
 from basin_files.reasons import plain
 
 from .errors import Error, NoProgram, Refused
 
+PathLike = Union[str, "os.PathLike[str]"]
 PIPE = 1 << 20  # so that the program and its reader work side by side
 ENDED = (0, 1)  # the statuses with which the program has answered
 NO_SUCH_WORDS = 2
@@ -24,7 +25,7 @@ HOW = (
 )
 
 
-def find_program(path: str | os.PathLike[str] | None = None) -> str:
+def find_program(path: PathLike | None = None) -> str:
     """The program's path: the one that is named, that of BASIN, that of the checkout, or that of the PATH."""
     named = path or os.environ.get("BASIN")
     if named:
@@ -41,7 +42,7 @@ def find_program(path: str | os.PathLike[str] | None = None) -> str:
 
 
 @contextlib.contextmanager
-def at_work(words: Sequence[str], program: str | None = None) -> Iterator[subprocess.Popen[bytes]]:
+def at_work(words: Sequence[str], program: PathLike | None = None) -> Iterator[subprocess.Popen[bytes]]:
     """The program while it writes to a pipe. Behind it `Refused` where it answered nothing."""
     path = find_program(program)
     with tempfile.TemporaryFile() as errors:
@@ -65,7 +66,7 @@ def output_of(process: subprocess.Popen[bytes]) -> IO[bytes]:
     return process.stdout
 
 
-def answer(words: Sequence[str], program: str | None = None) -> tuple[int, str]:
+def answer(words: Sequence[str], program: PathLike | None = None) -> tuple[int, str]:
     """The status, 0 or 1, and the text that was written. `Refused` with any other status."""
     with at_work(words, program) as process:
         text = output_of(process).read()
@@ -80,7 +81,7 @@ def judge(status: int, errors: bytes) -> None:
         raise Refused(status, errors.decode("utf-8", "replace").removesuffix("\n"))
 
 
-def has_command(command: str, files: int, program: str | None = None) -> bool:
+def has_command(command: str, files: int, program: PathLike | None = None) -> bool:
     """Whether the program knows a command of so many files, by what it says of empty ones."""
     try:
         answer([command, *[os.devnull] * files], program)

@@ -29,7 +29,7 @@ if TYPE_CHECKING:
 
 SERIES = "traces.nc"
 PACKED = ("scale_factor", "add_offset")
-AMOUNTS = ("_FillValue", "missing_value")
+FILLS = ("_FillValue", "missing_value")
 
 
 class Traces(Protocol):
@@ -75,7 +75,9 @@ class Series:
             out.createDimension("trace", len(self.names))
             out.createDimension("step", len(steps))
             out.createVariable("step", "i8", ("step",))[:] = steps
-            held = {slot: out.createVariable(slot, "i8", ("trace", "step"), fill_value=UNKNOWN) for slot in slots}
+            held = {
+                slot: out.createVariable(slot, "i8", ("trace", "step"), fill_value=UNKNOWN) for slot in slots
+            }
             for some in parts:
                 for slot, cells in held.items():
                     values = self.values(slot, some, steps)
@@ -94,7 +96,9 @@ class Series:
         unit = self.model.unit(slot)
         said = attributes.get("basin_unit", attributes.get("units"))
         if said is not None and said not in (unit, UNITS.get(unit, unit)):
-            raise ValueError(f"{slot} is in {plain(str(said))}, and has to be in its base unit, {unit or 'none'}")
+            raise ValueError(
+                f"{slot} is in {plain(str(said))}, and has to be in its base unit, {unit or 'none'}"
+            )
         if any(word in attributes for word in PACKED):
             raise ValueError(f"{slot} is packed by scale_factor or add_offset: unpack it first")
         return slot
@@ -102,13 +106,15 @@ class Series:
     def values(self, slot: str, some: slice, steps: npt.NDArray[np.int64]) -> Whole:
         """The whole numbers of some traces."""
         held = self.data[slot].transpose("trace", "time")[some].load()
-        found = np.empty(held.shape, np.int64)
-        for place, row in enumerate(held.values):
-            where = f"trace {plain(self.names[(some.start or 0) + place])}, {slot}"
-            found[place] = whole_series(pd.Series(row), where, steps)
-        for word in AMOUNTS:
+        lacking = np.zeros(held.shape, bool)
+        for word in FILLS:
             if word in held.attrs:
-                found[held.values == held.attrs[word]] = UNKNOWN
+                lacking |= held.values == held.attrs[word]
+        found = np.empty(held.shape, np.int64)
+        for place, (row, none) in enumerate(zip(held.values, lacking)):
+            where = f"trace {plain(self.names[some.start + place])}, {slot}"
+            found[place] = whole_series(pd.Series(np.where(none, 0, row)), where, steps)
+        found[lacking] = UNKNOWN
         return found
 
 

@@ -18,7 +18,11 @@ pytestmark = pytest.mark.slow
 
 def test_builds_are_alike_and_the_wheel_runs(tmp_path: Path) -> None:
     for folder, mask in (("a", "022"), ("b", "077")):
-        subprocess.run(["sh", "-c", f"umask {mask}; {TOP}/python/build {tmp_path / folder}"], check=True, capture_output=True)
+        subprocess.run(
+            ["sh", "-c", f"umask {mask}; {TOP}/python/build {tmp_path / folder}"],
+            check=True,
+            capture_output=True,
+        )
     names = sorted(path.name for path in (tmp_path / "a").iterdir())
     assert [name.split("-")[0] for name in names] == ["basin", "basin"] and names[0].endswith(".whl")
     for name in names:
@@ -30,9 +34,23 @@ def test_builds_are_alike_and_the_wheel_runs(tmp_path: Path) -> None:
     assert (tmp_path / "site/basin/py.typed").exists()
     code = f"import basin; print(basin.__file__, len(basin.run(*{[str(path) for path in VALLEY]}).table))"
     environment = {**os.environ, "PYTHONPATH": str(tmp_path / "site")}
-    done = subprocess.run([sys.executable, "-c", code], cwd=tmp_path, env=environment, capture_output=True, text=True, check=True)
+    done = subprocess.run(
+        [sys.executable, "-c", code],
+        cwd=tmp_path,
+        env=environment,
+        capture_output=True,
+        text=True,
+        check=True,
+    )
     assert done.stdout == f"{tmp_path / 'site/basin/__init__.py'} 365\n"
     del environment["BASIN"]
     environment["PATH"] = "/nonexistent"
-    done = subprocess.run([sys.executable, "-c", code], cwd=tmp_path, env=environment, capture_output=True, text=True, check=False)
+    done = subprocess.run(
+        [sys.executable, "-c", code],
+        cwd=tmp_path,
+        env=environment,
+        capture_output=True,
+        text=True,
+        check=False,
+    )
     assert "NoProgram: there is no program: name it by program=" in done.stderr

@@ -41,7 +41,9 @@ def test_months_are_summed_right() -> None:
 
 
 def test_edits_reuse_flags_and_trace() -> None:
-    answers = basin.run(*VALLEY, edits=EXAMPLES / "valley-rules/edits.csv", reuse=True, flags=True, trace=True)
+    answers = basin.run(
+        *VALLEY, edits=EXAMPLES / "valley-rules/edits.csv", reuse=True, flags=True, trace=True
+    )
     assert [answer.number for answer in answers] == [0, 1, 2, 3, 4]
     assert answers[0].reran is None and 0 < len(answers[1].reran or []) < 365
     flags = answers[0].flags
@@ -58,7 +60,10 @@ def test_inputs_and_edits_from_frames() -> None:
     edits = [(1, "Dam.Inflow", "2020-01-02", 9), (2, "Dam.Inflow", 3, None)]
     wanted = [[5, -1, 7], [5, 9, 7], [5, 9, -1]]
     long = pd.DataFrame(edits, columns=["batch", "slot", "time", "value"])
-    for batches in (basin.run(model(), policy(), given, edits=long), basin.run(model(), policy(), frame, edits=long)):
+    for batches in (
+        basin.run(model(), policy(), given, edits=long),
+        basin.run(model(), policy(), frame, edits=long),
+    ):
         assert [list(one.table["Dam.Inflow"].fillna(-1).iloc[:3]) for one in batches] == wanted
     wide = [pd.DataFrame({"Dam.Inflow": [9]}, index=index[1:2])]
     assert list(basin.run(model(), policy(), given, edits=wide)[1].table["Dam.Inflow"].iloc[:3]) == [5, 9, 7]
@@ -69,13 +74,28 @@ def test_inputs_and_edits_from_frames() -> None:
 @pytest.mark.parametrize(
     "files, fields",
     [
-        ((MODEL, "", f"{NOTHING}Dam.Inflow,99,1\n"), dict(status=8, file="inputs", row=2, column=2, reason="step outside")),
-        ((MODEL.replace("= 40", "= 0"), "", NOTHING), dict(status=6, file="model", path="run.steps", reason="bad parameter")),
-        ((MODEL.replace("Below\"", "Dam\""), "", NOTHING), dict(file="model", path="object[2]", reason="duplicate name")),
+        (
+            (MODEL, "", f"{NOTHING}Dam.Inflow,99,1\n"),
+            dict(status=8, file="inputs", row=2, column=2, reason="step outside"),
+        ),
+        (
+            (MODEL.replace("= 40", "= 0"), "", NOTHING),
+            dict(status=6, file="model", path="run.steps", reason="bad parameter"),
+        ),
+        (
+            (MODEL.replace('Below"', 'Dam"'), "", NOTHING),
+            dict(file="model", path="object[2]", reason="duplicate name"),
+        ),
         (("[", "", NOTHING), dict(status=6, file="model", reason="not TOML")),
-        ((MODEL, "RULE", NOTHING), dict(status=7, file="rules", declaration=1, line=1, reason="bad declaration")),
+        (
+            (MODEL, "RULE", NOTHING),
+            dict(status=7, file="rules", declaration=1, line=1, reason="bad declaration"),
+        ),
         ((MODEL, 'RULE "a": Dam.X[t] := 1; ENDRULE', NOTHING), dict(file="rules", declaration=1, node=1)),
-        ((MODEL, "CODE 1\nRULE\nLOCALS -\nadd\nEND\n", NOTHING), dict(status=9, file="code", block=1, place=0)),
+        (
+            (MODEL, "CODE 1\nRULE\nLOCALS -\nadd\nEND\n", NOTHING),
+            dict(status=9, file="code", block=1, place=0),
+        ),
     ],
 )
 def test_refusals_have_fields(files: tuple[str, str, str], fields: dict[str, object]) -> None:
@@ -133,7 +153,9 @@ def test_why_and_check() -> None:
     assert unknown.value is None and unknown.flag == ""
     budgets = basin.check(*VALLEY[:2])
     text = (EXAMPLES / "valley-rules/check.txt").read_text().splitlines()[1:]
-    assert [f"rule {k} instructions {a} reads {b} puts {c} words {d}" for k, _, a, b, c, d in budgets.itertuples()] == text
+    assert [
+        f"rule {k} instructions {a} reads {b} puts {c} words {d}" for k, _, a, b, c, d in budgets.itertuples()
+    ] == text
     assert list(budgets["name"][:2]) == ["flood pool", "least release"]
 
 
@@ -145,7 +167,9 @@ def test_effects_of_rules() -> None:
     valley = basin.effects(*VALLEY)
     assert (valley.table.drop(columns="name").sum(axis=1) == 365).all()  # each rule fires each day
     gave_way = valley.table["gave way"]
-    assert [f" {count} timesteps" in told for count, told in zip(gave_way[gave_way > 0], valley.sentences)] == [True]
+    assert [
+        f" {count} timesteps" in told for count, told in zip(gave_way[gave_way > 0], valley.sentences)
+    ] == [True]
 
 
 def test_order_of_dispatches() -> None:
@@ -172,7 +196,9 @@ def test_balance() -> None:
     assert unknown["unknown"] and unknown["final"] is None
     most = 10**17
     full = inputs(f"{NOTHING}Dam.Inflow,1-{STEPS},{most}\nDam.Outflow,1-{STEPS},{most}\n")
-    assert basin.balance(model(), policy(""), full).table.loc["Dam", "in"] == STEPS * most  # beyond 2^63 - 1: 4 * 10^18
+    assert (
+        basin.balance(model(), policy(""), full).table.loc["Dam", "in"] == STEPS * most
+    )  # beyond 2^63 - 1: 4 * 10^18
 
 
 def test_mrm_with_a_fault() -> None:

@@ -19,7 +19,21 @@ from basin import ensemble
 from basin.statistics import blocks, percentile
 from basin.tables import UNKNOWN
 
-from small import INPUTS, MODEL, SLOTS, STEPS, cells_of, inflows, inputs, model, outflow, planned, policy, rows, series
+from small import (
+    INPUTS,
+    MODEL,
+    SLOTS,
+    STEPS,
+    cells_of,
+    inflows,
+    inputs,
+    model,
+    outflow,
+    planned,
+    policy,
+    rows,
+    series,
+)
 from small import storage, wants
 
 WAYS = ("run", "mrm")
@@ -50,9 +64,13 @@ def test_values_are_those_reckoned_by_hand(tmp_path: Path, way: str) -> None:
 
 @pytest.mark.parametrize("way", WAYS)
 def test_a_trace_takes_the_place_of_inputs_of_linked_slots(tmp_path: Path, way: str) -> None:
-    traces = rows(("a", "Below.GageInflow", "3-5", 2), ("a", "Dam.Inflow", 4, None), ("b", "Dam.Outflow", 7, 1))
+    traces = rows(
+        ("a", "Below.GageInflow", "3-5", 2), ("a", "Dam.Inflow", 4, None), ("b", "Dam.Outflow", 7, 1)
+    )
     given = inputs(f"{INPUTS}Dam.Outflow,1-10,4\n")
-    told = ensemble.plan(tmp_path / "a", model(), policy(), given, traces, slots=["Dam.Outflow", "Dam.Inflow"], way=in_way(way))
+    told = ensemble.plan(
+        tmp_path / "a", model(), policy(), given, traces, slots=["Dam.Outflow", "Dam.Inflow"], way=in_way(way)
+    )
     ensemble.execute(told, workers=0)
     found, flows = cells_of(told, "Dam.Outflow"), cells_of(told, "Dam.Inflow")
     assert list(found[0, :8]) == [4, 4, 2, 2, 2, 4, 4, 4] and list(found[1, :8]) == [4] * 6 + [1, 4]
@@ -90,8 +108,15 @@ def test_more_rows_than_a_file_of_traces_has(tmp_path: Path) -> None:
 def test_traces_in_each_form(tmp_path: Path, form: str) -> None:
     inflow = inflows(3)
     data = series(inflow)
-    frames = {name: pd.DataFrame({"Dam.Inflow": row}, index=model().index()) for name, row in zip(data["trace"].values, inflow)}
-    long = [(name, "Dam.Inflow", step, value) for name, row in zip(frames, inflow) for step, value in enumerate(row, 1)]
+    frames = {
+        name: pd.DataFrame({"Dam.Inflow": row}, index=model().index())
+        for name, row in zip(data["trace"].values, inflow)
+    }
+    long = [
+        (name, "Dam.Inflow", step, value)
+        for name, row in zip(frames, inflow)
+        for step, value in enumerate(row, 1)
+    ]
     data.to_netcdf(tmp_path / "traces.nc")
     given = {"frames": frames, "rows": rows(*long), "dataset": data, "file": tmp_path / "traces.nc"}[form]
     told = ensemble.plan(tmp_path / "a", model(), policy(), inputs(), given, slots=["Dam.Outflow"])
@@ -101,14 +126,31 @@ def test_traces_in_each_form(tmp_path: Path, form: str) -> None:
 
 
 def test_series_with_holes_large_numbers_and_numbers_for_names(tmp_path: Path) -> None:
-    wide = xarray.Dataset({"Dam.Inflow": (("time", "trace"), [[1.0, np.nan], [np.nan, 4.0]])}, {"time": model().index(2)})
+    wide = xarray.Dataset(
+        {"Dam.Inflow": (("time", "trace"), [[1.0, np.nan], [np.nan, 4.0]])}, {"time": model().index(2)}
+    )
     told = ensemble.plan(tmp_path / "a", model(), policy(), inputs(), wide, slots=["Dam.Inflow"])
     ensemble.execute(told, workers=0)
-    assert told.names == [["1", "2"]] and cells_of(told, "Dam.Inflow")[:, :3].tolist() == [[1, 9, 9], [9, 4, 9]]
+    assert told.names == [["1", "2"]] and cells_of(told, "Dam.Inflow")[:, :3].tolist() == [
+        [1, 9, 9],
+        [9, 4, 9],
+    ]
+    filled = series(np.array([[1, -9999] + [9] * (STEPS - 2)])).astype(float)
+    filled["Dam.Inflow"].encoding["_FillValue"] = -9999.0
+    filled.where(filled > 0).to_netcdf(tmp_path / "filled.nc")  # with the fill for what isn't known
+    told = ensemble.plan(
+        tmp_path / "c", model(), policy(), inputs("slot,step,value\n"), tmp_path / "filled.nc", slots=SLOTS
+    )
+    ensemble.execute(told, workers=0)
+    assert (
+        np.isnan(cells_of(told, "Dam.Storage")[0, 1:]).all() and cells_of(told, "Dam.Storage")[0, 0] == 1001
+    )
     large = series(np.full((1, STEPS), 10**17))
     large["Dam.Inflow"].encoding["_FillValue"] = -1
     large.to_netcdf(tmp_path / "large.nc")
-    told = ensemble.plan(tmp_path / "b", model(), policy(), inputs(), tmp_path / "large.nc", slots=["Dam.Inflow"])
+    told = ensemble.plan(
+        tmp_path / "b", model(), policy(), inputs(), tmp_path / "large.nc", slots=["Dam.Inflow"]
+    )
     ensemble.execute(told, workers=0)
     ensemble.merge(told)
     for read in (ensemble.values, ensemble.statistics):
@@ -120,7 +162,12 @@ def test_series_with_holes_large_numbers_and_numbers_for_names(tmp_path: Path) -
 
 @pytest.mark.parametrize(
     "attributes, why",
-    [({"units": "m3 s-1"}, "base unit"), ({"scale_factor": 0.1}, "packed"), ({"units": "m3"}, ""), ({"units": "m3/step"}, "")],
+    [
+        ({"units": "m3 s-1"}, "base unit"),
+        ({"scale_factor": 0.1}, "packed"),
+        ({"units": "m3"}, ""),
+        ({"units": "m3/step"}, ""),
+    ],
 )
 def test_units_of_series(tmp_path: Path, attributes: dict[str, object], why: str) -> None:
     data = series(inflows(1))
@@ -209,7 +256,12 @@ def test_the_median_is_that_of_mrm(tmp_path: Path) -> None:
 
 def test_blocks_cover_all_once() -> None:
     for room in (16 * 3 * 4, 16 * 3 * 10, 16 * 3 * 25, 10**6, 1):
-        covered = [(slot, step) for block in blocks(["a", "b", "c"], 10, 3, room) for slot in block.slots for step in range(block.steps.start, block.steps.stop)]
+        covered = [
+            (slot, step)
+            for block in blocks(["a", "b", "c"], 10, 3, room)
+            for slot in block.slots
+            for step in range(block.steps.start, block.steps.stop)
+        ]
         assert sorted(covered) == [(slot, step) for slot in "abc" for step in range(10)]
 
 
@@ -228,7 +280,9 @@ def test_resumption_and_another_ensemble(tmp_path: Path) -> None:
         with pytest.raises(basin.Stale, match="another ensemble"):
             planned(tmp_path / "a", changed, size=5)
     with pytest.raises(basin.Stale):
-        ensemble.plan(tmp_path / "a", model(), policy(RULE_OF_6), inputs(), series(inflow), slots=SLOTS, size=5)
+        ensemble.plan(
+            tmp_path / "a", model(), policy(RULE_OF_6), inputs(), series(inflow), slots=SLOTS, size=5
+        )
     assert [path.name for path in tmp_path.iterdir()] == ["a"]
 
 
@@ -244,7 +298,11 @@ def test_plans_that_can_not_be(tmp_path: Path) -> None:
     with pytest.raises(TypeError):
         ensemble.plan(tmp_path / "a", model(), policy(), inputs(), data, slots="Dam.Storage")
     with pytest.raises(ValueError, match="same name"):
-        ensemble.plan(tmp_path / "a", model(), policy(), inputs(), data.assign_coords(trace=["a", "a"]), slots=SLOTS)
+        ensemble.plan(
+            tmp_path / "a", model(), policy(), inputs(), data.assign_coords(trace=["a", "a"]), slots=SLOTS
+        )
+    with pytest.raises(ValueError, match="no trace"):
+        ensemble.plan(tmp_path / "a", model(), policy(), inputs(), {}, slots=SLOTS)
     with pytest.raises(ValueError, match="1 to 64"):
         planned(tmp_path / "a", inflows(2), size=65)
     (tmp_path / "full").mkdir()
@@ -271,10 +329,12 @@ def test_the_trace_nearest_to_a_percentile(tmp_path: Path) -> None:
 def test_slurm_tasks_one_by_one(tmp_path: Path) -> None:
     inflow = inflows(20)
     told = planned(tmp_path / "a", inflow, size=5)
-    array, last = ensemble.slurm(told, tasks=3)
-    assert "#SBATCH --array=1-3\n" in array.read_text()
-    for task in ("1", "2", "3"):
-        subprocess.run(["bash", array], check=True, env={**os.environ, "SLURM_ARRAY_TASK_ID": task}, capture_output=True)
+    array, last = ensemble.slurm(told, tasks=2)
+    assert "#SBATCH --array=1-2\n" in array.read_text()
+    for task in ("1", "2"):
+        subprocess.run(
+            ["bash", array], check=True, env={**os.environ, "SLURM_ARRAY_TASK_ID": task}, capture_output=True
+        )
     merged = subprocess.run(["bash", last], check=True, capture_output=True, text=True).stdout
     assert merged.splitlines()[1] == "20 traces, 0 ended in a fault, 0 are refused"
     assert (cells_of(told, "Dam.Storage") == storage(inflow)).all()
@@ -292,7 +352,11 @@ def test_no_more_than_a_thousand_tasks_and_plain_folders(tmp_path: Path) -> None
 
 def test_words_of_the_module(tmp_path: Path) -> None:
     told = planned(tmp_path / "a", inflows(3))
-    done = subprocess.run([sys.executable, "-m", "basin", "merge", told.folder], capture_output=True, text=True, check=False)
+    done = subprocess.run(
+        [sys.executable, "-m", "basin", "merge", told.folder], capture_output=True, text=True, check=False
+    )
     assert (done.returncode, done.stderr) == (2, "basin: 1 of 1 parts are missing, the first is 0\n")
-    done = subprocess.run([sys.executable, "-m", "basin", "run", tmp_path], capture_output=True, text=True, check=False)
+    done = subprocess.run(
+        [sys.executable, "-m", "basin", "run", tmp_path], capture_output=True, text=True, check=False
+    )
     assert done.returncode == 2 and "holds no plan" in done.stderr

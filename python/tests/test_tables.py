@@ -53,14 +53,21 @@ def test_numbers_of_all_and_of_picked_columns() -> None:
 
 
 def test_floats_are_exact_or_refused() -> None:
-    assert np.array_equal(as_floats(np.array([2**53, -(2**53), UNKNOWN])), [2**53, -(2**53), np.nan], equal_nan=True)
+    assert np.array_equal(
+        as_floats(np.array([2**53, -(2**53), UNKNOWN])), [2**53, -(2**53), np.nan], equal_nan=True
+    )
     with pytest.raises(OverflowError, match="Int64"):
         as_floats(np.array([2**53 + 1]))
 
 
 def test_neighbours_with_one_value_are_one_row() -> None:
     steps, values = np.array([1, 2, 3, 5, 6, 7]), np.array([4, 4, 5, 5, UNKNOWN, 5])
-    assert [row.text for row in folded("D.A", steps, values)] == ["D.A,1-2,4", "D.A,3,5", "D.A,5,5", "D.A,7,5"]
+    assert [row.text for row in folded("D.A", steps, values)] == [
+        "D.A,1-2,4",
+        "D.A,3,5",
+        "D.A,5,5",
+        "D.A,7,5",
+    ]
 
 
 @pytest.mark.parametrize(
@@ -83,7 +90,9 @@ def test_what_is_not_whole_is_refused(value: object, why: str) -> None:
         list(wide_rows(model(), pd.DataFrame({"Dam.Inflow": [value]}, index=[1])))
 
 
-@pytest.mark.parametrize("name", ["Dam", "Dam.Inflow,1,5\nDam.Outflow", '=1+1"', "Dam.In flow", 5, "Dam.\x1b[31m"])
+@pytest.mark.parametrize(
+    "name", ["Dam", "Dam.Inflow,1,5\nDam.Outflow", '=1+1"', "Dam.In flow", 5, "Dam.\x1b[31m"]
+)
 def test_a_heading_that_is_no_slot_reaches_no_file(name: object) -> None:
     with pytest.raises(ValueError, match="is no slot") as told:
         list(wide_rows(model(), pd.DataFrame({name: [1]}, index=[1])))
@@ -99,6 +108,8 @@ def test_moments_at_which_no_timestep_begins(time: str) -> None:
 
 
 def test_timesteps_of_rows_by_number_range_and_moment() -> None:
-    frame = pd.DataFrame([("a", "Dam.Inflow", time, 1) for time in (2, "2", "3-4", "2020-01-05", pd.Timestamp(2020, 1, 6))])
+    frame = pd.DataFrame(
+        [("a", "Dam.Inflow", time, 1) for time in (2, "2", "3-4", "2020-01-05", pd.Timestamp(2020, 1, 6))]
+    )
     texts = [row.text for row in long_rows(model(), frame, "trace")["a"]]
     assert texts == [f"Dam.Inflow,{steps},1" for steps in ("2", "2", "3-4", "5", "6")]

@@ -3,6 +3,7 @@
 from __future__ import annotations
 
 import os
+import shlex
 import signal
 import subprocess
 import sys
@@ -29,10 +30,13 @@ def test_a_thousand_traces_with_a_worker_killed(tmp_path: Path) -> None:
     killed: list[int] = []
 
     def kill(done: int, _parts: int, _last: ensemble.Done) -> None:
+        """Ends a worker as the system does where memory runs out."""
         if done == 4:
             os.kill(killed[0], signal.SIGKILL)
 
-    settings = dict(n_workers=2, threads_per_worker=1, dashboard_address=None, local_directory=str(tmp_path / "dask"))
+    settings = dict(
+        n_workers=2, threads_per_worker=1, dashboard_address="127.0.0.1:0", local_directory=str(tmp_path / "dask")
+    )
     with LocalCluster(**settings) as cluster, Client(cluster) as client:
         killed += list(client.run(os.getpid).values())[:1]
         done = ensemble.execute(told, client=client, progress=kill)
@@ -57,16 +61,26 @@ def test_a_script_without_a_guard_starts_no_workers_without_end(tmp_path: Path) 
 
 def test_a_part_that_fails_each_time_stops_no_other(tmp_path: Path) -> None:
     program = tmp_path / "basin"  # one that dies where an inflow is 49
-    real = basin.find_program()
-    program.write_text(f"#!/bin/sh\ngrep -q 'Dam.Inflow,1,49$' \"$4\" && kill -9 $$\nexec {real} \"$@\"\n")
+    real = shlex.quote(basin.find_program())
+    program.write_text(f'#!/bin/sh\ngrep -q \'Dam.Inflow,1,49$\' "$4" && kill -9 $$\nexec {real} "$@"\n')
     program.chmod(0o755)
     inflow = inflows(12) % 49
     inflow[7, 0] = 49
     told = ensemble.plan(
-        tmp_path / "a", model(), policy(), inputs(), series(inflow), slots=SLOTS, size=2, way="run", program=str(program)
+        tmp_path / "a",
+        model(),
+        policy(),
+        inputs(),
+        series(inflow),
+        slots=SLOTS,
+        size=2,
+        way="run",
+        program=str(program),
     )
     for workers in (0, 1):
-        with pytest.raises(basin.Error, match="1 of . parts failed; part 3: the program was ended by signal 9"):
+        with pytest.raises(
+            basin.Error, match="1 of . parts failed; part 3: the program was ended by signal 9"
+        ):
             ensemble.execute(told, workers=workers, retries=1)
         assert told.missing() == [3]
 
@@ -81,6 +95,11 @@ def test_a_notebook(tmp_path: Path) -> None:
     ]
     book = nbformat.v4.new_notebook(cells=[nbformat.v4.new_code_cell(source) for source in cells])
     nbclient.NotebookClient(book, timeout=300, kernel_name="python3").execute(cwd=str(tmp_path))
-    texts = [output["data"].get("text/plain") for cell in book.cells[1:3] for output in cell["outputs"] if "data" in output]
+    texts = [
+        output["data"].get("text/plain")
+        for cell in book.cells[1:3]
+        for output in cell["outputs"]
+        if "data" in output
+    ]
     assert texts == ["2", str(float(storage(inflows(10))[:, -1].max()))]
     assert any("image/png" in output.get("data", {}) for output in book.cells[3]["outputs"])
