@@ -36,14 +36,22 @@ class LaidOver:
     def __init__(self, model: Model, inputs: Inputs) -> None:
         self.model = model
         self.groups = {name: str(model.read.group(name)[0].full_name) for name in model.slots}
-        self.cells: dict[str, dict[int, str]] = {}
+        self.rows: dict[str, list[Row]] = {}  # by the first of linked slots
         records = records_of(inputs.content)
         next(records)
         for _, (slot, steps, value) in records:
             first, last = steps_of(steps)
-            cells = self.cells.setdefault(self.groups[slot], {})
-            cells.update((step, f"{slot},{step},{value}\n") for step in range(first, last + 1))
-        self.texts = {group: "".join(cells.values()) for group, cells in self.cells.items()}
+            self.rows.setdefault(self.groups[slot], []).append(Row(slot, first, last, int(value)))
+        self.made: dict[str, dict[int, str]] = {}
+        self.texts = {group: "".join(f"{row.text}\n" for row in rows) for group, rows in self.rows.items()}
+
+    def cells(self, group: str) -> dict[int, str]:
+        """The cells of linked slots, each as a line of inputs. They are made once, where a trace first names them."""
+        if group not in self.made:
+            self.made[group] = {}
+            for row in self.rows.get(group, ()):
+                lay(self.made[group], row)
+        return self.made[group]
 
     def twice(self, rows: Iterable[Row]) -> Row | None:
         """The first row that names a cell which one before it names, too: a file of traces has none such."""
@@ -67,12 +75,17 @@ class LaidOver:
                 continue
             group = self.groups[row.slot]
             if group not in laid:
-                laid[group] = dict(self.cells.get(group, {}))
-            steps = range(row.first, row.last + 1)
-            if row.value is None:
-                for step in steps:
-                    laid[group].pop(step, None)
-            else:
-                laid[group].update((step, f"{row.slot},{step},{row.value}\n") for step in steps)
+                laid[group] = dict(self.cells(group))
+            lay(laid[group], row)
         texts = {**self.texts, **{group: "".join(cells.values()) for group, cells in laid.items()}}
         return HEADER + "".join(texts.values()) + "".join(wrong)
+
+
+def lay(cells: dict[int, str], row: Row) -> None:
+    """Lays a row over cells, each of which is a line of inputs."""
+    steps = range(row.first, row.last + 1)
+    if row.value is None:
+        for step in steps:
+            cells.pop(step, None)
+    else:
+        cells.update((step, f"{row.slot},{step},{row.value}\n") for step in steps)

@@ -61,7 +61,7 @@ def run_part(folder: str, number: int) -> Done | None:
     if plan.part(number).exists():
         return None
     begun, used = clock.time(), sum(os.times()[:4])
-    model, names = plan.model, plan.names[number]
+    model, names = model_of(plan.folder, plan.digest), plan.names[number]
     rows = stored_rows(plan.folder, number, plan.first(number), len(names))
     values = values_of(plan, model, rows)
     write(plan, model, number, values)
@@ -101,16 +101,21 @@ def at_once(plan: Plan, model: Model, rows: list[list[Row]]) -> Values:
 
 
 @lru_cache(maxsize=1)
-def laid_over(plan_folder: Path, _digest: str) -> LaidOver:
-    """The inputs of a plan, which a worker reads once for all its parts."""
-    model, inputs = Model(plan_folder / NAMES[0]), Inputs(plan_folder / NAMES[2])
-    return LaidOver(model, inputs)
+def model_of(folder: Path, _digest: str) -> Model:
+    """The model of a plan, which a worker reads once for all its parts."""
+    return Model(folder / NAMES[0])
+
+
+@lru_cache(maxsize=1)
+def inputs_of(folder: Path, digest: str) -> LaidOver:
+    """The inputs of a plan, likewise."""
+    return LaidOver(model_of(folder, digest), Inputs(folder / NAMES[2]))
 
 
 def one_by_one(plan: Plan, model: Model, rows: list[list[Row]]) -> Values:
     """By `run`, from inputs over which each trace is laid."""
     values = Values(plan, model, len(rows))
-    inputs = laid_over(plan.folder, plan.digest)
+    inputs = inputs_of(plan.folder, plan.digest)
     with tempfile.TemporaryDirectory(prefix="basin-") as name:
         path = Path(name) / "inputs.csv"
         words = ["run", *map(str, plan.files[:2]), str(path)]
