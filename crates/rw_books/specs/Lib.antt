@@ -1,0 +1,4 @@
+pub mod Turnover
+pub mod Book
+pub mod Text
+pub mod Worked
