@@ -4,9 +4,11 @@ import re
 from dataclasses import dataclass, field
 
 from .moments import moment_of
+from .program import Progress
 
 HEADING = re.compile(r"# batch ([0-9]+) (settled|fault ([A-Za-z0-9_. -]+))")
 SLOT = re.compile(r"[A-Za-z_][A-Za-z0-9_]*\.[A-Za-z_][A-Za-z0-9_]*")
+A_WHILE = 4096  # lines
 STEP_OF_FAULT = re.compile(r"\bstep ([0-9]+)")
 
 
@@ -53,7 +55,10 @@ def is_table(text):
 def read_sections(text):
     """The sections of a text that `basin` wrote. `ValueError` where a line isn't one that it writes."""
     sections, part, columns = [], "table", []
-    for number, line in enumerate(text.splitlines(), 1):
+    lines, progress = text.splitlines(), Progress("the table is read")
+    for number, line in enumerate(lines, 1):
+        if not number % A_WHILE:
+            progress.at(number, len(lines), "lines")
         heading = HEADING.fullmatch(line)
         if heading:
             sections.append(Section(int(heading[1]), heading[3] or ""))

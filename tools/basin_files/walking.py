@@ -5,8 +5,10 @@ from dataclasses import dataclass, field
 
 from .dispatch import elevation, past_ago, past_key, past_name
 from .firing import Firing
+from .program import Progress
 
 END = float("inf")  # a place behind all of a trace
+A_WHILE = 4096  # lines
 
 
 @dataclass
@@ -53,8 +55,10 @@ class Walk:
 
     def read(self, trace):
         """Goes through the lines of a trace."""
-        step, event = 0, None
+        step, event, progress = 0, None, Progress("the trace is read")
         for place, line in enumerate(trace):
+            if not place % A_WHILE:
+                progress.at(place, len(trace), "lines")
             word, *rest = line.split()
             if line.startswith("  "):
                 slot, at, value, flag = word, int(rest[0]), int(rest[1]), rest[2]

@@ -117,6 +117,16 @@ def hollow_file(crate, file, homes, kept):
     file.write_text("\n".join(line for at, line in enumerate(lines) if at not in gone), encoding="utf-8")
 
 
+def paths_in(crate: Path) -> list[str]:
+    """The functions of a crate, by the paths under which a check knows them."""
+    homes, found = homes_of(crate), []
+    for file in sorted(crate.glob("src/**/*.rt")):
+        for _, owner, name, _ in functions_of(file.read_text(encoding="utf-8").split("\n")):
+            module = homes.get(owner.type if owner else None, module_of(crate, file))
+            found.append("::".join([crate.name, *module, *([owner.type + owner.trait] if owner else []), name]))
+    return found
+
+
 def hollow(source: Path, copy: Path, kept=frozenset()):
     """Copies a crate without its bodies and proofs, but for those of the functions whose names are kept."""
     shutil.rmtree(copy, ignore_errors=True)

@@ -2,7 +2,10 @@
 //! call by name to `basin_main`, and ends with its status.
 #![tactic(auto)]
 
-ghost use Rattle.std.specs.Prelude.{◌≡◌, ◌<◌};
+ghost use Rattle.std.specs.Prelude.{◌≡◌, ◌<◌, IfOk};
+ghost use Rattle.rw_io.specs.Outside.{change};
+ghost use Rattle.rw_top.specs.Promise.{Promise};
+ghost use Rattle.rw_words.specs.Command.{texts_of};
 
 use rpl_predef::{
     Predef, Predefs, absolute, clamped, greatest, least, mul_div, rounded_down, sign,
@@ -37,8 +40,9 @@ fn words(rt: &HostRuntime) -> Result<Vec<String>, NoMemory> {
     Ok(words)
 }
 
-// The status of a call that has the methods of all kinds, and all predefined functions, each in the order of their numbers.
-// Were they in another order, they would be missing like memory: each run of the program shows that they aren't.
+// The status of a call that has the methods of all kinds, and all predefined functions, each in the order of their numbers, and
+// the promise of such a call with it. Were they in another order, they would be missing like memory: each run of the program
+// shows that they aren't.
 fn status<S: Shelf, K: Sink, E: Sink, L: Ledger>(
     alloc: Global,
     words: &[String],
@@ -46,7 +50,15 @@ fn status<S: Shelf, K: Sink, E: Sink, L: Ledger>(
     out: &mut K,
     err: &mut E,
     steps: &mut Steps<L>,
-) -> Result<u8, NoMemory> {
+) -> Result<u8, NoMemory>
+    ensures { IfOk result (λ status. Promise (record {
+      words = texts_of words.now;
+      shelf = change (S.seen shelf.old) (S.seen shelf.new);
+      out = change (K.seen out.old) (K.seen out.new);
+      err = change (E.seen err.old) (E.seen err.new);
+      steps = change steps.old steps.new;
+    }) status) }
+{
     let mut methods: Vec<Box<dyn Method>> = Vec::new(alloc);
     methods.push(Box::new(alloc, GageMethod)?)?;
     methods.push(Box::new(alloc, ConfluenceMethod)?)?;

@@ -122,8 +122,8 @@ abbrev pub apart : Cells
 apart cell = if cell.slot.0 == 1 then Some (by_rule 1 1 (pos 5)).content else None
 
 -- what rule 2 does on the dam's day
-abbrev pub lets_out : Firing
-lets_out = record {
+abbrev pub fifty_out : Firing
+fifty_out = record {
   rule = 2;
   step = 1;
   is_done = true;
@@ -134,5 +134,5 @@ lets_out = record {
 }
 
 -- the day's log with that firing alone
-abbrev pub after_firing : Firing → Log
-after_firing firing = fired firing ∷ opened 1 ∷ []
+abbrev pub day_of_firing : Firing → Log
+day_of_firing firing = fired firing ∷ opened 1 ∷ []

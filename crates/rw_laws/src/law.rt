@@ -28,7 +28,7 @@ ghost use Rattle.rw_laws.specs.Laws.{KeepsLaws};
 ghost use Rattle.rw_laws.specs.Links.{HoldAsLinked};
 ghost use Rattle.rw_laws.specs.Priority.{KeepPriority};
 ghost use Rattle.rw_laws.specs.Rules.{AllStandBy, StandsBy};
-ghost use Rattle.rw_laws.specs.Worked.{after_firing, apart, by_rule, changed_after, dam_alone, dam_events, dam_log, gage, given_over, held_low, inflow, lets_out, put_at, saw_first_day, started, torn, weakened};
+ghost use Rattle.rw_laws.specs.Worked.{day_of_firing, apart, by_rule, changed_after, dam_alone, dam_events, dam_log, gage, given_over, held_low, inflow, fifty_out, put_at, saw_first_day, started, torn, weakened};
 
 use rpl_policy::law::code_keeps_promises;
 use rpl_verify::law::answered_code_is_safe;
@@ -160,23 +160,23 @@ pub fn no_runs()
 /// A rule that lets 50 out stands by just that. It doesn't where it let nothing out, wasn't done, looked at the storage, or
 /// counted 3.
 pub fn firings_stood_by()
-    ensures stands { StandsBy dam_alone held_low 1 (after_firing lets_out) 2 }
+    ensures stands { StandsBy dam_alone held_low 1 (day_of_firing fifty_out) 2 }
     ensures asked { ¬ StandsBy dam_alone held_low 1
-        (after_firing (record lets_out { asked = []; written = [] })) 2 }
+        (day_of_firing (record fifty_out { asked = []; written = [] })) 2 }
     ensures end { ¬ StandsBy dam_alone held_low 1
-        (after_firing (record lets_out { is_done = false })) 2 }
+        (day_of_firing (record fifty_out { is_done = false })) 2 }
     ensures looked { ¬ StandsBy dam_alone held_low 1
-        (after_firing (record lets_out { looked = saw_first_day 3 None ∷ [] })) 2 }
+        (day_of_firing (record fifty_out { looked = saw_first_day 3 None ∷ [] })) 2 }
     ensures count { ¬ StandsBy dam_alone held_low 1
-        (after_firing (record lets_out { count = 3 })) 2 }
+        (day_of_firing (record fifty_out { count = 3 })) 2 }
 {}
 
 /// Nor does it where its put doesn't stand: the cell is unknown, holds 50 of a lower priority, or 40 of the rule itself.
 pub fn puts_stood_by()
     ensures unknown { ¬ StandsBy dam_alone held_low 1
-        (after_firing (record lets_out { written = [] })) 2 }
+        (day_of_firing (record fifty_out { written = [] })) 2 }
     ensures number { ¬ StandsBy dam_alone held_low 1
-        (after_firing (record lets_out { written = by_rule 3 2 (pos 50) ∷ [] })) 2 }
+        (day_of_firing (record fifty_out { written = by_rule 3 2 (pos 50) ∷ [] })) 2 }
     ensures value { ¬ StandsBy dam_alone held_low 1
-        (after_firing (record lets_out { written = by_rule 2 2 (pos 40) ∷ [] })) 2 }
+        (day_of_firing (record fifty_out { written = by_rule 2 2 (pos 40) ∷ [] })) 2 }
 {}

@@ -1,7 +1,7 @@
 use Rattle.rw_laws.proofs.Common.{All-cons, All-nil, Fire, Firing, [], ap, arith, asked_of_rule, cells_looked, cells_of, false, inl, length, pos}
 use Rattle.rw_laws.proofs.Common.{refl, same_Some, subst, sym, true, ◌≡◌}
 use Rattle.rw_laws.specs.Rules.{EndsAs, IsHeldOr}
-use Rattle.rw_laws.specs.Worked.{after_firing, by_rule, dam_alone, lets_out}
+use Rattle.rw_laws.specs.Worked.{day_of_firing, by_rule, dam_alone, fifty_out}
 use Rattle.rw_laws.proofs.law.firings_stood_by.Goals as goal
 
 pub returns-clause-stands : goal.returns-clause-stands
@@ -11,9 +11,9 @@ returns-clause-stands c = record {
   fire = _;
   again = refl;
   is = record { end = refl; looked = refl; asked = refl; count = refl };
-  puts = All-cons (IsHeldOr (cells_of dam_alone (after_firing lets_out)) 2) (by_rule 2 2 (pos 50)) []
+  puts = All-cons (IsHeldOr (cells_of dam_alone (day_of_firing fifty_out)) 2) (by_rule 2 2 (pos 50)) []
       (record { content = _; held = refl; number = omega arith; so = inl refl })
-      (All-nil (IsHeldOr (cells_of dam_alone (after_firing lets_out)) 2));
+      (All-nil (IsHeldOr (cells_of dam_alone (day_of_firing fifty_out)) 2));
 }
 
 pub returns-clause-asked : goal.returns-clause-asked

@@ -1,16 +1,16 @@
 use Rattle.rw_laws.proofs.Common.{All, Asked, Content, Firing, List, [], ap, arith, cells_of, inl, inr, last_ones, none-some, pos, same_Some, subst, sym, ◌∙◌, ◌∷◌, ◌≡◌}
 use Rattle.std.proofs.Common.{unsigned_abs}
 use Rattle.rw_laws.specs.Rules.{IsHeldOr, StandsBy}
-use Rattle.rw_laws.specs.Worked.{after_firing, by_rule, dam_alone, held_low, lets_out}
+use Rattle.rw_laws.specs.Worked.{day_of_firing, by_rule, dam_alone, held_low, fifty_out}
 use Rattle.rw_laws.proofs.law.puts_stood_by.Goals as goal
 
 -- the firing's one put, which is held as the law says or isn't, by what was written
-held_put : (written : List Asked) → StandsBy dam_alone held_low 1 (after_firing (record lets_out { written = written })) 2
-    → IsHeldOr (cells_of dam_alone (after_firing (record lets_out { written = written }))) 2 (by_rule 2 2 (pos 50))
+held_put : (written : List Asked) → StandsBy dam_alone held_low 1 (day_of_firing (record fifty_out { written = written })) 2
+    → IsHeldOr (cells_of dam_alone (day_of_firing (record fifty_out { written = written }))) 2 (by_rule 2 2 (pos 50))
 held_put written stands =
     (subst
     (λ (firing : Firing).
-    All (IsHeldOr (cells_of dam_alone (after_firing (record lets_out { written = written }))) 2) (last_ones dam_alone firing.asked))
+    All (IsHeldOr (cells_of dam_alone (day_of_firing (record fifty_out { written = written }))) 2) (last_ones dam_alone firing.asked))
     (sym (same_Some _ _ stands.last)) stands.puts) 0 (by_rule 2 2 (pos 50)) (omega arith)
 
 pub returns-clause-unknown : goal.returns-clause-unknown

@@ -32,7 +32,7 @@ pass-requires-clause-fresh g c =
       none_told = rw c.truncate.ensures (emptied old.lines);
     }
 
-module _ (g : _) (c : goal.After-take_back g) where
+module _ (g : _) (c : goal.After-truncate-in-Err-2 g) where
   can : CanTakeBack (held c.args.self.now.run.series) (held c.pass.new.self.run.series) (noted_in c.pass.new.self.noted)
   can = in_some c.pass.new.self.noted (CanTakeBack (held c.args.self.now.run.series) (held c.pass.new.self.run.series))
       (c.pass.ensures.back.notes ∙ c.in-Err.ensures.wants)

@@ -1,0 +1,76 @@
+"""`python3 -m basin`: parts and merges of ensembles whose plans are there, for Slurm and for terminals."""
+
+from __future__ import annotations
+
+import argparse
+import sys
+
+from basin_files.reasons import LONG, plain
+
+from . import ensemble
+from .errors import Error
+from .parts import run_part
+from .plans import Plan
+
+EXAMPLE = "example: python3 -m basin run FOLDER --workers 4 && python3 -m basin merge FOLDER 5 50 95"
+
+
+def task(words: argparse.Namespace) -> None:
+    """Runs the parts of a task that are missing."""
+    for number in range(words.task - 1, words.plan.parts, words.tasks):
+        if done := run_part(str(words.plan.folder), number):
+            print(done, flush=True)
+
+
+def execute(words: argparse.Namespace) -> None:
+    """Runs all parts that are missing."""
+    ensemble.execute(words.plan, workers=words.workers)
+
+
+def merge(words: argparse.Namespace) -> None:
+    """Writes the statistics, and says how many traces they leave out."""
+    print(ensemble.merge(words.plan, words.percentiles or (10, 50, 90)))
+    faults, refused = len(ensemble.faults(words.plan)), len(ensemble.refusals(words.plan))
+    print(f"{words.plan.traces} traces, {faults} ended in a fault, {refused} are refused")
+
+
+def plan_of(folder: str) -> Plan:
+    """The plan of a folder."""
+    try:
+        return Plan.read(folder)
+    except (OSError, ValueError):
+        raise argparse.ArgumentTypeError(f"{plain(folder, LONG)} holds no plan") from None
+
+
+def words_of() -> argparse.Namespace:
+    """The words."""
+    words = argparse.ArgumentParser(prog="python3 -m basin", description=__doc__, epilog=EXAMPLE)
+    jobs = words.add_subparsers(required=True, metavar="JOB")
+    of_task = jobs.add_parser("task", help="one task of Slurm's array")
+    of_run = jobs.add_parser("run", help="all parts that are missing")
+    of_merge = jobs.add_parser("merge", help="the statistics of all parts")
+    for job, does in ((of_task, task), (of_run, execute), (of_merge, merge)):
+        job.add_argument("plan", type=plan_of, metavar="FOLDER")
+        job.set_defaults(does=does)
+    of_task.add_argument("task", type=int, metavar="I", help="which task it is, from 1 on")
+    of_task.add_argument("tasks", type=int, metavar="N", help="how many there are")
+    of_run.add_argument(
+        "--workers", type=int, metavar="N", help="how many processes; 0 is none beside this one"
+    )
+    of_merge.add_argument("percentiles", nargs="*", metavar="PERCENT")
+    return words.parse_args()
+
+
+def main() -> int:
+    """Does what the words say; what can't be done is one line, with status 2."""
+    words = words_of()
+    try:
+        words.does(words)
+    except (Error, ValueError) as error:
+        print(f"basin: {error}", file=sys.stderr)
+        return 2
+    return 0
+
+
+if __name__ == "__main__":
+    sys.exit(main())

@@ -1,0 +1,156 @@
+"""What calls answer: runs as frames by the begin of a timestep, with units; cells, effects, books, traces."""
+
+from __future__ import annotations
+
+from dataclasses import dataclass, field
+from typing import Literal
+
+import numpy as np
+import pandas as pd
+
+from .errors import Error, Fault
+from .files import Model, Policy
+from .tables import UNKNOWN, Section, Whole, as_floats, numbers
+
+Numbers = Literal["float", "Int64"]
+LABEL = "begin of the timestep; what is stored or high is as at its end"
+
+
+@dataclass
+class Answer:
+    """A run: its table by the begin of each timestep, and the fault that ended it, or `None`.
+
+    Where they were asked for: the flags of the cells, the lines of the trace, and the timesteps that were run
+    again. `number` counts batches from 0 and traces from 1; `name` is that of the trace.
+    """
+
+    number: int
+    table: pd.DataFrame
+    fault: Fault | None = None
+    name: str = ""
+    flags: pd.DataFrame | None = None
+    trace: list[str] = field(default_factory=list)
+    reran: list[int] | None = None
+
+    @property
+    def units(self) -> dict[str, str]:
+        """The base unit of each slot."""
+        return dict(self.table.attrs["units"])
+
+
+@dataclass
+class Cell:
+    """How a cell came to what it holds (`None` where that isn't known): each put, by a rule or an object."""
+
+    history: pd.DataFrame
+    value: int | None
+    flag: str
+    given: bool  # whether inputs give it, so that no put is told
+    fault: bool  # whether the run ended in a fault
+
+
+@dataclass
+class Book:
+    """The water of each object over a run: initial + in - out = final, where nothing is unknown."""
+
+    table: pd.DataFrame
+    fault: Fault | None
+
+
+@dataclass
+class Effects:
+    """What became of what each rule wanted: by rule and slot in how many timesteps, and what is worth a look."""
+
+    table: pd.DataFrame
+    sentences: list[str]
+
+
+@dataclass
+class Traces:
+    """Many traces: their runs in order, and by slot and time how many know it, the least, the median, the greatest."""
+
+    answers: list[Answer]
+    summary: pd.DataFrame
+
+
+def frame_of(model: Model, columns: list[str], values: Whole, form: Numbers) -> pd.DataFrame:
+    """A table of values by timestep and slot."""
+    index = model.index(len(values))
+    if form == "float":
+        frame = pd.DataFrame(as_floats(values), index=index, columns=columns)
+    elif form == "Int64":
+        frame = pd.DataFrame({slot: whole_array(values[:, k]) for k, slot in enumerate(columns)}, index=index)
+    else:
+        raise ValueError(f'numbers is "float" or "Int64", and not {form!r}')
+    frame.columns.name = "slot"
+    frame.attrs["units"] = {slot: model.unit(slot) for slot in columns}
+    frame.attrs["label"] = LABEL
+    return frame
+
+
+def whole_array(values: Whole) -> pd.arrays.IntegerArray:
+    """Values as pandas' whole numbers, of which each may be missing."""
+    return pd.arrays.IntegerArray(values.copy(), values == UNKNOWN)
+
+
+def answer_of(model: Model, policy: Policy | None, section: Section, form: Numbers, name: str = "") -> Answer:
+    """The run that a section tells."""
+    table = frame_of(model, section.columns, numbers(section.rows, len(section.columns)), form)
+    answer = Answer(section.number, table, name=name, trace=section.trace, reran=section.reran)
+    if section.flags:
+        rows = [line[:-1].decode().split(",")[1:] for line in section.flags]
+        answer.flags = pd.DataFrame(rows, index=table.index, columns=table.columns, dtype="category")
+    if section.fault:
+        answer.fault = fault_of(model, policy, section.fault, answer)
+    return answer
+
+
+def fault_of(model: Model, policy: Policy | None, words: str, answer: Answer | None = None) -> Fault:
+    """The fault that these words say, with the moment of its timestep and the name of its rule."""
+    fault = Fault(words)
+    time = model.index()[fault.step - 1] if fault.step else None
+    return Fault(words, time, rule_name(policy, model, fault.rule) if policy and fault.rule else "", answer)
+
+
+def rule_name(policy: Policy, model: Model, number: int) -> str:
+    """The name of a rule, or "" where it has none."""
+    names = policy.rule_names(model)
+    return names[number - 1] if number <= len(names) else ""
+
+
+def cell_of(model: Model, policy: Policy, text: str, fault: bool) -> Cell:
+    """The cell that the lines of `why` tell."""
+    names = policy.rule_names(model)
+    history: list[tuple[object, ...]] = []
+    given = False
+    value, flag = None, ""
+    for words in map(str.split, text.splitlines()):
+        if words[0] == "given":
+            given = True
+        elif words[0] == "holds":
+            value, flag = (None, "") if words[1] == "unknown" else (int(words[1]), words[2])
+        elif words[0] == "step":
+            rule = int(words[3]) if words[2] == "rule" else pd.NA
+            name = words[3] if rule is pd.NA else names[rule - 1] if rule <= len(names) else ""
+            history.append((int(words[1]), words[2], rule, name, int(words[4]), words[5]))
+        else:
+            raise Error(f"why wrote a line that this package doesn't know: {words}")
+    frame = pd.DataFrame(history, columns=["step", "by", "rule", "name", "value", "flag"])
+    frame = frame.astype({"step": np.int64, "rule": "Int64", "value": np.int64})
+    frame.insert(1, "time", model.index()[frame["step"].to_numpy() - 1])
+    return Cell(frame, value, flag, given, fault)
+
+
+def book_of(model: Model, policy: Policy, lines: list[str]) -> Book:
+    """The book that the lines of `balance` tell. Sums are Python's whole numbers: they may pass 64 bits."""
+    ending = lines[0].split(" ", 3)[3]
+    rows = [line.split() for line in lines[1:]]
+    columns = ("initial", "in", "out", "final")
+    nothing: list[int | None] = [None] * 4
+    amounts = [nothing if words[1] == "unknown" else [int(word) for word in words[2::2]] for words in rows]
+    index = pd.Index([words[0] for words in rows], name="object")
+    table = pd.DataFrame(amounts, index=index, columns=columns, dtype=object)
+    table["unknown"] = [words[1] == "unknown" for words in rows]
+    table.attrs["units"] = dict.fromkeys(columns, "m3")
+    words = ending.removeprefix("fault ")
+    return Book(table, fault_of(model, policy, words) if ending != "settled" else None)

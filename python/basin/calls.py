@@ -1,0 +1,290 @@
+"""One call for each command: `run`, `simulate`, `why`, `check`, `balance`, `mrm`; and the effects of rules."""
+
+from __future__ import annotations
+
+import tempfile
+from pathlib import Path
+from typing import Any, Iterable, Literal, Union, overload
+
+import numpy as np
+import pandas as pd
+
+from basin_files.firing import blocks_of
+from basin_files.inputs import read_inputs
+from basin_files.sections import read_sections
+from basin_files.walking import OtherPolicy, Walk
+from basin_rules import effects as of_rules
+from basin_rules.policy import read_policy
+
+from . import process
+from .answers import Answer, Book, Cell, Effects, Numbers, Traces, answer_of, book_of, cell_of
+from .errors import Error
+from .files import Model, Policy
+from .inputs import Inputs, inputs_of
+from .process import PathLike
+from .rows import batches_of, batches_text, step_number
+from .tables import sections
+
+Errors = Literal["raise", "keep"]
+ModelGiven = Union[Model, PathLike]
+PolicyGiven = Union[Policy, PathLike]
+InputsGiven = Union[Inputs, pd.DataFrame, PathLike]
+MOST_TRACES = 64  # of one `mrm`
+MOST_ROWS = 10_000  # of a file of traces
+
+
+class Files:
+    """The files of a call: those that are given, and in a folder of its own those that are made of texts and frames."""
+
+    def __init__(self, model: ModelGiven, policy: PolicyGiven | None, inputs: InputsGiven | None) -> None:
+        self.model = Model.of(model)
+        self.policy = None if policy is None else Policy.of(policy)
+        self.inputs = None if inputs is None else inputs_of(self.model, inputs)
+        self.made = tempfile.TemporaryDirectory(prefix="basin-")
+
+    def __enter__(self) -> Files:
+        return self
+
+    def __exit__(self, *_: object) -> None:
+        self.made.cleanup()
+
+    @property
+    def folder(self) -> Path:
+        """Where files are made."""
+        return Path(self.made.name)
+
+    @property
+    def paths(self) -> list[str]:
+        """The paths in the order in which the program wants them."""
+        given = ((self.model, "model.toml"), (self.policy, "policy.rpl"), (self.inputs, "inputs.csv"))
+        return [file.at(self.folder, name) for file, name in given if file is not None]
+
+    def batches(self, given: Any, word: str) -> tuple[str, list[str]]:
+        """The path of edits or traces, and their names where they are made of frames."""
+        if isinstance(given, (str, Path)):
+            return str(Path(given).absolute()), []
+        named = batches_of(self.model, given, word)
+        path = self.folder / f"{word}.csv"
+        path.write_text(batches_text(named.values(), word))
+        return str(path), list(named)
+
+
+@overload  # type: ignore[misc]
+def run(
+    model: ModelGiven,
+    policy: PolicyGiven,
+    inputs: InputsGiven,
+    *,
+    edits: None = None,
+    reuse: bool = False,
+    flags: bool = False,
+    trace: bool = False,
+    asked: bool = False,
+    numbers: Numbers = "float",
+    errors: Errors = "raise",
+    program: PathLike | None = None,
+) -> Answer:
+    ...
+
+
+@overload
+def run(
+    model: ModelGiven,
+    policy: PolicyGiven,
+    inputs: InputsGiven,
+    *,
+    edits: Any,
+    reuse: bool = False,
+    flags: bool = False,
+    trace: bool = False,
+    asked: bool = False,
+    numbers: Numbers = "float",
+    errors: Errors = "raise",
+    program: PathLike | None = None,
+) -> list[Answer]:
+    ...
+
+
+def run(
+    model: ModelGiven,
+    policy: PolicyGiven,
+    inputs: InputsGiven,
+    *,
+    edits: Any = None,
+    reuse: bool = False,
+    flags: bool = False,
+    trace: bool = False,
+    asked: bool = False,
+    numbers: Numbers = "float",
+    errors: Errors = "raise",
+    program: PathLike | None = None,
+) -> Answer | list[Answer]:
+    """A run as an `Answer`. With `edits` a list of them: the run from the inputs, and one after each batch.
+
+    `edits` is a path, a frame (batch, slot, step or time, value; a missing value takes away), or frames with
+    slots by columns. `Fault` where a run ends in one; with `errors="keep"` it is kept in its answer.
+    """
+    asked_for = {"--reuse": reuse, "--flags": flags, "--trace": trace, "--asked": asked}
+    words = ["run", *(word for word, wanted in asked_for.items() if wanted)]
+    with Files(model, policy, inputs) as files:
+        if edits is not None:
+            words.append(f"--edits={files.batches(edits, 'batch')[0]}")
+        answers = _answers(files, words, numbers, errors, program)
+    return answers[0] if edits is None else answers
+
+
+def simulate(
+    model: ModelGiven,
+    inputs: InputsGiven,
+    *,
+    flags: bool = False,
+    trace: bool = False,
+    order: Literal["oldest", "newest"] | None = None,
+    numbers: Numbers = "float",
+    errors: Errors = "raise",
+    program: PathLike | None = None,
+) -> Answer:
+    """A run without rules. `order` says which of several objects that wait is dispatched first."""
+    asked_for = {"--flags": flags, "--trace": trace, f"--order={order}": order is not None}
+    words = ["simulate", *(word for word, wanted in asked_for.items() if wanted)]
+    with Files(model, None, inputs) as files:
+        return _answers(files, words, numbers, errors, program)[0]
+
+
+def _answers(
+    files: Files, words: list[str], form: Numbers, errors: Errors, program: PathLike | None
+) -> list[Answer]:
+    """The runs that the program tells. A fault is raised where it isn't to be kept."""
+    if errors not in ("raise", "keep"):
+        raise ValueError(f'errors is "raise" or "keep", and not {errors!r}')
+    with process.at_work([*words, *files.paths], program) as at_work:
+        found = sections(process.output_of(at_work))
+        answers = [answer_of(files.model, files.policy, section, form) for section in found]
+    for answer in answers:
+        if answer.fault and errors == "raise":
+            raise answer.fault
+    return answers
+
+
+def why(
+    model: ModelGiven,
+    policy: PolicyGiven,
+    inputs: InputsGiven,
+    slot: str,
+    time: Any,
+    *,
+    program: PathLike | None = None,
+) -> Cell:
+    """How a cell came to what it holds. `time` is a timestep's number, or the moment at which it begins."""
+    with Files(model, policy, inputs) as files:
+        assert files.policy is not None
+        step = str(step_number(files.model, time))
+        status, text = process.answer(["why", *files.paths, slot, step], program)
+        return cell_of(files.model, files.policy, text, status == 1)
+
+
+def check(model: ModelGiven, policy: PolicyGiven, *, program: PathLike | None = None) -> pd.DataFrame:
+    """What a firing of each rule comes to at most, by the rule's number, with its name."""
+    with Files(model, policy, None) as files:
+        assert files.policy is not None
+        _, text = process.answer(["check", *files.paths], program)
+        names = files.policy.rule_names(files.model)
+    rows = [[int(word) for word in line.split()[1::2]] for line in text.splitlines()[1:]]
+    frame = pd.DataFrame(rows, columns=["rule", "instructions", "reads", "puts", "words"]).set_index("rule")
+    frame.insert(0, "name", [names[number - 1] if number <= len(names) else "" for number in frame.index])
+    return frame
+
+
+def effects(
+    model: ModelGiven, policy: PolicyGiven, inputs: InputsGiven, *, program: PathLike | None = None
+) -> Effects:
+    """In how many timesteps the last firing of each rule got what it wanted of each slot, and else what became of it.
+
+    What the columns mean `tools/effect --help` says: what stands, what gave way to an object, what was denied.
+    """
+    with Files(model, policy, inputs) as files:
+        assert files.policy is not None
+        names = files.policy.rule_names(files.model)
+        found = _effects(files, program)
+    headings = of_rules.HEADINGS
+    rows = [
+        (
+            rule,
+            slot,
+            names[rule - 1] if rule <= len(names) else "",
+            *(found.counts[(rule, slot)][one] for one in headings),
+        )
+        for rule, slots in enumerate(found.sets, 1)
+        for slot in slots
+    ]
+    table = pd.DataFrame(rows, columns=["rule", "slot", "name", *headings]).set_index(["rule", "slot"])
+    return Effects(table, list(found.sentences()))
+
+
+def _effects(files: Files, program: PathLike | None) -> of_rules.Effects:
+    """Goes through each firing of a run again, as `tools/effect` does."""
+    assert files.inputs is not None
+    model, paths = files.model.read, files.paths
+    _, text = process.answer(["run", "--trace", *paths], program)
+    rules = read_policy(paths[1], model)
+    code = rules.source.text if rules.code else process.answer(["compile", *paths[:2]], program)[1]
+    given = read_inputs(files.inputs.content, model)
+    try:
+        return of_rules.Effects(model, rules, Walk(model, blocks_of(code), given, read_sections(text)[0]))
+    except OtherPolicy as error:
+        raise Error(str(error)) from None
+
+
+def balance(
+    model: ModelGiven, policy: PolicyGiven, inputs: InputsGiven, *, program: PathLike | None = None
+) -> Book:
+    """The book of water of each object that stores some: initial, in, out, final."""
+    with Files(model, policy, inputs) as files:
+        assert files.policy is not None
+        _, text = process.answer(["balance", *files.paths], program)
+        return book_of(files.model, files.policy, text.splitlines())
+
+
+def mrm(
+    model: ModelGiven,
+    policy: PolicyGiven,
+    inputs: InputsGiven,
+    traces: Any,
+    *,
+    numbers: Numbers = "float",
+    program: PathLike | None = None,
+) -> Traces:
+    """Up to 64 traces, each over the inputs as they are, and their summary. A trace that faults is kept.
+
+    `traces` is a path, a frame (trace, slot, step or time, value), or frames with slots by columns.
+    """
+    with Files(model, policy, inputs) as files:
+        path, names = files.batches(traces, "trace")
+        with process.at_work(["mrm", *files.paths, path], program) as at_work:
+            lines = process.output_of(at_work)
+            answers = [answer_of(files.model, files.policy, section, numbers) for section in sections(lines)]
+            summary = _summary(files.model, lines)
+    for answer in answers:
+        answer.name = names[answer.number - 1] if names else str(answer.number)
+    return Traces(answers, summary)
+
+
+def _summary(model: Model, lines: Iterable[bytes]) -> pd.DataFrame:
+    """The summary behind the sections of `mrm`."""
+    rows = [line[:-1].decode().split(",") for line in lines][1:]
+    index = model.index()
+    columns = ("min", "median", "max")
+    frame = pd.DataFrame(
+        {
+            "slot": [row[0] for row in rows],
+            "time": index[np.array([int(row[1]) for row in rows], dtype=np.int64) - 1],
+            "known": [int(row[2]) for row in rows],
+            **{name: _whole([row[3 + k] for row in rows]) for k, name in enumerate(columns)},
+        }
+    )
+    return frame.set_index(["slot", "time"])
+
+
+def _whole(words: list[str]) -> pd.arrays.IntegerArray:
+    """Whole numbers, of which each may be missing."""
+    return pd.array([int(word) if word else pd.NA for word in words], dtype="Int64")

@@ -1,0 +1,268 @@
+"""Ensembles of any number of traces: `plan`, `execute` and `merge`, and `run` for the three of them.
+
+A plan is cut into parts, which run in this process, in local ones, on the workers of a dask client, or as
+tasks of Slurm. A part that is there isn't run again.
+"""
+
+from __future__ import annotations
+
+import contextlib
+import os
+import sys
+import tempfile
+import time as clock
+import warnings
+from fractions import Fraction
+from typing import TYPE_CHECKING, Any, Callable, Iterator, Literal, Sequence
+
+import pandas as pd
+
+from .answers import fault_of
+from .calls import InputsGiven, ModelGiven, PolicyGiven
+from .errors import Error
+from .files import Policy
+from .netcdf import opened
+from .parts import Done, run_part
+from .plans import Plan, each_part, plan
+from .process import PathLike
+from .slurm import slurm
+from .statistics import STATISTICS, Percent, merge, rank_of
+from .tables import UNKNOWN
+
+if TYPE_CHECKING:
+    import xarray
+    from distributed import Client
+
+__all__ = ["Done", "Plan", "execute", "faults", "merge", "nearest", "plan", "refusals", "run", "slurm"]
+__all__ += ["statistics", "values"]
+
+Progress = Callable[[int, int, Done], None]
+Kept = Literal["float", "int64"]
+AN_HOUR = 3_600
+QUIET = 2  # seconds between two lines of progress
+FAULT_COLUMNS = ("kind", "object", "slot", "rule", "rule_name", "step", "time", "value", "words")
+
+
+class RefusedTraces(UserWarning):
+    """Some traces are refused, and count in no statistic. `refusals` tells them by name."""
+
+
+class Lines:
+    """Progress as lines on the error stream, the first after two seconds."""
+
+    def __init__(self) -> None:
+        self.last = clock.monotonic()
+
+    def __call__(self, done: int, parts: int, _: Done) -> None:
+        now = clock.monotonic()
+        if now - self.last >= QUIET:
+            self.last = now
+            print(f"basin: {done} of {parts} parts", file=sys.stderr, flush=True)
+
+
+def run(
+    folder: PathLike,
+    model: ModelGiven,
+    policy: PolicyGiven,
+    inputs: InputsGiven,
+    traces: Any,
+    *,
+    slots: Sequence[str] | Literal["all"],
+    percentiles: Sequence[Percent] = (10, 50, 90),
+    client: Client | None = None,
+    workers: int | None = None,
+    progress: Progress | None = None,
+    program: PathLike | None = None,
+) -> Plan:
+    """Plans, executes and merges: the folder has all values, and the statistics, behind it."""
+    told = plan(folder, model, policy, inputs, traces, slots=slots, program=program)
+    execute(told, client=client, workers=workers, progress=progress)
+    merge(told, percentiles)
+    return told
+
+
+def execute(
+    told: Plan,
+    *,
+    client: Client | None = None,
+    workers: int | None = None,
+    retries: int = 3,
+    progress: Progress | None = None,
+) -> list[Done]:
+    """Runs the parts that are missing: by the client, by as many local processes, or here with `workers=0`.
+
+    A part of a worker that died runs again, as often as `retries` says, and no part stops another. `Error`
+    at the end where parts failed. Traces that are refused are warned of.
+    """
+    _clear(told)
+    missing = told.missing()
+    tell = progress or Lines()
+    done: list[Done] = []
+    failed: list[tuple[int, BaseException]] = []
+    here = client is None and workers == 0
+    for number, found in (
+        _here(told, missing) if here else _by_workers(told, missing, client, workers, retries)
+    ):
+        if isinstance(found, BaseException):
+            failed.append((number, found))
+        elif found:
+            done.append(found)
+            tell(len(done), len(missing), found)
+    if failed:
+        number, error = failed[0]
+        raise Error(f"{len(failed)} of {len(missing)} parts failed; part {number}: {error}") from error
+    if count := sum(part.refused for part in done):
+        warnings.warn(RefusedTraces(f"{count} traces are refused: basin.ensemble.refusals(..)"), stacklevel=2)
+    return done
+
+
+Outcome = tuple[int, "Done | BaseException | None"]
+
+
+def _here(told: Plan, missing: list[int]) -> Iterator[Outcome]:
+    """Runs parts one after another."""
+    for number in missing:
+        try:
+            yield number, run_part(str(told.folder), number)
+        except Exception as error:
+            yield number, error
+
+
+def _by_workers(
+    told: Plan, missing: list[int], client: Client | None, workers: int | None, retries: int
+) -> Iterator[Outcome]:
+    """Runs parts on workers, and tells each as it ends."""
+    from distributed import as_completed
+
+    with _client(client, workers) as at_work:
+        folders = [str(told.folder)] * len(missing)
+        futures = at_work.map(run_part, folders, missing, retries=retries, pure=False)
+        numbers = dict(zip((future.key for future in futures), missing))
+        for future in as_completed(futures):
+            error = future.exception()
+            yield numbers[future.key], error or future.result()
+            future.release()
+
+
+@contextlib.contextmanager
+def _client(client: Client | None, workers: int | None) -> Iterator[Client]:
+    """The client that is given, or one of local processes, each with one thread: netCDF4 isn't safe with more."""
+    if client is not None:
+        yield client
+        return
+    import dask
+    from distributed import Client as NewClient
+    from distributed import LocalCluster
+
+    settings = {"distributed.worker.profile.interval": "10s"}  # a look each 10 ms takes a tenth of the time
+    with contextlib.ExitStack() as opened_here:
+        opened_here.enter_context(_hidden_main())
+        opened_here.enter_context(dask.config.set(settings))
+        scratch = opened_here.enter_context(tempfile.TemporaryDirectory(prefix="basin-dask-"))
+        cluster = LocalCluster(
+            n_workers=workers or os.cpu_count(),
+            threads_per_worker=1,
+            dashboard_address="127.0.0.1:0",
+            local_directory=scratch,
+        )
+        opened_here.enter_context(cluster)
+        yield opened_here.enter_context(NewClient(cluster))
+
+
+@contextlib.contextmanager
+def _hidden_main() -> Iterator[None]:
+    """Workers don't run the caller's script: without `if __name__ == "__main__"` each would start workers again."""
+    main = sys.modules["__main__"].__dict__
+    kept = {name: main.pop(name) for name in ("__file__", "__spec__") if name in main}
+    main["__spec__"] = None
+    try:
+        yield
+    finally:
+        del main["__spec__"]
+        main.update(kept)
+
+
+def _clear(told: Plan) -> None:
+    """Removes what workers that died left half written."""
+    for path in (told.folder / "parts").glob(".*"):
+        with contextlib.suppress(FileNotFoundError):
+            if clock.time() - path.stat().st_mtime > AN_HOUR:
+                path.unlink()
+
+
+def faults(told: Plan) -> pd.DataFrame:
+    """The traces that ended in a fault, by name: kind, object, slot, rule, timestep, value, and the words."""
+    model, policy, rows = told.model, Policy(told.files[1]), []
+    for name, words in _texts(told, "fault"):
+        fault = fault_of(model, policy, words)
+        rows.append((name, *(getattr(fault, column) for column in FAULT_COLUMNS)))
+    frame = pd.DataFrame(rows, columns=["trace", *FAULT_COLUMNS]).set_index("trace")
+    return frame.astype({"rule": "Int64", "step": "Int64"})
+
+
+def refusals(told: Plan) -> pd.DataFrame:
+    """The traces that the program refused, by name: why, and the row."""
+    rows = [(name, *words.split(": ", 1)) for name, words in _texts(told, "refused")]
+    return pd.DataFrame(rows, columns=["trace", "reason", "row"]).set_index("trace")
+
+
+def _texts(told: Plan, variable: str) -> Iterator[tuple[str, str]]:
+    """The traces that have a text, and the text."""
+    for _, path in each_part(told):
+        with opened(path) as part:
+            yield from (
+                (str(name), str(text)) for name, text in zip(part["trace"][:], part[variable][:]) if text
+            )
+
+
+def values(told: Plan, numbers: Kept = "float") -> xarray.Dataset:
+    """All values by trace and time, a variable for each slot, read from the parts when they are looked at.
+
+    `OverflowError` where a value is beyond 2^53 and `numbers` is "float"; with "int64" what isn't known is
+    the least of all whole numbers.
+    """
+    import xarray
+
+    return xarray.open_mfdataset(
+        [path for _, path in each_part(told)],
+        preprocess=lambda part: _exact(part, numbers),
+        combine="nested",
+        concat_dim="trace",
+        data_vars="minimal",
+        coords="minimal",
+        compat="override",
+        combine_attrs="override",
+        mask_and_scale=numbers == "float",
+    )
+
+
+def statistics(told: Plan, numbers: Kept = "float") -> xarray.Dataset:
+    """What `merge` wrote, by time: SLOT.known, SLOT.min, SLOT.max, SLOT.mean, SLOT.percentile."""
+    import xarray
+
+    with xarray.open_dataset(told.folder / STATISTICS, mask_and_scale=numbers == "float") as data:
+        return _exact(data, numbers).load()
+
+
+def _exact(data: xarray.Dataset, numbers: Kept) -> xarray.Dataset:
+    """The data, where floats have each of its values or none are wanted."""
+    if numbers == "float" and not data.attrs["exact_as_float64"]:
+        data.close()
+        raise OverflowError('a value beyond 2^53 isn\'t exact as float64: ask for numbers="int64"')
+    return data
+
+
+def nearest(told: Plan, slot: str, percent: Percent, over: Literal["mean", "last"] = "mean") -> str:
+    """The settled trace whose mean of a slot (or last known value) is that percentile of all of them, by name."""
+    found: list[tuple[Fraction, int, str]] = []
+    for _, path in each_part(told):
+        with opened(path) as part:
+            texts = zip(part["trace"][:], part["fault"][:], part["refused"][:], part[slot][:])
+            for name, fault, refused, cells in texts:
+                known = cells[cells != UNKNOWN].tolist()
+                if known and not fault and not refused:
+                    measure = Fraction(sum(known), len(known)) if over == "mean" else Fraction(known[-1])
+                    found.append((measure, len(found), str(name)))
+    if not found:
+        raise Error(f"no settled trace knows {slot}")
+    return sorted(found)[int(rank_of(len(found), percent)) - 1][2]

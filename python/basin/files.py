@@ -1,0 +1,119 @@
+"""The files of a run, from paths or from texts: a model and a policy. Inputs are in `inputs.py`."""
+
+from __future__ import annotations
+
+import os
+from functools import cached_property
+from pathlib import Path
+from typing import TypeVar
+
+import pandas as pd
+
+from basin_files.judging import read_model
+from basin_files.model import Model as ReadModel
+from basin_files.moments import Timesteps
+from basin_files.reasons import plain
+from basin_rules.codefile import is_code
+from basin_rules.places import Source
+from basin_rules.rulesets import read_ruleset
+
+from .errors import Error
+from .process import PathLike
+
+FREQUENCIES = {"1h": "H", "6h": "6H", "12h": "12H", "24h": "D", "1month": "MS"}
+Given = TypeVar("Given", bound="File")
+
+
+class File:
+    """A file, by its path or by its text."""
+
+    def __init__(self, path: PathLike | None = None, *, text: str | bytes | None = None) -> None:
+        if (path is None) == (text is None):
+            raise TypeError("a path or a text, and not both")
+        self.path = None if path is None else Path(path)
+        self._text = text.encode() if isinstance(text, str) else text
+
+    @classmethod
+    def of(cls: type[Given], given: Given | PathLike) -> Given:
+        """What is given, or the file at that path."""
+        return given if isinstance(given, cls) else cls(given)  # type: ignore[arg-type]
+
+    @property
+    def content(self) -> bytes:
+        """The bytes of the file."""
+        if self.path is None:
+            assert self._text is not None
+            return self._text
+        return self.path.read_bytes()
+
+    def at(self, folder: Path, name: str) -> str:
+        """A path at which the program finds it: its own, or that of a file which is made in the folder."""
+        if self.path is not None:
+            return os.fspath(self.path.absolute())
+        (folder / name).write_bytes(self.content)
+        return str(folder / name)
+
+
+class Model(File):
+    """A model. The program judges it; here its timesteps, slots and links alone are read."""
+
+    @cached_property
+    def read(self) -> ReadModel:
+        """The model as the scripts beside the program read it."""
+        try:
+            return read_model(self.content)
+        except ValueError as error:
+            raise Error(f"the model is no TOML: {plain(str(error))}") from None
+
+    @property
+    def timesteps(self) -> Timesteps:
+        """The timesteps of the run, numbered from 1."""
+        if self.read.timesteps is None:
+            finding = self.read.findings[0]
+            raise Error(f"the model can't be read, line {finding.line}: {finding.says}")
+        return self.read.timesteps
+
+    @property
+    def steps(self) -> int:
+        """How many timesteps the run has."""
+        return int(self.timesteps.count)
+
+    @property
+    def slots(self) -> list[str]:
+        """Every slot, in the order of a table's columns."""
+        return list(self.read.slots)
+
+    def unit(self, slot: str) -> str:
+        """A slot's base unit, in the program's words."""
+        try:
+            return str(self.read.slots[slot].unit)
+        except KeyError:
+            raise Error(f"the model has no slot {plain(slot)}") from None
+
+    def index(self, count: int | None = None) -> pd.DatetimeIndex:
+        """When each timestep begins. `ValueError` outside the years 1678 to 2261, of which pandas has the dates."""
+        timesteps = self.timesteps
+        frequency = FREQUENCIES[timesteps.step]
+        periods = timesteps.count if count is None else count
+        try:
+            return pd.date_range(timesteps.start, periods=periods, freq=frequency, name="time")
+        except (pd.errors.OutOfBoundsDatetime, OverflowError):
+            raise ValueError(
+                f"the run begins in {timesteps.start.year}, and pandas has the dates of 1678 to 2261 alone"
+            ) from None
+
+    def ends(self, count: int | None = None) -> pd.DatetimeIndex:
+        """When each timestep ends: the program's stamp."""
+        index = self.index(count)
+        return (index + index.freq).rename("end")
+
+
+class Policy(File):
+    """A ruleset, or code."""
+
+    def rule_names(self, model: Model) -> list[str]:
+        """The name of each rule by its number; of code, which has none, nothing."""
+        content = self.content
+        if is_code(content):
+            return []
+        return [str(rule.name) for rule in read_ruleset(Source("policy", content), model.read).rules]

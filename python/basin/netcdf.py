@@ -1,0 +1,93 @@
+"""NetCDF files by the CF conventions: the axis of time, units, and what stands for an unknown value.
+
+A file is opened within `with` alone: netCDF4 isn't safe where one is closed by the collector of garbage.
+"""
+
+from __future__ import annotations
+
+import contextlib
+import os
+from pathlib import Path
+from typing import Any, Iterable, Iterator
+
+import netCDF4
+import numpy as np
+import numpy.typing as npt
+import pandas as pd
+
+from .files import Model
+from .tables import UNKNOWN
+
+CONVENTIONS = "CF-1.10"
+# Base units in the words of UDUNITS, which has no timestep: what comes in one is a sum over it.
+UNITS = {"m3/step": "m3", "mm/step": "mm", "m3/mm": "m3 mm-1", "kWh": "kW h", "step": "1", "": "1"}
+SUMS = ("m3/step", "mm/step", "kWh")
+STATES = ("m3", "mm")
+AT_THE_END = "time: point (comment: at the end of the timestep)"
+
+
+@contextlib.contextmanager
+def appearing(path: Path) -> Iterator[Any]:
+    """A new file that is there whole, or not at all."""
+    new = path.with_name(f".{path.name}.{os.uname().nodename}.{os.getpid()}")
+    try:
+        with netCDF4.Dataset(new, "w") as out:
+            out.Conventions, out.source = CONVENTIONS, "basin"
+            yield out
+        os.replace(new, path)
+    finally:
+        new.unlink(missing_ok=True)
+
+
+@contextlib.contextmanager
+def opened(path: Path) -> Iterator[Any]:
+    """A file whose whole numbers are read as they stand, with `UNKNOWN` where nothing is known."""
+    with netCDF4.Dataset(path) as data:
+        data.set_auto_mask(False)
+        yield data
+
+
+def add_time(out: Any, model: Model) -> None:
+    """The axis of time: the begin of each timestep, with its begin and end as bounds."""
+    index, ends = model.index(), model.ends()
+    out.createDimension("time", len(index))
+    out.createDimension("bound", 2)
+    axis = out.createVariable("time", "i8", ("time",))
+    axis.units, axis.calendar = f"hours since {index[0]:%Y-%m-%d %H:%M}", "proleptic_gregorian"
+    axis.standard_name, axis.axis, axis.long_name = "time", "T", "begin of the timestep"
+    axis.bounds = "time_bounds"
+    axis[:] = hours(index, index[0])
+    bounds = out.createVariable("time_bounds", "i8", ("time", "bound"))
+    bounds[:] = np.stack([hours(index, index[0]), hours(ends, index[0])], axis=1)
+
+
+def hours(moments: pd.DatetimeIndex, start: pd.Timestamp) -> npt.NDArray[np.int64]:
+    """How many hours after the start moments are."""
+    return np.asarray((moments - start) // pd.Timedelta("1h"), dtype=np.int64)
+
+
+def add_texts(out: Any, name: str, texts: Iterable[str], long_name: str = "") -> None:
+    """A text for each trace."""
+    held = out.createVariable(name, str, ("trace",))
+    held[:] = np.array(list(texts), dtype=object)
+    if long_name:
+        held.long_name = long_name
+
+
+def add_whole(out: Any, name: str, dimensions: tuple[str, ...], model: Model, slot: str) -> Any:
+    """A variable of whole numbers in a slot's base unit, with CF's words for it."""
+    cells = out.createVariable(name, "i8", dimensions, fill_value=UNKNOWN)
+    cells.set_auto_mask(False)
+    describe(cells, model, slot)
+    return cells
+
+
+def describe(cells: Any, model: Model, slot: str) -> None:
+    """Units and methods of a slot's values. What a slot of a data object tells of time isn't known."""
+    unit = model.unit(slot)
+    cells.long_name, cells.basin_unit, cells.units = slot, unit, UNITS.get(unit, unit)
+    if model.read.object_named(slot.split(".")[0]).kind != "data":
+        if unit in SUMS:
+            cells.cell_methods = "time: sum"
+        elif unit in STATES:
+            cells.cell_methods = AT_THE_END

@@ -1,0 +1,154 @@
+"""A part of an ensemble: up to 64 traces, run by `mrm` at once or by `run` one by one, and kept as NetCDF."""
+
+from __future__ import annotations
+
+import os
+import tempfile
+import time as clock
+from dataclasses import dataclass
+from functools import lru_cache
+from pathlib import Path
+
+import numpy as np
+
+from . import process
+from .calls import MOST_ROWS
+from .errors import Refused
+from .files import Model
+from .inputs import Inputs, LaidOver
+from .netcdf import add_texts, add_time, add_whole, appearing
+from .plans import NAMES, Plan
+from .rows import Row, batches_text
+from .tables import UNKNOWN, Section, is_exact, numbers, sections
+from .traces import stored_rows
+
+
+@dataclass(frozen=True)
+class Done:
+    """A part that is there: how its traces ended, when it was run, and the seconds of a processor that it took."""
+
+    part: int
+    settled: int
+    faults: int
+    refused: int
+    begun: float
+    ended: float
+    processor: float
+
+
+class Values:
+    """What the traces of a part come to."""
+
+    def __init__(self, plan: Plan, model: Model, traces: int) -> None:
+        self.slots = plan.slots
+        columns = {slot: place for place, slot in enumerate(model.slots)}
+        self.picks = [columns[slot] for slot in plan.slots]
+        self.cells = np.full((len(plan.slots), traces, model.steps), UNKNOWN)
+        self.closed = np.zeros(traces, np.int32)
+        self.faults = [""] * traces
+        self.refused = [""] * traces
+
+    def take(self, trace: int, section: Section) -> None:
+        """Takes the section of a trace, by its place."""
+        found = numbers(section.rows, len(section.columns), self.picks)
+        self.cells[:, trace, : len(found)] = found.T
+        self.closed[trace], self.faults[trace] = len(found), section.fault
+
+
+def run_part(folder: str, number: int) -> Done | None:
+    """Runs a part and writes its values; `None` where they are there."""
+    plan = Plan.read(folder)
+    if plan.part(number).exists():
+        return None
+    begun, used = clock.time(), sum(os.times()[:4])
+    model, names = model_of(plan.folder, plan.digest), plan.names[number]
+    rows = stored_rows(plan.folder, number, plan.first(number), len(names))
+    values = values_of(plan, model, rows)
+    write(plan, model, number, values)
+    faults, refused = (sum(map(bool, texts)) for texts in (values.faults, values.refused))
+    processor = sum(os.times()[:4]) - used
+    return Done(number, len(names) - faults - refused, faults, refused, begun, clock.time(), processor)
+
+
+def values_of(plan: Plan, model: Model, rows: list[list[Row]]) -> Values:
+    """The values of traces: at once where the program can and the rows are few enough, or else one by one.
+
+    `mrm` refuses all traces for a row of one of them, so that then, too, they are run one by one.
+    """
+    if plan.way == "mrm" and sum(map(len, rows)) <= MOST_ROWS and all(rows):
+        try:
+            return at_once(plan, model, rows)
+        except Refused as refused:
+            if refused.file != "traces":
+                raise
+    return one_by_one(plan, model, rows)
+
+
+def at_once(plan: Plan, model: Model, rows: list[list[Row]]) -> Values:
+    """By `mrm`."""
+    values = Values(plan, model, len(rows))
+    with tempfile.NamedTemporaryFile("w", prefix="basin-", suffix=".csv") as file:
+        file.write(batches_text(rows, "trace"))
+        file.flush()
+        words = ["mrm", *map(str, plan.files), file.name]
+        with process.at_work(words, plan.program) as at_work:
+            output = process.output_of(at_work)
+            for section in sections(output):
+                values.take(section.number - 1, section)
+            while output.read(process.PIPE):  # the summary, of which nothing is kept
+                pass
+    return values
+
+
+@lru_cache(maxsize=1)
+def model_of(folder: Path, _digest: str) -> Model:
+    """The model of a plan, which a worker reads once for all its parts."""
+    return Model(folder / NAMES[0])
+
+
+@lru_cache(maxsize=1)
+def inputs_of(folder: Path, digest: str) -> LaidOver:
+    """The inputs of a plan, likewise."""
+    return LaidOver(model_of(folder, digest), Inputs(folder / NAMES[2]))
+
+
+def one_by_one(plan: Plan, model: Model, rows: list[list[Row]]) -> Values:
+    """By `run`, from inputs over which each trace is laid."""
+    values = Values(plan, model, len(rows))
+    inputs = inputs_of(plan.folder, plan.digest)
+    with tempfile.TemporaryDirectory(prefix="basin-") as name:
+        path = Path(name) / "inputs.csv"
+        words = ["run", *map(str, plan.files[:2]), str(path)]
+        for trace, laid in enumerate(rows):
+            if row := inputs.twice(laid):
+                values.refused[trace] = f"twice: {row.text}"
+                continue
+            text = inputs.under(laid)
+            path.write_text(text)
+            try:
+                with process.at_work(words, plan.program) as at_work:
+                    for section in sections(process.output_of(at_work)):
+                        values.take(trace, section)
+            except Refused as refused:
+                if refused.file != "inputs" or refused.row is None:
+                    raise
+                values.refused[trace] = f"{refused.reason}: {text.splitlines()[refused.row - 1]}"
+    return values
+
+
+def write(plan: Plan, model: Model, number: int, values: Values) -> None:
+    """Writes the values of a part."""
+    plan.part(number).parent.mkdir(exist_ok=True)
+    with appearing(plan.part(number)) as out:
+        out.digest = plan.digest
+        out.exact_as_float64 = int(is_exact(values.cells))
+        out.createDimension("trace", len(plan.names[number]))
+        add_time(out, model)
+        add_texts(out, "trace", plan.names[number])
+        add_texts(out, "fault", values.faults, "the fault that ended the run, or nothing")
+        add_texts(out, "refused", values.refused, "why the trace is refused and wasn't run, or nothing")
+        closed = out.createVariable("closed", "i4", ("trace",))
+        closed.long_name = "how many timesteps were closed"
+        closed[:] = values.closed
+        for slot, cells in zip(values.slots, values.cells):
+            add_whole(out, slot, ("trace", "time"), model, slot)[:] = cells

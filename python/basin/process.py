@@ -1,0 +1,90 @@
+"""The program: where it is, and how it is run."""
+
+from __future__ import annotations
+
+import contextlib
+import fcntl
+import os
+import shutil
+import subprocess
+import tempfile
+from typing import IO, Iterator, Sequence, Union
+
+from basin_files.program import Unable, built
+from basin_files.reasons import plain
+
+from .errors import Error, NoProgram, Refused
+
+PathLike = Union[str, "os.PathLike[str]"]
+PIPE = 1 << 20  # so that the program and its reader work side by side
+ENDED = (0, 1)  # the statuses with which the program has answered
+NO_SUCH_WORDS = 2
+HOW = (
+    "name it by program=.., by BASIN in the environment, or put it on the PATH; in a checkout of the repository"
+    " `./basin --build` proves and builds it"
+)
+
+
+def find_program(path: PathLike | None = None) -> str:
+    """The program's path: the one that is named, that of BASIN, that of the checkout, or that of the PATH."""
+    named = path or os.environ.get("BASIN")
+    if named:
+        if os.path.isdir(named) or not os.access(named, os.X_OK):
+            raise NoProgram(f"there is no program at {plain(os.fspath(named))}: {HOW}")
+        return os.path.abspath(named)
+    try:
+        return str(built())
+    except Unable:
+        found = shutil.which("basin")
+    if not found:
+        raise NoProgram(f"there is no program: {HOW}")
+    return os.path.abspath(found)
+
+
+@contextlib.contextmanager
+def at_work(words: Sequence[str], program: PathLike | None = None) -> Iterator[subprocess.Popen[bytes]]:
+    """The program while it writes to a pipe. Behind it `Refused` where it answered nothing."""
+    path = find_program(program)
+    with tempfile.TemporaryFile() as errors:
+        try:
+            process = subprocess.Popen(
+                [path, *words], stdin=subprocess.DEVNULL, stdout=subprocess.PIPE, stderr=errors, bufsize=PIPE
+            )
+        except OSError as error:
+            raise NoProgram(f"cannot run {plain(path)}: {error.strerror}") from None
+        with process:
+            with contextlib.suppress(OSError, AttributeError):  # where the system allows no such pipe
+                fcntl.fcntl(output_of(process), fcntl.F_SETPIPE_SZ, PIPE)
+            yield process
+        errors.seek(0)
+        judge(process.returncode, errors.read())
+
+
+def output_of(process: subprocess.Popen[bytes]) -> IO[bytes]:
+    """What the program writes."""
+    assert process.stdout is not None
+    return process.stdout
+
+
+def answer(words: Sequence[str], program: PathLike | None = None) -> tuple[int, str]:
+    """The status, 0 or 1, and the text that was written. `Refused` with any other status."""
+    with at_work(words, program) as process:
+        text = output_of(process).read()
+    return process.returncode, text.decode()
+
+
+def judge(status: int, errors: bytes) -> None:
+    """Raises what a status from 2 on, or a signal, means."""
+    if status < 0:
+        raise Error(f"the program was ended by signal {-status}")
+    if status not in ENDED:
+        raise Refused(status, errors.decode("utf-8", "replace").removesuffix("\n"))
+
+
+def has_command(command: str, files: int, program: PathLike | None = None) -> bool:
+    """Whether the program knows a command of so many files, by what it says of empty ones."""
+    try:
+        answer([command, *[os.devnull] * files], program)
+    except Refused as refused:
+        return refused.status != NO_SUCH_WORDS
+    return True

@@ -1,0 +1,362 @@
+"""Ensembles in this process: against values reckoned by hand, ways, resumption, percentiles, Slurm's tasks."""
+
+from __future__ import annotations
+
+import os
+import subprocess
+import sys
+from fractions import Fraction
+from pathlib import Path
+
+import netCDF4
+import numpy as np
+import pandas as pd
+import pytest
+import xarray
+
+import basin
+from basin import ensemble
+from basin.statistics import blocks, percentile
+from basin.tables import UNKNOWN
+
+from small import (
+    INPUTS,
+    MODEL,
+    SLOTS,
+    STEPS,
+    cells_of,
+    inflows,
+    inputs,
+    model,
+    outflow,
+    planned,
+    policy,
+    rows,
+    series,
+)
+from small import storage, wants
+
+WAYS = ("run", "mrm")
+
+
+def in_way(way: str) -> str:
+    """The way, where the program has it."""
+    if way == "mrm":
+        wants("mrm", 4)
+    return way
+
+
+@pytest.mark.parametrize("way", WAYS)
+def test_values_are_those_reckoned_by_hand(tmp_path: Path, way: str) -> None:
+    inflow = inflows(70)
+    told = planned(tmp_path / "a", inflow, way=in_way(way))
+    done = ensemble.execute(told, workers=0)
+    assert [(one.part, one.settled, one.faults, one.refused) for one in done] == [(0, 64, 0, 0), (1, 6, 0, 0)]
+    assert (cells_of(told, "Dam.Storage") == storage(inflow)).all()
+    assert (cells_of(told, "Dam.Outflow") == outflow(inflow)).all()
+    with ensemble.values(told) as data:
+        assert list(data["trace"].values[[0, 69]]) == ["y1900", "y1969"]
+        assert (data["time"].values == model().index().values).all()
+        held = data["Dam.Storage"]
+        assert (held.attrs["units"], held.attrs["basin_unit"]) == ("m3", "m3")
+        assert data["Dam.Outflow"].attrs["cell_methods"] == "time: sum"
+
+
+@pytest.mark.parametrize("way", WAYS)
+def test_a_trace_takes_the_place_of_inputs_of_linked_slots(tmp_path: Path, way: str) -> None:
+    traces = rows(
+        ("a", "Below.GageInflow", "3-5", 2), ("a", "Dam.Inflow", 4, None), ("b", "Dam.Outflow", 7, 1)
+    )
+    given = inputs(f"{INPUTS}Dam.Outflow,1-10,4\n")
+    told = ensemble.plan(
+        tmp_path / "a", model(), policy(), given, traces, slots=["Dam.Outflow", "Dam.Inflow"], way=in_way(way)
+    )
+    ensemble.execute(told, workers=0)
+    found, flows = cells_of(told, "Dam.Outflow"), cells_of(told, "Dam.Inflow")
+    assert list(found[0, :8]) == [4, 4, 2, 2, 2, 4, 4, 4] and list(found[1, :8]) == [4] * 6 + [1, 4]
+    assert np.isnan(flows[0, 3]) and np.isnan(flows).sum() == 1
+
+
+def test_both_ways_come_to_the_same_cells(tmp_path: Path) -> None:
+    wants("mrm", 4)
+    folder = Path(basin.__file__).resolve().parents[2] / "examples/valley-rules"
+    files = [folder / name for name in ("model.toml", "policy.rpl", "inputs.csv")]
+    edits = pd.read_csv(folder / "edits.csv")
+    found = []
+    for way in WAYS:
+        told = ensemble.plan(tmp_path / way, *files, edits, slots="all", way=way)
+        ensemble.execute(told, workers=0)
+        found.append(ensemble.values(told).load())
+    assert found[0].drop_vars("trace").equals(found[1].drop_vars("trace")) and found[0].sizes["trace"] == 4
+
+
+def test_more_rows_than_a_file_of_traces_has(tmp_path: Path) -> None:
+    inflow = inflows(64, 400)
+    told = ensemble.plan(
+        tmp_path / "a",
+        model(MODEL.replace(f"steps = {STEPS}", "steps = 400")),
+        policy(),
+        inputs("slot,step,value\n"),
+        series(inflow),
+        slots=SLOTS,
+    )
+    ensemble.execute(told, workers=0)
+    assert (cells_of(told, "Dam.Storage") == storage(inflow)).all()
+
+
+@pytest.mark.parametrize("form", ["frames", "rows", "dataset", "file"])
+def test_traces_in_each_form(tmp_path: Path, form: str) -> None:
+    inflow = inflows(3)
+    data = series(inflow)
+    frames = {
+        name: pd.DataFrame({"Dam.Inflow": row}, index=model().index())
+        for name, row in zip(data["trace"].values, inflow)
+    }
+    long = [
+        (name, "Dam.Inflow", step, value)
+        for name, row in zip(frames, inflow)
+        for step, value in enumerate(row, 1)
+    ]
+    data.to_netcdf(tmp_path / "traces.nc")
+    given = {"frames": frames, "rows": rows(*long), "dataset": data, "file": tmp_path / "traces.nc"}[form]
+    told = ensemble.plan(tmp_path / "a", model(), policy(), inputs(), given, slots=["Dam.Outflow"])
+    assert told.names == [["y1900", "y1901", "y1902"]]
+    ensemble.execute(told, workers=0)
+    assert (cells_of(told, "Dam.Outflow") == outflow(inflow)).all()
+
+
+def test_series_with_holes_large_numbers_and_numbers_for_names(tmp_path: Path) -> None:
+    wide = xarray.Dataset(
+        {"Dam.Inflow": (("time", "trace"), [[1.0, np.nan], [np.nan, 4.0]])}, {"time": model().index(2)}
+    )
+    told = ensemble.plan(tmp_path / "a", model(), policy(), inputs(), wide, slots=["Dam.Inflow"])
+    ensemble.execute(told, workers=0)
+    assert told.names == [["1", "2"]] and cells_of(told, "Dam.Inflow")[:, :3].tolist() == [
+        [1, 9, 9],
+        [9, 4, 9],
+    ]
+    filled = series(np.array([[1, -9999] + [9] * (STEPS - 2)])).astype(float)
+    filled["Dam.Inflow"].encoding["_FillValue"] = -9999.0
+    filled.where(filled > 0).to_netcdf(tmp_path / "filled.nc")  # with the fill for what isn't known
+    told = ensemble.plan(
+        tmp_path / "c", model(), policy(), inputs("slot,step,value\n"), tmp_path / "filled.nc", slots=SLOTS
+    )
+    ensemble.execute(told, workers=0)
+    assert (
+        np.isnan(cells_of(told, "Dam.Storage")[0, 1:]).all() and cells_of(told, "Dam.Storage")[0, 0] == 1001
+    )
+    large = series(np.full((1, STEPS), 10**17))
+    large["Dam.Inflow"].encoding["_FillValue"] = -1
+    large.to_netcdf(tmp_path / "large.nc")
+    told = ensemble.plan(
+        tmp_path / "b", model(), policy(), inputs(), tmp_path / "large.nc", slots=["Dam.Inflow"]
+    )
+    ensemble.execute(told, workers=0)
+    ensemble.merge(told)
+    for read in (ensemble.values, ensemble.statistics):
+        with pytest.raises(OverflowError, match="int64"):
+            read(told)
+    assert ensemble.values(told, numbers="int64")["Dam.Inflow"].values[0, 0] == 10**17
+    assert ensemble.statistics(told, numbers="int64")["Dam.Inflow.min"].values[0] == 10**17
+
+
+@pytest.mark.parametrize(
+    "attributes, why",
+    [
+        ({"units": "m3 s-1"}, "base unit"),
+        ({"scale_factor": 0.1}, "packed"),
+        ({"units": "m3"}, ""),
+        ({"units": "m3/step"}, ""),
+    ],
+)
+def test_units_of_series(tmp_path: Path, attributes: dict[str, object], why: str) -> None:
+    data = series(inflows(1))
+    data["Dam.Inflow"].attrs = attributes
+    if why:
+        with pytest.raises(ValueError, match=why):
+            ensemble.plan(tmp_path / "a", model(), policy(), inputs(), data, slots=SLOTS)
+        assert list(tmp_path.iterdir()) == []
+    else:
+        ensemble.plan(tmp_path / "a", model(), policy(), inputs(), data, slots=SLOTS)
+
+
+@pytest.mark.parametrize("way", WAYS)
+def test_faults_and_refusals_by_name(tmp_path: Path, way: str) -> None:
+    traces = rows(
+        ("wet", "Dam.Inflow", 1, 50),
+        ("dry", "Dam.Outflow", 2, 10**6),
+        ("below", "Dam.Inflow", 2, -1),
+        ("late", "Dam.Inflow", "40-41", None),
+        ("other", "Lake.Inflow", 1, 1),
+        ("twice", "Dam.Outflow", "1-3", 1),
+        ("twice", "Below.GageInflow", 3, 1),
+        ("usual", "Dam.Inflow", 1, 20),
+    )
+    told = ensemble.plan(tmp_path / "a", model(), policy(), inputs(), traces, slots=SLOTS, way=in_way(way))
+    with pytest.warns(ensemble.RefusedTraces, match="4 traces"):
+        done = ensemble.execute(told, workers=0)
+    assert [(one.settled, one.faults, one.refused) for one in done] == [(2, 1, 4)] and not told.missing()
+    faults = ensemble.faults(told)
+    assert list(faults.index) == ["dry"] and faults.loc["dry", "kind"] == "out of range"
+    assert (faults.loc["dry", "step"], faults.loc["dry", "time"]) == (2, pd.Timestamp("2020-01-02"))
+    assert ensemble.refusals(told).to_dict("index") == {
+        "below": {"reason": "out of bounds", "row": "Dam.Inflow,2,-1"},
+        "late": {"reason": "step outside", "row": "Dam.Inflow,40-41,"},
+        "other": {"reason": "unknown slot", "row": "Lake.Inflow,1,1"},
+        "twice": {"reason": "twice", "row": "Below.GageInflow,3,1"},
+    }
+    ensemble.merge(told, [50])
+    found = ensemble.statistics(told)
+    assert (found.attrs["traces"], found.attrs["settled"]) == (8 - 1, 2)
+    assert list(found["Dam.Storage.known"].values) == [2] * STEPS
+    assert float(found["Dam.Outflow.min"][0]) == 15 and float(found["Dam.Outflow.max"][0]) == 45
+
+
+def test_percentiles_by_their_definition(tmp_path: Path) -> None:
+    inflow = inflows(75)
+    told = planned(tmp_path / "a", inflow, size=7)
+    ensemble.execute(told, workers=0)
+    percents = (0, 5, 28, 50, 90, "99.5", 100)
+    ensemble.merge(told, percents, room=20_000)
+    found = ensemble.statistics(told)
+    held = storage(inflow)
+    for place, percent in enumerate(percents):
+        share = Fraction(str(percent)) / 100
+        for step in range(STEPS):
+            least = min(v for v in held[:, step] if Fraction(int((held[:, step] <= v).sum()), 75) >= share)
+            assert found["Dam.Storage.percentile"].values[place, step] == least
+    assert (found["Dam.Storage.min"].values == held.min(axis=0)).all()
+    assert np.allclose(found["Dam.Storage.mean"].values, held.mean(axis=0))
+    many = ensemble.merge(told, percents)
+    assert found.equals(ensemble.statistics(told)) and many.name == "ensemble.nc"
+
+
+def test_ranks_by_whole_numbers() -> None:
+    column, count = np.arange(1, 26)[:, None], np.array([25])
+    assert percentile(column, count, 28)[0] == 7  # floats come to 8, since 28/100 isn't one of theirs
+    assert percentile(column, count, 0)[0] == 1 and percentile(column, count, 100)[0] == 25
+    assert percentile(np.array([[UNKNOWN], [3], [5]]), np.array([2]), 50)[0] == 3
+    assert percentile(np.array([[UNKNOWN]]), np.array([0]), 50)[0] == UNKNOWN
+    assert percentile(np.empty((0, 1), np.int64), np.array([0]), 50)[0] == UNKNOWN
+    with pytest.raises(ValueError, match="0 to 100"):
+        percentile(column, count, 101)
+
+
+def test_the_median_is_that_of_mrm(tmp_path: Path) -> None:
+    wants("mrm", 4)
+    inflow = inflows(20)
+    frames = [pd.DataFrame({"Dam.Inflow": row}, index=model().index()) for row in inflow]
+    told = planned(tmp_path / "a", inflow)
+    ensemble.execute(told, workers=0)
+    ensemble.merge(told, [50])
+    summary, found = basin.mrm(model(), policy(), inputs(), frames).summary, ensemble.statistics(told)
+    for slot in SLOTS:
+        assert list(summary.loc[slot, "median"]) == list(found[f"{slot}.percentile"].values[0])
+
+
+def test_blocks_cover_all_once() -> None:
+    for room in (16 * 3 * 4, 16 * 3 * 10, 16 * 3 * 25, 10**6, 1):
+        covered = [
+            (slot, step)
+            for block in blocks(["a", "b", "c"], 10, 3, room)
+            for slot in block.slots
+            for step in range(block.steps.start, block.steps.stop)
+        ]
+        assert sorted(covered) == [(slot, step) for slot in "abc" for step in range(10)]
+
+
+def test_resumption_and_another_ensemble(tmp_path: Path) -> None:
+    inflow = inflows(20)
+    told = planned(tmp_path / "a", inflow, size=5)
+    ensemble.execute(told, workers=0)
+    before = {path: path.read_bytes() for path in (told.folder / "parts").iterdir()}
+    told.part(2).unlink()
+    again = planned(tmp_path / "a", inflow, size=5)
+    assert again == told and again.missing() == [2]
+    assert [done.part for done in ensemble.execute(again, workers=0)] == [2]
+    assert {path: path.read_bytes() for path in (told.folder / "parts").iterdir()} == before
+    assert ensemble.execute(again, workers=0) == []
+    for changed in (inflows(20, seed=2), inflows(19)):
+        with pytest.raises(basin.Stale, match="another ensemble"):
+            planned(tmp_path / "a", changed, size=5)
+    with pytest.raises(basin.Stale):
+        ensemble.plan(
+            tmp_path / "a", model(), policy(RULE_OF_6), inputs(), series(inflow), slots=SLOTS, size=5
+        )
+    assert [path.name for path in tmp_path.iterdir()] == ["a"]
+
+
+RULE_OF_6 = 'RULE "let out": Dam.Outflow[t] := Max(Dam.Inflow[t] - 6 "m3/step", 0 "m3/step"); ENDRULE\n'
+
+
+def test_plans_that_can_not_be(tmp_path: Path) -> None:
+    data = series(inflows(2))
+    with pytest.raises(basin.Refused):
+        ensemble.plan(tmp_path / "a", model(), policy("RULE"), inputs(), data, slots=SLOTS)
+    with pytest.raises(basin.Error, match="no slot"):
+        ensemble.plan(tmp_path / "a", model(), policy(), inputs(), data, slots=["Dam.Nothing"])
+    with pytest.raises(TypeError):
+        ensemble.plan(tmp_path / "a", model(), policy(), inputs(), data, slots="Dam.Storage")
+    with pytest.raises(ValueError, match="same name"):
+        ensemble.plan(
+            tmp_path / "a", model(), policy(), inputs(), data.assign_coords(trace=["a", "a"]), slots=SLOTS
+        )
+    with pytest.raises(ValueError, match="no trace"):
+        ensemble.plan(tmp_path / "a", model(), policy(), inputs(), {}, slots=SLOTS)
+    with pytest.raises(ValueError, match="1 to 64"):
+        planned(tmp_path / "a", inflows(2), size=65)
+    (tmp_path / "full").mkdir()
+    (tmp_path / "full/mine").touch()
+    with pytest.raises(basin.Error, match="cannot make"):
+        planned(tmp_path / "full", inflows(2))
+    assert [path.name for path in tmp_path.iterdir()] == ["full"]
+    told = planned(tmp_path / "a", inflows(2))
+    with pytest.raises(basin.Error, match="1 of 1 parts are missing"):
+        ensemble.merge(told)
+
+
+def test_the_trace_nearest_to_a_percentile(tmp_path: Path) -> None:
+    inflow = inflows(25)
+    told = planned(tmp_path / "a", inflow)
+    ensemble.execute(told, workers=0)
+    last = storage(inflow)[:, -1]
+    order = np.argsort(last, kind="stable")
+    assert ensemble.nearest(told, "Dam.Storage", 28, over="last") == f"y{1900 + order[6]}"
+    means = outflow(inflow).sum(axis=1)
+    assert ensemble.nearest(told, "Dam.Outflow", 100) == f"y{1900 + np.argsort(means, kind='stable')[-1]}"
+
+
+def test_slurm_tasks_one_by_one(tmp_path: Path) -> None:
+    inflow = inflows(20)
+    told = planned(tmp_path / "a", inflow, size=5)
+    array, last = ensemble.slurm(told, tasks=2)
+    assert "#SBATCH --array=1-2\n" in array.read_text()
+    for task in ("1", "2"):
+        subprocess.run(
+            ["bash", array], check=True, env={**os.environ, "SLURM_ARRAY_TASK_ID": task}, capture_output=True
+        )
+    merged = subprocess.run(["bash", last], check=True, capture_output=True, text=True).stdout
+    assert merged.splitlines()[1] == "20 traces, 0 ended in a fault, 0 are refused"
+    assert (cells_of(told, "Dam.Storage") == storage(inflow)).all()
+    with netCDF4.Dataset(told.folder / "ensemble.nc") as out:
+        assert out.settled == 20
+
+
+def test_no_more_than_a_thousand_tasks_and_plain_folders(tmp_path: Path) -> None:
+    told = planned(tmp_path / "a", inflows(3), size=1)
+    assert "--array=1-3\n" in ensemble.slurm(told, tasks=5000)[0].read_text()
+    odd = planned(tmp_path / "a b;touch pwned", inflows(3))
+    with pytest.raises(ValueError, match="letters"):
+        ensemble.slurm(odd)
+
+
+def test_words_of_the_module(tmp_path: Path) -> None:
+    told = planned(tmp_path / "a", inflows(3))
+    done = subprocess.run(
+        [sys.executable, "-m", "basin", "merge", told.folder], capture_output=True, text=True, check=False
+    )
+    assert (done.returncode, done.stderr) == (2, "basin: 1 of 1 parts are missing, the first is 0\n")
+    done = subprocess.run(
+        [sys.executable, "-m", "basin", "run", tmp_path], capture_output=True, text=True, check=False
+    )
+    assert done.returncode == 2 and "holds no plan" in done.stderr

@@ -1,0 +1,115 @@
+"""Reading what the program writes, and frames as rows."""
+
+from __future__ import annotations
+
+import numpy as np
+import pandas as pd
+import pytest
+
+from basin.rows import folded, long_rows, wide_rows
+from basin.tables import UNKNOWN, as_floats, numbers, sections
+
+from small import model
+
+TEXT = b"""# batch 0 settled
+step,stamp,D.A,D.B
+1,2020-01-02T00:00,-5,
+2,2020-01-03T00:00,,100000000000000000
+# flags
+step,D.A,D.B
+1,I0,
+2,,R1
+# batch 1 fault limit object D step 2 after 50
+# reran 1 2
+step,stamp,D.A,D.B
+1,2020-01-02T00:00,7,-100000000000000000
+# trace
+open 1
+close 1
+# trace 3 settled
+step,stamp,D.A,D.B
+# summary 1 of 1
+slot,step,known,min,median,max
+"""
+
+
+def test_sections() -> None:
+    lines = iter(TEXT.splitlines(keepends=True))
+    first, second, third = sections(lines)
+    assert (first.number, first.fault, first.columns, len(first.rows)) == (0, "", ["D.A", "D.B"], 2)
+    assert first.flags == [b"1,I0,\n", b"2,,R1\n"] and first.reran is None
+    assert (second.fault, second.reran) == ("limit object D step 2 after 50", [1, 2])
+    assert second.trace == ["open 1", "close 1"]
+    assert (third.number, third.rows) == (3, [])
+    assert next(lines).startswith(b"slot,")  # the summary is left
+
+
+def test_numbers_of_all_and_of_picked_columns() -> None:
+    rows = [b"1,2020-01-02T00:00,-5,,100000000000000000\n", b"2,2020-01-03T00:00,,0,-100000000000000000\n"]
+    whole = numbers(rows, 3)
+    assert whole.tolist() == [[-5, UNKNOWN, 10**17], [UNKNOWN, 0, -(10**17)]]
+    assert numbers(rows, 3, [2, 0]).tolist() == [[10**17, -5], [-(10**17), UNKNOWN]]
+    assert numbers([], 3).shape == (0, 3)
+
+
+def test_floats_are_exact_or_refused() -> None:
+    assert np.array_equal(
+        as_floats(np.array([2**53, -(2**53), UNKNOWN])), [2**53, -(2**53), np.nan], equal_nan=True
+    )
+    with pytest.raises(OverflowError, match="Int64"):
+        as_floats(np.array([2**53 + 1]))
+
+
+def test_neighbours_with_one_value_are_one_row() -> None:
+    steps, values = np.array([1, 2, 3, 5, 6, 7]), np.array([4, 4, 5, 5, UNKNOWN, 5])
+    assert [row.text for row in folded("D.A", steps, values)] == [
+        "D.A,1-2,4",
+        "D.A,3,5",
+        "D.A,5,5",
+        "D.A,7,5",
+    ]
+
+
+@pytest.mark.parametrize(
+    "column",
+    [[1, 2, 2], [1.0, 2.0, 2.0], pd.array([1, 2, 2], dtype="Int64"), pd.Series([1, 2, 2], dtype=object)],
+)
+def test_columns_of_any_sort(column: object) -> None:
+    frame = pd.DataFrame({"Dam.Inflow": column})
+    for index in (model().index(3), model().index(3).to_period(), [1, 2, 3]):
+        frame.index = pd.Index(index)
+        assert [row.text for row in wide_rows(model(), frame)] == ["Dam.Inflow,1,1", "Dam.Inflow,2-3,2"]
+
+
+@pytest.mark.parametrize(
+    "value, why",
+    [(0.5, "whole number"), (2.0**53 + 2, "2.53"), (float("inf"), "2.53"), ("x", "invalid literal")],
+)
+def test_what_is_not_whole_is_refused(value: object, why: str) -> None:
+    with pytest.raises(ValueError, match=why):
+        list(wide_rows(model(), pd.DataFrame({"Dam.Inflow": [value]}, index=[1])))
+
+
+@pytest.mark.parametrize(
+    "name", ["Dam", "Dam.Inflow,1,5\nDam.Outflow", '=1+1"', "Dam.In flow", 5, "Dam.\x1b[31m"]
+)
+def test_a_heading_that_is_no_slot_reaches_no_file(name: object) -> None:
+    with pytest.raises(ValueError, match="is no slot") as told:
+        list(wide_rows(model(), pd.DataFrame({name: [1]}, index=[1])))
+    assert "\x1b" not in str(told.value) and "\n" not in str(told.value)
+    with pytest.raises(ValueError, match="is no slot"):
+        long_rows(model(), pd.DataFrame([("a", name, 1, 1)]), "trace")
+
+
+@pytest.mark.parametrize("time", ["2019-12-31", "2020-01-01T01:00", "2020-01-01T00:00+01:00", "soon"])
+def test_moments_at_which_no_timestep_begins(time: str) -> None:
+    with pytest.raises(ValueError, match="no timestep"):
+        long_rows(model(), pd.DataFrame([("a", "Dam.Inflow", time, 1)]), "trace")
+
+
+def test_timesteps_of_rows_by_number_range_and_moment() -> None:
+    frame = pd.DataFrame(
+        [("a", "Dam.Inflow", time, 1) for time in (2, "2", "3-4", "2020-01-05", pd.Timestamp(2020, 1, 6))]
+    )
+    texts = [row.text for row in long_rows(model(), frame, "trace")["a"]]
+    assert texts == [f"Dam.Inflow,{steps},1" for steps in ("2", "2", "3-4", "5", "6")]
