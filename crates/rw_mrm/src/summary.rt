@@ -29,7 +29,8 @@ fn take(found: &mut Vec<i64>, value: Option<i64>) -> Result<(), NoMemory>
 fn gather(found: &mut Vec<i64>, tally: &Tally, place: usize) -> Result<(), NoMemory>
     requires { place < tally.now.slots * tally.now.steps }
     ensures { OnOk result (found.new.items
-        ≡ specs.known_in tally.now.values (tally.now.slots * tally.now.steps) place tally.now.settled) }
+        ≡ specs.known_in tally.now.values (tally.now.slots * tally.now.steps) place
+        tally.now.settled) }
 {
     found.clear();
     for before in 0..tally.settled() {

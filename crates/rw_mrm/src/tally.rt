@@ -133,7 +133,8 @@ impl Tally {
         requires made { specs.IsTallyFor basin.now self.old }
         requires room { self.old.runs < self.old.room }
         ensures { self.new
-            ≡ specs.with_run basin.now (specs.is_settled run.now.end) (held run.now.series) self.old }
+            ≡ specs.with_run basin.now (specs.is_settled run.now.end)
+            (held run.now.series) self.old }
     {
         match run.end {
             RunEnd::Settled => self.keep(basin, &run.series),
