@@ -24,17 +24,17 @@ class Needs:
         """That version as it is written."""
         return ".".join(map(str, self.glibc))
 
-    def debians(self, does_it_run: bool) -> str:
-        """The releases of Debian on which it runs by these symbols, or doesn't."""
-        names = [name for name, has in DEBIAN_GLIBC.items() if (has >= self.glibc) == does_it_run]
-        return ", ".join(names) or "none"
+    def debians(self, is_run: bool) -> str:
+        """The releases of Debian that have what the program wants, or lack it."""
+        return " and ".join(name for name, has in DEBIAN_GLIBC.items() if (has >= self.glibc) == is_run)
 
     def told(self) -> str:
         """All of it in sentences."""
+        runs, lacks = self.debians(True), self.debians(False)
         return (
-            f"Linux on x86-64. Shared libraries: {', '.join(self.libraries) or 'none'}. The newest symbols that it wants of\n"
-            f"the C library are those of glibc {self.glibc_text}. By that it runs on Debian {self.debians(True)}; of Debian 11, 12\n"
-            f"and 13 it doesn't run on: {self.debians(False)}."
+            f"Linux on x86-64. Shared libraries: {', '.join(self.libraries) or 'none'}. The newest symbols that it wants of the C\n"
+            f"library are those of glibc {self.glibc_text}. By these symbols it runs on Debian {runs or 'no release from 11 to 13'}"
+            f"{f', and not on Debian {lacks}' if lacks and runs else ''}."
         )
 
 

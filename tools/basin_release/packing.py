@@ -37,6 +37,11 @@ Description: proved simulator of regulated river basins
  or months, with operating rules and without. The program is proved to write
  what its definitions give; the scripts beside it are not.
 """
+# What Python keeps of the scripts that were run is no file of the package, and would stay behind.
+REMOVAL = """#!/bin/sh
+set -e
+find "$DPKG_ROOT/usr/lib/basin" -name __pycache__ -prune -exec rm -rf {} +
+"""
 
 
 @dataclass(frozen=True)
@@ -101,7 +106,10 @@ def control(files: Tree, version: str, needs: Needs) -> Tree:
     size = -(-sum(len(file.content) for file in files.values()) // 1024)
     text = CONTROL.format(version=version, size=size, glibc=needs.glibc_text)
     lines = [f"{hashlib.md5(files[path].content).hexdigest()}  {path}\n" for path in sorted(files)]
-    return {"DEBIAN/control": File(text.encode()), "DEBIAN/md5sums": File("".join(lines).encode())}
+    return {
+        "DEBIAN/control": File(text.encode()), "DEBIAN/md5sums": File("".join(lines).encode()),
+        "DEBIAN/prerm": File(REMOVAL.encode(), is_program=True),
+    }
 
 
 def laid_out(files: Tree, folder: Path, epoch: int) -> None:
