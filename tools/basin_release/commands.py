@@ -82,7 +82,7 @@ def manual(guide: str, version: str, day: str) -> str:
         "Reads a model, rules, inputs and edits from files, and writes tables to the standard output.",
         "A refusal is one line on the standard error.",
         ".SH COMMANDS", *(line for command in commands_of(guide) for line in entry(command)),
-        ".SH \"EXIT STATUS\"", roff(remarks(guide).partition(" `docs/FORMATS.md`")[0]),
+        ".SH \"EXIT STATUS\"", "0 and 1 mean what is said of each command.", roff(remarks(guide).partition(" `docs/FORMATS.md`")[0]),
         ".SH FILES",
         "The folder in which the program is installed has the guide (\\fIdocs/GUIDE.md\\fR), the references",
         "(\\fIdocs/FORMATS.md\\fR, \\fIdocs/LANGUAGE.md\\fR), \\fIexamples\\fR, scripts (\\fItools\\fR), and",
