@@ -31,7 +31,10 @@ def checksum(content: bytes) -> str:
 
 def git(top: Path, *words: str) -> str:
     """What git answers in the repository."""
-    done = subprocess.run(["git", "-C", str(top), *words], capture_output=True, text=True, check=False)
+    try:
+        done = subprocess.run(["git", "-C", str(top), *words], capture_output=True, text=True, check=False)
+    except OSError:
+        raise Unable("git isn't there") from None
     if done.returncode:
         raise Unable(f"git {words[0]} failed: {done.stderr.strip()}")
     return done.stdout
