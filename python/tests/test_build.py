@@ -26,11 +26,13 @@ def test_builds_are_alike_and_the_wheel_runs(tmp_path: Path) -> None:
             capture_output=True,
         )
     names = sorted(path.name for path in (tmp_path / "a").iterdir())
-    assert [name.split("-")[0] for name in names] == ["basin", "basin"] and names[0].endswith(".whl")
+    version = (TOP / "VERSION").read_text().strip()
+    assert names == [f"basin-{version}-py3-none-any.whl", f"basin-{version}.tar.gz"]
     for name in names:
         assert (tmp_path / "a" / name).read_bytes() == (tmp_path / "b" / name).read_bytes()
     with tarfile.open(tmp_path / "a" / names[1]) as source:
-        assert any(name.endswith("/basin_rules/policy.py") for name in source.getnames())
+        for wanted in ("/basin_rules/policy.py", f"basin-{version}/VERSION"):
+            assert any(name.endswith(wanted) for name in source.getnames())
     with zipfile.ZipFile(tmp_path / "a" / names[0]) as wheel:
         wheel.extractall(tmp_path / "site")
     assert (tmp_path / "site/basin/py.typed").exists()

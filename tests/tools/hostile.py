@@ -76,7 +76,7 @@ CALLS = {
     "why": ["{model} {policy} {inputs} Dam.Outflow 1", "{model} {policy} {inputs} {name} 1"],
 }
 OF_CSV = ("inputs", "table")  # tools that write CSV without --csv
-OF_PROOFS = {"recheck"}  # tools that read nothing but the repository itself
+OF_SOURCES = {"recheck", "release"}  # tools that read nothing but the repository itself
 
 
 @dataclass
@@ -169,7 +169,7 @@ def is_formula(cell: str) -> bool:
 def of_hostile_names(run: Callable, tools: Path) -> Iterator[tuple[str, str | None]]:
     """All tools on hostile names: good files, bad ones, files that aren't there, and words that are none."""
     there = {path.name for path in tools.iterdir() if path.is_file() and os.access(path, os.X_OK)}
-    yield "hostile names: each tool", None if there - OF_PROOFS == set(CALLS) else f"{there ^ set(CALLS)} are due, or not"
+    yield "hostile names: each tool", None if there - OF_SOURCES == set(CALLS) else f"{there ^ set(CALLS)} are due, or not"
     rooms = [(name, "") for name in (WORST, *FORMULAS)] + [(WORST, bad) for bad in BAD]
     for name, bad in rooms:
         yield from of_room(name, bad, run)

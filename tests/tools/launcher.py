@@ -22,6 +22,7 @@ if [ "$1" = ci ]; then
   cp "$MADE" crates/basin/out/basin
   echo "rt: basin proved"
 else
+  /bin/sleep "${TAKES:-0}"
   echo "run=ended 0" >&2
 fi
 """
@@ -83,12 +84,25 @@ def differs(found: str, wanted: str) -> str | None:
 
 def of_launcher(script: Path, basin: str) -> Iterator[tuple[str, str | None]]:
     """All that is promised of `./basin`."""
-    for test in (words_as_they_are, files_of_unproved, one_build, limited_files):
+    for test in (own_words, words_as_they_are, files_of_unproved, unproved_goes_on, one_build, limited_files):
         with tempfile.TemporaryDirectory() as folder:
             place = Place(Path(folder), script)
             for name, difference in test(place, basin):
                 made = None if not (place.here / "pwned").exists() else "a word was run"
                 yield f"./basin: {name}", difference or made
+
+
+def own_words(place: Place, _: str) -> Iterator[tuple[str, str | None]]:
+    """What it answers itself, built or not; with another word behind them they go to the program."""
+    (place.top / "docs").mkdir()
+    (place.top / "docs/GUIDE.md").write_text("## First\n1\n## All commands\n2\n## Last\n3\n")
+    (place.top / "VERSION").write_text("1.20.3\n")
+    for words, wanted in (("help", "## All commands\n2\n"), ("--help", "## All commands\n2\n"), ("--version", "basin 1.20.3\n")):
+        yield words, differs(place.call(words), wanted)
+    yield "nothing was built", differs(place.notes(), "")
+    place.built()
+    for word in ("help", "--help", "--version"):
+        yield f"{word} and more", differs(place.call(word, "x"), shown([word, "x"]))
 
 
 def words_as_they_are(place: Place, _: str) -> Iterator[tuple[str, str | None]]:
@@ -128,6 +142,15 @@ def files_of_unproved(place: Place, _: str) -> Iterator[tuple[str, str | None]]:
         before = len(place.notes())
         place.call("--unproved", *words)
         yield f"--unproved {words[0]}", differs(place.notes()[before:], shown(wanted))
+
+
+def unproved_goes_on(place: Place, _: str) -> Iterator[tuple[str, str | None]]:
+    """That it goes on is told until it ends, and then no more."""
+    place.executable(place.rt / "sleep", "#!/bin/sh\nexec /bin/sleep 0.1\n")
+    first, *others = place.call("--unproved", "sample", "1", TAKES="1").splitlines()
+    yield "--unproved says how long it takes", None if "1 to 4 minutes" in first else first
+    ticks = [line for line in others if line.startswith("basin: .. ") and line.endswith(" minutes so far")]
+    yield "--unproved goes on", None if ticks and ticks == others else f"{others}"
 
 
 def one_build(place: Place, _: str) -> Iterator[tuple[str, str | None]]:

@@ -17,6 +17,7 @@ HOW_BUILT = (
     "`./basin --build` proves and builds it, which takes some 55 minutes of a quick processor and tells how far it"
     " is; BASIN=PATH in front of the tool names another program"
 )
+RELEASED = "program/basin"  # where a release has the program, and the repository nothing
 CANNOT = 2  # the status of a tool that can't do what it was asked
 INTERRUPTED = 130
 PATIENCE = 2  # seconds without a word
@@ -102,9 +103,11 @@ def good_model(path: str | Path) -> Model:
 
 
 def built() -> str | Path:
-    """The program: the one that BASIN names, or this repository's. Nothing is built, since that takes long."""
+    """The program: the one that BASIN names, a release's, or this repository's. Nothing is built, since that takes long."""
     if named := os.environ.get("BASIN"):
         return named
+    if (released := TOP / RELEASED).exists():
+        return released
     program = TOP / "crates/basin/out/basin"
     if not program.exists():
         raise Unable(f"the program isn't built. {HOW_BUILT}")
