@@ -65,6 +65,7 @@ LINES = {
     }.items()
 }
 SECTIONS = re.compile(rb"# batch 0 (?:settled|fault .*)\n(?:.*\n)+")
+ENDS = re.compile(rb"^# batch \d+ (settled|fault)", re.MULTILINE)
 OUTPUTS = {
     "run": SECTIONS,
     "simulate": SECTIONS,
@@ -78,7 +79,7 @@ FAULTS = ("run", "simulate", "why")  # commands that have status 1
 
 
 def wrong_with(answer: Answer, command: str, greatest: int) -> str | None:
-    """What isn't as the page has it, or `None`; `greatest` is the length of the greatest file that the command reads."""
+    """What isn't as the page has it, or `None`; `greatest` is the length of the longest file that the command reads."""
     status = answer.status
     if status < 0:
         return f"signal {-status}"
@@ -94,4 +95,7 @@ def wrong_with(answer: Answer, command: str, greatest: int) -> str | None:
         return f"a line on the error stream with status {status}"
     if status and command not in FAULTS:
         return f"status 1 of {command}"
-    return None if OUTPUTS[command].fullmatch(answer.output) else "an output of another form"
+    if not OUTPUTS[command].fullmatch(answer.output):
+        return "an output of another form"
+    ends = ENDS.findall(answer.output)
+    return f"status {status} where the last run isn't so" if ends and (ends[-1] == b"fault") != status else None

@@ -32,8 +32,9 @@ WAYS: dict[Callable[[Draw, Text], bytes] | None, int] = {
     spoiling.of_depth: 8,
     spoiling.of_length: 6,
     of_limits: 6,
+    spoiling.of_greatest: 1,
     spoiling.of_nothing: 2,
-    None: 3,
+    None: 2,
 }
 COMMANDS = {"run": 4, "simulate": 2, "check": 2, "why": 2, "compile": 1}
 

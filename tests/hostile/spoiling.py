@@ -3,9 +3,15 @@ and by length. Each takes draws and a `Text`, and answers other bytes."""
 
 import random
 import re
+import sys
 from dataclasses import dataclass
+from pathlib import Path
 
-Q = 10**17
+sys.path.insert(0, str(Path(__file__).resolve().parents[2] / "tools"))
+
+from basin_files.formats import GREATEST_FILE, GREATEST_QUANTITY  # noqa: E402
+
+Q = GREATEST_QUANTITY
 NUMBERS = (
     "0 1 2 -1 30 31 64 65 100 101 200 201 255 256 4095 4096 4097 10000000 10000001 1.5 1e3 1e400 0x10 1_000 +5 -0 007"
     f" nan inf {Q} {Q + 1} {-Q} {-Q - 1} {2**31} {2**32} {2**63 - 1} {2**63} {2**64} {'9' * 18} {'9' * 19} {'9' * 40}"
@@ -254,6 +260,11 @@ def of_length(draw: Draw, text: Text) -> bytes:
     else:
         found[place] = b'"' + b"y" * length + b'"'
     return b"".join(found)
+
+
+def of_greatest(draw: Draw, text: Text) -> bytes:
+    """The file is as long as a file may be, or a byte longer or shorter: empty lines stand behind it."""
+    return text.bytes + b"\n" * (GREATEST_FILE - len(text.bytes) + draw.choice([-1, 0, 0, 1]))
 
 
 def of_nothing(draw: Draw, text: Text) -> bytes:

@@ -102,9 +102,9 @@ def all_runs() -> list[Run]:
     return [*of_cases(), *examples, Run(TOP, ["sample", "1"])]
 
 
-def program_of(words: list[str]) -> Path:
-    """The program that is named, or the built one."""
-    program = Path(words[0] if words else BUILT).resolve()
+def program_of(path: str | Path) -> Path:
+    """The program at a path."""
+    program = Path(path).resolve()
     if not program.is_file():
         sys.exit(f"{Path(sys.argv[0]).name}: there is no program {program}")
     return program
