@@ -2,6 +2,7 @@
 
 import re
 import sys
+from collections.abc import Iterable
 from dataclasses import dataclass
 from pathlib import Path
 
@@ -29,7 +30,7 @@ class Answer:
         return (self.status, self.output, self.errors) == (other.status, other.output, other.errors)
 
 
-def one_of(words: list[str] | tuple[str, ...] | dict[str, str]) -> str:
+def one_of(words: Iterable[str]) -> str:
     """A pattern of these texts and no others."""
     return f"(?:{'|'.join(re.escape(word) for word in words)})"
 
@@ -61,7 +62,7 @@ LINES = {
         7: f"rules: (?:{RULES})",
         8: ROWS,
         9: f"code: (?:{CODE})",
-        10: f"too long {one_of(tuple(FILES.values()))}",
+        10: f"too long {one_of(FILES.values())}",
     }.items()
 }
 SECTIONS = re.compile(rb"# batch 0 (?:settled|fault .*)\n(?:.*\n)+")

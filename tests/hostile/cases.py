@@ -125,7 +125,7 @@ def case_of(corpus: list[Case], seed: int, number: int) -> Hostile:
     for _ in range(draw.choice([1, 1, 1, 1, 2])):
         # a model that is refused hides what is wrong with the other files
         sort = draw.choices(sorts, [1 if sort == "model" else 2 for sort in sorts])[0]
-        way = draw.choices(list(WAYS), list(WAYS.values()))[0]
+        way = draw.choices(list(WAYS), list(WAYS.values()))[0] if len(case[sort]) <= LARGEST else None
         ways.append(f"{way.__name__ if way else 'as it is'} {sort}")
         if way:
             case[sort] = way(draw, Text(sort, case[sort], case["model"], corpus))

@@ -57,14 +57,14 @@ class Text:
     """The text that is spoilt: its sort, its bytes, the model beside it, and the cases of which pieces are taken."""
 
     sort: str
-    bytes: bytes
+    content: bytes
     model: bytes
     corpus: list[Case]
 
     @property
     def code(self) -> bool:
         """Whether it is code."""
-        return self.sort == "policy" and self.bytes.startswith(b"CODE")
+        return self.sort == "policy" and self.content.startswith(b"CODE")
 
     def tokens(self) -> list[str]:
         """Tokens that such a text may have."""
@@ -82,7 +82,7 @@ def slot_in(draw: Draw, model: bytes) -> str:
 
 def of_bytes(draw: Draw, text: Text) -> bytes:
     """Bytes are turned, put in, taken out, doubled, cut off."""
-    made = bytearray(text.bytes)
+    made = bytearray(text.content)
     for _ in range(draw.choice([1, 1, 2, 4])):
         begin = draw.randrange(len(made) + 1)
         end = min(len(made), begin + draw.choice([1, 1, 2, 8, 100]))
@@ -106,9 +106,9 @@ def of_bytes(draw: Draw, text: Text) -> bytes:
 
 def of_tokens(draw: Draw, text: Text) -> bytes:
     """Tokens become others, go, come twice, change places."""
-    found = TOKEN.findall(text.bytes)
+    found = TOKEN.findall(text.content)
     if not found:
-        return text.bytes
+        return text.content
     solid = [place for place, token in enumerate(found) if token.strip()] or [0]
     for _ in range(draw.choice([1, 1, 1, 2, 3])):
         place, other, way = draw.choice(solid), draw.choice(solid), draw.random()
@@ -129,10 +129,10 @@ def of_tokens(draw: Draw, text: Text) -> bytes:
 
 def of_values(draw: Draw, text: Text) -> bytes:
     """Numbers become others that are likely to be taken, so that runs are judged, and not only refusals."""
-    places = [found.span() for found in NUMBER.finditer(text.bytes)]
-    made = bytearray(text.bytes)
+    places = [found.span() for found in NUMBER.finditer(text.content)]
+    made = bytearray(text.content)
     for begin, end in sorted(draw.sample(places, min(len(places), draw.choice([1, 1, 2, 3, 8]))), reverse=True):
-        old, other = (int(text.bytes[slice(*place)][:18]) for place in ((begin, end), draw.choice(places)))
+        old, other = (int(text.content[slice(*place)][:18]) for place in ((begin, end), draw.choice(places)))
         near = [old + 1, max(0, old - 1), old * 2, old // 2, draw.randrange(1 + old * 3)]
         made[begin:end] = str(draw.choice([*near, 0, 1, 10 ** draw.randrange(18), other])).encode()
     return bytes(made)
@@ -140,7 +140,7 @@ def of_values(draw: Draw, text: Text) -> bytes:
 
 def of_lines(draw: Draw, text: Text) -> bytes:
     """Lines go, come twice and many times, change places."""
-    lines = text.bytes.split(b"\n")
+    lines = text.content.split(b"\n")
     for _ in range(draw.choice([1, 1, 2, 3])):
         place, other, way = draw.randrange(len(lines)), draw.randrange(len(lines)), draw.randrange(5)
         if way == 0 and len(lines) > 1:
@@ -164,9 +164,9 @@ def of_pieces(draw: Draw, text: Text) -> bytes:
     if draw.random() < 0.15:
         piece = draw.choice(list(other.values()))
     if draw.random() < 0.5:
-        front, end = text.bytes.split(b"\n"), piece.split(b"\n")
+        front, end = text.content.split(b"\n"), piece.split(b"\n")
         return b"\n".join(front[: draw.randrange(len(front) + 1)] + end[draw.randrange(len(end) + 1) :])
-    return text.bytes[: draw.randrange(len(text.bytes) + 1)] + piece[draw.randrange(len(piece) + 1) :]
+    return text.content[: draw.randrange(len(text.content) + 1)] + piece[draw.randrange(len(piece) + 1) :]
 
 
 # ---- depth
@@ -227,14 +227,14 @@ def of_depth(draw: Draw, text: Text) -> bytes:
     """Something is nested about as deep as a limit, or much deeper."""
     depth = draw.choice(DEPTHS)
     if text.code:
-        return deep_code(draw, depth, text.bytes)
+        return deep_code(draw, depth, text.content)
     if text.sort == "policy":
         made = deep_rule(draw, depth, slot_in(draw, text.model)).encode()
-        return text.bytes + made if draw.random() < 0.5 else made
+        return text.content + made if draw.random() < 0.5 else made
     if text.sort == "model":
-        place = draw.choice([0, len(text.bytes)])
-        return text.bytes[:place] + b"\n" + deep_key(draw, depth).encode() + b"\n" + text.bytes[place:]
-    return text.bytes + b'"' * depth + b"\n"
+        place = draw.choice([0, len(text.content)])
+        return text.content[:place] + b"\n" + deep_key(draw, depth).encode() + b"\n" + text.content[place:]
+    return text.content + b'"' * depth + b"\n"
 
 
 # ---- length
@@ -243,7 +243,7 @@ def of_depth(draw: Draw, text: Text) -> bytes:
 def of_length(draw: Draw, text: Text) -> bytes:
     """A word, a number, a space, a comment or a text in quotes is long."""
     length = draw.choice(LENGTHS)
-    found = TOKEN.findall(text.bytes)
+    found = TOKEN.findall(text.content)
     solid = [place for place, token in enumerate(found) if token[:1].isalnum()]
     if not solid:
         return b"x" * length
@@ -264,7 +264,7 @@ def of_length(draw: Draw, text: Text) -> bytes:
 
 def of_greatest(draw: Draw, text: Text) -> bytes:
     """The file is as long as a file may be, or a byte longer or shorter: empty lines stand behind it."""
-    return text.bytes + b"\n" * (GREATEST_FILE - len(text.bytes) + draw.choice([-1, 0, 0, 1]))
+    return text.content + b"\n" * (GREATEST_FILE - len(text.content) + draw.choice([-1, 0, 0, 1]))
 
 
 def of_nothing(draw: Draw, text: Text) -> bytes:
