@@ -21,6 +21,7 @@ TOP = Path(__file__).resolve().parents[2]
 FOLDERS = (TOP / "examples", TOP / "tests" / "cases")
 LARGEST = 200_000  # bytes of a file that is spoilt
 ACCEPTED = 4  # how often a case counts whose files are accepted, so that runs are judged, and not only refusals
+OF_CODE = 6  # how much more often one counts whose policy is code, of which there are few
 HEADERS = {"inputs": b"slot,step,value\n", "edits": b"batch,slot,step,value\n"}
 SLOT = re.compile(rb"[A-Za-z_]\w*\.[A-Za-z_]\w*")
 WAYS: dict[Callable[[Draw, Text], bytes] | None, int] = {
@@ -72,7 +73,8 @@ def corpus_of(folders: tuple[Path, ...] = FOLDERS) -> list[Case]:
                 case[sort] = path.read_bytes()
         status = folder / "status"
         refused = status.exists() and int(status.read_text()) > 1
-        cases += [case] * (1 if refused else ACCEPTED) if "model" in case else []
+        code = case.get("policy", b"").startswith(b"CODE 1")
+        cases += [case] * (1 if refused else ACCEPTED) * (OF_CODE if code else 1) if "model" in case else []
     return cases
 
 

@@ -20,6 +20,7 @@ CASES = (
     "code/loop-run",
     "compile/storage-cap",
     "why/storage-cap-outflow",
+    "sample/seed-1",
     "words/none",  # a refusal of each status
     "first-path/missing-inputs",
     "readers/not-toml",
@@ -96,10 +97,9 @@ def of_example(folder: Path) -> Iterator[Run]:
 
 
 def all_runs() -> list[Run]:
-    """All of these, and a sample."""
+    """All of these."""
     folders = sorted(path for path in (TOP / "examples").iterdir() if path.is_dir())
-    examples = [run for folder in folders for run in of_example(folder)]
-    return [*of_cases(), *examples, Run(TOP, ["sample", "1"])]
+    return [*of_cases(), *(run for folder in folders for run in of_example(folder))]
 
 
 def program_of(path: str | Path) -> Path:
