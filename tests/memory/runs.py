@@ -1,4 +1,4 @@
-"""What `run` and `calls` share: the libraries that let a program's requests fail, and the runs on which they are tried."""
+"""What `run` and `calls` share: the libraries that let requests of a program fail, and the runs on which they do."""
 
 import shutil
 import subprocess
