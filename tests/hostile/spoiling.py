@@ -13,9 +13,9 @@ from basin_files.formats import GREATEST_FILE, GREATEST_QUANTITY  # noqa: E402
 
 Q = GREATEST_QUANTITY
 NUMBERS = (
-    "0 1 2 -1 30 31 64 65 100 101 200 201 255 256 4095 4096 4097 10000000 10000001 1.5 1e3 1e400 0x10 1_000 +5 -0"
-    f" 007 nan inf {Q} {Q + 1} {-Q} {-Q - 1} {2**31} {2**32} {2**63 - 1} {2**63} {2**64} {'9' * 18} {'9' * 19} {'9' * 40}"
-    f" {'0' * 18}1"
+    "0 1 2 -1 30 31 64 65 100 101 200 201 255 256 4095 4096 4097 10000000 10000001 1.5 1e3 1e400 0x10 1_000 +5"
+    f" -0 007 nan inf {Q} {Q + 1} {-Q} {-Q - 1} {2**31} {2**32} {2**63 - 1} {2**63} {2**64} {'9' * 18} {'9' * 19}"
+    f" {'9' * 40} {'0' * 18}1"
 ).split() + [""]
 RULE_TOKENS = (
     "RULE ENDRULE FUNCTION ENDFUNCTION IS IF THEN ELSE ENDIF WITH DO ENDWITH LET IN ENDLET FOR ENDFOR MAP ENDMAP AND OR"
