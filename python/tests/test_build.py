@@ -1,4 +1,4 @@
-"""The builder: the same bytes each time, and a wheel that runs apart from the checkout."""
+"""The builder: the same bytes each time, and a wheel that runs apart from the checkout. And what measures."""
 
 from __future__ import annotations
 
@@ -10,6 +10,8 @@ import zipfile
 from pathlib import Path
 
 import pytest
+
+import basin
 
 from small import TOP, VALLEY
 
@@ -33,7 +35,7 @@ def test_builds_are_alike_and_the_wheel_runs(tmp_path: Path) -> None:
         wheel.extractall(tmp_path / "site")
     assert (tmp_path / "site/basin/py.typed").exists()
     code = f"import basin; print(basin.__file__, len(basin.run(*{[str(path) for path in VALLEY]}).table))"
-    environment = {**os.environ, "PYTHONPATH": str(tmp_path / "site")}
+    environment = {**os.environ, "PYTHONPATH": str(tmp_path / "site"), "BASIN": basin.find_program()}
     done = subprocess.run(
         [sys.executable, "-c", code],
         cwd=tmp_path,
@@ -54,3 +56,9 @@ def test_builds_are_alike_and_the_wheel_runs(tmp_path: Path) -> None:
         check=False,
     )
     assert "NoProgram: there is no program: name it by program=" in done.stderr
+
+
+def test_the_bench() -> None:
+    words = [TOP / "python/bench", *VALLEY, "Upper.Inflow", "--traces", "20", "--keep", "3", "--workers", "0"]
+    done = subprocess.run(words, capture_output=True, text=True, check=True)
+    assert "times bare runs" in done.stdout and "the caller had at most" in done.stdout

@@ -62,6 +62,19 @@ def test_values_are_those_reckoned_by_hand(tmp_path: Path, way: str) -> None:
         assert data["Dam.Outflow"].attrs["cell_methods"] == "time: sum"
 
 
+def test_one_call_for_all_three_with_progress(
+    tmp_path: Path, monkeypatch: pytest.MonkeyPatch, capsys: pytest.CaptureFixture[str]
+) -> None:
+    monkeypatch.setattr(ensemble, "QUIET", 0)
+    inflow = inflows(3)
+    told = ensemble.run(
+        tmp_path / "a", model(), policy(), inputs(), series(inflow), slots=SLOTS, percentiles=[50], workers=0
+    )
+    median = np.sort(storage(inflow), axis=0)[1]
+    assert (ensemble.statistics(told)["Dam.Storage.percentile"].values[0] == median).all()
+    assert capsys.readouterr().err == "basin: 1 of 1 parts\n"
+
+
 @pytest.mark.parametrize("way", WAYS)
 def test_a_trace_takes_the_place_of_inputs_of_linked_slots(tmp_path: Path, way: str) -> None:
     traces = rows(

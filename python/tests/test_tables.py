@@ -6,10 +6,11 @@ import numpy as np
 import pandas as pd
 import pytest
 
-from basin.rows import folded, long_rows, wide_rows
+from basin.inputs import LaidOver
+from basin.rows import Row, folded, long_rows, wide_rows
 from basin.tables import UNKNOWN, as_floats, numbers, sections
 
-from small import model
+from small import inputs, model
 
 TEXT = b"""# batch 0 settled
 step,stamp,D.A,D.B
@@ -113,3 +114,16 @@ def test_timesteps_of_rows_by_number_range_and_moment() -> None:
     )
     texts = [row.text for row in long_rows(model(), frame, "trace")["a"]]
     assert texts == [f"Dam.Inflow,{steps},1" for steps in ("2", "2", "3-4", "5", "6")]
+
+
+def test_inputs_under_a_trace() -> None:
+    given = inputs('slot,step,value\n"Dam.Inflow",001-003,9\nBelow.GageInflow,2-4,5\n')
+    laid = LaidOver(model(), given)
+    plain = "slot,step,value\nDam.Inflow,1-3,9\nBelow.GageInflow,2-4,5\n"
+    assert laid.under([]) == plain
+    rows = [Row("Dam.Outflow", 3, 3, 7), Row("Below.GageInflow", 4, 4, None), Row("Dam.Storage", 1, 1, 0)]
+    wanted = ["Dam.Inflow,1-3,9", "Below.GageInflow,2,5", "Dam.Outflow,3,7", "Dam.Storage,1,0"]
+    assert laid.under(rows).splitlines()[1:] == wanted
+    assert laid.under([]) == plain  # no trace sees another
+    assert laid.twice(rows) is None
+    assert laid.twice([*rows, Row("Dam.Outflow", 4, 5, 1)]) == Row("Dam.Outflow", 4, 5, 1)

@@ -35,7 +35,10 @@ def test_a_thousand_traces_with_a_worker_killed(tmp_path: Path) -> None:
             os.kill(killed[0], signal.SIGKILL)
 
     settings = dict(
-        n_workers=2, threads_per_worker=1, dashboard_address="127.0.0.1:0", local_directory=str(tmp_path / "dask")
+        n_workers=2,
+        threads_per_worker=1,
+        dashboard_address="127.0.0.1:0",
+        local_directory=str(tmp_path / "dask"),
     )
     with LocalCluster(**settings) as cluster, Client(cluster) as client:
         killed += list(client.run(os.getpid).values())[:1]

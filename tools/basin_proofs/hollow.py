@@ -132,7 +132,8 @@ def hollow(source: Path, copy: Path, kept=frozenset()):
     shutil.rmtree(copy, ignore_errors=True)
     shutil.copytree(source, copy, ignore=LEFT_OUT)
     for cycle in copy.glob("proofs/**/+*"):
-        shutil.rmtree(cycle)
+        if cycle.name[1:] not in kept:
+            shutil.rmtree(cycle)
     homes = homes_of(copy)
     for file in sorted(copy.glob("src/**/*.rt")):
         hollow_file(copy, file, homes, kept)

@@ -11,7 +11,8 @@ use Rattle.rpl_code.specs.declared.instruction.Instruction.TheVariants as I
 use Rattle.rpl_tree.specs.World.{can_set}
 use Rattle.rpl_verify.specs.declared.verify_kind.VerifyKind.{VerifyKind}
 use Rattle.rpl_verify.specs.declared.verify_kind.VerifyKind.TheVariants.{NotSettable, TargetStep, TooMany}
-use Rattle.rpl_verify.specs.Fits.{Before, Misplaced, Refusal, at_place, before, befores, behind_instruction, block_befores, count_alike, each_block, fitting}
+use Rattle.rpl_verify.specs.Fits.{Before, Misplaced, Refusal, at_place, before, befores, behind_instruction, block_befores, count_alike, each_block}
+use Rattle.rpl_verify.specs.Fits.{fitting}
 use Rattle.rpl_verify.specs.Fits.{in_block, judged_at, scope_of, then_do, unless_misfit}
 use Rattle.rpl_verify.specs.Names.{Scope, name_misfit, put_misfit, put_step_misfit}
 use Rattle.rw_ahead.specs.Ahead.{ahead_to}

@@ -1,10 +1,18 @@
 -- How large the sums of a book are, and that what is unknown once stays unknown.
-use Rattle.rw_base.proofs.Common.{Bool, None, Option, arith, ap, false, ints, nat_le, nat_tests, refl, suc, suc-eq-add-one, sym, true, zero, ℕ, ℤ, ◌+ℤ◌, ◌+◌, ◌∙◌, ◌≡◌, ◌≤◌}
+use Rattle.rw_base.proofs.Common.{Bool, None, Option, arith, ap, false, ints, nat_le, nat_tests, refl, suc, suc-eq-add-one, sym, true, zero, ℕ, ℤ}
+use Rattle.rw_base.proofs.Common.{◌+ℤ◌, ◌+◌, ◌∙◌, ◌≡◌, ◌≤◌}
 use Rattle.std.specs.Prelude.{◌*◌}
+use Rattle.rw_model.specs.declared.kind.Kind.{Kind}
+use Rattle.rw_model.specs.Draft.{Draft}
+use Rattle.rw_run.specs.Log.{Cells}
 use Rattle.rw_books.specs.declared.book.Book.{Book}
 use Rattle.rw_books.specs.declared.turnover.Turnover.{Turnover}
 use Rattle.rw_books.specs.Book.{book_behind, book_over, opening_book, with_turnover}
-use Rattle.rw_books.specs.Turnover.{IsOfThreeFlows, IsNoLarger}
+use Rattle.rw_books.specs.Turnover.{IsNoLarger, IsOfThreeFlows, turnover_of, values_at}
+
+-- what each timestep brings to the book of an object
+abbrev pub turns_of : Draft → Cells → (object : ℕ) → Kind → ℕ → Option Turnover
+turns_of basin cells object kind step = turnover_of kind (values_at basin cells object step)
 
 -- the sums of a book over so many timesteps
 pub record IsOver (before : ℕ) (book : Book) : Type 0 where

@@ -12,10 +12,12 @@ pub fn worked_books()
     ensures dam { book (codes "Dam") (holding_dam false) 3 ((pos 100 ∷ pos 100 ∷ pos 100 ∷ [])
         ∷ (pos 50 ∷ pos 150 ∷ pos 100 ∷ []) ∷ (pos 1050 ∷ pos 1000 ∷ pos 1000 ∷ []) ∷ [])
         ≡ Some (record { inflow = pos 300; outflow = pos 300; held = pos 1000 }) }
-    ensures sides { book (codes "Dam") (holding_dam true) 1 ((pos 100 ∷ []) ∷ (pos 20 ∷ []) ∷ (pos 1105 ∷ [])
+    ensures sides { book (codes "Dam") (holding_dam true) 1 ((pos 100 ∷ []) ∷ (pos 20 ∷ [])
+        ∷ (pos 1105 ∷ [])
         ∷ (pos 30 ∷ []) ∷ (pos 5 ∷ []) ∷ [])
         ≡ Some (record { inflow = pos 130; outflow = pos 25; held = pos 1105 }) }
-    ensures unknown { book (codes "Dam") (holding_dam true) 1 ((pos 100 ∷ []) ∷ (pos 20 ∷ []) ∷ (pos 1105 ∷ [])
+    ensures unknown { book (codes "Dam") (holding_dam true) 1 ((pos 100 ∷ []) ∷ (pos 20 ∷ [])
+        ∷ (pos 1105 ∷ [])
         ∷ [] ∷ (pos 5 ∷ []) ∷ []) ≡ None }
     ensures none { book (codes "Dam") (holding_dam false) 0 []
         ≡ Some (record { inflow = pos 0; outflow = pos 0; held = pos 1000 }) }

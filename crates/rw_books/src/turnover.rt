@@ -154,9 +154,12 @@ fn reservoir_turnover(
 fn plain_turnover(slots: &Slots<'_>, place: u8) -> Option<Turnover>
     requires { IsObject slots.now.basin.now.objects slots.now.object.0 }
     ensures is { result ≡ specs.turnover
-        (values_at slots.now.basin.now (held slots.now.series.now) slots.now.object.0 slots.now.step.0 INFLOW)
-        (values_at slots.now.basin.now (held slots.now.series.now) slots.now.object.0 slots.now.step.0 OUTFLOW)
-        (values_at slots.now.basin.now (held slots.now.series.now) slots.now.object.0 slots.now.step.0 place) }
+        (values_at slots.now.basin.now (held slots.now.series.now) slots.now.object.0
+        slots.now.step.0 INFLOW)
+        (values_at slots.now.basin.now (held slots.now.series.now) slots.now.object.0
+        slots.now.step.0 OUTFLOW)
+        (values_at slots.now.basin.now (held slots.now.series.now) slots.now.object.0
+        slots.now.step.0 place) }
     ensures small { IfSome result IsOfThreeFlows }
 {
     let inflow = known_flow(value_at(slots, INFLOW));

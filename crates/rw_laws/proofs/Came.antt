@@ -1,5 +1,6 @@
 -- How an event came to follow a log.
-use Rattle.rw_laws.proofs.Common.{Bool, CanBeChosen, Draft, Event, Fire, IsFault, Log, MayFollow, None, ObjectLimit, Option, Policy, RuleLimit, Some, Standing, [], after_objects}
+use Rattle.rw_laws.proofs.Common.{Bool, CanBeChosen, Draft, Event, Fire, IsFault, Log, MayFollow, None, ObjectLimit, Option, Policy, RuleLimit, Some}
+use Rattle.rw_laws.proofs.Common.{Standing, [], after_objects}
 use Rattle.rw_laws.proofs.Common.{cells_of, closed, dispatched, dispatches, ended, false, fault, firing_of, firings, first_due, waiting}
 use Rattle.rw_laws.proofs.Common.{follows_by, if◌then◌else◌, inside, nat_le, nat_lt, next_of, none-some, opened, option_map, over, refl, rests}
 use Rattle.rw_laws.proofs.Common.{same_Some, standing, sym, true, value_in, ℕ, ◌+◌, ◌≡◌}

@@ -1,5 +1,6 @@
 -- Runs with edits have one text, with the timesteps that are run again too, and a cell has one reason.
-use Rattle.rw_top.proofs.Common.{List, None, Option, RunEnd, Some, IsSomeAnd, [], ap, ap₂, length, refl, subst, sym, section_text, true, false, ℕ, ℤ, ◌++◌, ◌+◌, ◌∙◌, ◌∷◌}
+use Rattle.rw_top.proofs.Common.{List, None, Option, RunEnd, Some, IsSomeAnd, [], ap, ap₂, length, refl, subst, sym, section_text, true, false, ℕ, ℤ}
+use Rattle.rw_top.proofs.Common.{◌++◌, ◌+◌, ◌∙◌, ◌∷◌}
 use Rattle.rw_top.proofs.Common.{Bool, ◌≡◌}
 use Rattle.rw_base.proofs.Common.{All-contains, Contains, arith, none-some, suc, zero, ◌<◌, ◌≤◌}
 use Rattle.std.specs.Prelude.{◌↔◌}

@@ -1,9 +1,11 @@
 //! What the definitions of this crate speak of is one thing. Each law is the `ensures` of a function that does nothing.
-ghost use Rattle.std.specs.Prelude.{◌≡◌, ◌≢◌, ◌≤◌, ◌↔◌, ◌⊎◌, ℕ, ℤ, Bool, false, List, Option, None, IsSome};
+ghost use Rattle.std.specs.Prelude.{◌≡◌, ◌≢◌, ◌≤◌, ◌<◌, ◌-◌, ◌^◌, ◌↔◌, ◌⊎◌, ℕ, ℤ, Bool, false, List, [], ◌∷◌, ◌++◌, Option, None, Some, IfSome, IsSome, IsSomeAnd, length, take};
 ghost use Rattle.rw_plain_reservoir.specs.FirstForm.{FirstModel, IsFirstForm, IsFirstFlows};
 ghost use Rattle.rw_plain_reservoir.specs.Table.{IsFirstText};
 ghost use Rattle.rw_io.specs.Causes.{Rose};
-ghost use Rattle.rw_io.specs.Known.{GrowsBy};
+ghost use Rattle.rw_io.specs.Known.{GrowsBy, PrefixGrew};
+ghost use Rattle.rw_io.specs.Outside.{Change, ShelfView, SinkView};
+ghost use Rattle.rw_io.specs.declared.whole_file.TheConstants.{FILE_MAX};
 ghost use Rattle.rw_run.specs.Next.{Policy as RunPolicy, no_rules};
 ghost use Rattle.rw_run.specs.declared.fault.RunFault.{RunFault};
 ghost use Rattle.rw_run.specs.declared.run.RunEnd.TheVariants.{Settled, Fault};
@@ -23,18 +25,20 @@ ghost use Rattle.rpl_compile.specs.Translate.{translate};
 ghost use Rattle.rw_top.specs.Alike.{AppendAlike, AskAlike};
 ghost use Rattle.rw_top.specs.Budgets.{budget_in, check_text, rules_in};
 ghost use Rattle.rw_top.specs.Call.{Call};
-ghost use Rattle.rw_top.specs.Command.{AskOne, AskNothing, AskForCommand, order, simulation_of};
+ghost use Rattle.rw_top.specs.Command.{AskOne, AskNothing, AskForCommand, order, path_of, simulation_of};
 ghost use Rattle.rw_words.specs.Command.{Command};
 ghost use Rattle.rw_words.specs.declared.order.Order.{Order};
 ghost use Rattle.rw_top.specs.FirstCall.{IsFirstCall};
+ghost use Rattle.rw_top.specs.Lines.{memory_line, refusal_line, words_line};
 ghost use Rattle.rw_top.specs.Policy.{BadCode, RulesRefusal, BadRules, BadBlocks, PolicyFile, Ruleset, Code, IsPolicyFileOf, code_in_file};
 ghost use Rattle.rw_top.specs.Promise.{Promise, WroteCheck, WroteCode, WroteRules, WroteRun, WroteSample, WroteWhy};
-ghost use Rattle.rw_top.specs.Reading.{AcceptsAll, HoldsTooLong, LacksCell, ReadsInputs, RefusesEdits, RefusesInputs, RefusesModel, RefusesPolicy};
-ghost use Rattle.rw_top.specs.Refusal.{FailsToRead, FindsTooLong};
+ghost use Rattle.rw_top.specs.Reading.{AcceptsAll, FilesRead, HoldsTooLong, IsHonestOfAll, LacksCell, ReadsInputs, RefusesEdits, RefusesInputs, RefusesModel, RefusesPolicy};
+ghost use Rattle.rw_top.specs.Refusal.{FailsToRead, FindsTooLong, status_of};
 ghost use Rattle.rw_top.specs.Told.{AreTold};
-ghost use Rattle.rw_top.specs.Written.{CountsOfFiles, OfFiles, WritesFront, WritesSections};
+ghost use Rattle.rw_top.specs.Written.{AppendsFront, AppendsSections, CountsOfFiles, IsFrontOf, OfFiles, TellsLine, WritesFront, WritesSections, batches_in};
 ghost use Rattle.std.specs.Prelude.{IsTrue};
-ghost use Rattle.rw_top.specs.Sections.{AreSections, GivenInputs, first_given};
+ghost use Rattle.rw_top.specs.Sections.{AreSections, GivenInputs, first_given, joined_sections};
+ghost use Rattle.rw_words.specs.declared.job.Job.{Job};
 ghost use Rattle.rw_words.specs.declared.job.Job.TheVariants as J;
 ghost use Rattle.rw_run.specs.Log.{Log};
 ghost use Rattle.rw_run.specs.Runs.{IsRun};
@@ -47,6 +51,7 @@ ghost use Rattle.rw_inputs.specs.Edits.{Batch};
 ghost use Rattle.rw_top.specs.RunText.{IsRulesText, IsRunText, IsSampleOf, IsSimulated, IsWhyOfRules, no_extras, policy_in_run};
 ghost use Rattle.rw_top.specs.declared.extras.Extras.{Extras};
 ghost use Rattle.rw_top.specs.declared.refusal.File.{File};
+ghost use Rattle.rw_top.specs.declared.refusal.Refusal.{Refusal};
 
 use rpl_compile::accepted::compiled_budgets;
 use rw_model_toml::law::files_are_basins;
@@ -134,6 +139,65 @@ pub fn kept()
         → OfFiles command call.shelf.before.holds (λ files. CountsOfFiles files call.steps) }
     ensures held { (call : Call) (status : ℕ) (path : List ℕ) → Promise call status
         → call.shelf.after.holds path ≡ call.shelf.before.holds path }
+{}
+
+/// What the error stream gets: nothing with 0 or 1, and with any other status the line of the refusal, all of it unless the stream failed.
+pub fn told_lines()
+    ensures silent { (call : Call) (status : ℕ) → Promise call status → status ≤ 1
+        → call.err.after ≡ call.err.before }
+    ensures told { (call : Call) (status : ℕ) → Promise call status → 2 ≤ status
+        → (why : Refusal) × (status ≡ status_of why)
+        × (TellsLine call.err words_line ⊎ TellsLine call.err memory_line
+        ⊎ AskOne call.words (λ command. TellsLine call.err (refusal_line command why))) }
+    ensures front { (err : Change SinkView) (line : List ℕ) → TellsLine err line
+        → PrefixGrew err.before.contents err.after.contents line }
+    ensures whole { (err : Change SinkView) (line : List ℕ) → TellsLine err line
+        → ¬ Rose err.before.faults err.after.faults
+        → GrowsBy err.before.contents err.after.contents line }
+{}
+
+/// What stands behind 3, 10, 4 and 5: a fault of the file was counted; more bytes were taken than a file may have; what was written
+/// begins the text of the command; and the sections that were written before memory was wanting are whole and fewer than all, which
+/// are one more than the batches.
+pub fn broken_off()
+    ensures rose { (command : Command) (shelf : Change ShelfView) (file : File)
+        → FailsToRead command shelf file
+        → IsSomeAnd (path_of command file)
+        (λ path. Rose (shelf.before.faults path) (shelf.after.faults path)) }
+    ensures part { (job : Job) (extras : Extras) (files : FilesRead) (out : Change SinkView)
+        → AppendsFront job extras files out
+        → (done : List (List ℕ)) × (text : List ℕ)
+        × IsFrontOf job extras files (done ++ text ∷ [])
+        × PrefixGrew out.before.contents out.after.contents (joined_sections done ++ text) }
+    ensures long { (command : Command) (shelf : Change ShelfView) (file : File)
+        → FindsTooLong command shelf file → FILE_MAX < shelf.after.taken }
+    ensures fewer { (job : Job) (extras : Extras) (files : FilesRead) (out : Change SinkView)
+        → AppendsSections job extras files out
+        → (texts : List (List ℕ)) × IsFrontOf job extras files texts
+        × (length texts ≤ length (batches_in files))
+        × GrowsBy out.before.contents out.after.contents (joined_sections texts) }
+{}
+
+/// What the words say in which a call is told. A count that rose is another, below its type's end. Where an output tells what it
+/// holds before and after, it grew by just the text, or by a front of it, and one that didn't tell never begins to. A shelf that
+/// tells its files and had no fault of them is one of which refusals are due, and calls with the same words over shelves that tell
+/// the same ask alike.
+pub fn told_of_calls()
+    ensures rose { (before now : ℕ) → Rose before now → before < 2 ^ 64 - 1 → before < now }
+    ensures grew { (before now text : List ℕ) → GrowsBy (Some before) (Some now) text
+        → now ≡ before ++ text }
+    ensures begins { (now text : List ℕ) → ¬ GrowsBy None (Some now) text }
+    ensures front { (before now text : List ℕ) → PrefixGrew (Some before) (Some now) text
+        → (n : ℕ) × (now ≡ before ++ take n text) }
+    ensures honest { (command : Command) (shelf : Change ShelfView) (upto : ℕ)
+        → ((file : File) → IfSome (path_of command file) (λ path.
+        IsSome (shelf.before.holds path)
+        × ((shelf.before.faults path) ≡ (shelf.after.faults path))
+        × (shelf.before.faults path < 2 ^ 64 - 1)))
+        → AreTold command shelf upto × IsHonestOfAll command shelf }
+    ensures alike { (one other : Call) → one.words ≡ other.words
+        → ((path : List ℕ) → IsSome (one.shelf.before.holds path)
+        × (one.shelf.before.holds path ≡ other.shelf.before.holds path)) → AskAlike one other }
 {}
 
 /// Each firing of a run by a policy is the machine's on its code, never stuck and within its budget.

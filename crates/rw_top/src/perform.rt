@@ -221,7 +221,8 @@ fn write_runs<K: Sink, L: Ledger>(
         (StopsAmong (IsRulesText setup.now.basin.now policy extras)
         0 (first_given inputs) batches.now (change (K.seen out.old) (K.seen out.new))) }
     ensures counted { (policy : PolicyFile)
-        → IsCodeOf setup.now.basin.now policy setup.now.policy.now → IsTrue extras.reuse → IfOk result
+        → IsCodeOf setup.now.basin.now policy setup.now.policy.now → IsTrue extras.reuse
+        → IfOk result
         (λ end. CountsSections setup.now.basin.now policy inputs batches.now
         (change steps.old steps.new)) }
 {

@@ -7,5 +7,7 @@ use Rattle.rw_books.proofs.lines.push_lines.Goals as goal
 
 pub loop-before-preserved : goal.loop-before-preserved
 loop-before-preserved c =
-    next (λ object. book_line c.args.basin.now (held c.args.series.now) c.args.closed object (object_at c.args.basin.now.objects object)) c.loop-before.before
-    (string_bytes c.args.text.now) (string_bytes c.loop-before.text) (string_bytes c.push_line.new.text) c.loop-before.invariant c.in_ok-push_line.ensures
+    next (λ object. book_line c.args.basin.now (held c.args.series.now) c.args.closed object
+    (object_at c.args.basin.now.objects object)) c.loop-before.before
+    (string_bytes c.args.text.now) (string_bytes c.loop-before.text)
+    (string_bytes c.push_line.new.text) c.loop-before.invariant c.in_ok-push_line.ensures

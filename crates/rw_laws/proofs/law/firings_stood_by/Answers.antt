@@ -33,7 +33,8 @@ returns-clause-end c = λ stands.
 
 pub returns-clause-looked : goal.returns-clause-looked
 returns-clause-looked c = λ stands.
-    let one : 1 ≡ length (cells_looked stands.firing.looked) = ap (λ (firing : Firing). length (cells_looked firing.looked)) (same_Some _ _ stands.last) in
+    let one : 1 ≡ length (cells_looked stands.firing.looked) =
+    ap (λ (firing : Firing). length (cells_looked firing.looked)) (same_Some _ _ stands.last) in
     let none : 0 ≡ length stands.fire.looked = ap (λ (fire : Fire). length fire.looked) (same_Some _ _ stands.again) in
     omega (arith, none, one, ap length stands.is.looked)
 

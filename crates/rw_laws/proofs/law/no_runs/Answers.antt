@@ -35,5 +35,6 @@ returns-clause-closed c = λ all.
 
 pub returns-clause-input : goal.returns-clause-input
 returns-clause-input c = λ all.
-    let same = ap (λ (content : Content). unsigned_abs content.value) (same_Some _ _ (all.0.inputs (cell_at 1 1) (input_content (pos 5)) refl refl)) in
+    let same =
+    ap (λ (content : Content). unsigned_abs content.value) (same_Some _ _ (all.0.inputs (cell_at 1 1) (input_content (pos 5)) refl refl)) in
     let differ : 7 ≡ 5 = same in omega (arith, differ)

@@ -1,4 +1,5 @@
-use Rattle.rw_laws.proofs.Common.{All, Asked, Content, Firing, List, [], ap, arith, cells_of, inl, inr, last_ones, none-some, pos, same_Some, subst, sym, ◌∙◌, ◌∷◌, ◌≡◌}
+use Rattle.rw_laws.proofs.Common.{All, Asked, Content, Firing, List, [], ap, arith, cells_of, inl, inr, last_ones, none-some, pos, same_Some, subst}
+use Rattle.rw_laws.proofs.Common.{sym, ◌∙◌, ◌∷◌, ◌≡◌}
 use Rattle.std.proofs.Common.{unsigned_abs}
 use Rattle.rw_laws.specs.Rules.{IsHeldOr, StandsBy}
 use Rattle.rw_laws.specs.Worked.{day_of_firing, by_rule, dam_alone, held_low, fifty_out}

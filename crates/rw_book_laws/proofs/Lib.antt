@@ -1,0 +1,3 @@
+mod Placed
+mod OneStep
+mod Closing

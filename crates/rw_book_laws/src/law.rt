@@ -1,0 +1,34 @@
+//! The laws. Each is the `ensures` of a function that does nothing.
+ghost use Rattle.std.specs.Prelude.{◌≤◌, ℕ, ℤ, List};
+ghost use Rattle.rw_base.specs.declared.number.Cell.{Cell};
+ghost use Rattle.rw_model.specs.Basin.{IsBasin};
+ghost use Rattle.rw_model.specs.Draft.{Draft};
+ghost use Rattle.rw_series.specs.Series.{held};
+ghost use Rattle.rw_run.specs.Log.{Cells, Log};
+ghost use Rattle.rw_run.specs.Next.{Policy};
+ghost use Rattle.rw_run.specs.Policy.{IsPolicyOf};
+ghost use Rattle.rw_run.specs.RunOf.{IsRunOf};
+ghost use Rattle.rw_run.specs.Runs.{IsRun};
+ghost use Rattle.rw_run.specs.declared.run.Run.{Run};
+ghost use Rattle.rw_laws.specs.Balances.{AllBalanced};
+ghost use Rattle.rw_book_laws.specs.Closing.{BooksClose};
+
+use rw_laws::law::every_run;
+
+/// The books of every run close, also of one that ended in a fault: of each object of which all is known in the timesteps that
+/// were closed, what it held before the run, and what flowed in less what flowed out, is what it holds.
+pub fn every_book()
+    ensures { (basin : Draft) (policy : Policy) (inputs : List (Cell × ℤ)) (log : Log) (run : Run)
+        → IsBasin basin → IsPolicyOf basin policy → IsRun basin policy inputs log
+        → IsRunOf basin log run → BooksClose basin (held run.series) run.closed }
+{
+    every_run();
+}
+
+/// Books over the first timesteps close wherever every object is balanced at each of them.
+#[tactic(auto, using(crate::proofs::Closing::books_close))]
+pub fn balanced_books_close()
+    ensures { (basin : Draft) (cells : Cells) (closed : ℕ) → IsBasin basin
+        → ((step : ℕ) → 1 ≤ step → step ≤ closed → AllBalanced basin step cells)
+        → BooksClose basin cells closed }
+{}

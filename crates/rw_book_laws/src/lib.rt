@@ -1,0 +1,4 @@
+//! Laws of books of water, over every run.
+#![tactic(auto)]
+
+pub mod law;

@@ -1,0 +1,5 @@
+mod Least
+mod Halves
+mod Tables
+mod Sums
+mod Parts

@@ -1,0 +1,3 @@
+pub mod Statistics
+pub mod Tally
+pub mod Summary
