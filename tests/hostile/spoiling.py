@@ -20,8 +20,8 @@ NUMBERS = (
 RULE_TOKENS = (
     "RULE ENDRULE FUNCTION ENDFUNCTION IS IF THEN ELSE ENDIF WITH DO ENDWITH LET IN ENDLET FOR ENDFOR MAP ENDMAP AND OR"
     " NOT TRUE FALSE KNOWN APPEND ITEM LENGTH MONTH DAY YEAR StorageToElevation ElevationToStorage NUMERIC BOOLEAN"
-    ' DATETIME SLOT LIST OF t Min Max Abs Clamp RoundDown Sign MulDiv := : ; , . ( ) { } [ ] + - * / = <> < <= > >= "m3"'
-    ' "m3/step" "step" "mm" "kWh" "" "dam3" "Mm3" "none" # "x'
+    ' DATETIME SLOT LIST OF t Min Max Abs Clamp RoundDown Sign MulDiv := : ; , . ( ) { } [ ] + - * / = <> < <= > >='
+    ' "m3" "m3/step" "step" "mm" "kWh" "" "dam3" "Mm3" "none" # "x'
 ).split()
 MODEL_TOKENS = (
     "format run start step steps agenda object_limit rule_limit object link bound name kind slots unit lag history"
