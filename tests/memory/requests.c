@@ -1,0 +1,153 @@
+/* A library that is loaded before a program, and lets its requests for memory fail, each in turn.
+
+   It counts the calls of malloc, calloc and realloc. At each of them it forks a child in which that call fails, and one
+   in which that and all later ones fail. What a child writes is kept in memory, and compared with what an undisturbed
+   run wrote: the files REQUESTS_OUT and REQUESTS_ERR. REQUESTS_LOG gets a line for each child: the number of the call,
+   `once` or `on`, the status or minus the signal, how many bytes of output, of the output `same`, `whole` (nothing, or
+   a front that ends just before a section's first line) or `other`, and of the error stream `none`, `same`, `memory` or
+   `other`; and at the end a line `calls N`. With REQUESTS_STEP=K only each K-th call is tried, and with 0 none is.
+   Linux with the GNU C library. */
+#define _GNU_SOURCE
+#include <errno.h>
+#include <fcntl.h>
+#include <stdio.h>
+#include <stdlib.h>
+#include <string.h>
+#include <sys/mman.h>
+#include <sys/stat.h>
+#include <sys/syscall.h>
+#include <sys/wait.h>
+#include <unistd.h>
+
+#define SECONDS 60 /* how long a child may take */
+#define SAID 200   /* bytes of what a child tells its parent */
+#define LOG 200    /* where the log's descriptor stands, out of the program's way */
+#define LINE "basin: want of memory\n"
+
+extern void *__libc_malloc(size_t);
+extern void *__libc_calloc(size_t, size_t);
+extern void *__libc_realloc(void *, size_t);
+
+struct text {
+  char *bytes;
+  size_t length, room;
+};
+
+enum role { ASLEEP, PARENT, CHILD };
+
+static enum role role = ASLEEP;
+static int fails_on; /* in a child: whether all later calls fail, too */
+static unsigned long calls, step;
+static struct text written[3], wanted[3];
+static char *said; /* shared by a child and its parent */
+
+static void read_wanted(const char *name, struct text *text) {
+  const char *path = getenv(name);
+  int file = path ? open(path, O_RDONLY | O_CLOEXEC) : -1;
+  struct stat about;
+  if (file < 0) return;
+  if (!fstat(file, &about) && about.st_size) {
+    text->length = about.st_size;
+    text->bytes = mmap(0, text->length, PROT_READ, MAP_PRIVATE, file, 0);
+  }
+  close(file);
+}
+
+__attribute__((constructor)) static void begin(void) {
+  const char *path = getenv("REQUESTS_LOG"), *each = getenv("REQUESTS_STEP");
+  int file = path ? open(path, O_WRONLY | O_CREAT | O_APPEND, 0644) : -1;
+  if (file < 0) return;
+  fcntl(file, F_DUPFD_CLOEXEC, LOG);
+  close(file);
+  read_wanted("REQUESTS_OUT", &wanted[1]);
+  read_wanted("REQUESTS_ERR", &wanted[2]);
+  said = mmap(0, SAID, PROT_READ | PROT_WRITE, MAP_SHARED | MAP_ANONYMOUS, -1, 0);
+  step = each ? strtoul(each, 0, 10) : 1;
+  calls = 0;
+  role = PARENT;
+}
+
+/* Adds bytes to what was written, in memory that no call of the program asked for. */
+static void keep(struct text *text, const char *bytes, size_t length) {
+  if (text->length + length > text->room) {
+    size_t room = (text->length + length) * 2 + 65536;
+    char *moved = mmap(0, room, PROT_READ | PROT_WRITE, MAP_PRIVATE | MAP_ANONYMOUS, -1, 0);
+    if (text->length) memcpy(moved, text->bytes, text->length);
+    if (text->room) munmap(text->bytes, text->room);
+    text->bytes = moved;
+    text->room = room;
+  }
+  memcpy(text->bytes + text->length, bytes, length);
+  text->length += length;
+}
+
+static int begins(const struct text *whole, const struct text *front) {
+  return front->length <= whole->length && !(front->length && memcmp(front->bytes, whole->bytes, front->length));
+}
+
+static const char *output(void) {
+  const char section[] = "# batch ";
+  size_t length = written[1].length;
+  if (!begins(&wanted[1], &written[1])) return "other";
+  if (length == wanted[1].length) return "same";
+  if (!length) return "whole";
+  if (length + sizeof section - 1 > wanted[1].length) return "other";
+  return memcmp(wanted[1].bytes + length, section, sizeof section - 1) ? "other" : "whole";
+}
+
+static const char *errors(void) {
+  const struct text *line = &written[2];
+  if (!line->length) return "none";
+  if (line->length == wanted[2].length && begins(&wanted[2], line)) return "same";
+  return line->length == sizeof LINE - 1 && !memcmp(line->bytes, LINE, line->length) ? "memory" : "other";
+}
+
+__attribute__((destructor)) static void end(void) {
+  enum role was = role;
+  role = ASLEEP;
+  if (was == PARENT) dprintf(LOG, "calls %lu\n", calls);
+  if (was == CHILD) snprintf(said, SAID, "%zu %s %s", written[1].length, output(), errors());
+}
+
+/* Whether this is the child, in which the call is to fail. The parent waits for it, and writes its line. */
+static int forked(int on) {
+  int status = 0;
+  role = ASLEEP;
+  strcpy(said, "0 unended none");
+  pid_t child = fork();
+  if (child == 0) {
+    role = CHILD;
+    fails_on = on;
+    alarm(SECONDS);
+    return 1;
+  }
+  if (child > 0) waitpid(child, &status, 0);
+  int ended = child < 0 ? -1000 : WIFEXITED(status) ? WEXITSTATUS(status) : -WTERMSIG(status);
+  dprintf(LOG, "%lu %s %d %s\n", calls, on ? "on" : "once", ended, said);
+  role = PARENT;
+  return 0;
+}
+
+/* Whether a call for memory is to fail. */
+static int fails(void) {
+  int failing = 0;
+  if (role == CHILD) failing = fails_on;
+  if (role == PARENT) {
+    calls++;
+    failing = step && (calls - 1) % step == 0 && (forked(0) || forked(1));
+  }
+  if (failing) errno = ENOMEM;
+  return failing;
+}
+
+void *malloc(size_t size) { return fails() ? 0 : __libc_malloc(size); }
+void *calloc(size_t count, size_t size) { return fails() ? 0 : __libc_calloc(count, size); }
+void *realloc(void *block, size_t size) { return fails() ? 0 : __libc_realloc(block, size); }
+
+ssize_t write(int file, const void *bytes, size_t length) {
+  if (role != ASLEEP && (file == 1 || file == 2)) {
+    keep(&written[file], bytes, length);
+    if (role == CHILD) return length;
+  }
+  return syscall(SYS_write, file, bytes, length);
+}
