@@ -3,6 +3,7 @@
 Nothing is reckoned here that the program answers: each call runs the program and reads what it writes.
 """
 
+from . import beside  # noqa: F401, I001: the others find their modules by it
 from .answers import Answer, Book, Cell, Effects, Traces
 from .calls import balance, check, effects, mrm, run, simulate, why
 from .errors import Error, Fault, NoProgram, Refused, Stale

@@ -1,0 +1,10 @@
+"""Where the modules are by which the scripts under tools/ read files: in a checkout there, in an installed package beside this one."""
+
+import sys
+from pathlib import Path
+
+HERE = Path(__file__).resolve().parent
+TOOLS = HERE.parents[1] / "tools"
+
+if not (HERE.parent / "basin_files").is_dir() and (TOOLS / "basin_files").is_dir() and str(TOOLS) not in sys.path:
+    sys.path.append(str(TOOLS))
