@@ -220,7 +220,7 @@ pub fn judge_dispatch(
 {
     let kind = see(&mut work.view, basin, series, object, step);
     let method = methods.method(kind);
-    work.solved = method.solve(kind, &work.view);
+    method.solve(kind, &work.view, &mut work.solved);
     let end = answer(
         &work.view,
         basin,

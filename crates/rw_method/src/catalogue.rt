@@ -93,6 +93,8 @@ impl Catalogue {
         requires view { IsViewOf kind.now view.now }
         ensures { result ≡ solve_of kind.now view.entry.now }
     {
-        self.method(kind).solve(kind, view)
+        let mut solved = Solved::Idle;
+        self.method(kind).solve(kind, view, &mut solved);
+        solved
     }
 }

@@ -15,9 +15,9 @@ pub trait Method: Drop {
     fn code(&self) -> u8
         ensures { result ≡ code self.now };
 
-    /// What a dispatch of an object of that kind answers. It takes no memory.
-    fn solve(&self, kind: &Kind, view: &View) -> Solved
+    /// What a dispatch of an object of that kind answers comes in the place of another answer. It takes no memory.
+    fn solve(&self, kind: &Kind, view: &View, solved: &mut Solved)
         requires code { code_of kind.now ≡ code self.now }
         requires view { IsViewOf kind.now view.now }
-        ensures { result ≡ solve_of kind.now view.entry.now };
+        ensures { solved.new ≡ solve_of kind.now view.entry.now };
 }

@@ -117,7 +117,7 @@ impl Method for PowerReservoirMethod {
         8
     }
 
-    fn solve(&self, kind: &Kind, view: &View) -> Solved {
+    fn solve(&self, kind: &Kind, view: &View, solved: &mut Solved) {
         match kind {
             Kind::PowerReservoir {
                 table,
@@ -125,7 +125,7 @@ impl Method for PowerReservoirMethod {
                 tailwater,
                 power,
                 ..
-            } => solve_power(view, table, *max_release, *tailwater, *power),
+            } => *solved = solve_power(view, table, *max_release, *tailwater, *power),
             _ => unreachable!(),
         }
     }

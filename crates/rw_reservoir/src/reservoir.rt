@@ -102,7 +102,7 @@ impl Method for ReservoirMethod {
         5
     }
 
-    fn solve(&self, kind: &Kind, view: &View) -> Solved {
+    fn solve(&self, kind: &Kind, view: &View, solved: &mut Solved) {
         match kind {
             Kind::Reservoir {
                 table,
@@ -121,7 +121,7 @@ impl Method for ReservoirMethod {
                     *return_flow,
                 );
                 let rating = table.as_ref();
-                solve_reservoir(view, rating, side, *evaporation, *max_release)
+                *solved = solve_reservoir(view, rating, side, *evaporation, *max_release);
             }
             _ => unreachable!(),
         }

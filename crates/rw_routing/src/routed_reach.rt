@@ -96,9 +96,9 @@ impl Method for RoutedReachMethod {
         9
     }
 
-    fn solve(&self, kind: &Kind, view: &View) -> Solved {
+    fn solve(&self, kind: &Kind, view: &View, solved: &mut Solved) {
         match kind {
-            Kind::RoutedReach { release, .. } => solve_routed_reach(view, *release),
+            Kind::RoutedReach { release, .. } => *solved = solve_routed_reach(view, *release),
             _ => unreachable!(),
         }
     }

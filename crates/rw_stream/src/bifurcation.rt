@@ -28,9 +28,9 @@ impl Method for BifurcationMethod {
         3
     }
 
-    fn solve(&self, kind: &Kind, view: &View) -> Solved {
+    fn solve(&self, kind: &Kind, view: &View, solved: &mut Solved) {
         match kind {
-            Kind::Bifurcation => solve_bifurcation(view),
+            Kind::Bifurcation => *solved = solve_bifurcation(view),
             _ => unreachable!(),
         }
     }

@@ -28,9 +28,9 @@ impl Method for ConfluenceMethod {
         2
     }
 
-    fn solve(&self, kind: &Kind, view: &View) -> Solved {
+    fn solve(&self, kind: &Kind, view: &View, solved: &mut Solved) {
         match kind {
-            Kind::Confluence => solve_confluence(view),
+            Kind::Confluence => *solved = solve_confluence(view),
             _ => unreachable!(),
         }
     }

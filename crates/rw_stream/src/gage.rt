@@ -27,9 +27,9 @@ impl Method for GageMethod {
         1
     }
 
-    fn solve(&self, kind: &Kind, view: &View) -> Solved {
+    fn solve(&self, kind: &Kind, view: &View, solved: &mut Solved) {
         match kind {
-            Kind::Gage => solve_gage(view),
+            Kind::Gage => *solved = solve_gage(view),
             _ => unreachable!(),
         }
     }

@@ -87,7 +87,7 @@ impl Method for ReachMethod {
         4
     }
 
-    fn solve(&self, kind: &Kind, view: &View) -> Solved {
+    fn solve(&self, kind: &Kind, view: &View, solved: &mut Solved) {
         match kind {
             Kind::Reach {
                 lag,
@@ -95,7 +95,7 @@ impl Method for ReachMethod {
                 diversion,
                 return_flow,
                 ..
-            } => solve_reach(view, *lag, *local_inflow, *diversion, *return_flow),
+            } => *solved = solve_reach(view, *lag, *local_inflow, *diversion, *return_flow),
             _ => unreachable!(),
         }
     }

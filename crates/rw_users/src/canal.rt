@@ -58,9 +58,9 @@ impl Method for CanalMethod {
         7
     }
 
-    fn solve(&self, kind: &Kind, view: &View) -> Solved {
+    fn solve(&self, kind: &Kind, view: &View, solved: &mut Solved) {
         match kind {
-            Kind::Canal { seepage } => solve_canal(view, *seepage),
+            Kind::Canal { seepage } => *solved = solve_canal(view, *seepage),
             _ => unreachable!(),
         }
     }

@@ -91,9 +91,9 @@ impl Method for WaterUserMethod {
         6
     }
 
-    fn solve(&self, kind: &Kind, view: &View) -> Solved {
+    fn solve(&self, kind: &Kind, view: &View, solved: &mut Solved) {
         match kind {
-            Kind::WaterUser { depletion, supply } => solve_user(view, *depletion, *supply),
+            Kind::WaterUser { depletion, supply } => *solved = solve_user(view, *depletion, *supply),
             _ => unreachable!(),
         }
     }

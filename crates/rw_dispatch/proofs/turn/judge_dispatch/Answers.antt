@@ -12,8 +12,8 @@ use Rattle.rw_dispatch.proofs.turn.judge_dispatch.Goals as goal
 
 pub answer-end-requires-clause-puts : goal.answer-end-requires-clause-puts
 answer-end-requires-clause-puts g c =
-    puts-seen c.args.basin.now (held c.args.series.now) c.args.object.0 c.args.step.0 c.see-kind.result.now c.see-kind.new.view c.solve-work.result
-    c.see-kind.ensures.kind c.see-kind.ensures.seen c.solve-work.ensures c.requires.turn.known c.see-kind.ensures.sound
+    puts-seen c.args.basin.now (held c.args.series.now) c.args.object.0 c.args.step.0 c.see-kind.result.now c.see-kind.new.view c.solve.new.solved
+    c.see-kind.ensures.kind c.see-kind.ensures.seen c.solve.ensures c.requires.turn.known c.see-kind.ensures.sound
 
 pub returns-clause-ends : goal.returns-clause-ends
 returns-clause-ends g c =
@@ -22,18 +22,18 @@ returns-clause-ends g c =
     let step = c.args.step.0 in
     let cells = held c.args.series.now in
     let looked = looks_of basin cells object step in
-    let solved = solved-seen basin cells object step c.see-kind.result.now c.see-kind.new.view c.solve-work.result
-    c.see-kind.ensures.kind c.see-kind.ensures.seen c.solve-work.ensures in
+    let solved = solved-seen basin cells object step c.see-kind.result.now c.see-kind.new.view c.solve.new.solved
+    c.see-kind.ensures.kind c.see-kind.ensures.seen c.solve.ensures in
     record {
-      asked = asked_by_solution c.solve-work.result;
+      asked = asked_by_solution c.solve.new.solved;
       written = c.answer-end.new.written;
       is = ap (answered basin cells looked object step) (sym solved) ∙ (c.answer-end.ensures.answer cells looked c.see-kind.ensures.seen).is;
     }
 
 pub keep_asked-requires-clause-puts : goal.keep_asked-requires-clause-puts
 keep_asked-requires-clause-puts g c =
-    puts-seen c.args.basin.now (held c.args.series.now) c.args.object.0 c.args.step.0 c.see-kind.result.now c.see-kind.new.view c.solve-work.result
-    c.see-kind.ensures.kind c.see-kind.ensures.seen c.solve-work.ensures c.requires.turn.known c.see-kind.ensures.sound
+    puts-seen c.args.basin.now (held c.args.series.now) c.args.object.0 c.args.step.0 c.see-kind.result.now c.see-kind.new.view c.solve.new.solved
+    c.see-kind.ensures.kind c.see-kind.ensures.seen c.solve.ensures c.requires.turn.known c.see-kind.ensures.sound
 
 pub returns-clause-work : goal.returns-clause-work
 returns-clause-work g c =
@@ -42,22 +42,22 @@ returns-clause-work g c =
     let step = c.args.step.0 in
     let cells = held c.args.series.now in
     let looked = looks_of basin cells object step in
-    let puts = asked_by_solution c.solve-work.result in
-    let solved = solved-seen basin cells object step c.see-kind.result.now c.see-kind.new.view c.solve-work.result
-    c.see-kind.ensures.kind c.see-kind.ensures.seen c.solve-work.ensures in
+    let puts = asked_by_solution c.solve.new.solved in
+    let solved = solved-seen basin cells object step c.see-kind.result.now c.see-kind.new.view c.solve.new.solved
+    c.see-kind.ensures.kind c.see-kind.ensures.seen c.solve.ensures in
     let event = answered basin cells looked object step in
     let tells = c.answer-end.ensures.answer cells looked c.see-kind.ensures.seen in
-    let can = puts-seen basin cells object step c.see-kind.result.now c.see-kind.new.view c.solve-work.result
-    c.see-kind.ensures.kind c.see-kind.ensures.seen c.solve-work.ensures c.requires.turn.known c.see-kind.ensures.sound in
+    let can = puts-seen basin cells object step c.see-kind.result.now c.see-kind.new.view c.solve.new.solved
+    c.see-kind.ensures.kind c.see-kind.ensures.seen c.solve.ensures c.requires.turn.known c.see-kind.ensures.sound in
     record {
       writes =
-          writes_of basin looked object step (event c.solve-work.result) c.answer-end.result puts c.answer-end.new.written c.answer-end.new.writes
+          writes_of basin looked object step (event c.solve.new.solved) c.answer-end.result puts c.answer-end.new.written c.answer-end.new.writes
           tells c.answer-end.ensures.left c.answer-end.ensures.writes ∙ ap (λ s. written_by (event s)) solved;
-      can = can_all basin looked object step (event c.solve-work.result) c.answer-end.result puts c.answer-end.new.written c.answer-end.new.writes
+      can = can_all basin looked object step (event c.solve.new.solved) c.answer-end.result puts c.answer-end.new.written c.answer-end.new.writes
           tells c.answer-end.ensures.left c.answer-end.ensures.writes c.requires.turn;
       keeps = refl;
       asked = λ keeps calm. c.keep_asked.ensures keeps
-          ∙ asked_told basin cells looked object step c.solve-work.result (subst (λ s. ¬ IsFault (event s)) (sym solved) calm)
+          ∙ asked_told basin cells looked object step c.solve.new.solved (subst (λ s. ¬ IsFault (event s)) (sym solved) calm)
           ∙ ap (λ s. asked_in_event (event s)) solved;
       can_ask = λ keeps. subst (AreWrites basin) (sym (c.keep_asked.ensures keeps)) (all_write basin object step puts c.requires.turn can.can);
     }
