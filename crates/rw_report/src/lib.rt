@@ -14,9 +14,11 @@ pub mod law;
 mod lines;
 mod names;
 mod numbers;
+mod pieces;
 mod sheet;
 mod table;
 mod texts;
+mod told;
 mod value;
 mod whole;
 

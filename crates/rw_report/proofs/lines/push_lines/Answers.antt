@@ -13,6 +13,6 @@ loop-place-preserved c =
     let whole = string_bytes c.args.text.now ++ lines_words basin lines in
     let place = c.loop-place.place in
     let line = c.line_at.result in
-    written text (string_bytes c.push_ended.new.text) (line_words basin line ++ codes "\n") (lines_words basin (drop (place + 1) lines)) whole
+    written text (string_bytes c.push_told.new.text) (line_words basin line ++ codes "\n") (lines_words basin (drop (place + 1) lines)) whole
     (subst (λ (rest : List TraceEvent). text ++ lines_words basin rest ≡ whole) (here lines place line c.line_at.ensures) c.loop-place.invariant)
-    c.in_ok-push_ended.ensures
+    c.in_ok-push_told.ensures
