@@ -1,6 +1,7 @@
 -- Texts that are kept for lines, and values that are told in them.
-use Rattle.rw_base.proofs.Common.{◌≡◌, ◌≤◌, ◌<◌, ◌+◌, ◌∙◌, ◌++◌, ◌∷◌, ℕ, zero, suc, Bool, true, false, List, [], Some, String, ℤ, FitsSigned, rules, w64}
-use Rattle.rw_base.proofs.Common.{ap, arith, length, length-append, nat_lt, nat_tests, refl, same_Some, slice_get, slice_get_within, string_bytes, sym}
+use Rattle.rw_base.proofs.Common.{◌≡◌, ◌≤◌, ◌<◌, ◌+◌, ◌∙◌, ◌++◌, ◌∷◌, ℕ, zero, suc, Bool, true, false, List, [], Some, String, ℤ}
+use Rattle.rw_base.proofs.Common.{ap, arith, FitsSigned, length, length-append, nat_lt, nat_tests, refl, rules, same_Some, slice_get, slice_get_within}
+use Rattle.rw_base.proofs.Common.{string_bytes, sym, w64}
 use Rattle.std.specs.declared.alloc.Global.{Global}
 use Rattle.rw_base.specs.Quantity.{IsQuantity}
 use Rattle.rw_report.specs.Pieces.{AreTexts}
@@ -11,8 +12,8 @@ pushed_here [] one = refl
 pushed_here (first ∷ items) one = pushed_here items one
 
 -- one text more
-pub texts_more : (words : ℕ → List ℕ) (texts : List (String Global)) (text : String Global) (before : ℕ) → length texts ≡ before → string_bytes text ≡ words (before + 1)
-    → AreTexts words texts → AreTexts words (texts ++ text ∷ [])
+pub texts_more : (words : ℕ → List ℕ) (texts : List (String Global)) (text : String Global) (before : ℕ)
+    → length texts ≡ before → string_bytes text ≡ words (before + 1) → AreTexts words texts → AreTexts words (texts ++ text ∷ [])
 texts_more words texts text before long is all place one there = by (nat_lt place before) refl
   where
     by : (less : Bool) → nat_lt place before ≡ less → string_bytes one ≡ words (place + 1)

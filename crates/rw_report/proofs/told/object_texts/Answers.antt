@@ -10,5 +10,6 @@ loop-before-preserved c =
     let one = c.in_ok-object_text.field-0 in (
       ap length pushed ∙ omega (arith, length-append l.texts.items (one ∷ []), l.invariant.0),
       subst (AreTexts (object_line c.args.basin.now c.args.word.now)) (sym pushed)
-          (texts_more (object_line c.args.basin.now c.args.word.now) l.texts.items one l.before l.invariant.0 c.in_ok-object_text.ensures l.invariant.1),
+          (texts_more (object_line c.args.basin.now c.args.word.now) l.texts.items one l.before l.invariant.0
+          c.in_ok-object_text.ensures l.invariant.1),
     )
