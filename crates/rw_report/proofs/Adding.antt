@@ -1,7 +1,7 @@
 -- Texts that are kept for lines, and values that are told in them.
 use Rattle.rw_base.proofs.Common.{◌≡◌, ◌≤◌, ◌<◌, ◌+◌, ◌∙◌, ◌++◌, ◌∷◌, ℕ, zero, suc, Bool, true, false, List, [], Some, String, ℤ}
-use Rattle.rw_base.proofs.Common.{ap, arith, FitsSigned, length, length-append, nat_lt, nat_tests, refl, rules, same_Some, slice_get, slice_get_within}
-use Rattle.rw_base.proofs.Common.{string_bytes, sym, w64}
+use Rattle.rw_base.proofs.Common.{ap, arith, FitsSigned, length, length-append, nat_lt, nat_tests, refl, rules, same_Some, slice_get}
+use Rattle.rw_base.proofs.Common.{slice_get_within, string_bytes, sym, w64}
 use Rattle.std.specs.declared.alloc.Global.{Global}
 use Rattle.rw_base.specs.Quantity.{IsQuantity}
 use Rattle.rw_report.specs.Pieces.{AreTexts}
