@@ -85,7 +85,7 @@ def of_cases() -> Iterator[Run]:
 
 
 def of_example(folder: Path) -> Iterator[Run]:
-    """All commands that the files of a shipped example allow: no example has traces."""
+    """All commands that the files of a shipped example allow."""
     more = ["--flags", "--trace"]
     yield Run(folder, ["migrate", "model.toml"])
     if not (folder / "policy.rpl").exists():
@@ -100,6 +100,8 @@ def of_example(folder: Path) -> Iterator[Run]:
     yield Run(folder, run + more)
     yield Run(folder, ["why", *run[1:], slot, step])
     yield Run(folder, ["balance", *run[1:]])
+    if (folder / "traces.csv").exists():
+        yield Run(folder, ["mrm", *run[1:], "traces.csv"])
     if (folder / "edits.csv").exists():
         yield Run(folder, [*run, "--edits", "edits.csv"])
         yield Run(folder, [*run, "--edits", "edits.csv", "--reuse", *more])
