@@ -229,7 +229,7 @@ module _ (inner : ℕ → List Tok → Read) (d : ℕ) where
   -- those of so many levels above one
   unfoldable pub climbed : ℕ → ℕ → Read → Read
   climbed j zero r = r
-  climbed j (suc n) r = climbed (suc j) n (r >>= rise (suc j))
+  climbed j (suc n) r = climbed (j + 1) n (r >>= rise (j + 1))
 
 -- an expression may begin at the level: its word stands first, or it is the tightest
 abbrev pub IsStart : ℕ → List Tok → Type 0

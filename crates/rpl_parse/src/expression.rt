@@ -2,7 +2,7 @@
 ghost use Rattle.std.specs.Prelude.{◌≡◌, ◌≤◌, ◌<◌, ◌+◌, ◌-◌, ◌++◌, ◌∷◌, [], IfOk, IfErr, OnOk, length, map, option_map, option_and_then, max, Some};
 ghost use Rattle.rw_base.specs.declared.limits.TheConstants.{DEPTH_MAX};
 ghost use Rattle.rpl_tree.specs.Seen.{tree_of};
-ghost use Rattle.rpl_parse.specs.Reading.{read_tree, level, prim, number_with_unit, opened, named, args, slots, braces, IsStart, StartsAt, climbed, in_brackets, choices, loops, maps, word_of_one, word_of_two, converts, steps, chain, behind, name_before, turns_of, up_to, binds, got, many, items, some_items};
+ghost use Rattle.rpl_parse.specs.Reading.{read_tree, level, prim, number_with_unit, opened, named, args, slots, braces, IsStart, StartsAt, climbed, rise, in_brackets, choices, loops, maps, word_of_one, word_of_two, converts, steps, chain, behind, name_before, turns_of, up_to, binds, got, many, items, some_items};
 ghost use Rattle.rpl_parse.specs.Gives.{GivesExpression, GivesMany};
 ghost use Rattle.rpl_parse.specs.Tokens.{toks, bytes_in};
 
@@ -126,22 +126,36 @@ fn climb<'a>(
     let mut deep = first_deep;
     let mut rest = tokens;
     for below in start..k {
-        if prefix(below + 1).is_none() {
-            let (whole, whole_deep, after) = chain(
-                alloc,
-                text,
-                left,
-                deep,
-                rest,
-                depth,
-                below + 1,
-            )?;
-            left = whole;
-            deep = whole_deep;
-            rest = after;
-        }
+        let (whole, whole_deep, after) = rise(alloc, text, left, deep, rest, depth, below + 1)?;
+        left = whole;
+        deep = whole_deep;
+        rest = after;
     }
     Ok((left, deep, rest))
+}
+
+/// The other operands of a level, unless a word stands before its expressions.
+#[cycle(parse)]
+fn rise<'a>(
+    alloc: Global,
+    text: &[u8],
+    first: Expr,
+    first_deep: u8,
+    tokens: &'a [TokenAt],
+    depth: u8,
+    k: u8,
+) -> Result<(Expr, u8, &'a [TokenAt]), Stop>
+    requires limit { depth < DEPTH_MAX }
+    requires within { first_deep ≤ depth + 1 }
+    requires level { 0 < k }
+    ensures { GivesExpression text.now (depth + 1) result
+        (rise (read_tree depth) depth k
+        (got (tree_of first) first_deep (toks text.now tokens.entry.now))) }
+{
+    match prefix(k) {
+        Some(_) => Ok((first, first_deep, tokens)),
+        None => chain(alloc, text, first, first_deep, tokens, depth, k),
+    }
 }
 
 #[cycle(parse)]

@@ -13,8 +13,11 @@ decreases-level l = 1000 * l.depth + 7
 abbrev pub decreases-begun : goal.decreases-begun
 decreases-begun l = 1000 * l.depth + 6
 
+abbrev pub decreases-rise : goal.decreases-rise
+decreases-rise l = 1000 * l.depth + 3
+
 abbrev pub decreases-climb : goal.decreases-climb
-decreases-climb l = 1000 * l.depth + 3
+decreases-climb l = 1000 * l.depth + 4
 
 abbrev pub decreases-up_to : goal.decreases-up_to
 decreases-up_to l = 1000 * l.depth + 1
