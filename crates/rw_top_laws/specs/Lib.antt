@@ -1,0 +1,3 @@
+pub mod FirstCall
+pub mod Alike
+pub mod SureCall
