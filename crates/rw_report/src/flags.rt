@@ -59,7 +59,7 @@ fn push_by(text: &mut String, buffer: &mut [u8; ROOM], content: Content) -> Resu
 }
 
 /// Appends the value and the flag of a content.
-pub(crate) fn push_content(text: &mut String, content: Content) -> Result<(), NoMemory>
+pub fn push_content(text: &mut String, content: Content) -> Result<(), NoMemory>
     ensures { OnOk result (string_bytes text.new ≡ string_bytes text.old ++ content_words content) }
 {
     let mut buffer = [0; ROOM];
