@@ -3,6 +3,7 @@
 from bisect import bisect_left
 from dataclasses import dataclass, field
 
+from .asking import WRITTEN, told_by
 from .dispatch import elevation, past_ago, past_key, past_name
 from .firing import Firing
 from .program import Progress
@@ -21,6 +22,7 @@ class Event:
     rule: int = 0
     ended: str = ""  # how a firing ended: done or unknown
     written: list = field(default_factory=list)  # slots, timesteps and values
+    asked: list = field(default_factory=list)  # all puts that the trace tells of, in their order
 
 
 @dataclass
@@ -59,14 +61,13 @@ class Walk:
         for place, line in enumerate(trace):
             if not place % A_WHILE:
                 progress.at(place, len(trace), "lines")
-            word, *rest = line.split()
             if line.startswith("  "):
-                slot, at, value, flag = word, int(rest[0]), int(rest[1]), rest[2]
-                event.written.append((slot, at, value))
-                places, contents = self.puts.setdefault((self.first[slot], at), ([], []))
-                places.append(event.place)
-                contents.append(Content(value, flag, event, slot))
-            elif word == "open":
+                put = told_by(line, event.asked)
+                if put and put.fate == WRITTEN:
+                    self.take(event, put)
+                continue
+            word, *rest = line.split()
+            if word == "open":
                 step = int(rest[0])
             elif word == "solve":
                 event = Event(place, step, thing=rest[0])
@@ -74,6 +75,13 @@ class Walk:
             elif word == "fire":
                 event = Event(place, step, rule=int(rest[0]), ended=rest[1])
                 self.events.append(event)
+
+    def take(self, event, put):
+        """Takes a put that an event wrote."""
+        event.written.append((put.slot, put.step, put.value))
+        places, contents = self.puts.setdefault((self.first[put.slot], put.step), ([], []))
+        places.append(event.place)
+        contents.append(Content(put.value, put.flag, event, put.slot))
 
     def held(self, slot, step, before):
         """What a cell held before a place of the trace."""
