@@ -107,7 +107,7 @@ class Gathered:
     def told(self, section: Section, room: int) -> Told:
         """What is told of a run."""
         inputs = self.inputs(section.batch)
-        walk = Walk(self.model, self.blocks, inputs, section)
+        walk = Walk(self.model, self.blocks, inputs, section, self.is_asked)
         lines, most = lines_of_run(Run(self.model, inputs, section, walk, self.policy.names(), self.places))
         book = book_of(self.model, (self.files.model, self.files.policy), inputs, section)
         story = Teller(self.model, walk).story(*self.why, room)

@@ -9,6 +9,7 @@ from pathlib import Path
 from basin_files.model import Model
 from basin_files.moments import stamp_of
 from basin_files.network import drawn, text_of
+from basin_files.reasons import LONG, plain
 
 from .gather import Gathered
 from .stills import stills
@@ -28,6 +29,7 @@ PROVED = (
 
 def page_of(known: Gathered) -> str:
     """The page. Within its scripts no text of others has a `<`, so none ends one or begins another."""
+    data = known.data()
     runs = [script(f"series{number}", safe(known.series(number))) for number in range(len(known.runs))]
     runs += [script(f"why{number}", told.story.text.replace("<", "\\u003c")) for number, told in enumerate(known.runs)]
     parts = {
@@ -35,9 +37,9 @@ def page_of(known: Gathered) -> str:
         "STYLE": (HERE / "page.css").read_text(),
         "HEAD": head_of(known),
         "MAP": map_of(known.model),
-        "POLICY": escape(known.policy.source.content.decode("utf-8", "replace")),
+        "POLICY": "\n".join(escape(plain(line.expandtabs(4), LONG)) for line in data["policy"]["lines"]),
         "STILLS": "\n".join(part for told in known.runs[:1] for part in stills(known.model, told.section)),
-        "DATA": safe(known.data()),
+        "DATA": safe(data),
         "RUNS": "\n".join(runs),
         "SCRIPT": "\n".join((HERE / name).read_text() for name in SCRIPTS),
     }
