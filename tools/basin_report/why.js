@@ -26,7 +26,7 @@ const fateOf = (put, isLast) => {
   if (fate === KEPT) return [`wanted ${amount} (${flag}), which stood there already`, held ? `: ${held}` : ""].join("");
   if (fate === DENIED) return `wanted ${amount} (${flag}) and was denied: ${held} is held`;
   if (fate === AGAIN) return `wanted ${amount} (${flag}), and set this cell again in the same firing`;
-  return `set ${amount} (${flag})${held ? `, in the place of ${held}` : ""}${isLast ? ", which holds" : ""}`;
+  return `set ${amount} (${flag})${isLast ? ", which holds" : ""}${held ? `${isLast ? ";" : ", and"} it took the place of ${held}` : ""}`;
 };
 const givenOf = (slot, flags, step) => {
   if (flags[step - 1] === "I0") return "It is an input.";
