@@ -41,9 +41,11 @@ def picture(name: str, unit: str, slots: list[Slot], section: Section) -> str:
     lines = [way(column, low, high) for column in columns]
     parts = [f'<path d="{line}" fill="none" stroke="{COLOURS[at % 8]}" stroke-width="1.6"/>' for at, line in enumerate(lines)]
     parts += [f'<text x="{LEFT - 6}" y="{y}" text-anchor="end">{value:,}</text>' for y, value in ((14, high), (HEIGHT, low))]
+    ends = ((LEFT, "start", section.rows[0]), (WIDTH, "end", section.rows[-1]))
+    parts += [f'<text x="{x}" y="{HEIGHT + 16}" text-anchor="{side}">{stamp_of(row.stamp)}</text>' for x, side, row in ends]
     keys = [f'<span><b style="color: {COLOURS[at % 8]}">&#9632;</b> {escape(slot.name)}</span>' for at, slot in enumerate(slots)]
     title = f"{escape(name)}, {escape(unit or 'numbers')}"
-    svg = f'<svg viewBox="0 0 {WIDTH} {HEIGHT + 6}" role="img" aria-label="{title}">{"".join(parts)}</svg>'
+    svg = f'<svg viewBox="0 0 {WIDTH} {HEIGHT + 20}" role="img" aria-label="{title}">{"".join(parts)}</svg>'
     return f'<div class="still"><h3>{title}</h3>{svg}<div class="key">{"".join(keys)}</div></div>'
 
 
