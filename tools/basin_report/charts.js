@@ -95,8 +95,9 @@ const chartOf = ({ lines, strips, from, to, now, width, isStepped, isFromZero, r
   }
   for (const line of lines) {
     const way = wayOf(line.list, from, to, across, up, isStepped, width);
-    const look = { d: way, fill: "none", stroke: line.colour, "stroke-width": line.thin ? 1 : 1.8, "stroke-dasharray": line.dash || "none", opacity: line.thin ? 0.45 : 1 };
-    svg.append(drawn("path", look));
+    const [size, opacity] = line.thin ? [1, 0.45] : [1.8, 1];
+    const look = { fill: "none", stroke: line.colour, "stroke-width": size, "stroke-dasharray": line.dash || "none", opacity };
+    svg.append(drawn("path", { d: way, ...look }));
   }
   strips.forEach((strip, row) => {
     const top = bottom + BELOW + ROW * row;
@@ -107,8 +108,10 @@ const chartOf = ({ lines, strips, from, to, now, width, isStepped, isFromZero, r
   if (now >= from && now < to) svg.append(drawn("line", { class: "now", x1: across(now + 0.5), x2: across(now + 0.5), y1: TOP, y2: height }));
   return svg;
 };
-const swatchOf = (colour, dash) =>
-  drawn("svg", { width: 22, height: 8, "aria-hidden": true }, drawn("line", { x1: 0, x2: 22, y1: 4, y2: 4, stroke: colour, "stroke-width": 3, "stroke-dasharray": dash || "none" }));
+const swatchOf = (colour, dash) => {
+  const look = { stroke: colour, "stroke-width": 3, "stroke-dasharray": dash || "none" };
+  return drawn("svg", { width: 22, height: 8, "aria-hidden": true }, drawn("line", { x1: 0, x2: 22, y1: 4, y2: 4, ...look }));
+};
 const boxOf = (flag) => {
   const svg = drawn("svg", { width: 14, height: 11, "aria-hidden": true }, drawn("rect", { width: 14, height: 11, fill: paintOf(flag) }));
   if (isHatched(flag)) svg.append(drawn("rect", { width: 14, height: 11, fill: "url(#hatch)" }));

@@ -35,29 +35,47 @@ const sliderOf = (svg, unit, slots) => {
   });
   return plot;
 };
-const legendOf = (slots, unit) => make("div", { className: "legend", role: "group", "aria-label": `Slots in ${unit}` }, ...slots.map((slot, place) => {
-  const button = make("button", { type: "button", "aria-pressed": slot === state.slot }, swatchOf(colourOf(place), dashOf(place)), `${slot.name} ${rounded(shownOf(state.run, slot)[state.at])} ${unit}`);
-  button.addEventListener("click", () => go(slot, state.at + 1));
-  return button;
-}));
-const lineOf = (run, slot, place, more) => ({ list: shownOf(run, slot), name: slot.name, colour: colourOf(place), dash: dashOf(place), ...more });
+const legendOf = (slots, unit) => {
+  const buttons = slots.map((slot, place) => {
+    const words = `${slot.name} ${rounded(shownOf(state.run, slot)[state.at])} ${unit}`;
+    const button = make("button", { type: "button", "aria-pressed": slot === state.slot }, swatchOf(colourOf(place), dashOf(place)), words);
+    button.addEventListener("click", () => go(slot, state.at + 1));
+    return button;
+  });
+  return make("div", { className: "legend", role: "group", "aria-label": `Slots in ${unit}` }, ...buttons);
+};
+const linesOf = (run, slots, more) =>
+  slots.map((slot, place) => ({ list: shownOf(run, slot), name: slot.name, colour: colourOf(place), dash: dashOf(place), ...more }));
+const stripsOf = (run, slots) => slots.map((slot) => ({ flags: flagsOf(run, slot), name: slot.name }));
+const noteOf = (text) => make("p", { className: "note" }, text);
+
+// Two runs side by side, on one scale, and their difference.
+const pairOf = ([first, second], unit, slots, common, width) => {
+  const lists = [first, second].flatMap((run) => slots.map((slot) => shownOf(run, slot)));
+  const range = rangeOf(lists, common.from, common.to, common.isFromZero), half = width > 560 ? (width - 10) / 2 : width;
+  const charts = [first, second].map((run) => {
+    const chart = chartOf({ ...common, lines: linesOf(run, slots), strips: stripsOf(run, slots), width: half, range });
+    return make("div", {}, noteOf(runName(run)), sliderOf(chart, unit, slots));
+  });
+  const apart = linesOf(first, slots).map((line, place) => {
+    const other = shownOf(second, slots[place]);
+    return { ...line, list: line.list.map((value, step) => other[step] - value) };
+  });
+  const chart = chartOf({ ...common, lines: apart, strips: [], width, isFromZero: true });
+  const words = `The difference: ${runName(second)} less ${runName(first)}`;
+  return [make("div", { className: "pair" }, ...charts), noteOf(words), sliderOf(chart, unit, slots)];
+};
 const panelOf = (unit, slots, width) => {
-  const { run, from, to, at } = state, common = { from, to, now: at, isStepped: isFlow(slots[0]), isFromZero: unit !== unitOf({ unit: "mm" }) };
-  const strips = (one) => slots.map((slot) => ({ flags: flagsOf(one, slot), name: slot.name }));
-  const lines = (one, more) => slots.map((slot, place) => lineOf(one, slot, place, more));
-  const panel = make("div", { className: "panel" }, legendOf(slots, unit)), shown = runsShown();
+  const { run, from, to, at } = state, shown = runsShown(), isFromZero = unit !== unitOf({ unit: "mm" });
+  const common = { from, to, now: at, isStepped: isFlow(slots[0]), isFromZero };
+  const panel = make("div", { className: "panel" }, legendOf(slots, unit));
   if (shown.length === 2) {
-    const range = rangeOf(shown.flatMap((one) => lines(one).map((line) => line.list)), from, to, common.isFromZero);
-    const half = width > 560 ? (width - 10) / 2 : width;
-    const charts = shown.map((one) => make("div", {}, make("p", { className: "note" }, runName(one)), sliderOf(chartOf({ ...common, lines: lines(one), strips: strips(one), width: half, range }), unit, slots)));
-    const apart = slots.map((slot, place) => ({ ...lineOf(run, slot, place), list: shownOf(shown[1], slot).map((value, step) => value - shownOf(shown[0], slot)[step]) }));
-    const words = `The difference: ${runName(shown[1])} less ${runName(shown[0])}`;
-    panel.append(make("div", { className: "pair" }, ...charts), make("p", { className: "note" }, words), sliderOf(chartOf({ ...common, lines: apart, strips: [], width, isFromZero: true }), unit, slots));
+    panel.append(...pairOf(shown, unit, slots, common, width));
     return panel;
   }
   const others = state.beside === "all" ? D.runs.map((_, one) => one).filter((one) => one !== run) : [];
-  const all = [...others.flatMap((one) => lines(one, { thin: true })), ...lines(run)];
-  panel.append(sliderOf(chartOf({ ...common, lines: all, strips: strips(run), width }), unit, slots));
+  const lines = [...others.flatMap((one) => linesOf(one, slots, { thin: true })), ...linesOf(run, slots)];
+  panel.append(sliderOf(chartOf({ ...common, lines, strips: stripsOf(run, slots), width }), unit, slots));
   return panel;
 };
 const keyOf = () => {
@@ -65,7 +83,9 @@ const keyOf = () => {
   const flags = [...letters].filter((flag) => flag).map((flag) => (flag[0] === "R" ? flag : flag[0]));
   const words = { I: "I: an input", O: "O: an object" }, order = (flag) => (flag[0] === "R" ? Number(flag.slice(1)) : flag === "I" ? -2 : -1);
   const sorted = [...new Set(flags)].sort((one, other) => order(one) - order(other));
-  return make("div", { className: "key", role: "group", "aria-label": "Who set a value" }, ...sorted.map((flag) => make("span", {}, boxOf(flag), ` ${words[flag] || `${flag}: ${D.rules[Number(flag.slice(1)) - 1]}`}`)));
+  const told = (flag) => words[flag] || `${flag}: ${D.rules[Number(flag.slice(1)) - 1]}`;
+  const keys = sorted.map((flag) => make("span", {}, boxOf(flag), ` ${told(flag)}`));
+  return make("div", { className: "key", role: "group", "aria-label": "Who set a value" }, ...keys);
 };
 const drawCharts = () => {
   const box = element("charts"), width = Math.max(260, Math.floor(box.clientWidth));
@@ -194,8 +214,8 @@ const begin = () => {
   document.body.classList.add("runs");
   readMap();
   fill("names", D.objects.map((thing) => [thing.name, thing.kind]));
-  fill("run", D.runs.map((run, place) => [place, run.batch ? `batch ${run.batch}` : D.runs.length > 1 ? "before the edits" : "the run"]));
-  fill("beside", [["", "nothing"], ...(D.runs.length > 1 ? [["all", "all, over each other"]] : []), ...D.runs.map((run, place) => [place, runName(place)]).slice(D.runs.length > 1 ? 0 : 1)]);
+  fill("run", D.runs.map((run, place) => [place, runName(place)]));
+  fill("beside", [["", "nothing"], ["all", "all, over each other"], ...D.runs.map((run, place) => [place, runName(place)])]);
   element("step").max = STEPS;
   element("beside").parentElement.hidden = element("run").parentElement.hidden = D.runs.length === 1;
   listen();

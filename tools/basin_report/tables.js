@@ -11,7 +11,8 @@ const tableOf = (name, headings, rows, left = 1) => {
 };
 const tellEffects = (run) => {
   const { headings, rows, lines } = D.runs[run].effects, box = element("effects");
-  box.replaceChildren(make("p", { className: "note" }, "In how many timesteps what a rule's last firing wanted of a slot came to what. docs/GUIDE.md says what each heading means."));
+  const words = "In how many timesteps what a rule's last firing wanted of a slot came to what. docs/GUIDE.md says what each heading means.";
+  box.replaceChildren(make("p", { className: "note" }, words));
   box.append(tableOf("What each rule did", headings, rows.map((row) => row.map((cell, at) => (at < 2 ? cell : grouped(cell)))), 2));
   if (lines.length) box.append(make("ul", {}, ...lines.map((line) => make("li", {}, line))));
   if (D.asked) box.append(make("p", { className: "note" }, D.asked));
@@ -46,7 +47,8 @@ const tellBook = (run) => {
   const [came, left] = [plus(brought.map((one) => one[1])), plus(taken.map((one) => one[1]))];
   const more = known.length ? BigInt(sums[3]) - BigInt(sums[0]) : 0n;
   const basin = [...brought.map(([name, sum]) => [`came in: ${name}`, grouped(sum)]), ...taken.map(([name, sum]) => [`left: ${name}`, grouped(sum)])];
-  basin.push(["came in, all", grouped(came)], ["left, all", grouped(left)], ["held more at the end", grouped(more)], ["on its way at the end, less at first; or not known", grouped(came - left - more)]);
+  basin.push(["came in, all", grouped(came)], ["left, all", grouped(left)], ["held more at the end", grouped(more)]);
+  basin.push(["on its way at the end, less at first; or not known", grouped(came - left - more)]);
   box.append(make("h3", {}, "The whole basin"), tableOf("The book of the whole basin", ["what", "m3"], basin));
 };
 
@@ -103,7 +105,8 @@ const tellTable = (runs, thing, from, to, now, say) => {
   const table = tableOf(`The table of ${thing.name}`, headings, rows, 2), button = make("button", { type: "button", id: "copy" }, "Copy the table");
   button.addEventListener("click", () => copy(plainTable(columns, from, to), say));
   const more = to > last ? ` The first ${grouped(MOST_ROWS)} of them stand here; dates choose others, and all are copied.` : "";
-  element("table").replaceChildren(make("p", { className: "note" }, `${thing.name}, timesteps ${from + 1} to ${to}, in whole base units, as the program wrote them.${more}`), button, table);
+  const words = `${thing.name}, timesteps ${from + 1} to ${to}, in whole base units, as the program wrote them.${more}`;
+  element("table").replaceChildren(make("p", { className: "note" }, words), button, table);
   const mark = table.querySelectorAll("tbody tr")[now - from];
   if (mark) mark.className = "now";
 };
