@@ -1,11 +1,11 @@
 -- A ruleset that is accepted is accepted, with the same types, where rules may put further ahead.
-use Rattle.rw_base.proofs.Common.{ap, arith, Bool, Err, if◌then◌else◌, int_le, ints, is_some, List, None, Ok, Option, pos, refl, Result, Some, true, false, ℕ, ℤ, ◌+◌}
-use Rattle.rw_base.proofs.Common.{◌++◌, ◌∙◌, ◌∷◌, ◌≡◌, ◌≤◌, and_parts, []}
+use Rattle.rw_base.proofs.Common.{ap, arith, Bool, Err, false, if◌then◌else◌, int_le, ints, is_some, List, None, Ok, Option, pos, refl}
+use Rattle.rw_base.proofs.Common.{Result, Some, true, ℕ, ℤ, ◌+◌, ◌++◌, ◌∙◌, ◌∷◌, ◌≡◌, ◌≤◌, and_parts, []}
 use Rattle.rw_model.specs.Draft.{Draft}
 use Rattle.rw_model.specs.Links.{dim_of}
 use Rattle.rw_model.specs.Objects.{object_named, slot_named}
-use Rattle.rpl_tree.proofs.Common.{Act, Acts, Budget, Declared, Tree, Trees, act, assign, at, bind, brackets, branch, budget_of, call, can_set, choice}
-use Rattle.rpl_tree.proofs.Common.{convert, each, function, list, literal, mapped, name, no_acts, no_trees, now, one, rule, slot, table_named, tree}
+use Rattle.rpl_tree.proofs.Common.{Act, Acts, Budget, Declared, Tree, Trees, act, assign, at, bind, brackets, branch, budget_of, call, can_set}
+use Rattle.rpl_tree.proofs.Common.{choice, convert, each, function, list, literal, mapped, name, no_acts, no_trees, now, one, rule, slot, table_named, tree}
 use Rattle.rpl_tree.proofs.Common.{truth, two, with_name}
 use Rattle.rpl_tree.specs.World.{can_put_ahead}
 use Rattle.rpl_tree.specs.declared.rpl_type.RplType.{RplType}
@@ -152,7 +152,8 @@ module _ (basin : Draft) (most : ℕ) (more : basin.control.ahead ≤ most) wher
 
     abbrev AllFar : Acts → Type 0
     AllFar body =
-        (scope : TypeScope) (n : ℕ) (all : Types) → types_of_acts basin callable scope n body ≡ Ok all → types_of_acts far callable scope n body ≡ Ok all
+        (scope : TypeScope) (n : ℕ) (all : Types) → types_of_acts basin callable scope n body ≡ Ok all
+        → types_of_acts far callable scope n body ≡ Ok all
 
     on_assign : (o s : List ℕ) (ahead : ℤ) (v : Tree) → Far (assign o s ahead v)
     on_assign o s ahead v scope n all is =

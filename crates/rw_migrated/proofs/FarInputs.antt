@@ -1,5 +1,6 @@
 -- A text is read as the same inputs where rules may put further ahead.
-use Rattle.rw_base.proofs.Common.{ap, ap₂, cases_Bool, Err, if◌then◌else◌, inl, inr, List, None, Ok, Option, refl, Result, Some, sym, ℕ, ◌∙◌, ◌∷◌, ◌≡◌, ◌⊎◌, ◌++◌, ◌+◌, []}
+use Rattle.rw_base.proofs.Common.{ap, ap₂, cases_Bool, Err, if◌then◌else◌, inl, inr, List, None, Ok, Option, refl, Result, Some, sym, ℕ}
+use Rattle.rw_base.proofs.Common.{◌++◌, ◌+◌, ◌∙◌, ◌∷◌, ◌≡◌, ◌⊎◌, []}
 use Rattle.rw_base.specs.Answers.{unless_refused}
 use Rattle.rw_model.specs.Draft.{Draft}
 use Rattle.rw_inputs.specs.Inputs.{Inputs, row_gives, row_value_at}
@@ -58,8 +59,10 @@ module _ (basin : Draft) (most : ℕ) where
   rows_far rows =
       ap (values_read far) (ap₂ (λ refusal read. unless_refused refusal read) (refusal_far 2 [] rows) (values_far rows))
       ∙ elim (ok_or_err (read_rows basin rows)) [
-        | inl read ↦ rw read.1 (ap Ok (λ i slot step. (same_fold (λ given. row_value_at basin given slot step) (λ given. row_value_at far given slot step)
-            (λ given rest. if row_gives basin given slot step then Some given.value else rest) None refl refl (λ given rest. refl) (λ given rest. refl) read.0) i))
+        | inl read ↦ rw read.1 (ap Ok (λ i slot step. (same_fold
+            (λ given. row_value_at basin given slot step) (λ given. row_value_at far given slot step)
+            (λ given rest. if row_gives basin given slot step then Some given.value else rest) None refl refl
+            (λ given rest. refl) (λ given rest. refl) read.0) i))
         | inr refused ↦ rw refused.1 refl
       ]
 

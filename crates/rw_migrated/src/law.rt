@@ -43,6 +43,7 @@ pub fn inputs_read_alike()
 pub fn sections_are_alike()
     ensures { (basin : Draft) (most number : ℕ) (log : Log) (reran : Option (List StepNo))
         (flags trace : Bool)
-        → whole_of (ahead_to most basin) number (outcome_by (ahead_to most basin) log) reran flags trace
+        → whole_of (ahead_to most basin) number (outcome_by (ahead_to most basin) log) reran flags
+        trace
         ≡ whole_of basin number (outcome_by basin log) reran flags trace }
 {}
