@@ -29,7 +29,7 @@ fn push_flag(text: &mut String, content: Content) -> Result<(), NoMemory>
 }
 
 /// Appends the value and the flag of a content.
-pub(crate) fn push_content(text: &mut String, content: Content) -> Result<(), NoMemory>
+pub fn push_content(text: &mut String, content: Content) -> Result<(), NoMemory>
     ensures { OnOk result (string_bytes text.new ≡ string_bytes text.old ++ content_words content) }
 {
     push_number(text, content.value.get())?;

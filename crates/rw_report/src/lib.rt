@@ -21,8 +21,9 @@ mod value;
 mod whole;
 
 pub use cell::why;
+pub use flags::push_content;
 pub use heading::push_heading;
-pub use lines::line_at;
+pub use lines::{line_at, push_line};
 pub use names::{object_words, push_slot};
 pub use numbers::{push_count, push_number};
 pub use sheet::Sheet;

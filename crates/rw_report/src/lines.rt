@@ -105,8 +105,8 @@ fn push_end(text: &mut String, basin: &Basin, fault: RunFault) -> Result<(), NoM
     push_fault(text, basin, fault)
 }
 
-// Appends a line of a trace, without its end.
-fn push_line(text: &mut String, basin: &Basin, line: TraceEvent) -> Result<(), NoMemory>
+/// Appends a line of a trace, without its end.
+pub fn push_line(text: &mut String, basin: &Basin, line: TraceEvent) -> Result<(), NoMemory>
     ensures { OnOk result (string_bytes text.new
         ≡ string_bytes text.old ++ line_words basin.now line) }
 {
