@@ -15,7 +15,6 @@ pub use Rattle.rw_io.specs.Outside.{Change, Holds, ShelfView, SinkView, change}
 pub use Rattle.rw_io.specs.declared.whole_file.TheConstants.{FILE_MAX}
 pub use Rattle.rw_model_toml.specs.Model.{model_of}
 pub use Rattle.rw_model_toml.specs.Refusal.{ModelRefusal}
-pub use Rattle.rw_plain_reservoir.specs.Table.{IsFirstText}
 pub use Rattle.rw_report.specs.Section.{for_each, section_of, values_in}
 pub use Rattle.rw_run.specs.declared.run.RunEnd.TheVariants.{Fault, Settled}
 pub use Rattle.rw_run.specs.declared.run.RunEnd.{RunEnd}

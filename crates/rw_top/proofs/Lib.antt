@@ -1,19 +1,14 @@
-mod Common
+pub mod Common
 pub mod CommandLemmas
 pub mod OneReading
-pub mod OneText
-pub mod OneAnswer
 pub mod Findings
 pub mod CauseLemmas
 pub mod DueLemmas
-pub mod Dues
 pub mod PromiseLemmas
-pub mod StatusLemmas
 pub mod TellLemmas
 pub mod BudgetLemmas
-pub mod CheckedPolicies
-pub mod FirstCall
 pub mod FilesRead
+pub mod PlainText
 pub mod RulesText
 pub mod SectionLemmas
 pub mod SessionSections
@@ -21,5 +16,3 @@ pub mod SameValues
 pub mod FewBatches
 pub mod WhyText
 pub mod SampleText
-pub mod OneSample
-pub mod OneOutput

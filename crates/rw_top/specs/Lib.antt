@@ -15,5 +15,3 @@ pub mod Written
 pub mod Refusal
 pub mod Lines
 pub mod Promise
-pub mod FirstCall
-pub mod Alike

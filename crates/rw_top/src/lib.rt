@@ -14,7 +14,6 @@ mod extras;
 mod fault_words;
 mod files;
 mod judging;
-pub mod law;
 mod perform;
 mod policy;
 mod refusal;

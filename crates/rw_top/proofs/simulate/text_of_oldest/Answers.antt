@@ -1,6 +1,6 @@
 use Rattle.rw_top.proofs.Common.{None, Ok, ap, refl, subst, sym, ◌≡◌}
 use Rattle.rpl_verify.specs.Verified.{Accepted, verified}
-use Rattle.rw_top.proofs.OneText.{text_is_run}
+use Rattle.rw_top.proofs.PlainText.{text_is_run}
 use Rattle.rw_top.proofs.RulesText.{without_rules}
 use Rattle.rw_top.proofs.simulate.text_of_oldest.Goals as goal
 

@@ -1,0 +1,2 @@
+pub mod FirstCall
+pub mod Alike
