@@ -11,6 +11,7 @@ use Rattle.rw_firing.specs.declared.fire.FireEnd.TheVariants.{Done, Unknown, Zer
 use Rattle.rw_firing.specs.declared.look.Look.{Look}
 use Rattle.rw_run.specs.declared.fault.RunFault.TheVariants.{ObjectLimit, RuleLimit}
 use Rattle.rw_run.specs.Log.{Asked, Cells, Dispatch, Event, Firing, Log, placed, opened, closed, idle, solved, fired, fault, cells_of, value_in}
+use Rattle.rw_run.specs.Choice.{MayFollow}
 use Rattle.rw_run.specs.Dispatch.{answered, asked_for, denied_by, dispatch_of, dispatched, end_in, judged, looks_at, looks_of, or_fault, puts_written, solved_by}
 use Rattle.rw_run.specs.Frame.{cells_looked}
 use Rattle.rw_run.specs.Next.{Policy, after_objects, asked_by_rule, asked_next, dispatches, ended, first_due, firing_of, firings, last_ones, next_of}
@@ -143,6 +144,11 @@ follows_own basin policy log event object over is = absurd (none-some _ is)
 pub own : (basin : Draft) (policy : Policy) (log : Log) (event : Event) → follows basin policy log ≡ Some event
     → IsOwn basin policy (cells_of basin log) event
 own basin policy log event is = follows_own basin policy log event (first_waiting basin log) (standing log) is
+
+-- the same, whoever is dispatched
+pub may_own : (basin : Draft) (policy : Policy) (log : Log) (event : Event) → MayFollow basin policy log event
+    → IsOwn basin policy (cells_of basin log) event
+may_own basin policy log event may = follows_own basin policy log event may.object (standing log) may.is
 
 -- ---- the trace
 
