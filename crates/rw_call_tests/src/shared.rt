@@ -1,9 +1,10 @@
 //! What the tests share: basins from the texts of their models, the cells of their slots, and what cells hold.
-ghost use Rattle.rw_series.specs.Series.{IsCell};
+ghost use Rattle.rw_series.specs.Series.{IsCell, IsSeriesOf};
 
 use rw_base::{Cell, Qty, StepNo};
 use rw_model::{Basin, Content, Writer};
 use rw_model_toml::read_model;
+use rw_series::Series;
 use std::alloc::Global;
 use std::process::Abort;
 
@@ -60,4 +61,25 @@ pub(crate) fn content(rt: &impl Abort, value: i64, number: u16, writer: Writer) 
 /// A value of the inputs.
 pub(crate) fn given(rt: &impl Abort, value: i64) -> Content {
     content(rt, value, 0, Writer::Input)
+}
+
+/// What an object's slot holds at a timestep.
+pub(crate) type Held<'a> = (&'a str, &'a str, u16, i64);
+
+/// A series that holds these values of inputs, and no others.
+pub(crate) fn series_of(rt: &impl Abort, alloc: Global, basin: &Basin, rows: &[Held<'_>]) -> Series
+    ensures { IsSeriesOf basin.now result }
+{
+    let mut series = Series::sized(alloc, basin).expect(rt, "memory");
+    for k in 0..rows.len() {
+        let (object, slot, step, value) = rows[k];
+        let at = cell(rt, basin, object, slot, step);
+        series.restore(basin, at, Some(given(rt, value)));
+    }
+    series
+}
+
+/// Whether the bytes are those of the text.
+pub(crate) fn has_bytes(bytes: &[u8], text: &str) -> bool {
+    bytes == text.as_bytes()
 }

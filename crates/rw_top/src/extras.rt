@@ -2,13 +2,13 @@ use rw_words::Order;
 
 /// What the text of a run tells besides its table, and how it is come to.
 #[derive(Clone, Copy)]
-pub(crate) struct Extras {
+pub struct Extras {
     /// Who put each value.
-    pub(crate) flags: bool,
+    pub flags: bool,
     /// What happened, line by line.
-    pub(crate) trace: bool,
+    pub trace: bool,
     /// After a batch of edits, which timesteps were run again: the others are taken over.
-    pub(crate) reuse: bool,
+    pub reuse: bool,
     /// Which of the objects that wait is dispatched first, in a run without rules.
-    pub(crate) order: Order,
+    pub order: Order,
 }

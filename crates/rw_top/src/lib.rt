@@ -26,6 +26,7 @@ mod tell;
 mod top;
 mod why;
 
+pub use extras::Extras;
 pub use refusal::{File, Refusal};
 pub use rw_base::{Blank, Ledger, Steps};
 pub use top::{basin_main, end_without_memory};

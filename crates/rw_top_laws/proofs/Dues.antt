@@ -1,7 +1,8 @@
 -- What has to be refused of a call that keeps its promise, in terms of what its shelf tells.
-use Rattle.rw_top.proofs.Common.{AcceptsAll, AskForCommand, BadEdits, BadInputs, BadModel, BadPolicy, Call, Change, Command, File, HoldsTooLong}
+use Rattle.rw_top.proofs.Common.{AcceptsAll, AskForCommand, BadEdits, BadInputs, BadModel, BadPolicy, Call, Change, Command, HoldsTooLong}
 use Rattle.rw_top.proofs.Common.{IfSome, InputRefusal, IsHonest, IsSome, List, LongFile, ModelRefusal, None, Option, Promise, RefusesInputs}
 use Rattle.rw_top.proofs.Common.{RefusesModel, RefusesPolicy, Rose, ShelfView, Some, arith, order, path_of, ℕ, ◌≡◌, ◌≤◌, ◌⊎◌}
+use Rattle.rw_top.specs.declared.refusal.File.{File}
 use Rattle.rw_top.specs.Reading.{LacksCell, RefusesEdits}
 use Rattle.rw_top.specs.Told.{AreTold}
 use Rattle.rw_top.specs.declared.refusal.File.TheVariants.{Model}

@@ -1,7 +1,8 @@
 -- Two calls that ask for the same of the same files append the same.
-use Rattle.rw_top.proofs.Common.{Command, Declared, File, FilesRead, Holds, IsSomeAnd, Job, List, None, Ok, Option, Reads, ReadsInputs, ReadsModel}
+use Rattle.rw_top.proofs.Common.{Command, Declared, FilesRead, Holds, IsSomeAnd, Job, List, None, Ok, Option, Reads, ReadsInputs, ReadsModel}
 use Rattle.rw_top.proofs.Common.{ReadsPolicy, RunEnd, Some, WasRead, [], ap, ap₂, false, model_of, refl, reads_code, subst, sym, true, ℕ, ℤ}
 use Rattle.rw_top.proofs.Common.{◌∙◌, ◌∷◌, ◌≡◌, ◌≤◌}
+use Rattle.rw_top.specs.declared.refusal.File.{File}
 use Rattle.rw_base.proofs.Common.{Bool, IsSome, none-some, same_Some}
 use Rattle.std.specs.Prelude.{IfSome, MatchOption, option_and_then}
 use Rattle.rw_base.specs.declared.number.Cell.{Cell}

@@ -1,10 +1,12 @@
 -- What each status says of a call that keeps its promise.
 use Rattle.rw_top.proofs.Common.{AskOne, AskNothing, AskForCommand, BadEdits, BadInputs, BadModel, BadPolicy, AreRead, Call, Command, FailsToRead}
-use Rattle.rw_top.proofs.Common.{Fault, File, FilesRead, FindsTooLong, GrowsBy, Holds, InputRefusal, IsRunText, IsSomeAnd, IsTextOf, Job, None}
-use Rattle.rw_top.proofs.Common.{Option, ReadsInputs, ReadsPolicy, SaysAt, Some, List, LongFile, ModelRefusal, Promise, Reason, Refusal}
+use Rattle.rw_top.proofs.Common.{Fault, FilesRead, FindsTooLong, GrowsBy, Holds, InputRefusal, IsRunText, IsSomeAnd, IsTextOf, Job, None}
+use Rattle.rw_top.proofs.Common.{Option, ReadsInputs, ReadsPolicy, SaysAt, Some, List, LongFile, ModelRefusal, Promise, Reason}
 use Rattle.rw_top.proofs.Common.{RefusedCommand, RefusesInputs, RefusesModel, RefusesPolicy, Rose, RunEnd, Settled, WasFound, WasRefused, WritesFront}
 use Rattle.rw_top.proofs.Common.{WroteCheck, WroteCode, WroteRun, [], ap, arith, inl, inr, reads_code, refl, status_by, status_of, status_of_end}
 use Rattle.rw_top.proofs.Common.{takes_code, true, ℕ, ◌∙◌, ◌∷◌, ◌≡◌, ◌≢◌, ◌≤◌, ◌⊎◌}
+use Rattle.rw_top.specs.declared.refusal.File.{File}
+use Rattle.rw_top.specs.declared.refusal.Refusal.{Refusal}
 use Rattle.rw_run.specs.Next.{no_rules}
 use Rattle.rw_run.specs.declared.fault.RunFault.{RunFault}
 use Rattle.rw_base.specs.declared.number.Cell.{Cell}

@@ -1,9 +1,8 @@
 -- The paths of a command, one for each name.
 use Rattle.rw_base.proofs.Common.{Bool, List, None, Option, Some, [], ap, append_assoc, codes, false, if◌then◌else◌, length, option_and_then}
-use Rattle.rw_base.proofs.Common.{option_map, list_any, refl, same_Some, subst, suc, sym, true, ◌++◌, ◌∙◌, ◌∷◌, ◌≡◌}
-use Rattle.std.specs.Option.{option_map_or}
+use Rattle.rw_base.proofs.Common.{option_map, list_any, ◌||◌, refl, same_Some, subst, suc, sym, true, ◌++◌, ◌∙◌, ◌∷◌, ◌≡◌}
 use Rattle.clap.specs.Words.{Row, first_of}
-use Rattle.rw_words.specs.Command.{Command, command_in, command_named, asked_command, command_with, is_empty, paths_in, seed_in, taken_words}
+use Rattle.rw_words.specs.Command.{Command, command_in, command_named, asked_command, command_with, asks_in_vain, is_empty, is_pathless, paths_in, seed_in, taken_words}
 use Rattle.rw_words.specs.Job.{Text, job_named, paths_of}
 use Rattle.rw_words.specs.Order.{order_or_oldest}
 use Rattle.rw_words.specs.declared.job.Job.{Job}
@@ -33,12 +32,12 @@ each_path rows (name ∷ rest) paths some = go (first_of name rows) (paths_in ro
 pub job_paths : (rows : List Row) (job : Job) (command : Command) → command_in rows job ≡ Some command
     → length command.paths ≡ length (paths_of command.job)
 job_paths rows job command some =
-    go (option_map_or is_empty (first_of (codes "edits") rows) false) (order_or_oldest (first_of (codes "order") rows))
+    go (is_pathless rows || asks_in_vain rows) (order_or_oldest (first_of (codes "order") rows))
     (paths_in rows (paths_of job)) (each_path rows (paths_of job)) some
   where
-    go : (pathless : Bool) (order : Option Order) (paths : Option (List Text))
+    go : (refused : Bool) (order : Option Order) (paths : Option (List Text))
         → ((found : List Text) → paths ≡ Some found → length found ≡ length (paths_of job))
-        → (if pathless then None else option_and_then (λ first. option_map (command_with rows job first) paths) order) ≡ Some command
+        → (if refused then None else option_and_then (λ first. option_map (command_with rows job first) paths) order) ≡ Some command
         → length command.paths ≡ length (paths_of command.job)
     go true order paths each is = cc
     go false None paths each is = cc

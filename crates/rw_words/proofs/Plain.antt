@@ -14,7 +14,7 @@ use Rattle.rw_words.specs.Plain.{IsPath, PlainWords, of_cell, plain_command}
 use Rattle.rw_words.specs.Program.{program}
 use Rattle.rw_words.specs.Seed.{seed_of_text}
 use Rattle.rw_words.specs.declared.job.Job.{Job}
-use Rattle.rw_words.specs.declared.job.Job.TheVariants.{Check, Compile, Run, Sample, Simulate, Why}
+use Rattle.rw_words.specs.declared.job.Job.TheVariants.{Balance, Check, Compile, Migrate, Mrm, Run, Sample, Simulate, Why}
 
 -- ---- words that are no options
 
@@ -139,6 +139,9 @@ name_walked Check = refl
 name_walked Compile = refl
 name_walked Why = refl
 name_walked (Sample seed) = refl
+name_walked Balance = refl
+name_walked Mrm = refl
+name_walked Migrate = refl
 
 name_fault : (job : Job) (words : List Text)
     → walk_fault top names (walk_from nothing_held) (job_name job ∷ words) ≡ walk_fault top names (inside (job_name job) []) words
@@ -149,6 +152,9 @@ name_fault Check words = refl
 name_fault Compile words = refl
 name_fault Why words = refl
 name_fault (Sample seed) words = refl
+name_fault Balance words = refl
+name_fault Mrm words = refl
+name_fault Migrate words = refl
 
 -- what can be wrong when the words are walked
 abbrev last_fault : Shape → Bool → Walk → Kinds
@@ -182,6 +188,9 @@ own Check words = top_fault Check words (own_fault Check words)
 own Compile words = top_fault Compile words (own_fault Compile words)
 own Why words = top_fault Why words (own_fault Why words)
 own (Sample seed) words = top_fault (Sample seed) words (own_fault (Sample seed) words)
+own Balance words = top_fault Balance words (own_fault Balance words)
+own Mrm words = top_fault Mrm words (own_fault Mrm words)
+own Migrate words = top_fault Migrate words (own_fault Migrate words)
 
 -- what `clap` finds where the words of a job are walked
 abbrev Found : Type 0
@@ -198,6 +207,9 @@ entered_is Check words = refl
 entered_is Compile words = refl
 entered_is Why words = refl
 entered_is (Sample seed) words = refl
+entered_is Balance words = refl
+entered_is Mrm words = refl
+entered_is Migrate words = refl
 
 -- ---- the words of each
 
@@ -247,6 +259,18 @@ sample_last : (seed : ℕ) (p : Text) → last_fault (shape_of_job (Sample seed)
 unfolding defaults_fault
 sample_last seed p = refl
 
+balance_last : (p q r : Text) → last_fault (shape_of_job Balance) false (end (shape_of_job Balance) nothing_held 1 (p ∷ q ∷ r ∷ [])) ≡ []
+unfolding defaults_fault
+balance_last p q r = refl
+
+mrm_last : (p q r s : Text) → last_fault (shape_of_job Mrm) false (end (shape_of_job Mrm) nothing_held 1 (p ∷ q ∷ r ∷ s ∷ [])) ≡ []
+unfolding defaults_fault
+mrm_last p q r s = refl
+
+migrate_last : (p : Text) → last_fault (shape_of_job Migrate) false (end (shape_of_job Migrate) nothing_held 1 (p ∷ [])) ≡ []
+unfolding defaults_fault
+migrate_last p = refl
+
 -- what is found of a word that spells the seed
 sample_found : (seed : ℕ) (p : Text) → seed_of_text p ≡ Some seed
     → option_and_then command_named (found_by (Sample seed) (end (shape_of_job (Sample seed)) nothing_held 1 (p ∷ [])))
@@ -279,4 +303,14 @@ plain_words = record {
   sample =
       λ p seed first is. asks (Sample seed) (p ∷ []) (plain_command (Sample seed) []) refl (path_more p [] first tt) (refl, refl, tt)
       (sample_last seed p) (sample_found seed p is);
+  balance =
+      λ p q r first second third. asks Balance (p ∷ q ∷ r ∷ []) (plain_command Balance (p ∷ q ∷ r ∷ [])) refl
+      (path_more p (q ∷ r ∷ []) first (two q r second third))
+      (refl, refl, (refl, refl, (refl, refl, tt))) (balance_last p q r) refl;
+  mrm =
+      λ p q r s first second third fourth. asks Mrm (p ∷ q ∷ r ∷ s ∷ []) (plain_command Mrm (p ∷ q ∷ r ∷ s ∷ [])) refl
+      (path_more p (q ∷ r ∷ s ∷ []) first (path_more q (r ∷ s ∷ []) second (two r s third fourth)))
+      (refl, refl, (refl, refl, (refl, refl, (refl, refl, tt)))) (mrm_last p q r s) refl;
+  migrate =
+      λ p first. asks Migrate (p ∷ []) (plain_command Migrate (p ∷ [])) refl (path_more p [] first tt) (refl, refl, tt) (migrate_last p) refl;
 }

@@ -1,5 +1,5 @@
 -- The command that the words ask for.
-use Rattle.std.specs.Prelude.{ℕ, List, [], ◌∷◌, length, map, codes, string_bytes, String, Option, None, Some, option_and_then, option_map, Bool, false, if◌then◌else◌, ◌==◌}
+use Rattle.std.specs.Prelude.{ℕ, List, [], ◌∷◌, length, map, codes, string_bytes, String, Option, None, Some, option_and_then, option_map, Bool, false, if◌then◌else◌, ◌==◌, ◌&&◌, ◌||◌, not}
 use Rattle.std.specs.List.{list_any}
 use Rattle.std.specs.Option.{option_map_or}
 use Rattle.std.specs.Str.{bytes_eq}
@@ -32,6 +32,7 @@ pub record Command : Type 0 where
   pub flags : Bool
   pub trace : Bool
   pub reuse : Bool
+  pub asked : Bool
 
 -- the words, as bytes
 abbrev pub texts_of : List (String Global) → List Text
@@ -68,12 +69,21 @@ command_with rows job order paths = record {
   flags = is_given rows (codes "flags");
   trace = is_given rows (codes "trace");
   reuse = is_given rows (codes "reuse");
+  asked = is_given rows (codes "asked");
 }
 
--- the command of a job, by what `clap` found. `--edits=` names no file
+-- what was asked for is told in a trace, and of timesteps that are taken over nothing was asked for
+abbrev pub asks_in_vain : List Row → Bool
+asks_in_vain rows = is_given rows (codes "asked") && (not (is_given rows (codes "trace")) || is_given rows (codes "reuse"))
+
+-- `--edits=` names no file
+abbrev pub is_pathless : List Row → Bool
+is_pathless rows = option_map_or is_empty (first_of (codes "edits") rows) false
+
+-- the command of a job, by what `clap` found
 abbrev pub command_in : List Row → Job → Option Command
 command_in rows job =
-    if option_map_or is_empty (first_of (codes "edits") rows) false then None
+    if is_pathless rows || asks_in_vain rows then None
     else option_and_then (λ order. option_map (command_with rows job order) (paths_in rows (paths_of job)))
     (order_or_oldest (first_of (codes "order") rows))
 
@@ -110,4 +120,5 @@ command_seen named = record {
   flags = named.flags;
   trace = named.trace;
   reuse = named.reuse;
+  asked = named.asked;
 }

@@ -5,7 +5,7 @@ use Rattle.rw_words.specs.Job.{Text, job_name}
 use Rattle.rw_words.specs.Seed.{seed_of_text}
 use Rattle.rw_words.specs.declared.job.Job.{Job}
 use Rattle.rw_words.specs.declared.order.Order.TheVariants.{Oldest}
-use Rattle.rw_words.specs.declared.job.Job.TheVariants.{Run, Simulate, Check, Compile, Why, Sample}
+use Rattle.rw_words.specs.declared.job.Job.TheVariants.{Run, Simulate, Check, Compile, Why, Sample, Balance, Mrm, Migrate}
 
 -- a word that isn't empty and isn't an option, which begins with `-`
 pub record IsPath (word : Text) : Type 0 where
@@ -22,6 +22,7 @@ plain_command job paths = record {
   flags = false;
   trace = false;
   reuse = false;
+  asked = false;
 }
 
 -- of the cell that these words name
@@ -43,3 +44,9 @@ pub record PlainWords : Type 0 where
       ≡ Some (of_cell slot step (plain_command Why (model ∷ policy ∷ inputs ∷ [])))
   pub sample : (text : Text) (seed : ℕ) → IsPath text → seed_of_text text ≡ Some seed
       → asked_command (job_name (Sample seed) ∷ text ∷ []) ≡ Some (plain_command (Sample seed) [])
+  pub balance : (model policy inputs : Text) → IsPath model → IsPath policy → IsPath inputs
+      → asked_command (job_name Balance ∷ model ∷ policy ∷ inputs ∷ []) ≡ Some (plain_command Balance (model ∷ policy ∷ inputs ∷ []))
+  pub mrm : (model policy inputs traces : Text) → IsPath model → IsPath policy → IsPath inputs → IsPath traces
+      → asked_command (job_name Mrm ∷ model ∷ policy ∷ inputs ∷ traces ∷ [])
+      ≡ Some (plain_command Mrm (model ∷ policy ∷ inputs ∷ traces ∷ []))
+  pub migrate : (model : Text) → IsPath model → asked_command (job_name Migrate ∷ model ∷ []) ≡ Some (plain_command Migrate (model ∷ []))

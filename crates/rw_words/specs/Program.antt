@@ -5,7 +5,7 @@ use Rattle.clap.specs.declared.builder.ArgAction.{ArgAction}
 use Rattle.clap.specs.declared.builder.ArgAction.TheVariants.{Set, SetTrue}
 use Rattle.rw_words.specs.Job.{Text, flags_of, job_name, job_options, others_of, paths_of}
 use Rattle.rw_words.specs.declared.job.Job.{Job}
-use Rattle.rw_words.specs.declared.job.Job.TheVariants.{Run, Simulate, Check, Compile, Why, Sample}
+use Rattle.rw_words.specs.declared.job.Job.TheVariants.{Run, Simulate, Check, Compile, Why, Sample, Balance, Mrm, Migrate}
 
 -- a word that has to be there
 abbrev pub required_word : Text → Rule
@@ -45,4 +45,6 @@ with_job app job = with_subcommand app (usage_of job).top
 
 -- what is told of `sample` is the same for each seed
 abbrev pub program : App
-program = with_job (with_job (with_job (with_job (with_job (with_job bare Run) Simulate) Check) Compile) Why) (Sample 0)
+program =
+    let runs = with_job (with_job (with_job (with_job (with_job (with_job bare Run) Simulate) Check) Compile) Why) (Sample 0) in
+    with_job (with_job (with_job runs Balance) Mrm) Migrate

@@ -3,7 +3,7 @@ use Rattle.std.specs.Prelude.{◌≡◌, ◌==◌, List, ℕ, [], ◌∷◌, cod
 use Rattle.rw_words.specs.Command.{Command, asked_command}
 use Rattle.rw_words.specs.Job.{Text}
 use Rattle.rw_words.specs.Plain.{of_cell, plain_command}
-use Rattle.rw_words.specs.declared.job.Job.TheVariants.{Run, Simulate, Check, Compile, Why, Sample}
+use Rattle.rw_words.specs.declared.job.Job.TheVariants.{Run, Simulate, Check, Compile, Why, Sample, Balance, Mrm, Migrate}
 use Rattle.rw_words.specs.declared.order.Order.TheVariants.{Newest}
 
 -- ---- a line of words
@@ -45,6 +45,9 @@ flagged command = record command { flags = true }
 abbrev pub with_trace : Command → Command
 with_trace command = record command { trace = true }
 
+abbrev pub with_asked : Command → Command
+with_asked command = record command { asked = true }
+
 abbrev pub reusing : Command → Command
 reusing command = record command { reuse = true }
 
@@ -71,12 +74,22 @@ pub record AskWithOptions : Type 0 where
   pub sample_zeros : LineAsksFor (codes "sample 00000000000000000007") (samples 7)
   pub sample_greatest : LineAsksFor (codes "sample 18446744073709551615") (samples 18446744073709551615)
   pub sample_ended : LineAsksFor (codes "sample -- 12") (samples 12)
+  pub balance : LineAsksFor (codes "balance m p i") (plain_command Balance (codes "m" ∷ codes "p" ∷ codes "i" ∷ []))
+  pub mrm : LineAsksFor (codes "mrm m p i t") (plain_command Mrm (codes "m" ∷ codes "p" ∷ codes "i" ∷ codes "t" ∷ []))
+  pub mrm_ended : LineAsksFor (codes "mrm m -- p i -t") (plain_command Mrm (codes "m" ∷ codes "p" ∷ codes "i" ∷ codes "-t" ∷ []))
+  pub migrate : LineAsksFor (codes "migrate m") (plain_command Migrate (codes "m" ∷ []))
   -- options stand anywhere behind the command's name
   pub behind : LineAsksFor (codes "run m p i --edits e --flags --trace") (with_trace (flagged (edited (codes "e") runs)))
   pub before : LineAsksFor (codes "run --trace --edits e m p i") (with_trace (edited (codes "e") runs))
   pub between : LineAsksFor (codes "run m --flags p --edits e i") (flagged (edited (codes "e") runs))
   pub reuse : LineAsksFor (codes "run m p i --reuse") (reusing runs)
   pub reuse_before : LineAsksFor (codes "run --reuse m p i --edits e --flags") (reusing (flagged (edited (codes "e") runs)))
+  pub asked : LineAsksFor (codes "run m p i --trace --asked") (with_asked (with_trace runs))
+  pub asked_before : LineAsksFor (codes "run --asked m p i --flags --edits e --trace")
+      (with_asked (with_trace (flagged (edited (codes "e") runs))))
+  pub asked_in_simulate : LineAsksFor (codes "simulate m --asked i --trace") (with_asked (with_trace simulate_line))
+  pub asked_by_newest : LineAsksFor (codes "simulate m i --order newest --trace --asked")
+      (with_asked (with_trace (by_newest simulate_line)))
   pub in_simulate : LineAsksFor (codes "simulate --flags m --trace i") (with_trace (flagged simulate_line))
   pub newest : LineAsksFor (codes "simulate m i --order newest") (by_newest simulate_line)
   pub newest_before : LineAsksFor (codes "simulate --order=newest m --trace i") (with_trace (by_newest simulate_line))
@@ -135,6 +148,26 @@ pub record AskForNothing : Type 0 where
   pub trace_of_compile : Nothing (codes "compile m r --trace")
   pub trace_of_why : Nothing (codes "why m p i s 1 --trace")
   pub edits_of_why : Nothing (codes "why m p i s 1 --edits e")
+  -- what was asked for stands in a trace, and not beside timesteps that are taken over
+  pub asked_untraced : Nothing (codes "run m p i --asked")
+  pub asked_with_flags : Nothing (codes "simulate m i --asked --flags")
+  pub asked_reusing : Nothing (codes "run m p i --trace --asked --reuse")
+  pub asked_of_why : Nothing (codes "why m p i s 1 --asked")
+  pub asked_of_balance : Nothing (codes "balance m p i --trace --asked")
+  pub asked_begun : Nothing (codes "run m p i --trace --ask")
+  pub too_few_of_balance : Nothing (codes "balance m p")
+  pub too_many_of_balance : Nothing (codes "balance m p i e")
+  pub edits_of_balance : Nothing (codes "balance m p i --edits e")
+  pub flags_of_balance : Nothing (codes "balance m p i --flags")
+  pub too_few_of_mrm : Nothing (codes "mrm m p i")
+  pub too_many_of_mrm : Nothing (codes "mrm m p i t t")
+  pub edits_of_mrm : Nothing (codes "mrm m p i t --edits e")
+  pub reuse_of_mrm : Nothing (codes "mrm m p i t --reuse")
+  pub trace_of_mrm : Nothing (codes "mrm m p i t --trace")
+  pub flags_of_mrm : Nothing (codes "mrm m p i t --flags")
+  pub too_few_of_migrate : Nothing (codes "migrate")
+  pub too_many_of_migrate : Nothing (codes "migrate m n")
+  pub trace_of_migrate : Nothing (codes "migrate m --trace")
   pub step_below : Nothing (codes "why m p i s -1")
   pub too_few_of_why : Nothing (codes "why m p i s")
   pub too_many_of_why : Nothing (codes "why m p i s 1 2")
@@ -152,6 +185,7 @@ pub record AskForNothing : Type 0 where
   -- an option stands once
   pub flags_twice : Nothing (codes "run m p i --flags --flags")
   pub trace_twice : Nothing (codes "simulate --trace m --trace i")
+  pub asked_twice : Nothing (codes "run m p i --trace --asked --asked")
   pub reuse_twice : Nothing (codes "run --reuse m p i --reuse")
   pub edits_twice : Nothing (codes "run m p i --edits=a --edits=b")
   pub edits_again : Nothing (codes "run --edits a m p i --edits a")
@@ -166,6 +200,7 @@ pub record AskForNothing : Type 0 where
   -- a flag has no value, and `--edits` has one, which is no option
   pub flag_with_value : Nothing (codes "run m p i --flags=true")
   pub flag_with_empty_value : Nothing (codes "run m p i --trace=")
+  pub asked_with_value : Nothing (codes "run m p i --trace --asked=true")
   pub reuse_with_value : Nothing (codes "run m p i --reuse=e")
   pub edits_without_value : Nothing (codes "run m p i --edits")
   pub edits_before_flag : Nothing (codes "run m p i --edits --flags")

@@ -3,7 +3,7 @@ ghost use Rattle.std.specs.List.{list_any};
 ghost use Rattle.std.specs.Option.{option_map_or};
 ghost use Rattle.clap.specs.Words.{FailsBy, fault_of, first_of, found_of, rows_of, subcommand_of, subcommand_rows_of};
 ghost use Rattle.rw_words.specs.Program.{program};
-ghost use Rattle.rw_words.specs.Command.{cell_words_in, cell_seen, command_in, command_named, asked_command, is_empty, is_given, paths_in, seed_in, command_seen, taken_words, texts_of};
+ghost use Rattle.rw_words.specs.Command.{cell_words_in, cell_seen, command_in, command_named, asked_command, asks_in_vain, is_empty, is_given, paths_in, seed_in, command_seen, taken_words, texts_of};
 
 use crate::program::program;
 use crate::seed::seed_of_text;
@@ -32,6 +32,7 @@ pub struct Command<'w> {
     pub flags: bool,
     pub trace: bool,
     pub reuse: bool,
+    pub asked: bool,
 }
 
 fn has_empty(words: &[String]) -> bool
@@ -71,6 +72,15 @@ fn is_pathless(edits: Option<&str>) -> bool
         Some(path) => path.is_empty(),
         None => false,
     }
+}
+
+// Whether what was asked for is to be told with no trace, or with timesteps that are taken over.
+fn asks_in_vain(found: &ArgMatches<'_>) -> bool
+    ensures { result ≡ asks_in_vain (rows_of (found_of found.now)) }
+{
+    let with_trace = is_given(found, "trace");
+    let with_reuse = is_given(found, "reuse");
+    is_given(found, "asked") && (!with_trace || with_reuse)
 }
 
 // The paths of these names.
@@ -126,7 +136,7 @@ fn command_in<'w>(
         ≡ command_in (rows_of (found_of found.now)) job) }
 {
     let edits = value(found, "edits");
-    if is_pathless(edits) {
+    if is_pathless(edits) || asks_in_vain(found) {
         return Ok(None);
     }
     let Some(order) = Order::or_oldest(value(found, "order")) else {
@@ -144,6 +154,7 @@ fn command_in<'w>(
         flags: is_given(found, "flags"),
         trace: is_given(found, "trace"),
         reuse: is_given(found, "reuse"),
+        asked: is_given(found, "asked"),
     }))
 }
 

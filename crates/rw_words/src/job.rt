@@ -11,6 +11,9 @@ pub enum Job {
     Compile,
     Why,
     Sample(u64),
+    Balance,
+    Mrm,
+    Migrate,
 }
 
 static THREE: [&str; 3] = ["MODEL", "POLICY", "INPUTS"];
@@ -21,6 +24,10 @@ static CHECK: [&str; 2] = ["MODEL", "POLICY"];
 
 static COMPILE: [&str; 2] = ["MODEL", "RULES"];
 
+static TRACES: [&str; 4] = ["MODEL", "POLICY", "INPUTS", "TRACES"];
+
+static MODEL: [&str; 1] = ["MODEL"];
+
 static CELL: [&str; 2] = ["SLOT", "STEP"];
 
 static SEED: [&str; 1] = ["SEED"];
@@ -29,9 +36,9 @@ static EDITS: [&str; 1] = ["edits"];
 
 static ORDER: [&str; 1] = ["order"];
 
-static RUN_FLAGS: [&str; 3] = ["flags", "trace", "reuse"];
+static RUN_FLAGS: [&str; 4] = ["flags", "trace", "reuse", "asked"];
 
-static FLAGS: [&str; 2] = ["flags", "trace"];
+static FLAGS: [&str; 3] = ["flags", "trace", "asked"];
 
 static NONE: [&str; 0] = [];
 
@@ -61,6 +68,12 @@ impl Job {
             Some(Job::Why)
         } else if word == "sample" {
             sample_of(seed)
+        } else if word == "balance" {
+            Some(Job::Balance)
+        } else if word == "mrm" {
+            Some(Job::Mrm)
+        } else if word == "migrate" {
+            Some(Job::Migrate)
         } else {
             None
         }
@@ -77,6 +90,9 @@ impl Job {
             Job::Compile => "compile",
             Job::Why => "why",
             Job::Sample(_) => "sample",
+            Job::Balance => "balance",
+            Job::Mrm => "mrm",
+            Job::Migrate => "migrate",
         }
     }
 
@@ -85,11 +101,13 @@ impl Job {
         ensures { map (λ name. name.now) result.now ≡ paths_of self }
     {
         match self {
-            Job::Run | Job::Why => THREE.as_slice(),
+            Job::Run | Job::Why | Job::Balance => THREE.as_slice(),
             Job::Simulate => SIMULATE.as_slice(),
             Job::Check => CHECK.as_slice(),
             Job::Compile => COMPILE.as_slice(),
             Job::Sample(_) => NONE.as_slice(),
+            Job::Mrm => TRACES.as_slice(),
+            Job::Migrate => MODEL.as_slice(),
         }
     }
 
@@ -101,6 +119,7 @@ impl Job {
             Job::Why => CELL.as_slice(),
             Job::Sample(_) => SEED.as_slice(),
             Job::Run | Job::Simulate | Job::Check | Job::Compile => NONE.as_slice(),
+            Job::Balance | Job::Mrm | Job::Migrate => NONE.as_slice(),
         }
     }
 
@@ -112,6 +131,7 @@ impl Job {
             Job::Run => EDITS.as_slice(),
             Job::Simulate => ORDER.as_slice(),
             Job::Check | Job::Compile | Job::Why | Job::Sample(_) => NONE.as_slice(),
+            Job::Balance | Job::Mrm | Job::Migrate => NONE.as_slice(),
         }
     }
 
@@ -123,6 +143,7 @@ impl Job {
             Job::Run => RUN_FLAGS.as_slice(),
             Job::Simulate => FLAGS.as_slice(),
             Job::Check | Job::Compile | Job::Why | Job::Sample(_) => NONE.as_slice(),
+            Job::Balance | Job::Mrm | Job::Migrate => NONE.as_slice(),
         }
     }
 }

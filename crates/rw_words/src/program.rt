@@ -101,5 +101,11 @@ pub(crate) fn program<'a>(alloc: Global) -> Result<Command<'a>, AllocError>
     let five = four.subcommand(why)?;
     let sample = usage(alloc, Job::Sample(0))?;
     let six = five.subcommand(sample)?;
-    Ok(six)
+    let balance = usage(alloc, Job::Balance)?;
+    let seven = six.subcommand(balance)?;
+    let mrm = usage(alloc, Job::Mrm)?;
+    let eight = seven.subcommand(mrm)?;
+    let migrate = usage(alloc, Job::Migrate)?;
+    let nine = eight.subcommand(migrate)?;
+    Ok(nine)
 }

@@ -1,4 +1,5 @@
-use Rattle.rw_top.proofs.Common.{AskOne, Call, Refusal, WasRefused, inl, inr, ◌⊎◌}
+use Rattle.rw_top.proofs.Common.{AskOne, Call, WasRefused, inl, inr, ◌⊎◌}
+use Rattle.rw_top.specs.declared.refusal.Refusal.{Refusal}
 use Rattle.rw_top.specs.Lines.{memory_line, refusal_line, words_line}
 use Rattle.rw_top.specs.Written.{TellsLine}
 use Rattle.rw_top.specs.declared.refusal.Refusal.TheVariants.{Words, NoMemory}
