@@ -6,7 +6,9 @@ ghost use Rattle.rw_model.specs.Draft.{Draft};
 ghost use Rattle.rw_model.specs.declared.control.AgendaOrder.TheVariants.{HighFirst};
 ghost use Rattle.rw_run.specs.Frame.{AreAlike, IsFramed, log_after, looked_in};
 ghost use Rattle.rw_run.specs.Log.{Asked, Cells, Dispatch, Event, Firing, Log, fired, opened, solved, cells_of};
+ghost use Rattle.rw_run.specs.Choice.{MayLead};
 ghost use Rattle.rw_run.specs.Next.{Policy};
+ghost use Rattle.rw_run.specs.Policy.{FireAlike};
 ghost use Rattle.rw_run.specs.RunOf.{lines, trace_of};
 ghost use Rattle.rw_run.specs.Runs.{IsRun, Leads, follows, with_inputs};
 ghost use Rattle.rw_run.specs.Worked.{ahead_run, data_object_basin, five, given_run, outranked, outranked_run, put_twice, put_twice_run, across, across_run, raised_run, raises_x, sets_ahead, both_ends, both_ends_run, linked_basin};
@@ -98,6 +100,16 @@ pub fn taken_over()
     ensures behind { (basin : Draft) (policy : Policy) (log : Log) (events : List Event)
         → asked_trace basin policy (log_after events log)
         ≡ asked_trace basin policy log ++ asked_after basin policy log events }
+{}
+
+/// Policies of as many rules that do the same tell the same lines, of a run and of one in which any object that waits may be
+/// dispatched next.
+#[tactic(auto, using(crate::proofs::Alike::any_alike))]
+pub fn same_asks()
+    ensures { (basin : Draft) (one other : Policy) (inputs : List (Cell × ℤ)) (events : List Event)
+        (log : Log) → FireAlike one other → MayLead basin one (with_inputs [] inputs) events log
+        → MayLead basin other (with_inputs [] inputs) events log
+        × (asked_trace basin one log ≡ asked_trace basin other log) }
 {}
 
 /// A rule that confirms what another one set takes hold of it: two dams over a day. The last lines tell what was denied, and over

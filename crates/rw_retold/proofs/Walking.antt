@@ -60,7 +60,7 @@ lines_split basin policy log (fired firing) made = refl
 lines_split basin policy log (fault why) made = refl
 
 -- what a line is
-abbrev line_code : TraceEvent → ℕ
+abbrev pub line_code : TraceEvent → ℕ
 line_code (Line.Opened step) = 0
 line_code (Line.Idle object) = 1
 line_code (Line.Solve object) = 2
@@ -69,7 +69,7 @@ line_code (Line.Written slot step content) = 4
 line_code (Line.Closed step) = 5
 line_code (Line.Fault why) = 6
 
-abbrev is_put : TraceEvent → Bool
+abbrev pub is_put : TraceEvent → Bool
 is_put (Line.Written slot step content) = true
 is_put line = false
 
@@ -461,3 +461,12 @@ pub stands_last : (basin : Draft) (policy : Policy) (log : Log) (whole text : Li
     → text ≡ whole
 stands_last basin policy log whole text walk stands =
     end_by basin policy log whole text stands.now stands.events stands.pending stands.leads stands.lines_are stands.text_is
+
+pub tells_done : (basin : Draft) (blocks : List Block) (rule : ℕ) (done : Bool) (walk : Walk) (mid grown : List ℕ) (result : Result (Unit {0}) NoMemory)
+    → done ≡ true → TellsFiring basin blocks rule true walk mid grown result → TellsFiring basin blocks rule done walk mid grown result
+tells_done basin blocks rule done walk mid grown result is told = subst (λ k. TellsFiring basin blocks rule k walk mid grown result) (sym is) told
+
+pub tells_none : (basin : Draft) (blocks : List Block) (rule : ℕ) (done : Bool) (walk : Walk) (mid : List ℕ) → done ≡ false
+    → TellsFiring basin blocks rule done walk mid mid (Ok tt)
+tells_none basin blocks rule done walk mid is =
+    subst (λ k. TellsFiring basin blocks rule k walk mid mid (Ok tt)) (sym is) (λ fire at fires. sym (append-nil mid))

@@ -15,7 +15,8 @@ use rw_run::Write;
 
 /// Whether it is a timestep of the run.
 pub(crate) fn is_step(basin: &Basin, step: StepNo) -> bool
-    ensures { (result ≡ true) ↔ IsStep basin.now step.0 }
+    ensures is { (result ≡ true) ↔ IsStep basin.now step.0 }
+    ensures few { result ≡ true → step.0 ≤ 4096 }
 {
     1 <= step.0 && step.0 <= basin.control().stamps.count()
 }

@@ -183,7 +183,10 @@ impl Walk {
             (lines_of_asks (fates_of setup.now.basin.now (held self.old.series)
             (wanted_of rule.0 self.old.step.0 (Some fire))))) }
     {
-        if !is_step(setup.basin, self.step) || !is_rule(setup.policy, rule) {
+        if !is_step(setup.basin, self.step) {
+            return Ok(());
+        }
+        if !is_rule(setup.policy, rule) {
             return Ok(());
         }
         let fired = self.machine.fire(
