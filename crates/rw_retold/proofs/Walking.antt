@@ -206,7 +206,7 @@ module _ (basin : Draft) (policy : Policy) (line : TraceEvent) (left : List Trac
       → grown ≡ text ++ (line_words basin line ++ codes "\n") → Stands basin policy left log whole new grown
   alone_goes b new grown same dispatch fires at is =
       let both = alone basin policy b.now (cells_of basin b.now) b.event b.made (λ e. dispatch (sym (ap line_code b.is) ∙ e))
-          (λ e. fires (sym (ap line_code b.is) ∙ e)) in
+      (λ e. fires (sym (ap line_code b.is) ∙ e)) in
       goes_on basin policy line left log whole walk text b new grown same (subst (AreWrites basin) (sym both.0) (All-nil (CanWrite basin))) at
       (is ∙ ap (λ one. text ++ (line_words basin one ++ codes "\n")) (sym b.is)
       ∙ ap (λ t. text ++ t) (sym (append-nil (line_words basin (head_line b.event) ++ codes "\n")))
@@ -276,12 +276,12 @@ solve_goes basin policy object left log whole walk new text mid grown stands sam
     let is = found.1.0 in
     let object_is = found.1.1 in
     let made : (standing b.now ≡ inside dispatch.step)
-        × (dispatched basin (cells_of basin b.now) dispatch.object dispatch.step ≡ solved dispatch)
-        = subst (IsMade basin policy b.now) is b.made in
+    × (dispatched basin (cells_of basin b.now) dispatch.object dispatch.step ≡ solved dispatch)
+    = subst (IsMade basin policy b.now) is b.made in
     let at : (dispatch.step ≡ walk.step.0) × IsStep basin walk.step.0
-        = subst (λ where_it. IsAtStep basin where_it walk.step.0) made.0 b.at in
+    = subst (λ where_it. IsAtStep basin where_it walk.step.0) made.0 b.at in
     let tells = told dispatch at.1 (ap (λ cells. dispatched basin cells object.0 walk.step.0) (sym b.cells)
-        ∙ ap₂ (dispatched basin (cells_of basin b.now)) (sym object_is) (sym at.0) ∙ made.1) in
+    ∙ ap₂ (dispatched basin (cells_of basin b.now)) (sym object_is) (sym at.0) ∙ made.1) in
     goes_on basin policy line left log whole walk text b new grown same
     (subst (λ event. AreWrites basin (written_by event)) (sym is) tells.1)
     (subst (λ event. IsAtStep basin (standing (event ∷ b.now)) new.step.0) (sym is)
@@ -341,19 +341,19 @@ fire_goes basin blocks rule done count left log whole walk new text mid grown st
     let rule_is = found.1.1.0 in
     let done_is = found.1.1.1 in
     let made : (standing b.now ≡ inside firing.step)
-        × ((fire : Fire) × (fire_of_code blocks basin firing.rule firing.step (value_in cells) ≡ Some fire))
-        = subst (IsMade basin policy b.now) is b.made in
+    × ((fire : Fire) × (fire_of_code blocks basin firing.rule firing.step (value_in cells) ≡ Some fire))
+    = subst (IsMade basin policy b.now) is b.made in
     let fire = made.1.0 in
     let fires = made.1.1 in
     let at : (firing.step ≡ walk.step.0) × IsStep basin walk.step.0
-        = subst (λ where_it. IsAtStep basin where_it walk.step.0) made.0 b.at in
+    = subst (λ where_it. IsAtStep basin where_it walk.step.0) made.0 b.at in
     let own = subst (IsOwn basin policy cells) is (may_own basin policy b.now b.event b.may) in
     let tells = told fire at.1 (ap (λ seen. fire_of_code blocks basin rule.0 walk.step.0 (value_in seen)) (sym b.cells)
-        ∙ ap₂ (λ r s. fire_of_code blocks basin r s (value_in cells)) (sym rule_is) (sym at.0) ∙ fires) in
+    ∙ ap₂ (λ r s. fire_of_code blocks basin r s (value_in cells)) (sym rule_is) (sym at.0) ∙ fires) in
     let wants : wanted_by policy cells firing ≡ wanted_where done rule.0 walk.step.0 (Some fire)
-        = ap (λ k. wanted_where k firing.rule firing.step (fire_of_code blocks basin firing.rule firing.step (value_in cells))) done_is
-        ∙ ap (wanted_where done firing.rule firing.step) fires
-        ∙ ap₂ (λ r s. wanted_where done r s (Some fire)) rule_is at.0 in
+    = ap (λ k. wanted_where k firing.rule firing.step (fire_of_code blocks basin firing.rule firing.step (value_in cells))) done_is
+    ∙ ap (wanted_where done firing.rule firing.step) fires
+    ∙ ap₂ (λ r s. wanted_where done r s (Some fire)) rule_is at.0 in
     goes_on basin policy line left log whole walk text b new grown same
     (subst (λ event. AreWrites basin (written_by event)) (sym is)
     (firing_within basin policy cells firing fire fires (subst (IsStep basin) (sym at.0) at.1)

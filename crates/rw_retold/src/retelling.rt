@@ -60,7 +60,11 @@ fn tell_line(
             push_plain(text, setup.basin, line)?;
             walk.tell_dispatch(text, setup, object)
         }
-        TraceEvent::Fire { rule, done, count: _ } => {
+        TraceEvent::Fire {
+            rule,
+            done,
+            count: _,
+        } => {
             push_plain(text, setup.basin, line)?;
             if done {
                 walk.tell_firing(text, setup, rule)

@@ -17,11 +17,13 @@ loop-place-preserved g c =
     let lines = lines_in c.args.trace.now in
     let basin = c.args.setup.now.basin.now in
     let policy = policy_in basin c.args.setup.now.policy.now in
-    let place = c.loop-place.place in
-    (c.tell_line.ensures.walk, λ log whole stands.
-    c.in_ok-tell_line.ensures.goes (drop (place + 1) lines) log whole
-    (subst (λ these. Stands basin policy these log whole c.loop-place.walk (string_bytes c.loop-place.text))
-    (here lines place c.line_at.result c.line_at.ensures) (c.loop-place.invariant.1 log whole stands)))
+    let place = c.loop-place.place in (
+      c.tell_line.ensures.walk,
+      λ log whole stands.
+          c.in_ok-tell_line.ensures.goes (drop (place + 1) lines) log whole
+          (subst (λ these. Stands basin policy these log whole c.loop-place.walk (string_bytes c.loop-place.text))
+          (here lines place c.line_at.result c.line_at.ensures) (c.loop-place.invariant.1 log whole stands)),
+    )
 
 pub returns : goal.returns
 returns g c = λ log whole stands.

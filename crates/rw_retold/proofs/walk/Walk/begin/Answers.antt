@@ -7,7 +7,7 @@ pub returns-clause-walk : goal.returns-clause-walk
 returns-clause-walk g c =
     let begun = c.in_ok-engine.ensures.begun in
     let run = c.finish-run.ensures.run c.args.setup.now.basin.now c.args.setup.now.policy.now
-        (with_inputs [] (placings c.args.setup.now.basin.now c.args.inputs.now)) begun.made begun.shows in
+    (with_inputs [] (placings c.args.setup.now.basin.now c.args.inputs.now)) begun.made begun.shows in
     record {
       series = record {
         made = run.made;

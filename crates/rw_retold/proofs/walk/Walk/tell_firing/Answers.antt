@@ -12,7 +12,7 @@ use Rattle.rw_retold.proofs.walk.Walk.tell_firing.Goals as goal
 pub returns-then-not-is_rule-clause-told : goal.returns-then-not-is_rule-clause-told
 returns-then-not-is_rule-clause-told g c = λ fire at fires.
     let there = fires_there c.args.setup.now.policy.now.blocks c.args.setup.now.basin.now c.args.rule.0 c.args.self.now.step.0
-        (value_in (held c.args.self.now.series)) fire fires in
+    (value_in (held c.args.self.now.series)) fire fires in
     absurd (false≢true (sym c.if-not-is_rule.true ∙ c.is_rule.ensures.there there.0 there.1))
 
 pub want_all-requires : goal.want_all-requires
