@@ -34,7 +34,7 @@ use Rattle.rw_asked.proofs.Follow.{IsOwn, may_own}
 use Rattle.rw_asked.proofs.Reused.{appended}
 use Rattle.rw_asked.proofs.Telling.{words_joined}
 use Rattle.rw_retold.specs.declared.walk.Walk.{Walk}
-use Rattle.rw_retold.specs.Walk.{IsAtStep, Stands}
+use Rattle.rw_retold.specs.Walk.{IsAtStep, IsWalkedTo}
 use Rattle.rw_retold.proofs.Asks.{firing_within}
 use Rattle.rw_retold.proofs.Made.{IsMade, may_made}
 
@@ -135,14 +135,14 @@ module _ (basin : Draft) (policy : Policy) (line : TraceEvent) (left : List Trac
         text_is = is;
       }
 
-  pub begins : Stands basin policy (line ∷ left) log whole walk text → is_put line ≡ false → Begins basin policy line left log whole walk text
+  pub begins : IsWalkedTo basin policy (line ∷ left) log whole walk text → is_put line ≡ false → Begins basin policy line left log whole walk text
   begins stands plain = begins_by stands.now stands.events stands.pending stands.leads stands.lines_are stands.cells stands.at stands.text_is plain
 
   -- once what it asked for is told
   pub goes_on : (b : Begins basin policy line left log whole walk text) (new : Walk) (grown : List ℕ) → new.series ≡ walk.series
       → AreWrites basin (written_by b.event) → IsAtStep basin (standing (b.event ∷ b.now)) new.step.0
       → grown ≡ text ++ asked_lines_words basin (asked_lines basin policy (cells_of basin b.now) b.event)
-      → Stands basin policy left log whole new grown
+      → IsWalkedTo basin policy left log whole new grown
   goes_on b new grown same can at is = record {
     now = b.event ∷ b.now;
     events = b.events;
@@ -203,7 +203,7 @@ alone basin policy now cells (fault why) made dispatch fires = (refl, refl)
 module _ (basin : Draft) (policy : Policy) (line : TraceEvent) (left : List TraceEvent) (log : Log) (whole : List ℕ) (walk : Walk) (text : List ℕ) where
   alone_goes : (b : Begins basin policy line left log whole walk text) (new : Walk) (grown : List ℕ) → new.series ≡ walk.series
       → (line_code line ≡ 2 → ⊥) → (line_code line ≡ 3 → ⊥) → IsAtStep basin (standing (b.event ∷ b.now)) new.step.0
-      → grown ≡ text ++ (line_words basin line ++ codes "\n") → Stands basin policy left log whole new grown
+      → grown ≡ text ++ (line_words basin line ++ codes "\n") → IsWalkedTo basin policy left log whole new grown
   alone_goes b new grown same dispatch fires at is =
       let both = alone basin policy b.now (cells_of basin b.now) b.event b.made (λ e. dispatch (sym (ap line_code b.is) ∙ e))
       (λ e. fires (sym (ap line_code b.is) ∙ e)) in
@@ -213,9 +213,9 @@ module _ (basin : Draft) (policy : Policy) (line : TraceEvent) (left : List Trac
       ∙ ap (λ these. text ++ asked_lines_words basin these) (sym both.1))
 
   -- a line that opens no timestep
-  pub plain_goes : Stands basin policy (line ∷ left) log whole walk text → is_put line ≡ false → (line_code line ≡ 0 → ⊥)
+  pub plain_goes : IsWalkedTo basin policy (line ∷ left) log whole walk text → is_put line ≡ false → (line_code line ≡ 0 → ⊥)
       → (line_code line ≡ 2 → ⊥) → (line_code line ≡ 3 → ⊥) → (grown : List ℕ) (result : Result (Unit {0}) NoMemory)
-      → OnOk result (grown ≡ text ++ (line_words basin line ++ codes "\n")) → OnOk result (Stands basin policy left log whole walk grown)
+      → OnOk result (grown ≡ text ++ (line_words basin line ++ codes "\n")) → OnOk result (IsWalkedTo basin policy left log whole walk grown)
   plain_goes stands put opens dispatch fires grown (Ok done) is =
       let b = begins basin policy line left log whole walk text stands put in
       alone_goes b walk grown refl dispatch fires
@@ -224,9 +224,9 @@ module _ (basin : Draft) (policy : Policy) (line : TraceEvent) (left : List Trac
 
 -- one that does
 pub opened_goes : (basin : Draft) (policy : Policy) (step : StepNo) (left : List TraceEvent) (log : Log) (whole : List ℕ) (walk new : Walk)
-    (text grown : List ℕ) → Stands basin policy (Line.Opened step ∷ left) log whole walk text → new.series ≡ walk.series → new.step ≡ step
+    (text grown : List ℕ) → IsWalkedTo basin policy (Line.Opened step ∷ left) log whole walk text → new.series ≡ walk.series → new.step ≡ step
     → (result : Result (Unit {0}) NoMemory) → OnOk result (grown ≡ text ++ (line_words basin (Line.Opened step) ++ codes "\n"))
-    → OnOk result (Stands basin policy left log whole new grown)
+    → OnOk result (IsWalkedTo basin policy left log whole new grown)
 opened_goes basin policy step left log whole walk new text grown stands same to (Ok done) is =
     let b = begins basin policy (Line.Opened step) left log whole walk text stands refl in
     alone_goes basin policy (Line.Opened step) left log whole walk text b new grown same (λ e. absurd (omega (arith, e))) (λ e. absurd (omega (arith, e)))
@@ -264,9 +264,9 @@ TellsDispatch basin object walk mid grown result =
     × AreWrites basin dispatch.written)
 
 pub solve_goes : (basin : Draft) (policy : Policy) (object : ObjectNo) (left : List TraceEvent) (log : Log) (whole : List ℕ) (walk new : Walk)
-    (text mid grown : List ℕ) → Stands basin policy (Line.Solve object ∷ left) log whole walk text → new.series ≡ walk.series → new.step ≡ walk.step
+    (text mid grown : List ℕ) → IsWalkedTo basin policy (Line.Solve object ∷ left) log whole walk text → new.series ≡ walk.series → new.step ≡ walk.step
     → mid ≡ text ++ (line_words basin (Line.Solve object) ++ codes "\n") → (result : Result (Unit {0}) NoMemory)
-    → TellsDispatch basin object.0 walk mid grown result → OnOk result (Stands basin policy left log whole new grown)
+    → TellsDispatch basin object.0 walk mid grown result → OnOk result (IsWalkedTo basin policy left log whole new grown)
 solve_goes basin policy object left log whole walk new text mid grown stands same stays first (Err want) told = tt
 solve_goes basin policy object left log whole walk new text mid grown stands same stays first (Ok done) told =
     let line = Line.Solve object in
@@ -325,10 +325,10 @@ TellsFiring basin blocks rule done walk mid grown result =
 
 pub fire_goes : (basin : Draft) (blocks : List Block) (rule : RuleNo) (done : Bool) (count : ℕ) (left : List TraceEvent) (log : Log)
     (whole : List ℕ) (walk new : Walk) (text mid grown : List ℕ)
-    → Stands basin (policy_of_code basin blocks) (Line.Fire rule done count ∷ left) log whole walk text
+    → IsWalkedTo basin (policy_of_code basin blocks) (Line.Fire rule done count ∷ left) log whole walk text
     → new.series ≡ walk.series → new.step ≡ walk.step
     → mid ≡ text ++ (line_words basin (Line.Fire rule done count) ++ codes "\n") → (result : Result (Unit {0}) NoMemory)
-    → TellsFiring basin blocks rule.0 done walk mid grown result → OnOk result (Stands basin (policy_of_code basin blocks) left log whole new grown)
+    → TellsFiring basin blocks rule.0 done walk mid grown result → OnOk result (IsWalkedTo basin (policy_of_code basin blocks) left log whole new grown)
 fire_goes basin blocks rule done count left log whole walk new text mid grown stands same stays first (Err want) told = tt
 fire_goes basin blocks rule done count left log whole walk new text mid grown stands same stays first (Ok finished) told =
     let policy = policy_of_code basin blocks in
@@ -385,7 +385,7 @@ module _ (basin : Draft) (policy : Policy) (write : Asked) (left : List TraceEve
       → ((cell : Cell) → cells_of basin now cell ≡ option_or (last_put basin pending cell) (held walk.series cell))
       → AreWrites basin pending → IsAtStep basin (standing now) walk.step.0
       → text ++ asked_lines_words basin (asked_after basin policy now events) ≡ whole
-      → Stands basin policy left log whole new text
+      → IsWalkedTo basin policy left log whole new text
   write_by now [] [] leads are cells can at is = absurd (let no = ap length are in omega (arith, no))
   write_by now (event ∷ events) [] leads are cells can at is =
       let made = may_made basin policy now event leads.0 in
@@ -410,7 +410,7 @@ module _ (basin : Draft) (policy : Policy) (write : Asked) (left : List TraceEve
         text_is = is;
       }
 
-  pub write_goes : Stands basin policy (line_of write ∷ left) log whole walk text → Stands basin policy left log whole new text
+  pub write_goes : IsWalkedTo basin policy (line_of write ∷ left) log whole walk text → IsWalkedTo basin policy left log whole new text
   write_goes stands =
       write_by stands.now stands.events stands.pending stands.leads stands.lines_are stands.cells stands.can stands.at stands.text_is
 
@@ -429,7 +429,7 @@ asked_placed basin policy log (input ∷ inputs) =
 pub stands_first : (basin : Draft) (policy : Policy) (inputs : List (Cell × ℤ)) (log : Log) (events : List Event) (told : List TraceEvent) (walk : Walk)
     (text : List ℕ) → MayLead basin policy (with_inputs [] inputs) events log → told ≡ trace_of log
     → ((cell : Cell) → held walk.series cell ≡ cells_of basin (with_inputs [] inputs) cell)
-    → Stands basin policy told log (text ++ asked_lines_words basin (asked_trace basin policy log)) walk text
+    → IsWalkedTo basin policy told log (text ++ asked_lines_words basin (asked_trace basin policy log)) walk text
 stands_first basin policy inputs log events told walk text leads are cells =
     let first : Log = with_inputs [] inputs in
     let after = may_after basin policy first events log leads in
@@ -457,7 +457,7 @@ end_by basin policy log whole text now (event ∷ events) [] leads are is =
     let both = are ∙ ap (λ these. these ++ flat_map lines events) (lines_split basin policy now event made) in
     absurd (let no = ap length both in omega (arith, no))
 
-pub stands_last : (basin : Draft) (policy : Policy) (log : Log) (whole text : List ℕ) (walk : Walk) → Stands basin policy [] log whole walk text
+pub stands_last : (basin : Draft) (policy : Policy) (log : Log) (whole text : List ℕ) (walk : Walk) → IsWalkedTo basin policy [] log whole walk text
     → text ≡ whole
 stands_last basin policy log whole text walk stands =
     end_by basin policy log whole text stands.now stands.events stands.pending stands.leads stands.lines_are stands.text_is

@@ -12,7 +12,7 @@ ghost use Rattle.rw_rules.specs.Rules.{policy_in};
 ghost use Rattle.rw_engine.specs.Passing.{CanRun};
 ghost use Rattle.rw_asked.specs.Asked.{asked_trace};
 ghost use Rattle.rw_asked.specs.Words.{asked_trace_words};
-ghost use Rattle.rw_retold.specs.Walk.{IsWalkOf, Stands};
+ghost use Rattle.rw_retold.specs.Walk.{IsWalkOf, IsWalkedTo};
 
 use crate::walk::{Walk, push_plain};
 use rw_base::{Cell, NoMemory};
@@ -36,9 +36,9 @@ fn tell_line(
         (map (λ b. code (b.vtable, b.value)) setup.now.methods.now.methods.items) }
     ensures walk { IsWalkOf setup.now.basin.now walk.new }
     ensures goes { (left : List Told) (log : Log) (whole : List ℕ)
-        → Stands setup.now.basin.now (policy_in setup.now.basin.now setup.now.policy.now)
+        → IsWalkedTo setup.now.basin.now (policy_in setup.now.basin.now setup.now.policy.now)
         (line ∷ left) log whole walk.old (string_bytes text.old)
-        → OnOk result (Stands setup.now.basin.now
+        → OnOk result (IsWalkedTo setup.now.basin.now
         (policy_in setup.now.basin.now setup.now.policy.now)
         left log whole walk.new (string_bytes text.new)) }
 {
@@ -91,7 +91,7 @@ fn tell_all(
     requires order { AreInOrder
         (map (λ b. code (b.vtable, b.value)) setup.now.methods.now.methods.items) }
     ensures { (log : Log) (whole : List ℕ)
-        → Stands setup.now.basin.now (policy_in setup.now.basin.now setup.now.policy.now)
+        → IsWalkedTo setup.now.basin.now (policy_in setup.now.basin.now setup.now.policy.now)
         (lines_in trace.now) log whole walk.old (string_bytes text.old)
         → OnOk result (string_bytes text.new ≡ whole) }
 {

@@ -20,7 +20,7 @@ ghost use Rattle.rw_rules.specs.Rules.{policy_in};
 ghost use Rattle.rw_engine.specs.Passing.{CanRun};
 ghost use Rattle.rw_asked.specs.Asked.{fates_alone, fates_of, lines_of_asks, wanted_of};
 ghost use Rattle.rw_asked.specs.Words.{asked_lines_words};
-ghost use Rattle.rw_retold.specs.Walk.{IsWalkOf, Stands};
+ghost use Rattle.rw_retold.specs.Walk.{IsWalkOf, IsWalkedTo};
 
 use crate::checks::{can_write, has_method, is_rule, is_step};
 use rpl_machine::Machine;

@@ -2,7 +2,7 @@ use Rattle.rw_base.proofs.Common.{◌+◌, ◌≤◌, ◌∷◌, arith, drop, dr
 use Rattle.rw_report.proofs.Growing.{here}
 use Rattle.rw_run.specs.Trace.{lines_in}
 use Rattle.rw_rules.specs.Rules.{policy_in}
-use Rattle.rw_retold.specs.Walk.{Stands}
+use Rattle.rw_retold.specs.Walk.{IsWalkedTo}
 use Rattle.rw_retold.proofs.Walking.{stands_last}
 use Rattle.rw_retold.proofs.retelling.tell_all.Goals as goal
 
@@ -21,7 +21,7 @@ loop-place-preserved g c =
       c.tell_line.ensures.walk,
       λ log whole stands.
           c.in_ok-tell_line.ensures.goes (drop (place + 1) lines) log whole
-          (subst (λ these. Stands basin policy these log whole c.loop-place.walk (string_bytes c.loop-place.text))
+          (subst (λ these. IsWalkedTo basin policy these log whole c.loop-place.walk (string_bytes c.loop-place.text))
           (here lines place c.line_at.result c.line_at.ensures) (c.loop-place.invariant.1 log whole stands)),
     )
 
@@ -33,5 +33,5 @@ returns g c = λ log whole stands.
     let place = c.loop-place.place in
     let all : length lines ≤ place = let end = c.len-place-end.ensures in omega (arith, c.loop-place-test.false, c.loop-place.auto.place-end, end) in
     stands_last basin policy log whole (string_bytes c.loop-place.text) c.loop-place.walk
-    (subst (λ these. Stands basin policy these log whole c.loop-place.walk (string_bytes c.loop-place.text)) (drop_all place lines all)
+    (subst (λ these. IsWalkedTo basin policy these log whole c.loop-place.walk (string_bytes c.loop-place.text)) (drop_all place lines all)
     (c.loop-place.invariant.1 log whole stands))
