@@ -35,7 +35,8 @@ judged_ruled : (policy : Policy) (cells : Cells) (object : ℕ) (puts : List Ask
     → IsRuled policy (judged cells object puts rest)
 judged_ruled policy cells object [] rest ruled = ruled
 judged_ruled policy cells object (put ∷ puts) rest ruled =
-    fault_ruled policy object put (judged cells object puts rest) (denied_by (end_in cells put) put) (judged_ruled policy cells object puts rest ruled)
+    fault_ruled policy object put (judged cells object puts rest) (denied_by (end_in cells put) put)
+    (judged_ruled policy cells object puts rest ruled)
 
 answer_ruled : (basin : Draft) (policy : Policy) (cells : Cells) (looked : List Look) (object step : ℕ) (answer : Solved)
     → IsRuled policy (answered basin cells looked object step answer)
@@ -72,7 +73,8 @@ after_ruled basin policy cells log step (Some rule) known event follows = by (na
     by true follows = ruled_of policy _ event follows tt
     by false follows = firing_ruled basin policy cells rule step (known rule refl) (policy.fire rule step (value_in cells)) event follows
 
-dispatch_ruled : (basin : Draft) (policy : Policy) (cells : Cells) (log : Log) (step object : ℕ) → IsRuled policy (asked_next basin cells log step object)
+dispatch_ruled : (basin : Draft) (policy : Policy) (cells : Cells) (log : Log) (step object : ℕ) → IsRuled policy
+    (asked_next basin cells log step object)
 dispatch_ruled basin policy cells log step object = by (nat_le basin.control.object_limit (dispatches log object))
   where
     by : (k : Bool) → IsRuled policy (if k then fault (ObjectLimit (record { 0 = object }) (record { 0 = step }) (dispatches log object))
@@ -148,7 +150,8 @@ module _ (basin : Draft) (one other : Policy) (alike : FireAlike one other) wher
   inputs_alike log (input ∷ inputs) before =
       inputs_alike (placed input.0 input.1 ∷ log) inputs (one_more_alike log (placed input.0 input.1) tt before)
 
-  may_told : (old : Log) (events : List Event) (new : Log) → MayLead basin one old events new → asked_trace basin one old ≡ asked_trace basin other old
+  may_told : (old : Log) (events : List Event) (new : Log) → MayLead basin one old events new → asked_trace basin one old ≡ asked_trace basin other
+      old
       → asked_trace basin one new ≡ asked_trace basin other new
   may_told old [] new leads before = subst (λ log. asked_trace basin one log ≡ asked_trace basin other log) (sym leads) before
   may_told old (event ∷ events) new leads before =

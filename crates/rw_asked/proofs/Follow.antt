@@ -117,7 +117,8 @@ after_own basin policy cells log step (Some rule) event is = by (nat_le basin.co
     by true is = own_of basin policy cells _ event is tt
     by false is = firing_own basin policy cells rule step (policy.fire rule step (value_in cells)) event refl is
 
-asked_own : (basin : Draft) (policy : Policy) (cells : Cells) (log : Log) (step object : ℕ) → IsOwn basin policy cells (asked_next basin cells log step object)
+asked_own : (basin : Draft) (policy : Policy) (cells : Cells) (log : Log) (step object : ℕ) → IsOwn basin policy cells
+    (asked_next basin cells log step object)
 asked_own basin policy cells log step object = by (nat_le basin.control.object_limit (dispatches log object))
   where
     by : (k : Bool) → IsOwn basin policy cells (if k then fault (ObjectLimit (record { 0 = object }) (record { 0 = step }) (dispatches log object))

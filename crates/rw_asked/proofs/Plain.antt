@@ -27,7 +27,8 @@ pub plain_joined : {A B : Type 0} (f : A → Option B) (xs ys : List A) → filt
 plain_joined f [] ys = refl
 plain_joined f (x ∷ xs) ys = one_joined (f x) (filter_map f (xs ++ ys)) (filter_map f xs) (filter_map f ys) (plain_joined f xs ys)
 
-pub plain_told : (told : List TraceEvent) (rest : List AskedLine) → filter_map plain_of (map plain_line told ++ rest) ≡ told ++ filter_map plain_of rest
+pub plain_told : (told : List TraceEvent) (rest : List AskedLine) → filter_map plain_of (map plain_line told ++ rest) ≡ told ++ filter_map plain_of
+    rest
 plain_told [] rest = refl
 plain_told (line ∷ told) rest = ap (λ zs. line ∷ zs) (plain_told told rest)
 
@@ -74,7 +75,8 @@ fate_plain : (found : Option Content) (put : Asked)
 fate_plain None put = refl
 fate_plain (Some held) put = by_end_plain held put (end_of_put (Some held) put.content)
 
-with_rest : (k : Bool) (put : Asked) (puts : List Asked) → map line_of (cond k (put ∷ []) []) ++ map line_of puts ≡ map line_of (cond k (put ∷ puts) puts)
+with_rest : (k : Bool) (put : Asked) (puts : List Asked) → map line_of (cond k (put ∷ []) []) ++ map line_of puts ≡ map line_of
+    (cond k (put ∷ puts) puts)
 with_rest true put puts = refl
 with_rest false put puts = refl
 

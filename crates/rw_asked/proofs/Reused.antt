@@ -129,4 +129,5 @@ pub appended : (basin : Draft) (policy : Policy) (log : Log) (events : List Even
 appended basin policy log [] = sym (with_nothing (asked_trace basin policy log))
 appended basin policy log (event ∷ events) =
     appended basin policy (event ∷ log) events
-    ∙ append_assoc (asked_trace basin policy log) (asked_lines basin policy (cells_of basin log) event) (asked_after basin policy (event ∷ log) events)
+    ∙ append_assoc (asked_trace basin policy log) (asked_lines basin policy (cells_of basin log) event)
+    (asked_after basin policy (event ∷ log) events)

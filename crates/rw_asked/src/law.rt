@@ -24,7 +24,8 @@ pub fn worked_asks()
     ensures across { asked_of_run linked_basin across [] across_run
         ≡ opens_at 1 ∷ stops_so 1 3 ∷ fires_so 2 2 ∷ wrote 1 1 (by_rule_of 2 (pos 0))
         ∷ fires_so 1 6 ∷ wrote 2 1 (by_rule_of 1 (pos 10)) ∷ over_line_at 2 1 (by_rule_of 2 (pos 0))
-        ∷ fires_so 1 6 ∷ left_line_at 2 1 (by_rule_of 1 (pos 10)) (Became.Kept (by_rule_of 1 (pos 10)))
+        ∷ fires_so 1 6
+        ∷ left_line_at 2 1 (by_rule_of 1 (pos 10)) (Became.Kept (by_rule_of 1 (pos 10)))
         ∷ closes_at 1 ∷ [] }
     ensures outranked { asked_of_run (data_object_basin HighFirst 1) outranked [] outranked_run
         ≡ opens_at 1 ∷ fires_so 1 2 ∷ wrote 1 1 (by_rule_of 1 (pos 1)) ∷ fires_so 2 2
@@ -66,7 +67,8 @@ pub fn each_once()
         ≡ wanted_in policy cells event }
     ensures asked { (basin : Draft) (policy : Policy) (log : Log) (firing : Firing)
         → follows basin policy log ≡ Some (fired firing)
-        → firing.asked ≡ filter (is_in_run basin) (wanted_in policy (cells_of basin log) (fired firing)) }
+        → firing.asked
+        ≡ filter (is_in_run basin) (wanted_in policy (cells_of basin log) (fired firing)) }
 {}
 
 /// What a line says of a put is so: a denied or a kept one names what its cell holds just before, and so does one that is written

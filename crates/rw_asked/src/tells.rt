@@ -29,7 +29,8 @@ fn word_of(fate: &Fate) -> &'static str
 
 // Appends a slot and a timestep, each behind a space.
 fn push_cell(text: &mut String, basin: &Basin, cell: Cell) -> Result<(), NoMemory>
-    ensures { OnOk result (string_bytes text.new ≡ string_bytes text.old ++ cell_place basin.now cell) }
+    ensures { OnOk result
+        (string_bytes text.new ≡ string_bytes text.old ++ cell_place basin.now cell) }
 {
     text.push_str(" ")?;
     push_slot(text, basin, cell.slot)?;
@@ -165,7 +166,8 @@ pub fn push_fired(
 ) -> Result<(), NoMemory>
     requires { AreToSlots basin.now puts.now }
     ensures { OnOk result (string_bytes text.new ≡ string_bytes text.old
-        ++ asked_lines_words basin.now (lines_of_asks (fates_of basin.now (held series.now) puts.now))) }
+        ++ asked_lines_words basin.now
+        (lines_of_asks (fates_of basin.now (held series.now) puts.now))) }
 {
     for place in 0..puts.len() {
         let put = &puts[place];

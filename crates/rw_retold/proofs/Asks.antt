@@ -43,7 +43,8 @@ last_within basin (put ∷ puts) all = by (is_put_again basin put puts) (last_wi
     by true rest = rest
     by false rest = All-cons (CanWrite basin) put (last_ones basin puts) (All-head (CanWrite basin) put puts all) rest
 
-written_within : (basin : Draft) (cells : Cells) (puts : List Asked) → AreWrites basin puts → AreWrites basin (puts_written cells (last_ones basin puts))
+written_within : (basin : Draft) (cells : Cells) (puts : List Asked) → AreWrites basin puts → AreWrites basin
+    (puts_written cells (last_ones basin puts))
 written_within basin cells puts all =
     All-filter (λ (put : Asked). is_written (end_in cells put)) (CanWrite basin) (last_ones basin puts) (last_within basin puts all)
 
