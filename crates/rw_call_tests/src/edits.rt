@@ -38,8 +38,8 @@ fn batch_count(rt: &impl Abort, alloc: Global, basin: &Basin, text: &str) -> usi
 fn a_batch_for_each_number(rt: HostRuntime) {
     let alloc = rt.alloc();
     let basin = basin(&rt, alloc, TWO_GAGES);
-    assert!(&rt; batch_count(&rt, alloc, &basin, EDITS) == 3);
-    assert!(&rt; batch_count(&rt, alloc, &basin, "batch,slot,step,value\n") == 0);
+    assert!(&rt; batch_count(&rt, alloc, basin, EDITS) == 3);
+    assert!(&rt; batch_count(&rt, alloc, basin, "batch,slot,step,value\n") == 0);
 }
 
 fn check_edited(rt: &impl Abort, alloc: Global, basin: &Basin) {
@@ -58,5 +58,5 @@ fn check_edited(rt: &impl Abort, alloc: Global, basin: &Basin) {
 fn inputs_after_batches(rt: HostRuntime) {
     let alloc = rt.alloc();
     let basin = basin(&rt, alloc, TWO_GAGES);
-    check_edited(&rt, alloc, &basin);
+    check_edited(&rt, alloc, basin);
 }

@@ -78,7 +78,7 @@ fn run<L: Ledger>(
 {
     let basin = basin(rt, alloc, MODEL);
     let none = Verified::none(alloc);
-    run_in(rt, alloc, &basin, methods, &none, predefs, steps, text)
+    run_in(rt, alloc, basin, methods, &none, predefs, steps, text)
 }
 
 // The code that a text is read as, which is accepted.
@@ -231,8 +231,8 @@ fn run_dam<L: Ledger>(
     requires { AreInOrder (map (λ b. code (b.vtable, b.value)) methods.now.methods.items) }
 {
     let basin = basin(rt, alloc, DAM);
-    let policy = accepted(rt, alloc, &basin, CAP_AND_BASE);
-    run_in(rt, alloc, &basin, methods, &policy, predefs, steps, INFLOW)
+    let policy = accepted(rt, alloc, basin, CAP_AND_BASE);
+    run_in(rt, alloc, basin, methods, &policy, predefs, steps, INFLOW)
 }
 
 fn check<L: Ledger>(

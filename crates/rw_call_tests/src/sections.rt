@@ -77,7 +77,7 @@ fn check_days(rt: &impl Abort, alloc: Global, basin: &Basin) {
 #[test]
 fn a_section_has_the_closed_days(rt: HostRuntime) {
     let basin = basin(&rt, rt.alloc(), TWO_GAGES);
-    check_days(&rt, rt.alloc(), &basin);
+    check_days(&rt, rt.alloc(), basin);
 }
 
 // Faults, and the first lines of their sections.
@@ -149,5 +149,5 @@ fn first_wrong_heading(
 #[test]
 fn a_section_begins_with_its_fault(rt: HostRuntime) {
     let basin = basin(&rt, rt.alloc(), TWO_GAGES);
-    none_is_wrong(&rt, first_wrong_heading(&rt, rt.alloc(), &basin, FAULTS));
+    none_is_wrong(&rt, first_wrong_heading(&rt, rt.alloc(), basin, FAULTS));
 }
