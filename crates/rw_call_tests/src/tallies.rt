@@ -42,16 +42,15 @@ fn add(basin: &Basin, tally: &mut Tally, run: &Run)
     tally.add(basin, run);
 }
 
-// A run that came to this end, in which no day was closed, with an inflow, an outflow and what is held.
+// A run that came to this end, with so many days closed, and with an inflow, an outflow and what is held.
 fn ended<'a>(
     rt: &impl Abort,
     alloc: Global,
     basin: &Basin,
     end: RunEnd,
+    closed: u16,
     values: (i64, i64, i64),
-) -> &'a Run
-    ensures { result.now.closed ≡ 0 }
-{
+) -> &'a Run {
     let held = [
         ("Dam", "Inflow", 1, values.0),
         ("Dam", "Outflow", 1, values.1),
@@ -59,7 +58,7 @@ fn ended<'a>(
     ];
     let run = Run {
         end,
-        closed: 0,
+        closed,
         series: series_of(rt, alloc, basin, &held),
         trace: Trace::new(alloc),
     };
@@ -97,19 +96,23 @@ fn check_tally(rt: &impl Abort, alloc: Global, basin: &Basin, tally: &mut Tally)
     add(
         basin,
         tally,
-        ended(rt, alloc, basin, settled, (10, 0, 1010)),
+        ended(rt, alloc, basin, settled, 1, (10, 0, 1010)),
     );
     add(
         basin,
         tally,
-        ended(rt, alloc, basin, settled, (30, 0, 1030)),
+        ended(rt, alloc, basin, settled, 1, (30, 0, 1030)),
     );
     add(
         basin,
         tally,
-        ended(rt, alloc, basin, settled, (20, 0, 1020)),
+        ended(rt, alloc, basin, settled, 1, (20, 0, 1020)),
     );
-    add(basin, tally, ended(rt, alloc, basin, spilt, (20, 1100, 5)));
+    add(
+        basin,
+        tally,
+        ended(rt, alloc, basin, spilt, 0, (20, 1100, 5)),
+    );
     assert!(rt; is_summed(alloc, basin, tally, SUMMARY));
 }
 
@@ -118,7 +121,10 @@ step,stamp,Dam.Inflow,Dam.Outflow,Dam.Storage
 ";
 
 fn has_section(rt: &impl Abort, alloc: Global, basin: &Basin) -> bool {
-    let spilt = ended(rt, alloc, basin, RunEnd::Fault(SPILLS), (20, 1100, 5));
+    let spilt = ended(rt, alloc, basin, RunEnd::Fault(SPILLS), 0, (20, 1100, 5));
+    if basin.control().stamps.count() < spilt.closed {
+        return false;
+    }
     match trace_section(alloc, basin, 4, spilt) {
         Ok(text) => has_bytes(&text, SECTION),
         Err(_) => false,
