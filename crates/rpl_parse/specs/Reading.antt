@@ -232,13 +232,13 @@ module _ (inner : ℕ → List Tok → Read) (d : ℕ) where
   climbed j (suc n) r = climbed (j + 1) n (r >>= rise (j + 1))
 
 -- an expression may begin at the level: its word stands first, or it is the tightest
-abbrev pub IsStart : ℕ → List Tok → Type 0
-IsStart k ts = (k ≡ 0) ⊎ IsSomeAnd (prefix_of k) (λ w. IsSome (behind (mark_of_one w) ts))
+abbrev pub MayBegin : ℕ → List Tok → Type 0
+MayBegin k ts = (k ≡ 0) ⊎ IsSomeAnd (prefix_of k) (λ w. IsSome (behind (mark_of_one w) ts))
 
 -- of the levels up to k an expression begins at this one: no word of one above it stands first
 pub record StartsAt (k : ℕ) (ts : List Tok) (start : ℕ) : Type 0 where
   pub up_to : start ≤ k
-  pub is : IsStart start ts
+  pub is : MayBegin start ts
   pub bare : (j : ℕ) → start < j → j ≤ k → IfSome (prefix_of j) (λ w. behind (mark_of_one w) ts ≡ None)
 
 -- an expression of a level that is at most so deep

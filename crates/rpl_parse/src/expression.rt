@@ -2,7 +2,7 @@
 ghost use Rattle.std.specs.Prelude.{◌≡◌, ◌≤◌, ◌<◌, ◌+◌, ◌-◌, ◌++◌, ◌∷◌, [], IfOk, IfErr, OnOk, length, map, option_map, option_and_then, max, Some};
 ghost use Rattle.rw_base.specs.declared.limits.TheConstants.{DEPTH_MAX};
 ghost use Rattle.rpl_tree.specs.Seen.{tree_of};
-ghost use Rattle.rpl_parse.specs.Reading.{read_tree, level, prim, number_with_unit, opened, named, args, slots, braces, IsStart, StartsAt, climbed, rise, in_brackets, choices, loops, maps, word_of_one, word_of_two, converts, steps, chain, behind, name_before, turns_of, up_to, binds, got, many, items, some_items};
+ghost use Rattle.rpl_parse.specs.Reading.{read_tree, level, prim, number_with_unit, opened, named, args, slots, braces, MayBegin, StartsAt, climbed, rise, in_brackets, choices, loops, maps, word_of_one, word_of_two, converts, steps, chain, behind, name_before, turns_of, up_to, binds, got, many, items, some_items};
 ghost use Rattle.rpl_parse.specs.Gives.{GivesExpression, GivesMany};
 ghost use Rattle.rpl_parse.specs.Tokens.{toks, bytes_in};
 
@@ -83,7 +83,7 @@ fn begun<'a>(
     k: u8,
 ) -> Result<(Expr, u8, &'a [TokenAt]), Stop>
     requires limit { depth < DEPTH_MAX }
-    requires start { IsStart k (toks text.now tokens.now) }
+    requires start { MayBegin k (toks text.now tokens.now) }
     ensures { GivesExpression text.now (depth + 1) result (level (read_tree depth) depth k
         (toks text.now tokens.entry.now)) }
 {
