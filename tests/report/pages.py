@@ -400,6 +400,14 @@ def long_run(folder: Path, objects: int, days: int) -> list[Path]:
     return paths
 
 
+def opened(browser: Browser, page: Path, address: str) -> float:
+    """How many seconds a page takes until it can be used; of several the least counts on a machine that does more."""
+    browser.driver.get("about:blank")
+    began = monotonic()
+    browser.open(page, address)
+    return monotonic() - began
+
+
 def of_long(folder: Path, pictures: Path | None) -> Iterator[Outcome]:
     """Ten years of days and a hundred objects: the page's size, and how long it takes until it can be used."""
     page = folder / "long.html"
@@ -407,11 +415,7 @@ def of_long(folder: Path, pictures: Path | None) -> Iterator[Outcome]:
     size = page.stat().st_size
     yield f"long: {size:,} bytes", None if size <= SMALL else "too large"
     with Browser() as browser:
-        browser.open(page)  # so that the browser itself has begun
-        began = monotonic()
-        browser.open(page, "#slot=Dam50.Outflow&step=3000")
-        browser.driver.refresh()
-        taken = (monotonic() - began) / 2
+        taken = min(opened(browser, page, f"#slot=Dam50.Outflow&step={step}") for step in (3000, 3001, 3002))
         yield f"long: opens in {taken:.1f} s", None if taken <= QUICK else "too slow"
         told = browser.text("#why")
         yield "long: what is left out is said", None if "Who put what is told here" in told or "set" in told else told
