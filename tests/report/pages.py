@@ -352,6 +352,25 @@ def of_faults(folder: Path) -> Iterator[Outcome]:
             yield f"{name}: console", f"{complaints}" if complaints else None
 
 
+def of_denials(folder: Path) -> Iterator[Outcome]:
+    """A rule that a higher one denies: the page says so, or that the program doesn't tell it."""
+    files = [TOP / "tests/language/confirms" / name for name in ("model.toml", "policy.rpl", "inputs.csv")]
+    page = folder / "denials.html"
+    yield "denials: page", reported(files, page)
+    is_asked = asked_run("run", *files)[1]
+    with Browser() as browser:
+        browser.open(page, "#slot=Lower.Outflow&step=2")
+        told = [one.text.split(". It looked at")[0].replace("\n", " ") for one in browser.all("#why > ol > li")]
+        wanted = ['rule 3 "pass on" set 50 m3/step (R3)', 'rule 2 "least" set 50 m3/step (R2), which holds']
+        if is_asked:
+            wanted.append('rule 3 "pass on" wanted 100 m3/step (R3) and was denied: 50 of rule 2 "least" (R2) is held')
+        yield "denials: why", None if told == wanted else f"{told}"
+        note = "no --asked" in browser.text("#why")
+        yield "denials: note", None if note != is_asked else "says nothing of --asked, or too much"
+        found = browser.text("#effects")
+        yield "denials: effects", None if "so what it put later was denied, in 3 timesteps" in found else found
+
+
 def of_hostile(folder: Path) -> Iterator[Outcome]:
     """Names that a browser might obey are texts."""
     rule = HOSTILE.replace('"', "'")
@@ -441,7 +460,7 @@ def main() -> int:
         if pictures:
             pictures.mkdir(exist_ok=True)
         tests = [of_example(shown_of(example, folder), pictures) for example in EXAMPLES]
-        tests += [of_faults(folder), of_hostile(folder), of_long(folder, pictures)]
+        tests += [of_faults(folder), of_denials(folder), of_hostile(folder), of_long(folder, pictures)]
         for outcomes in tests:
             for what, wrong in outcomes:
                 passed, failed = (passed + 1, failed) if wrong is None else (passed, failed + 1)
