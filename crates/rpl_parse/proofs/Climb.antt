@@ -31,7 +31,8 @@ module _ (inner : ℕ → List Tok → Read) (d : ℕ) where
   above_by m k ts is bare =
       subst (λ n. IsBare n ts → level inner d n ts ≡ (level inner d k ts >>= rise inner d n)) (sym is) (above k ts) bare
 
-  climbs : (n j : ℕ) (ts : List Tok) → ((i : ℕ) → j < i → i ≤ j + n → IsBare i ts) → level inner d (j + n) ts ≡ climbed inner d j n (level inner d j ts)
+  climbs : (n j : ℕ) (ts : List Tok) → ((i : ℕ) → j < i → i ≤ j + n → IsBare i ts) → level inner d (j + n) ts ≡ climbed inner d j n
+      (level inner d j ts)
   unfolding climbed
   climbs zero j ts bare = ap (λ m. level inner d m ts) (omega arith)
   climbs (suc n) j ts bare =

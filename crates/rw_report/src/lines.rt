@@ -1,4 +1,4 @@
-ghost use Rattle.std.specs.Prelude.{◌≡◌, ◌≤◌, ◌<◌, ◌++◌, IsAscii, OnOk, Some, slice_get, string_bytes, codes, drop, length};
+ghost use Rattle.std.specs.Prelude.{◌≡◌, ◌≤◌, ◌<◌, ◌+◌, ◌++◌, IsAscii, OnOk, Some, slice_get, string_bytes, codes, drop, length};
 ghost use Rattle.std.specs.Fmt.{decimal};
 ghost use Rattle.rw_run.specs.declared.trace.TraceEvent.TheVariants as TraceEvent;
 ghost use Rattle.rw_run.specs.Trace.{lines_in};
@@ -15,7 +15,7 @@ use crate::pieces::{ROOM, push_piece, write_byte, write_count};
 use crate::told::{LineTexts, line_texts, push_object_line, push_slot_front, text_of};
 use rw_base::{NoMemory, ObjectNo, RuleNo, SlotNo, StepNo};
 use rw_model::{Basin, Content};
-use rw_run::{RunFault, Trace, TraceEvent};
+use rw_run::{RunFault, Trace, TraceEvent, Write};
 use std::alloc::Global;
 
 /// The line of a trace in a place, counted from 0.
@@ -195,11 +195,28 @@ fn push_put(
     Ok(())
 }
 
-// Appends a line of a trace, by its texts where there are any.
+// Appends the line of a put.
 #[inline(always)]
-fn push_told(
+fn push_write(
     text: &mut String,
     buffer: &mut [u8; ROOM],
+    basin: &Basin,
+    texts: &[String],
+    write: Write,
+) -> Result<(), NoMemory>
+    requires { AreTexts (slot_front basin.now) texts.now }
+    ensures { OnOk result (string_bytes text.new ≡ string_bytes text.old
+        ++ (written_words basin.now write.cell.slot.0 write.cell.step.0 write.content
+        ++ codes "\n")) }
+{
+    push_front(text, basin, texts, write.cell.slot)?;
+    push_put(text, buffer, write.cell.step, write.content)?;
+    Ok(())
+}
+
+// Appends a line of a trace, by its text where there is one.
+fn push_told(
+    text: &mut String,
     basin: &Basin,
     texts: &LineTexts,
     line: TraceEvent,
@@ -219,16 +236,29 @@ fn push_told(
         TraceEvent::Solve(object) => {
             push_listed(text, basin, texts.solve.as_slice(), "solve ", object)
         }
-        TraceEvent::Written {
-            slot,
-            step,
-            content,
-        } => {
-            push_front(text, basin, texts.written.as_slice(), slot)?;
-            push_put(text, buffer, step, content)?;
-            Ok(())
-        }
         _ => push_ended(text, basin, line),
+    }
+}
+
+// Appends the line in a place. Most lines are of puts, and of such a line no more than the put is read.
+#[inline(always)]
+fn push_at(
+    text: &mut String,
+    buffer: &mut [u8; ROOM],
+    basin: &Basin,
+    texts: &LineTexts,
+    trace: &Trace,
+    place: usize,
+) -> Result<(), NoMemory>
+    requires within { place < length (lines_in trace.now) }
+    requires texts { AreLineTexts basin.now texts.now }
+    ensures { OnOk result (string_bytes text.new
+        ++ lines_words basin.now (drop (place + 1) (lines_in trace.now))
+        ≡ string_bytes text.old ++ lines_words basin.now (drop place (lines_in trace.now))) }
+{
+    match trace.written(place) {
+        Some(write) => push_write(text, buffer, basin, texts.written.as_slice(), write),
+        None => push_told(text, basin, texts, line_at(trace, place)),
     }
 }
 
@@ -244,7 +274,7 @@ fn push_lines(
 {
     let mut buffer = [0; ROOM];
     for place in 0..trace.len() {
-        push_told(text, &mut buffer, basin, texts, line_at(trace, place))?;
+        push_at(text, &mut buffer, basin, texts, trace, place)?;
     }
     Ok(())
 }
