@@ -1,2 +1,3 @@
 pub mod FirstCall
 pub mod Alike
+pub mod Books
