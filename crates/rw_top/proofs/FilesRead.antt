@@ -106,9 +106,9 @@ all_read command holds now same basin behind cell text model others finds =
     }
 
 -- what is seen of something is there with it
-pub some_kept : {A B : Type 0} {f : A → B} (kept : Option A) → IsSome (option_map f kept) → IsSome kept
-some_kept None some = absurd cc
-some_kept (Some x) some = refl
+pub some_kept : {A B : Type 0} (f : A → B) (kept : Option A) → IsSome (option_map f kept) → IsSome kept
+some_kept f None some = absurd cc
+some_kept f (Some x) some = refl
 
 -- a text that is wanted is there
 pub text_there : (wants : Bool) (text : List ℕ) (kept : Option (List ℕ)) → kept ≡ (if wants then Some text else None) → IsTrue wants → IsSome kept

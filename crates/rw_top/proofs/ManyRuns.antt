@@ -1,8 +1,8 @@
 -- Runs of scenarios, one after another, and the summary of all.
-use Rattle.rw_top.proofs.Common.{Change, FilesRead, GrowsBy, GrowsBy-trans, IsSomeAnd, List, None, Option, PrefixGrew, PrefixGrew-right, Refusal}
+use Rattle.rw_top.proofs.Common.{Change, Err, MatchResult, Ok, Result, FilesRead, GrowsBy, GrowsBy-trans, IsSomeAnd, List, None, Option, PrefixGrew, PrefixGrew-right, Refusal}
 use Rattle.rw_top.proofs.Common.{Rose, RunEnd, Settled, Fault, SinkView, Some, [], ap, ap₂, arith, change, inl, inr, length, refl, subst, sym}
 use Rattle.rw_top.proofs.Common.{take_all, true, false, zero, suc, ℕ, ◌++◌, ◌+◌, ◌∙◌, ◌∷◌, ◌≡◌, ◌≤◌, ◌<◌, if◌then◌else◌}
-use Rattle.rw_base.proofs.Common.{Bool, append-nil, append_assoc, length-append, length-map, length-take-le, map, map-append, take, take_more, get_or}
+use Rattle.rw_base.proofs.Common.{Bool, append-nil, append_assoc, length-append, length-map, length-take-le, map, map-append, get_or, take, take_more}
 use Rattle.rw_model.proofs.Common.{Draft}
 use Rattle.rw_inputs.specs.Edits.{Batch}
 use Rattle.rw_inputs.specs.Inputs.{Inputs}
@@ -38,7 +38,8 @@ joined_more (first ∷ texts) text =
 
 texts_more : (basin : Draft) (number : ℕ) (logs : List Log) (log : Log) → scenario_texts basin number (logs ++ log ∷ [])
     ≡ scenario_texts basin number logs ++ trace_of_run basin (number + length logs) (outcome_by basin log) ∷ []
-texts_more basin number [] log = refl
+texts_more basin number [] log =
+    let same : number ≡ number + 0 = omega arith in ap (λ n. trace_of_run basin n (outcome_by basin log) ∷ []) same
 texts_more basin number (first ∷ logs) log =
     let same : number + 1 + length logs ≡ number + suc (length logs) = omega arith in
     ap (λ texts. trace_of_run basin number (outcome_by basin first) ∷ texts)
@@ -124,7 +125,7 @@ module _ (basin : Draft) (policy : Rules) (inputs : Inputs) (batches : List Batc
   }
 
   module _ (count : ℕ) (old now after : SinkView) (tally : Tally) (status : ℕ) (so_far : WritesScenarios basin policy inputs batches count (change old now) tally status)
-      (within : count < length batches) (batch : Batch) (there : (d : Batch) → get_or batches count d ≡ batch) where
+      (within : count < length batches) (batch : Batch) (there : batch ≡ get_or batches count batch) where
     abbrev logs : List Log
     logs = so_far.logs
 
@@ -135,7 +136,7 @@ module _ (basin : Draft) (policy : Rules) (inputs : Inputs) (batches : List Batc
         → AreScenarioRuns basin policy inputs (take (count + 1) batches) (logs ++ log ∷ [])
     one_more log is =
         subst (λ bs. AreScenarioRuns basin policy inputs bs (logs ++ log ∷ []))
-        (ap (λ b. take count batches ++ b ∷ []) (sym (there batch)) ∙ sym (take_more batches count batch within))
+        (ap (λ b. take count batches ++ b ∷ []) there ∙ sym (take_more batches count batch within))
         (runs_more basin policy inputs (take count batches) logs batch log so_far.are is)
 
     text_more : (log : Log) → joined_sections (scenario_texts basin 1 (logs ++ log ∷ []))
@@ -187,9 +188,13 @@ module _ (basin : Draft) (policy : Rules) (inputs : Inputs) (batches : List Batc
         record {
           done = scenario_texts basin 1 logs;
           text = trace_of_run basin (count + 1) (outcome_by basin log);
-          are = inl (count + 1, logs ++ log ∷ [], one_more log (its_log basin policy inputs batch stops.0 stops.1),
-              sym (texts_more basin 1 logs log
-              ∙ ap (λ n. scenario_texts basin 1 logs ++ trace_of_run basin n (outcome_by basin log) ∷ []) at));
+          are = inl (
+            count + 1,
+            logs ++ log ∷ [],
+            one_more log (its_log basin policy inputs batch stops.0 stops.1),
+            sym (texts_more basin 1 logs log
+                ∙ ap (λ n. scenario_texts basin 1 logs ++ trace_of_run basin n (outcome_by basin log) ∷ []) at),
+          );
           grew = PrefixGrew-right old.contents now.contents after.contents (joined_sections (scenario_texts basin 1 logs))
               (trace_of_run basin (count + 1) (outcome_by basin log)) so_far.grew
               (subst (λ t. PrefixGrew now.contents after.contents t) (its_text basin (count + 1) log stops.0 its) stops.2);
@@ -204,7 +209,7 @@ module _ (basin : Draft) (policy : Rules) (inputs : Inputs) (batches : List Batc
     ran = all.logs
 
     every : AreScenarioRuns basin policy inputs batches ran
-    every = subst (λ bs. AreScenarioRuns basin policy inputs bs ran) (take_all batches) all.are
+    every = subst (λ bs. AreScenarioRuns basin policy inputs bs ran) (take_all (length batches) batches (omega arith)) all.are
 
     whole : joined_sections (many_texts basin ran) ≡ joined_sections (scenario_texts basin 1 ran) ++ text
     whole = joined_more (scenario_texts basin 1 ran) (summary_of basin (map (ended_by basin) ran))
@@ -260,3 +265,9 @@ module _ (files : FilesRead) (policy : Rules) (inputs : Inputs) (scenarios : Lis
       pieces_stopped Mrm extras files out (AreFirstPieces files.basin policy inputs (scenarios_in files)) (inr refl)
       (λ texts are. of_both files policy inputs has_policy has_inputs (λ p i. AreFirstPieces files.basin p i (scenarios_in files) texts) are) why
       (subst (λ bs. StopsAmongPieces (AreFirstPieces files.basin policy inputs bs) (length bs) out why) (sym has_scenarios) stops)
+
+  pub many_done : (result : Result ℕ Refusal) → MatchResult result (AppendsMany files.basin policy inputs scenarios out)
+      (StopsAmongPieces (AreFirstPieces files.basin policy inputs scenarios) (length scenarios) out)
+      → MatchResult result (Appends Mrm extras files out) (Stops Mrm extras files out)
+  many_done (Ok status) all = many_appended status all
+  many_done (Err why) stops = many_stopped why stops

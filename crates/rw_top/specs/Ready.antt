@@ -64,7 +64,6 @@ pub record AreReady (job : Job) (files : Files) : Type 0 where
   pub policy : IsSome (place_among (files_of job) Policy) → IsSomeAnd files.policy (IsFit files.basin)
   pub inputs : IsSome (place_among (files_of job) Inputs) → IsSomeAnd files.inputs (IsInputsOf files.basin)
   pub edits : IfSome files.edits (λ batches. AreEdits files.basin batches.items)
-  pub scenarios : IsSome (place_among (files_of job) Traces)
-      → IsSomeAnd files.scenarios (λ batches. AreEdits files.basin batches.items)
+  pub scenarios : IfSome files.scenarios (λ batches. AreEdits files.basin batches.items)
   pub cell : IsTrue (seeks_cell job) → IsSomeAnd files.cell (λ cell. IsSlot files.basin.objects cell.slot.0)
   pub text : IsTrue (wants_text job) → IsSome files.text

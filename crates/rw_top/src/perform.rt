@@ -232,11 +232,11 @@ fn write_made<K: Sink>(
     }
 }
 
-// The batches of edits, where there are any.
-fn batches_of(edits: &Option<Vec<Batch>>) -> &[Batch]
-    ensures { result.now ≡ unwrap_or (option_map (λ batches. batches.items) edits.now) [] }
+// The batches of a file, where there is one.
+fn batches_of(read: &Option<Vec<Batch>>) -> &[Batch]
+    ensures { result.now ≡ unwrap_or (option_map (λ batches. batches.items) read.now) [] }
 {
-    match edits {
+    match read {
         Some(batches) => batches,
         None => &[],
     }
@@ -358,9 +358,6 @@ fn many<K: Sink, L: Ledger>(
     let Some(inputs) = inputs else {
         unreachable!();
     };
-    let Some(scenarios) = scenarios else {
-        unreachable!();
-    };
     let by = match code_of(alloc, policy, &basin) {
         Ok(by) => by,
         Err(NoMemory) => return Err(Refusal::NoMemory),
@@ -371,7 +368,7 @@ fn many<K: Sink, L: Ledger>(
         policy: &by,
         predefs,
     };
-    write_many(alloc, &setup, &inputs, &scenarios, steps, out)
+    write_many(alloc, &setup, &inputs, batches_of(&scenarios), steps, out)
 }
 
 // Writes the text of a job by what its files say, and answers the status of that.

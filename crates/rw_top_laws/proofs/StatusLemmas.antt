@@ -21,7 +21,7 @@ use Rattle.rw_inputs.specs.Edits.{Batch}
 use Rattle.rw_run.specs.Log.{Log}
 use Rattle.rw_run.specs.RunOf.{end_of}
 use Rattle.rw_mrm.specs.Tally.{is_settled}
-use Rattle.rw_base.proofs.Common.{Bool, if◌then◌else◌, none-some, same_Some, subst, unwrap_or}
+use Rattle.rw_base.proofs.Common.{All-cons, All-head, All-nil, All-tail, if◌then◌else◌, none-some, same_Some, subst, unwrap_or}
 use Rattle.rw_top.proofs.SampleText.{inputs_of_sample, model_of_sample, ruleset_of_sample, source_by}
 use Rattle.rw_top.specs.Sections.{AreSections, joined_sections}
 use Rattle.rw_top.specs.Written.{WritesSections, batches_in, scenarios_in}
@@ -53,16 +53,20 @@ ended : (log : Log) (end : RunEnd) → end_of log ≡ end → (rest : ℕ) → 0
 ended log Settled is rest status = (is, status)
 ended log (Fault why) is rest status = absurd (omega (arith, status))
 
+abbrev HasSettled : Log → Type 0
+HasSettled log = end_of log ≡ Settled
+
 all_settled : (logs : List Log) → 0 ≡ status_of_runs logs → AllSettled logs
-all_settled [] status = tt
+all_settled [] status = All-nil HasSettled
 all_settled (log ∷ logs) status =
-    let both = ended log (end_of log) refl (status_of_runs logs) status in (both.0, all_settled logs both.1)
+    let both = ended log (end_of log) refl (status_of_runs logs) status in All-cons HasSettled log logs both.0 (all_settled logs both.1)
 
 -- and one of 1 isn't
 some_faulted : (logs : List Log) → 1 ≡ status_of_runs logs → AllSettled logs → ⊥
 some_faulted [] status all = absurd (omega (arith, status))
 some_faulted (log ∷ logs) status all =
-    some_faulted logs (subst (λ end. 1 ≡ (if is_settled end then status_of_runs logs else 1)) all.0 status) all.1
+    some_faulted logs (subst (λ end. 1 ≡ (if is_settled end then status_of_runs logs else 1)) (All-head HasSettled log logs all) status)
+    (All-tail HasSettled log logs all)
 
 module _ (call : Call) (command : Command) (asked : AskForCommand call.words command) (files : FilesRead)
     (read : AreRead command call.shelf.before.holds files) (texts : List (List ℕ))

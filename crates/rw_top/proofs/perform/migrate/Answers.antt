@@ -5,4 +5,4 @@ use Rattle.rw_top.proofs.perform.migrate.Goals as goal
 pub returns : goal.returns
 returns c = λ extras.
     one_migrated extras (files_seen c.args.files.now) c.in-Some.text.items _ (ap (option_map (λ bytes. bytes.items)) c.in-Some.is)
-    c.in_ok-migrated_text.ensures
+    (rw c.deref.ensures.value at c.in_ok-migrated_text.ensures)
