@@ -16,3 +16,6 @@ pub mod SameValues
 pub mod FewBatches
 pub mod WhyText
 pub mod SampleText
+pub mod BalanceText
+pub mod MigratedText
+pub mod ManyRuns

@@ -79,7 +79,7 @@ sample_by outcomes basin policy inputs seed run text comes kept is = record {
 }
 
 -- of the files of a command
-of_both : (files : FilesRead) (policy : Rules) (inputs : Inputs) → files.policy ≡ Some policy → files.inputs ≡ Some inputs
+pub of_both : (files : FilesRead) (policy : Rules) (inputs : Inputs) → files.policy ≡ Some policy → files.inputs ≡ Some inputs
     → (P : Rules → Inputs → Type 0) → P policy inputs → OfBoth files P
 of_both files policy inputs has_policy has_inputs P is =
     subst (λ o. IsSomeAnd o (λ p. IsSomeAnd files.inputs (P p))) (sym has_policy) (subst (λ o. IsSomeAnd o (P policy)) (sym has_inputs) is)

@@ -26,6 +26,7 @@ use Rattle.rw_report.specs.Outcome.{outcome_by}
 use Rattle.rw_base.specs.declared.number.Cell.{Cell}
 use Rattle.rw_report.specs.Whole.{whole_of}
 use Rattle.rw_report.specs.Why.{why_of}
+use Rattle.rw_books.specs.Text.{balance_of_run}
 use Rattle.rpl_tree.specs.Budget.{Budget}
 use Rattle.rpl_verify.specs.Budget.{AreAccepted}
 use Rattle.rpl_policy.specs.Firings.{AreVerified}
@@ -75,6 +76,13 @@ pub record IsWhyText (basin : Draft) (policy : Policy) (inputs : Inputs) (cell :
   pub run : IsRun basin policy (placings basin inputs) log
   pub end_is : end ≡ end_of log
   pub text_is : text ≡ why_of basin inputs (outcome_by basin log) cell
+
+-- the books of water of that run, and how it ends
+pub record IsBalanceText (basin : Draft) (policy : Policy) (inputs : Inputs) (end : RunEnd) (text : List ℕ) : Type 0 where
+  pub log : Log
+  pub run : IsRun basin policy (placings basin inputs) log
+  pub end_is : end ≡ end_of log
+  pub text_is : text ≡ balance_of_run basin (outcome_by basin log)
 
 -- ---- by the policy of a file
 
@@ -133,6 +141,11 @@ CountsSections basin policy inputs batches steps =
 -- how a cell came to what it holds in the run by it, in which each firing is verified
 pub record IsWhyOfRules (basin : Draft) (policy : Rules) (inputs : Inputs) (cell : Cell) (end : RunEnd) (text : List ℕ) : Type 0 where
   pub run_text : IsWhyText basin (policy_in_run basin policy) inputs cell end text
+  pub verified : IsVerifiedRun basin policy run_text.log
+
+-- the books of the run by it, in which each firing is verified
+pub record IsBalanceOfRules (basin : Draft) (policy : Rules) (inputs : Inputs) (end : RunEnd) (text : List ℕ) : Type 0 where
+  pub run_text : IsBalanceText basin (policy_in_run basin policy) inputs end text
   pub verified : IsVerifiedRun basin policy run_text.log
 
 -- ---- the sample

@@ -5,6 +5,7 @@
 //! runs by a policy each firing is one of verified code, within its budget. Every other status has its cause, and one line that says so.
 #![tactic(auto)]
 
+mod balance;
 mod cell;
 mod check;
 mod coded;
@@ -14,6 +15,8 @@ mod extras;
 mod fault_words;
 mod files;
 mod judging;
+mod many;
+mod migrate;
 mod perform;
 mod policy;
 mod refusal;
