@@ -24,7 +24,7 @@ use Rattle.rw_top.specs.declared.extras.Extras.{Extras}
 -- ---- its files
 
 -- where the text of a file comes from, by the job and the words
-abbrev source_by : File → List (List ℕ) → Job → Option Source
+abbrev pub source_by : File → List (List ℕ) → Job → Option Source
 source_by file paths job = option_map (λ place. source_at job paths place) (place_among (files_of job) file)
 
 -- what was read of a file of the sample is its text

@@ -2,6 +2,7 @@
 use Rattle.std.specs.Prelude.{◌≡◌, ◌⊎◌, ℕ, ◌+◌, if◌then◌else◌, List, [], ◌∷◌, ◌++◌, map, take, ⊤}
 use Rattle.rw_io.specs.Known.{GrowsBy}
 use Rattle.rw_io.specs.Outside.{Change, SinkView}
+use Rattle.std.specs.List.{All}
 use Rattle.rw_model.specs.Draft.{Draft}
 use Rattle.rw_inputs.specs.Edits.{Batch, after_batch}
 use Rattle.rw_inputs.specs.Inputs.{Inputs, value_at}
@@ -9,6 +10,7 @@ use Rattle.rw_inputs.specs.Placings.{placings}
 use Rattle.rw_run.specs.Log.{Log, cells_of}
 use Rattle.rw_run.specs.RunOf.{end_of}
 use Rattle.rw_run.specs.Runs.{IsRun}
+use Rattle.rw_run.specs.declared.run.RunEnd.TheVariants.{Settled}
 use Rattle.rw_report.specs.Outcome.{outcome_by}
 use Rattle.rw_report.specs.Whole.{trace_of_run}
 use Rattle.rw_mrm.specs.Summary.{Ended, summary_of}
@@ -47,6 +49,10 @@ ended_by basin log = record { settled = is_settled (end_of log); cells = cells_o
 -- the section of each, and the summary of all
 abbrev pub many_texts : Draft → List Log → List (List ℕ)
 many_texts basin logs = scenario_texts basin 1 logs ++ summary_of basin (map (ended_by basin) logs) ∷ []
+
+-- all of them settled
+abbrev pub AllSettled : List Log → Type 0
+AllSettled logs = All (λ log. end_of log ≡ Settled) logs
 
 -- 0 where all settled, and 1 where one ended in a fault
 abbrev pub status_of_runs : List Log → ℕ
