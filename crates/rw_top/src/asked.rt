@@ -136,7 +136,6 @@ pub(crate) fn asked_of_newest(
         inputs.now pair.1 pair.0.items) }
 {
     same_asks();
-    same_runs();
     texts_of_runs();
     let run = run_any(alloc, setup.basin, setup.methods, inputs, &Newest)?;
     let text = text_of_run(alloc, setup, extras, 0, inputs, &run)?;

@@ -47,12 +47,12 @@ fn write_asked<K: Sink, L: Ledger>(
         number (record { before = before; inputs = inputs.now })
         (change (K.seen out.old) (K.seen out.new))) }
 {
-    let (text, end) = match asked_by_code(alloc, setup, extras, number, inputs, steps) {
-        Ok(pair) => pair,
+    let told = match asked_by_code(alloc, setup, extras, number, inputs, steps) {
+        Ok(told) => told,
         Err(NoMemory) => return Err(Refusal::NoMemory),
     };
-    match write_all(out, &text) {
-        Ok(()) => Ok(end),
+    match write_all(out, &told.0) {
+        Ok(()) => Ok(told.1),
         Err(WriteFault) => Err(Refusal::CannotWrite),
     }
 }
