@@ -16,6 +16,8 @@ mod kept;
 #[cfg(test)]
 mod kinds;
 #[cfg(test)]
+mod many;
+#[cfg(test)]
 mod methods;
 #[cfg(test)]
 mod objects;

@@ -260,6 +260,20 @@ pub(crate) fn runs_by(
     )
 }
 
+/// Whether `migrate` writes another model, with which `simulate` comes to what is wanted.
+pub(crate) fn migrates(alloc: Global, want: Simulation<'_>) -> Result<bool, NoMemory> {
+    let words = owned(alloc, &["migrate", "m.toml"])?;
+    let mut ends = ends_of(
+        alloc,
+        files(alloc, want.model, want.inputs)?,
+        Failing::Nothing,
+    )?;
+    let status = call(alloc, &all_methods(alloc)?, &words, &mut ends)?;
+    let model = ends.out.held();
+    let again = Simulation { model, ..want };
+    Ok(status == 0 && model != want.model && simulates(alloc, Failing::Nothing, again)?)
+}
+
 /// Whether `simulate` comes to what is wanted.
 pub(crate) fn simulates(
     alloc: Global,

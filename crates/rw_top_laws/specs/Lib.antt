@@ -1,3 +1,3 @@
 pub mod FirstCall
 pub mod Alike
-pub mod SureCall
+pub mod Books
