@@ -13,9 +13,7 @@ use crate::policy::Policy;
 use rpl_compile::accepted::compiled_budgets;
 use rpl_compile::compile;
 use rpl_policy::law::firings_are_verified;
-use rpl_rulesets::law::{
-    firings_of_rules_are_verified, rules_keep_promises, rulesets_have_runs,
-};
+use rpl_rulesets::law::{firings_of_rules_are_verified, rules_keep_promises, rulesets_have_runs};
 use rpl_types::Typed;
 use rpl_types::law::accepted;
 use rpl_verify::Verified;
