@@ -8,6 +8,8 @@ from typing import Literal
 import numpy as np
 import pandas as pd
 
+from basin_files.asking import FATES, Asked, told_by
+
 from .errors import Error, Fault
 from .files import Model, Policy
 from .tables import UNKNOWN, Section, Whole, as_floats, numbers
@@ -20,8 +22,9 @@ LABEL = "begin of the timestep; what is stored or high is as at its end"
 class Answer:
     """A run: its table by the begin of each timestep, and the fault that ended it, or `None`.
 
-    Where they were asked for: the flags of the cells, the lines of the trace, and the timesteps that were run
-    again. `number` counts batches from 0 and traces from 1; `name` is that of the trace.
+    Where they were asked for: the flags of the cells, the lines of the trace, the puts that rules and objects
+    asked for, and the timesteps that were run again. `number` counts batches from 0 and traces from 1; `name` is
+    that of the trace.
     """
 
     number: int
@@ -31,6 +34,7 @@ class Answer:
     flags: pd.DataFrame | None = None
     trace: list[str] = field(default_factory=list)
     reran: list[int] | None = None
+    asked: pd.DataFrame | None = None
 
     @property
     def units(self) -> dict[str, str]:
@@ -103,6 +107,37 @@ def answer_of(model: Model, policy: Policy | None, section: Section, form: Numbe
     if section.fault:
         answer.fault = fault_of(model, policy, section.fault, answer)
     return answer
+
+
+def asked_of(model: Model, policy: Policy | None, trace: list[str]) -> pd.DataFrame:
+    """Each put that a trace tells of, in order: who asked for it when, the cell, its fate, and what was held before.
+
+    Fates are written, kept, denied, again and late; a put that was late has no time.
+    """
+    rows: list[tuple[object, ...]] = []
+    puts: list[Asked] = []
+    step, by, rule = 0, "", 0
+    for line in trace:
+        if line.startswith("  "):
+            if told_by(line, puts):
+                rows.append((step, by, rule or pd.NA, rule_name(policy, model, rule) if policy and rule else ""))
+            continue
+        word, *rest = line.split()
+        if word == "open":
+            step = int(rest[0])
+        elif word in ("solve", "fire"):
+            by, rule = ("rule", int(rest[0])) if word == "fire" else (rest[0], 0)
+    frame = pd.DataFrame(rows, columns=["step", "by", "rule", "name"]).astype({"step": np.int64, "rule": "Int64"})
+    index = model.index()
+    frame["slot"] = [put.slot for put in puts]
+    frame["at"] = [put.step for put in puts]
+    frame["time"] = [index[put.step - 1] if put.step <= len(index) else pd.NaT for put in puts]
+    frame["fate"] = pd.Categorical([put.fate for put in puts], categories=FATES)
+    frame["value"] = pd.array([put.value for put in puts], dtype="Int64")
+    frame["flag"] = [put.flag for put in puts]
+    frame["held"] = pd.array([put.held[0] if put.held else pd.NA for put in puts], dtype="Int64")
+    frame["held_flag"] = [put.held[1] if put.held else "" for put in puts]
+    return frame
 
 
 def fault_of(model: Model, policy: Policy | None, words: str, answer: Answer | None = None) -> Fault:

@@ -17,8 +17,8 @@ from basin_rules import effects as of_rules
 from basin_rules.policy import read_policy
 
 from . import process
-from .answers import Answer, Book, Cell, Effects, Numbers, Traces, answer_of, book_of, cell_of
-from .errors import Error
+from .answers import Answer, Book, Cell, Effects, Numbers, Traces, answer_of, asked_of, book_of, cell_of
+from .errors import Error, Refused
 from .files import Model, Policy
 from .inputs import Inputs, inputs_of
 from .process import PathLike
@@ -122,7 +122,7 @@ def run(
     """A run as an `Answer`. With `edits` a list of them: the run from the inputs, and one after each batch.
 
     `edits` is a path, a frame (batch, slot, step or time, value; a missing value takes away), or frames with
-    slots by columns. `Fault` where a run ends in one; with `errors="keep"` it is kept in its answer.
+    slots by columns. `asked` wants `trace`, and goes without `reuse`. `Fault` where a run ends in one; with `errors="keep"` it is kept in its answer.
     """
     asked_for = {"--reuse": reuse, "--flags": flags, "--trace": trace, "--asked": asked}
     words = ["run", *(word for word, wanted in asked_for.items() if wanted)]
@@ -139,13 +139,14 @@ def simulate(
     *,
     flags: bool = False,
     trace: bool = False,
+    asked: bool = False,
     order: Literal["oldest", "newest"] | None = None,
     numbers: Numbers = "float",
     errors: Errors = "raise",
     program: PathLike | None = None,
 ) -> Answer:
     """A run without rules. `order` says which of several objects that wait is dispatched first."""
-    asked_for = {"--flags": flags, "--trace": trace, f"--order={order}": order is not None}
+    asked_for = {"--flags": flags, "--trace": trace, "--asked": asked, f"--order={order}": order is not None}
     words = ["simulate", *(word for word, wanted in asked_for.items() if wanted)]
     with Files(model, None, inputs) as files:
         return _answers(files, words, numbers, errors, program)[0]
@@ -160,6 +161,8 @@ def _answers(
     with process.at_work([*words, *files.paths], program) as at_work:
         found = sections(process.output_of(at_work))
         answers = [answer_of(files.model, files.policy, section, form) for section in found]
+        for answer in answers if "--asked" in words else ():
+            answer.asked = asked_of(files.model, files.policy, answer.trace)
     for answer in answers:
         if answer.fault and errors == "raise":
             raise answer.fault
@@ -222,17 +225,30 @@ def effects(
 
 
 def _effects(files: Files, program: PathLike | None) -> of_rules.Effects:
-    """Goes through each firing of a run again, as `tools/effect` does."""
+    """Goes through each firing of a run, as `tools/effect` does."""
     assert files.inputs is not None
     model, paths = files.model.read, files.paths
-    _, text = process.answer(["run", "--trace", *paths], program)
+    text, is_asked = _traced(paths, program)
     rules = read_policy(paths[1], model)
-    code = rules.source.text if rules.code else process.answer(["compile", *paths[:2]], program)[1]
+    code = "" if is_asked or not rules.code else rules.source.text
+    if not is_asked and not rules.code:
+        code = process.answer(["compile", *paths[:2]], program)[1]
     given = read_inputs(files.inputs.content, model)
+    walk = Walk(model, blocks_of(code), given, read_sections(text)[0], is_asked)
     try:
-        return of_rules.Effects(model, rules, Walk(model, blocks_of(code), given, read_sections(text)[0]))
+        return of_rules.Effects(model, rules, walk)
     except OtherPolicy as error:
         raise Error(str(error)) from None
+
+
+def _traced(paths: list[str], program: PathLike | None) -> tuple[str, bool]:
+    """A run with its trace, and whether that tells what was asked for: an older program's doesn't."""
+    try:
+        return process.answer(["run", "--trace", "--asked", *paths], program)[1], True
+    except Refused as refused:
+        if refused.status != process.NO_SUCH_WORDS:
+            raise
+    return process.answer(["run", "--trace", *paths], program)[1], False
 
 
 def balance(

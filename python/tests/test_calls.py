@@ -178,12 +178,23 @@ def test_order_of_dispatches() -> None:
 
 
 def test_asked() -> None:
+    given = inputs(f"{INPUTS}Dam.Outflow,3-5,7\n")  # the rule wants 4
     try:
-        answer = basin.run(model(), policy(), inputs(), trace=True, asked=True)
+        answer = basin.run(model(), policy(), given, trace=True, asked=True)
     except Refused as refused:
         assert refused.status == 2
         pytest.skip("the program has no --asked")
-    assert answer.trace[0] == "open 1"
+    assert answer.trace[0] == "open 1" and answer.asked is not None
+    mine = answer.asked[answer.asked["by"] == "rule"]
+    denied = mine[mine["fate"] == "denied"]
+    assert denied.drop_duplicates()[
+        ["step", "rule", "slot", "at", "value", "flag", "held", "held_flag"]
+    ].values.tolist() == [[step, 1, "Dam.Outflow", step, 4, "R1", 7, "I0"] for step in (3, 4, 5)]
+    assert list(denied["time"].drop_duplicates()) == list(model().index()[2:5])
+    written = mine[mine["fate"] == "written"]
+    assert set(written["value"]) == {4} and len(written) == STEPS - 3
+    assert written["held"].isna().all() and set(written["name"]) == {"let out"}
+    assert basin.run(model(), policy(), given, trace=True).asked is None
 
 
 def test_balance() -> None:

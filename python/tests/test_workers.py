@@ -9,8 +9,6 @@ import subprocess
 import sys
 from pathlib import Path
 
-import nbclient
-import nbformat
 import pytest
 from distributed import Client, LocalCluster
 
@@ -89,6 +87,8 @@ def test_a_part_that_fails_each_time_stops_no_other(tmp_path: Path) -> None:
 
 
 def test_a_notebook(tmp_path: Path) -> None:
+    nbclient = pytest.importorskip("nbclient")  # for the slow ones alone
+    nbformat = pytest.importorskip("nbformat")
     told = planned(tmp_path / "a", inflows(10), size=5)
     cells = [
         f"from basin import ensemble, plot\ntold = ensemble.Plan.read({str(told.folder)!r})",

@@ -12,7 +12,9 @@ from basin_files import formats  # noqa: E402
 from basin_rules.codefile import MISFITS  # noqa: E402
 from basin_rules.judging import ORDER  # noqa: E402
 
-FILES = {"model": "model.toml", "policy": "policy.rpl", "inputs": "inputs.csv", "edits": "edits.csv"}
+FILES = {
+    "model": "model.toml", "policy": "policy.rpl", "inputs": "inputs.csv", "edits": "edits.csv", "traces": "traces.csv",
+}
 
 
 @dataclass(frozen=True)
@@ -51,7 +53,7 @@ RULES = (
 ROW = r"row \d+ column \d+: "
 ROWS = (
     f"inputs: {ROW}{one_of(formats.INPUTS_REFUSALS)}"
-    f"|edits: {ROW}{one_of(formats.INPUTS_REFUSALS | formats.EDITS_REFUSALS)}|why: no such cell"
+    f"|(?:edits|traces): {ROW}{one_of(formats.INPUTS_REFUSALS | formats.EDITS_REFUSALS)}|why: no such cell"
 )
 CODE = rf"line \d+: bad line|truncated|block \d+ place \d+: {one_of(MISFITS)}"
 # The statuses that a file can bring, with the lines that they have; a path and a key may have any bytes.
@@ -66,7 +68,11 @@ LINES = {
     }.items()
 }
 SECTIONS = re.compile(rb"# batch 0 (?:settled|fault .*)\n(?:.*\n)+")
-ENDS = re.compile(rb"^# batch \d+ (settled|fault)", re.MULTILINE)
+NUMBER = rb"-?\d+"
+BOOK = rb"\w+ (?:unknown|initial \d+ in %b out %b final \d+)\n" % (NUMBER, NUMBER)
+STATISTICS = rb"\w+\.\w+,\d+,(?:0,,,|[1-9]\d?,%b,%b,%b)\n" % (NUMBER, NUMBER, NUMBER)
+ENDS = re.compile(rb"^# (?:batch|trace) \d+ (settled|fault)", re.MULTILINE)
+SUMMARY = re.compile(rb"^# summary (\d+) of (\d+)$", re.MULTILINE)
 OUTPUTS = {
     "run": SECTIONS,
     "simulate": SECTIONS,
@@ -75,8 +81,14 @@ OUTPUTS = {
     ),
     "compile": re.compile(rb"CODE 1\n(?:(?:.*\n)*END\n)?"),
     "why": re.compile(rb"given -?\d+\n(?:.*\n)*|(?:step .*\n)*holds .*\n"),
+    "balance": re.compile(rb"# batch 0 (?:settled|fault .*)\n(?:%b)*" % BOOK),
+    "mrm": re.compile(
+        rb"(?:# trace \d+ (?:settled|fault .*)\nstep,.*\n(?:\d+,.*\n)*)*# summary \d+ of \d+\n"
+        rb"slot,step,known,min,median,max\n(?:%b)*" % STATISTICS
+    ),
+    "migrate": re.compile(rb"(?:.*\n)*?format = 2\n(?:.*\n)*"),
 }
-FAULTS = ("run", "simulate", "why")  # commands that have status 1
+FAULTS = ("run", "simulate", "why", "balance", "mrm")  # commands that have status 1
 
 
 def wrong_with(answer: Answer, command: str, greatest: int) -> str | None:
@@ -98,5 +110,17 @@ def wrong_with(answer: Answer, command: str, greatest: int) -> str | None:
         return f"status 1 of {command}"
     if not OUTPUTS[command].fullmatch(answer.output):
         return "an output of another form"
+    return wrong_with_ends(answer, command == "mrm")
+
+
+def wrong_with_ends(answer: Answer, of_all: bool) -> str | None:
+    """Whether the status isn't that of the last run, or, of many runs, that of all of them and of their summary."""
     ends = ENDS.findall(answer.output)
-    return f"status {status} where the last run isn't so" if ends and (ends[-1] == b"fault") != status else None
+    faults = ends.count(b"fault")
+    if not of_all:
+        return "the status isn't that of the last run" if ends and (ends[-1] == b"fault") != answer.status else None
+    if (faults > 0) != answer.status:
+        return "the status isn't that of all runs"
+    counts = [(len(ends) - faults, len(ends))]
+    found = [(int(settled), int(runs)) for settled, runs in SUMMARY.findall(answer.output)]
+    return None if found == counts else "the summary counts other runs"

@@ -1,4 +1,4 @@
-"""Texts at, right below and right above a limit: of models, rulesets, code, inputs and edits."""
+"""Texts at, right below and right above a limit: of models, rulesets, code, inputs, edits and traces."""
 
 from collections.abc import Callable
 
@@ -237,12 +237,12 @@ def code_of_large_numbers(draw: Draw, slot: str) -> str:
     return block(f"num {draw.choice([Q, -Q, Q + 1, 0])}", f"put {slot} {draw.choice([0, 1, 30, 31, 255, 256])}")
 
 
-# ---- inputs and edits
+# ---- inputs, edits and traces
 
 
-def many_edits(draw: Draw, slot: str) -> str:
+def many_edits(draw: Draw, slot: str, first: str = "batch") -> str:
     """64 batches, 10,000 rows, or ranges."""
-    header, way = "batch,slot,step,value\n", draw.randrange(3)
+    header, way = f"{first},slot,step,value\n", draw.randrange(3)
     if way == 0:
         return header + "".join(f"{k},{slot},1,{k}\n" for k in range(1, around(draw, 64) + 1))
     if way == 1:
@@ -250,6 +250,11 @@ def many_edits(draw: Draw, slot: str) -> str:
         return f"{header}1,{slot},1,\n" + "".join(f"{min(64, 2 + k // 200)},{slot},{1 + k % 200},{k}\n" for k in rows)
     rows = range(1, draw.choice([2, 5]))
     return header + "".join(f"{k},{slot},1-{draw.choice([1, 3, 4_096])},{draw.choice(NUMBERS)}\n" for k in rows)
+
+
+def many_traces(draw: Draw, slot: str) -> str:
+    """The same of traces."""
+    return many_edits(draw, slot, "trace")
 
 
 def many_inputs(draw: Draw, slot: str) -> str:
@@ -284,4 +289,4 @@ def of_limits(draw: Draw, text: Text) -> bytes:
     if text.sort == "policy":
         code = text.code or draw.random() < 0.4
         return draw.choice(CODES if code else RULES)(draw, slot).encode()
-    return (many_edits if text.sort == "edits" else many_inputs)(draw, slot).encode()
+    return {"edits": many_edits, "traces": many_traces}.get(text.sort, many_inputs)(draw, slot).encode()

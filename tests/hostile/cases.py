@@ -1,6 +1,6 @@
 #!/usr/bin/env python3
 """Hostile cases. `cases.py SEED NUMBER FOLDER` writes the case of that number into a folder: model.toml, policy.rpl,
-inputs.csv, edits.csv, and `args`, one word a line. It is the same each time.
+inputs.csv, edits.csv, traces.csv, and `args`, one word a line. It is the same each time.
 
 A case begins as one of the shipped examples or of tests/cases, so that its files fit one another. Then one file, seldom
 two, is spoilt (spoiling.py), or becomes a text at a limit (bombs.py).
@@ -22,7 +22,7 @@ FOLDERS = (TOP / "examples", TOP / "tests" / "cases")
 LARGEST = 200_000  # bytes of a file that is spoilt
 ACCEPTED = 4  # how often a case counts whose files are accepted, so that runs are judged, and not only refusals
 OF_CODE = 6  # how much more often one counts whose policy is code, of which there are few
-HEADERS = {"inputs": b"slot,step,value\n", "edits": b"batch,slot,step,value\n"}
+HEADERS = {"inputs": b"slot,step,value\n", "edits": b"batch,slot,step,value\n", "traces": b"trace,slot,step,value\n"}
 SLOT = re.compile(rb"[A-Za-z_]\w*\.[A-Za-z_]\w*")
 WAYS: dict[Callable[[Draw, Text], bytes] | None, int] = {
     spoiling.of_tokens: 24,
@@ -37,7 +37,11 @@ WAYS: dict[Callable[[Draw, Text], bytes] | None, int] = {
     spoiling.of_nothing: 2,
     None: 2,
 }
-COMMANDS = {"run": 4, "simulate": 2, "check": 2, "why": 2, "compile": 1}
+COMMANDS = {"run": 4, "simulate": 2, "check": 2, "why": 2, "compile": 1, "balance": 1, "mrm": 2, "migrate": 1}
+READ = {  # the sorts of files that a command reads, where these are others than model, policy and inputs
+    "check": ["model", "policy"], "compile": ["model", "policy"], "simulate": ["model", "inputs"],
+    "mrm": ["model", "policy", "inputs", "traces"], "migrate": ["model"],
+}
 
 
 @dataclass(frozen=True)
@@ -51,7 +55,7 @@ class Hostile:
 
 
 def sort_of(path: Path) -> str | None:
-    """The sort of a file, or `None`: inputs and edits are told by their header."""
+    """The sort of a file, or `None`: inputs, edits and traces are told by their header."""
     if path.name == "model.toml":
         return "model"
     if path.name == "code.txt" or path.suffix in (".rpl", ".code"):
@@ -88,8 +92,7 @@ def cell_of(draw: Draw, case: Case) -> list[str]:
 def words_of(draw: Draw, case: Case) -> tuple[list[str], list[str]]:
     """Words of a command, and the sorts of the files that it reads."""
     command = draw.choices(list(COMMANDS), list(COMMANDS.values()))[0]
-    sorts = {"check": ["model", "policy"], "compile": ["model", "policy"], "simulate": ["model", "inputs"]}
-    read = list(sorts.get(command, ["model", "policy", "inputs"]))
+    read = list(READ.get(command, ["model", "policy", "inputs"]))
     words = [command, *(FILES[sort] for sort in read)]
     if command == "why":
         words += cell_of(draw, case)
@@ -102,6 +105,8 @@ def words_of(draw: Draw, case: Case) -> tuple[list[str], list[str]]:
         read.append("edits")
     if command == "run" and draw.random() < 0.6:
         words += ["--reuse"]
+    elif "--trace" in words and draw.random() < 0.5:
+        words += ["--asked"]
     return words, read
 
 
@@ -114,6 +119,8 @@ def completed(draw: Draw, case: Case, corpus: list[Case]) -> Case:
     if "edits" not in case and draw.random() < 0.5:
         row = f"1,{slot_in(draw, case['model'])},1,{draw.choice([0, 5, 100])}\n"
         case["edits"] = HEADERS["edits"] + row.encode()
+    if "edits" in case:
+        case.setdefault("traces", HEADERS["traces"] + case["edits"].partition(b"\n")[2])
     return case
 
 
@@ -122,7 +129,8 @@ def case_of(corpus: list[Case], seed: int, number: int) -> Hostile:
     draw = Draw(f"{seed}:{number}")
     case = completed(draw, draw.choice(corpus), corpus)
     words, sorts = words_of(draw, case)
-    case.setdefault("edits", HEADERS["edits"])
+    for sort in ("edits", "traces"):
+        case.setdefault(sort, HEADERS[sort])
     ways = []
     for _ in range(draw.choice([1, 1, 1, 1, 2])):
         # a model that is refused hides what is wrong with the other files

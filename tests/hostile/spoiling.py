@@ -48,7 +48,7 @@ MOST_LINES = 20_000
 TOKEN = re.compile(rb"[A-Za-z_][A-Za-z0-9_]*|[0-9]+|[ \t]+|\n|[^A-Za-z0-9_\s]|\s", re.DOTALL)
 NUMBER = re.compile(rb"(?<![\w.-])[0-9]+(?![\w-])")
 
-Case = dict[str, bytes]  # the bytes of its files, by sort: model, policy, inputs, edits
+Case = dict[str, bytes]  # the bytes of its files, by sort: model, policy, inputs, edits, traces
 Draw = random.Random
 
 

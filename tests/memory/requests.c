@@ -4,8 +4,9 @@
    in which that and all later ones fail. What a child writes is kept in memory, and compared with what an undisturbed
    run wrote: the files REQUESTS_OUT and REQUESTS_ERR. REQUESTS_LOG gets a line for each child: the number of the call,
    `once` or `on`, the status or minus the signal, how many bytes of output, of the output `same`, `whole` (nothing, or
-   a front that ends just before a section's first line) or `other`, and of the error stream `none`, `same`, `memory` or
-   `other`; and at the end a line `calls N`. With REQUESTS_STEP=K only each K-th call is tried, and with 0 none is.
+   a front that ends just before the first line of a section or of the summary) or `other`, and of the error stream
+   `none`, `same`, `memory` or `other`; and at the end a line `calls N`. With REQUESTS_STEP=K only each K-th call is
+   tried, and with 0 none is.
    Linux with the GNU C library. */
 #define _GNU_SOURCE
 #include <errno.h>
@@ -85,14 +86,21 @@ static int begins(const struct text *whole, const struct text *front) {
   return front->length <= whole->length && !(front->length && memcmp(front->bytes, whole->bytes, front->length));
 }
 
+/* Whether a part of the wanted output begins at this place. */
+static int is_part_at(size_t place) {
+  static const char *const parts[] = {"# batch ", "# trace ", "# summary "};
+  for (size_t part = 0; part < sizeof parts / sizeof *parts; part++) {
+    size_t length = strlen(parts[part]);
+    if (place + length <= wanted[1].length && !memcmp(wanted[1].bytes + place, parts[part], length)) return 1;
+  }
+  return 0;
+}
+
 static const char *output(void) {
-  const char section[] = "# batch ";
   size_t length = written[1].length;
   if (!begins(&wanted[1], &written[1])) return "other";
   if (length == wanted[1].length) return "same";
-  if (!length) return "whole";
-  if (length + sizeof section - 1 > wanted[1].length) return "other";
-  return memcmp(wanted[1].bytes + length, section, sizeof section - 1) ? "other" : "whole";
+  return !length || is_part_at(length) ? "whole" : "other";
 }
 
 static const char *errors(void) {

@@ -21,12 +21,19 @@ CASES = (
     "compile/storage-cap",
     "why/storage-cap-outflow",
     "sample/seed-1",
+    "balance/each-kind-that-holds-water",  # books
+    "balance/fault",
+    "mrm/by-rules",  # many runs
+    "mrm/first-faults-last-settles",
+    "migrate/all-keys-of-a-run",
     "words/none",  # a refusal of each status
     "first-path/missing-inputs",
     "readers/not-toml",
     "check/unknown-name",
     "edits/first-batch-is-two",
     "code/truncated",
+    "mrm/traces-65",
+    "migrate/unknown-key",
 )
 
 
@@ -80,9 +87,11 @@ def of_cases() -> Iterator[Run]:
 def of_example(folder: Path) -> Iterator[Run]:
     """All commands that the files of a shipped example allow."""
     more = ["--flags", "--trace"]
+    yield Run(folder, ["migrate", "model.toml"])
     if not (folder / "policy.rpl").exists():
         yield Run(folder, ["simulate", "model.toml", "inputs.csv"])
         yield Run(folder, ["simulate", "model.toml", "inputs.csv", *more, "--order", "newest"])
+        yield Run(folder, ["simulate", "model.toml", "inputs.csv", "--trace", "--asked"])
         return
     table = (folder / "table.csv").read_text().splitlines()
     slot, step = table[1].split(",")[2], table[-1].split(",")[0]
@@ -90,7 +99,11 @@ def of_example(folder: Path) -> Iterator[Run]:
     yield Run(folder, ["compile", "model.toml", "policy.rpl"])
     run = ["run", "model.toml", "policy.rpl", "inputs.csv"]
     yield Run(folder, run + more)
+    yield Run(folder, [*run, "--trace", "--asked"])
     yield Run(folder, ["why", *run[1:], slot, step])
+    yield Run(folder, ["balance", *run[1:]])
+    if (folder / "traces.csv").exists():
+        yield Run(folder, ["mrm", *run[1:], "traces.csv"])
     if (folder / "edits.csv").exists():
         yield Run(folder, [*run, "--edits", "edits.csv"])
         yield Run(folder, [*run, "--edits", "edits.csv", "--reuse", *more])

@@ -68,7 +68,7 @@ CALLS = {
     "inputs": ["{wide} --model {model}", "{table} --model {model} --only {name} --unknown {name}"],
     "map": ["{model} --text"],
     "plot": ["{table} --flags --text", "{table} {name} --text --with {table} --from {name}"],
-    "report": ["{model} {policy} {inputs}"],
+    "report": ["{model} {policy} {inputs}", "{model} {policy} {inputs} --edits {edits}", "{model} {policy} {inputs} --why {name}"],
     "restart": ["{model} {table} --policy {policy}", "{model} {table} --step 1 --inputs {inputs} --edits {edits} --batch 1"],
     "rules": ["{model} {policy}", "{model} {policy} --csv", "{model} {policy} --code"],
     "slots": ["{model} {inputs}", "{model} --csv"],
@@ -203,8 +203,8 @@ def of_page(run: Callable) -> str | None:
         if wrong:
             return wrong
         pages.append(re.sub(r"<svg.*?</svg>", "", page, flags=re.DOTALL))
-    data = [re.search(r"const D=(.*?);\n", page)[1] for page in pages]
-    if any("<" in one for one in data):
+    data = [one for page in pages for one in re.findall('<script type="application/json" id="\\w+">(.*?)</script>', page, re.DOTALL)]
+    if len(data) != 3 * len(pages) or any("<" in one for one in data):
         return "what the script knows has a <"
     return None if len({str(tags_of(page)) for page in pages}) == 1 else "the page has other tags"
 

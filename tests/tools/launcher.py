@@ -148,7 +148,7 @@ def unproved_goes_on(place: Place, _: str) -> Iterator[tuple[str, str | None]]:
     """That it goes on is told until it ends, and then no more."""
     place.executable(place.rt / "sleep", "#!/bin/sh\nexec /bin/sleep 0.1\n")
     first, *others = place.call("--unproved", "sample", "1", TAKES="1").splitlines()
-    yield "--unproved says how long it takes", None if "1 to 4 minutes" in first else first
+    yield "--unproved says how long it takes", None if "1 to 5 minutes" in first else first
     ticks = [line for line in others if line.startswith("basin: .. ") and line.endswith(" minutes so far")]
     yield "--unproved goes on", None if ticks and ticks == others else f"{others}"
 

@@ -1,4 +1,4 @@
-"""Edits as the tools read them: how many batches they have, and all that is wrong with their rows."""
+"""Edits and traces as the tools read them: how many batches or traces they have, and all that is wrong with their rows."""
 
 from dataclasses import dataclass, field
 
@@ -7,22 +7,23 @@ from .inputs import NUMBER, InputsFinding, records_of, steps_of, wrong_with_slot
 from .model import Model
 from .reasons import plain, shown
 
-HEADER = ["batch", "slot", "step", "value"]
+FIELDS = ["slot", "step", "value"]  # behind the number of the batch or the trace
 Wrong = tuple[int, str, str]  # a column, a refusal, and why
 
 
 @dataclass
 class Edits:
-    """What edits are for a model: their batches, and what is wrong with them."""
+    """What edits or traces are for a model: how many batches they have, and what is wrong with them."""
 
     model: Model
+    word: str = "batch"  # what they call a batch
     batches: int = 0
     findings: list[InputsFinding] = field(default_factory=list)
     named: dict[tuple[int, str, int], int] = field(default_factory=dict)  # the line that names a cell in a batch
 
     def judge(self, record: list[str], line: int, row: int) -> Wrong | None:
         """The first thing that is wrong with a row."""
-        if len(record) != len(HEADER):
+        if len(record) != 1 + len(FIELDS):
             return 0, "ragged", f"the row has {len(record)} fields, and has to have 4: {plain(','.join(record))}."
         number, name, steps, value = record
         wrong = self.wrong_with_batch(number)
@@ -33,23 +34,24 @@ class Edits:
     def wrong_with_batch(self, text: str) -> Wrong | None:
         """Why a field names no batch that may come next; else that batch is the last one."""
         if not NUMBER.fullmatch(text):
-            return 1, "not a number", f"batch is {shown(text)}, and has to be a number."
+            return 1, "not a number", f"{self.word} is {shown(text)}, and has to be a number."
         number, there = int(text), self.batches
         if number not in ((there, there + 1) if there else (1,)):
             due = f"{there} or {there + 1}, as the row before it has {there}" if there else "1, as the first one"
-            return 1, "batch order", f"batch is {number}, and has to be {due}."
+            return 1, "batch order", f"{self.word} is {number}, and has to be {due}."
         if number > MOST_BATCHES:
-            return 1, "too many", f"batch is {number}, and there are {MOST_BATCHES} at most."
+            return 1, "too many", f"{self.word} is {number}, and there are {MOST_BATCHES} at most."
         self.batches = number
         return None
 
     def named_twice(self, name: str, steps: tuple[int, int], line: int) -> Wrong | None:
-        """Whether the batch names one of the cells already; else it names them now."""
+        """Whether the batch or trace names one of the cells already; else it names them now."""
         first = self.model.group(name)[0].full_name
         cells = [(self.batches, first, step) for step in range(steps[0], steps[1] + 1)]
         earlier = next((cell for cell in cells if cell in self.named), None)
         if earlier:
-            says = f"batch {self.batches} names {name} at timestep {earlier[2]} already, or a slot that is linked to it"
+            said = f"{self.word} {self.batches} names {name} at timestep {earlier[2]} already"
+            says = f"{said}, or a slot that is linked to it"
             return 0, "twice", f"{says}: line {self.named[earlier]}."
         self.named.update(dict.fromkeys(cells, line))
         return None
@@ -65,12 +67,12 @@ def wrong_with_count(row: int) -> Wrong | None:
     return (0, "too many", f"there are {MOST_EDITS:,} rows at most.") if row > MOST_EDITS + 1 else None
 
 
-def read_edits(content: bytes, model: Model) -> Edits:
-    """The edits that the bytes spell for a model."""
-    edits, records = Edits(model), records_of(content)
+def read_edits(content: bytes, model: Model, word: str = "batch") -> Edits:
+    """The edits that the bytes spell for a model; with the word `trace` the traces."""
+    edits, records, wanted = Edits(model, word), records_of(content), [word, *FIELDS]
     line, header = next(records, (1, []))
-    if header != HEADER:
-        says = f"the first row has to be {','.join(HEADER)}" + (f"; it is {plain(','.join(header))}." if header else ".")
+    if header != wanted:
+        says = f"the first row has to be {','.join(wanted)}" + (f"; it is {plain(','.join(header))}." if header else ".")
         edits.findings.append(InputsFinding("row 1 column 0: header", line, says))
         return edits
     for row, (line, record) in enumerate(records, 2):

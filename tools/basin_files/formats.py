@@ -14,8 +14,8 @@ TABLE_ROWS = (2, 200)
 DATA_SLOTS = (1, 8)
 LINK_SLOTS = (2, 8)
 NAME_LENGTH = 32  # in bytes
-MOST_BATCHES = 64  # of edits
-MOST_EDITS = 10_000  # rows behind the header
+MOST_BATCHES = 64  # of edits, and as many traces
+MOST_EDITS = 10_000  # rows of either behind the header
 
 MOST_AHEAD = {1: 0, 2: 30}  # timesteps that a rule puts ahead, by the format of the model
 
@@ -339,10 +339,10 @@ INPUTS_REFUSALS = {
         "An earlier row gives a value to the same cell, or to that of a slot that is linked to the slot."
     ),
 }
-# Of edits there are these besides.
+# Of edits and of traces there are these besides.
 EDITS_REFUSALS = {
-    "batch order": "The first row's batch is 1, and that of a later row the one of the row before it, or one more.",
-    "too many": f"There are at most {MOST_BATCHES} batches, and {MOST_EDITS:,} rows.",
+    "batch order": "The first row's number is 1, and that of a later row the one of the row before it, or one more.",
+    "too many": f"There are at most {MOST_BATCHES} batches or traces, and {MOST_EDITS:,} rows.",
 }
 OTHER_REFUSALS = {
     "words refused": "The command is `simulate MODEL INPUTS`: three words, and a path doesn't begin with -.",

@@ -1,4 +1,5 @@
-"""What `basin` writes: sections, each with a heading, a table, and flags and a trace where they were asked for."""
+"""What `basin` writes: sections, each with a heading, a table, and flags and a trace where they were asked for; of many
+runs each has the number of its trace, and the summary behind them is no section."""
 
 import re
 from dataclasses import dataclass, field
@@ -6,7 +7,7 @@ from dataclasses import dataclass, field
 from .moments import moment_of
 from .program import Progress
 
-HEADING = re.compile(r"# batch ([0-9]+) (settled|fault ([A-Za-z0-9_. -]+))")
+HEADING = re.compile(r"# (?:batch|trace) ([0-9]+) (settled|fault ([A-Za-z0-9_. -]+))")
 SLOT = re.compile(r"[A-Za-z_][A-Za-z0-9_]*\.[A-Za-z_][A-Za-z0-9_]*")
 A_WHILE = 4096  # lines
 STEP_OF_FAULT = re.compile(r"\bstep ([0-9]+)")
@@ -23,7 +24,7 @@ class Row:
 
 @dataclass
 class Section:
-    """A run: its batch of edits, its fault if it ended in one, its slots, and its closed timesteps.
+    """A run: its batch of edits or its trace, its fault if it ended in one, its slots, and its closed timesteps.
 
     Where they were asked for: of each timestep the flags of its known slots, and the lines of the trace.
     """

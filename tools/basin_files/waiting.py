@@ -41,6 +41,14 @@ def unasked_in(model: Model, row: Row) -> Iterator[str]:
                 yield name
 
 
+def settled_words(model: Model, section: Section) -> str:
+    """What is told of a run in which nothing is to be mended."""
+    size = f"{len(section.rows):,} timesteps, {len(section.slots):,} slots"
+    unasked = dict.fromkeys(name for row in section.rows for name in unasked_in(model, row))
+    but = f" but those of {', '.join(unasked)}, for which nothing asks" if unasked else ""
+    return f"The run settled: {size}, and no cell is empty{but}."
+
+
 def empty_in(model: Model, row: Row) -> list[str]:
     """The slots that a row leaves empty and that are missed."""
     empty = [name for name, value in row.values.items() if value is None]

@@ -3,6 +3,7 @@
 from bisect import bisect_left
 from dataclasses import dataclass, field
 
+from .asking import DENIED, LATE, WRITTEN, Asked, told_by
 from .dispatch import elevation, past_ago, past_key, past_name
 from .firing import Firing
 from .program import Progress
@@ -21,6 +22,7 @@ class Event:
     rule: int = 0
     ended: str = ""  # how a firing ended: done or unknown
     written: list = field(default_factory=list)  # slots, timesteps and values
+    asked: list = field(default_factory=list)  # all puts that the trace tells of, in their order
 
 
 @dataclass
@@ -43,14 +45,18 @@ class NotTold(Exception):
 
 
 class Walk:
-    """The trace of a section, with its model, the blocks of its code, and the inputs where they are known."""
+    """The trace of a section, with its model, the blocks of its code, and the inputs where they are known.
 
-    def __init__(self, model, blocks, inputs, section):
-        self.model, self.blocks, self.inputs = model, blocks, inputs
+    `is_asked` says whether the trace tells what was asked for and not written.
+    """
+
+    def __init__(self, model, blocks, inputs, section, is_asked=False):
+        self.model, self.blocks, self.inputs, self.is_asked = model, blocks, inputs, is_asked
         self.first = {name: model.group(name)[0].full_name for name in model.slots}
         self.rows = {row.step: row.values for row in section.rows}
         self.events = []
         self.puts = {}  # by cell, under the first slot of its link: places, and contents
+        self.denied = {}  # likewise, where the trace tells them: events and their puts that were denied
         self.read(section.trace)
 
     def read(self, trace):
@@ -59,14 +65,15 @@ class Walk:
         for place, line in enumerate(trace):
             if not place % A_WHILE:
                 progress.at(place, len(trace), "lines")
-            word, *rest = line.split()
             if line.startswith("  "):
-                slot, at, value, flag = word, int(rest[0]), int(rest[1]), rest[2]
-                event.written.append((slot, at, value))
-                places, contents = self.puts.setdefault((self.first[slot], at), ([], []))
-                places.append(event.place)
-                contents.append(Content(value, flag, event, slot))
-            elif word == "open":
+                put = told_by(line, event.asked)
+                if put and put.fate == WRITTEN:
+                    self.take(event, put)
+                elif put and put.fate == DENIED:
+                    self.denied.setdefault((self.first[put.slot], put.step), []).append((event, put))
+                continue
+            word, *rest = line.split()
+            if word == "open":
                 step = int(rest[0])
             elif word == "solve":
                 event = Event(place, step, thing=rest[0])
@@ -74,6 +81,13 @@ class Walk:
             elif word == "fire":
                 event = Event(place, step, rule=int(rest[0]), ended=rest[1])
                 self.events.append(event)
+
+    def take(self, event, put):
+        """Takes a put that an event wrote."""
+        event.written.append((put.slot, put.step, put.value))
+        places, contents = self.puts.setdefault((self.first[put.slot], put.step), ([], []))
+        places.append(event.place)
+        contents.append(Content(put.value, put.flag, event, put.slot))
 
     def held(self, slot, step, before):
         """What a cell held before a place of the trace."""
@@ -120,6 +134,22 @@ class Walk:
             raise OtherPolicy(f"rule {event.rule} of the policy does something else at timestep {event.step}")
         return list(firing.looks)
 
+    def wanted(self, event):
+        """All puts that a firing of the trace asked for: as the trace tells them, or gone through again."""
+        if self.is_asked:
+            return event.asked
+        return [self.judged(event, *put) for put in self.fired(event).puts]
+
+    def judged(self, event, slot, step, value):
+        """A put of a firing that was gone through again; of its fate what stood against it, or that it was late."""
+        flag = f"R{event.rule}"
+        if step > self.model.timesteps.count:
+            return Asked(LATE, slot, step, value, flag)
+        held = self.held(slot, step, event.place)
+        is_denied = held.value not in (None, value) and int(held.flag[1:]) < event.rule
+        before = None if held.value is None else (held.value, held.flag)
+        return Asked(DENIED if is_denied else WRITTEN, slot, step, value, flag, before)
+
     def fired(self, event):
         """A firing of the trace, gone through again."""
         return self.refired(event.rule, event.step, event.place)
@@ -164,9 +194,21 @@ def lines_of(walk, slot, step, levels):
         event = content.event
         more = walk.looked_at(event) if event and level < levels and event.place not in seen else []
         yield f"{'  ' * level}{slot} {step} {told(content, slot)}{mark(event, seen, level, levels)}"
+        yield from denials(walk, slot, step, before, level)
         if more:
             seen.add(event.place)
         waiting += [(*cell, event.place, level + 1) for cell in reversed(more)]
+
+
+def denials(walk, slot, step, before, level):
+    """Lines on what was wanted of a cell up to a place of the trace, and denied; of a value that was wanted again one."""
+    lines = {}
+    for event, put in walk.denied.get((walk.first[slot], step), ()):
+        if event.place < before:
+            value, flag = put.held
+            when = "" if event.step == step else f", in timestep {event.step},"
+            lines[f"rule {event.rule} wanted {put.value} here{when} and was denied: {value} {flag} stood there"] = None
+    yield from (f"{'  ' * level}  {line}" for line in lines)
 
 
 def told(content, slot):

@@ -79,7 +79,7 @@ def manual(guide: str, version: str, day: str) -> str:
         ".SH NAME", "basin \\- simulate regulated river basins, proved to write what the definitions give",
         ".SH SYNOPSIS", ".B basin", "\\fICOMMAND\\fR \\fIWORD\\fR...", ".br", ".B basin", "help | \\-\\-help | \\-\\-version",
         ".SH DESCRIPTION",
-        "Reads a model, rules, inputs and edits from files, and writes tables to the standard output.",
+        "Reads a model, rules, inputs, edits and traces from files, and writes tables to the standard output.",
         "A refusal is one line on the standard error.",
         ".SH COMMANDS", *(line for command in commands_of(guide) for line in entry(command)),
         ".SH \"EXIT STATUS\"", "0 and 1 mean what is said of each command.", roff(remarks(guide).partition(" `docs/FORMATS.md`")[0]),

@@ -165,7 +165,7 @@ def lines_of_rule(run, number):
         return [f"{name} divided by 0{where}. What may be 0 wants an IF before the quotient."]
     if fault.startswith("limit"):
         times = int(re.search(r"after ([0-9]+)", fault)[1])
-        return [f"{name} had fired {often(times)}, and was due again: {what_changed(run, number)}"]
+        return [f"{name} had fired {often(times)}, and was due again: {what_changed(run, number)}", *to_and_fro(run)]
     value = int(re.search(r"value (-?[0-9]+)", fault)[1])
     return [f"{name} came to {amount(value)}: {out_of_range(run, number, value)}"]
 
@@ -184,6 +184,26 @@ def what_changed(run, number):
     (writer, slot), times = writers.most_common(1)[0]
     whose = "it itself" if writer == run.rule(number) else writer
     return f"it reads {slot}, which {whose} set {often(times)} meanwhile."
+
+
+def to_and_fro(run):
+    """A line that tells which cells went to and fro between two values when the run ended."""
+    values = {}
+    for event in run.walk.events:
+        if event.step == run.section.fault_step:
+            for slot, step, value in event.written:
+                values.setdefault((run.walk.first[slot], step), (slot, []))[1].append(value)
+    last = [(slot, held[-4:]) for slot, held in values.values()]
+    found = [f"{slot} between {held[0]:,} and {held[1]:,}" for slot, held in last if is_to_and_fro(held)]
+    if not found:
+        return []
+    mend = "Reckon it in one firing, by what was there before; or put it only where it is more than that apart."
+    return [f"To and fro it goes: {', '.join(found[:MOST_TOLD])}. {mend}"]
+
+
+def is_to_and_fro(held):
+    """Whether four values in a row are two by turns."""
+    return len(held) == 4 and held[:2] == held[2:] and held[0] != held[1]
 
 
 def looked_at(run, event):
@@ -214,7 +234,8 @@ def out_of_range(run, number, value):
 
 def lines_of_object(run, thing, step):
     """What is told where an object ended the run: what it held, and whose put that came from."""
-    lines = [what_of_object(run, thing), f"What {thing.name} ({thing.kind}) held then:"]
+    swings = to_and_fro(run) if run.section.fault.startswith("limit") else []
+    lines = [what_of_object(run, thing), *swings, f"What {thing.name} ({thing.kind}) held then:"]
     for slot in thing.slots:
         content = run.walk.held(slot.full_name, step, END)
         if content.value is not None:

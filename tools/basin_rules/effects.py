@@ -4,6 +4,7 @@ from collections import Counter, defaultdict
 from collections.abc import Callable, Iterator
 from dataclasses import dataclass, field
 
+from basin_files.asking import DENIED, LATE, Asked
 from basin_files.listing import aligned
 from basin_files.model import Model
 from basin_files.program import Progress
@@ -11,7 +12,8 @@ from basin_files.walking import END, Content, Event, Walk
 
 from .policy import Policy
 
-HEADINGS = ("stands", "earlier", "again", "passed", "gave way", "denied", "ahead", "no put", "unknown")
+HEADINGS = ("stands", "earlier", "again", "passed", "gave way", "denied", "ahead", "late", "no put", "unknown")
+BESIDE = ("ahead", "late")  # these are counted beside what became of a put at the timestep itself
 MOST_TOLD = 12
 
 
@@ -39,6 +41,7 @@ class Effects:
     counts: dict = field(default_factory=lambda: defaultdict(Counter))
     gave: dict = field(default_factory=lambda: defaultdict(list))  # by rule, slot, object and flag: moments
     held: dict = field(default_factory=lambda: defaultdict(list))  # by rule, slot and the rule that holds it: moments
+    denied: dict = field(default_factory=lambda: defaultdict(list))  # by rule, slot and the flag that denied it: moments
 
     def __post_init__(self) -> None:
         self.names = self.policy.names()
@@ -54,29 +57,34 @@ class Effects:
 
     def count(self, rule: int, step: int, events: list[Event]) -> None:
         """Counts what became of the last firing of a rule in a timestep."""
-        firing = self.walk.fired(events[-1])
-        wanted = {slot: value for slot, at, value in firing.puts if at == step}
-        later = {slot for slot, at, _ in firing.puts if at > step}
+        puts = self.walk.wanted(events[-1])
+        wanted = {put.slot: put for put in puts if put.step == step}
         for slot in self.sets[rule - 1]:
             count, content = self.counts[(rule, slot)], self.walk.held(slot, step, END)
-            count["ahead"] += slot in later
-            if firing.ended != "done":
+            later = {put.fate == LATE for put in puts if put.slot == slot and put.step > step}
+            count["ahead"] += False in later
+            count["late"] += True in later
+            if events[-1].ended != "done":
                 count["unknown"] += 1
             elif slot in wanted:
                 what = became(rule, wanted[slot], content)
                 count[what] += 1
-                self.note(rule, slot, events, Moment(step, wanted[slot], content.value), content, what)
+                self.note(rule, wanted[slot], events, content, what)
             else:
-                count["earlier" if content.flag == f"R{rule}" else "no put"] += slot not in later
+                count["earlier" if content.flag == f"R{rule}" else "no put"] += not later
 
-    def note(self, rule: int, slot: str, events: list[Event], moment: Moment, content: Content, what: str) -> None:
+    def note(self, rule: int, put: Asked, events: list[Event], content: Content, what: str) -> None:
         """Notes what is worth a look."""
+        moment = Moment(put.step, put.value, content.value)
         if what == "gave way":
-            self.gave[(rule, slot, content.event.thing, content.flag)].append(moment)
-        if what == "passed":
-            puts = [put for event in events[:-1] for put in self.walk.fired(event).puts]
-            if content.value in [value for name, at, value in puts if (name, at) == (slot, moment.step)]:
-                self.held[(rule, slot, int(content.flag[1:]))].append(moment)
+            self.gave[(rule, put.slot, content.event.thing, content.flag)].append(moment)
+        if what in ("denied", "passed"):
+            puts = [one for event in events[:-1] for one in self.walk.wanted(event)]
+            was_own = content.value in [one.value for one in puts if (one.slot, one.step) == (put.slot, put.step)]
+            if was_own and content.flag[:1] == "R":
+                self.held[(rule, put.slot, int(content.flag[1:]))].append(moment)
+            elif what == "denied":
+                self.denied[(rule, put.slot, content.flag)].append(moment)
 
     # ---- what is told
 
@@ -110,13 +118,27 @@ class Effects:
                 f" it put later was denied, in {times(moments)}; most in timestep {most.step}: {most.wanted:,} was"
                 f" wanted, and {most.holds:,} holds."
             )
+        for (rule, slot, flag), moments in sorted(self.denied.items())[:MOST_TOLD]:
+            most = max(moments, key=lambda one: one.apart)
+            yield (
+                f"{self.names[rule - 1]}: {slot} was denied, since {self.whose(flag)} held it, in {times(moments)}; most in"
+                f" timestep {most.step}: {most.wanted:,} was wanted, and {most.holds:,} holds."
+            )
+
+    def whose(self, flag: str) -> str:
+        """Whose a content with this flag is."""
+        if flag[0] == "R":
+            return self.names[int(flag[1:]) - 1]
+        return "an input" if flag[0] == "I" else f"an object ({flag})"
 
 
-def became(rule: int, value: int, content: Content) -> str:
+def became(rule: int, put: Asked, content: Content) -> str:
     """What became of a put, by what the cell holds at the end of its timestep."""
-    if content.value == value:
+    if content.value == put.value:
         return "stands" if content.flag == f"R{rule}" else "again"
-    return {"I": "denied", "O": "gave way"}.get(content.flag[:1], "passed")
+    if put.fate == DENIED:
+        return "denied"
+    return "gave way" if content.flag[:1] == "O" else "passed"
 
 
 def times(moments: list[Moment]) -> str:

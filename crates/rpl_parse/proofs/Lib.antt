@@ -1,6 +1,7 @@
 pub mod Marks
 pub mod ScanFacts
 pub mod Turns
+pub mod Climb
 pub mod Faults
 pub mod Sound
 pub mod Complete

@@ -1,5 +1,5 @@
 -- Within the crate: how expressions are read, from the front, with one token of look-ahead.
-use Rattle.std.specs.Prelude.{◌+◌, ◌-◌, ◌==◌, ◌++◌, ℕ, zero, suc, ℤ, Bool, true, false, if◌then◌else◌, ltb, Option, Some, None, List, [], ◌∷◌, max, length, option_and_then}
+use Rattle.std.specs.Prelude.{◌≡◌, ◌⊎◌, ◌≤◌, ◌<◌, IfSome, IsSome, IsSomeAnd, ◌+◌, ◌-◌, ◌==◌, ◌++◌, ℕ, zero, suc, ℤ, Bool, true, false, if◌then◌else◌, ltb, Option, Some, None, List, [], ◌∷◌, max, length, option_and_then}
 use Rattle.rpl_tree.specs.declared.words.OneWord.{OneWord}
 use Rattle.rpl_tree.specs.declared.words.OneWord.TheVariants as O
 use Rattle.rpl_tree.specs.declared.words.TwoWord.{TwoWord}
@@ -221,6 +221,25 @@ module _ (inner : ℕ → List Tok → Read) (d : ℕ) where
   level zero ts = prim ts >>= steps d
   level (suc j) ts = if_found (prefix_of (suc j)) (level j ts >>= chain (suc j) (turns_of (suc j) d))
       (λ w. if_found (behind (mark_of_one w) ts) (level j ts) (λ us. prefixed (suc j) w us))
+
+  -- the other operands of a level, unless a word stands before its expressions
+  abbrev pub rise : ℕ → Got → Read
+  rise k g = if_found (prefix_of k) (chain k (turns_of k d) g) (λ w. Some g)
+
+  -- those of so many levels above one
+  unfoldable pub climbed : ℕ → ℕ → Read → Read
+  climbed j zero r = r
+  climbed j (suc n) r = climbed (j + 1) n (r >>= rise (j + 1))
+
+-- an expression may begin at the level: its word stands first, or it is the tightest
+abbrev pub MayBegin : ℕ → List Tok → Type 0
+MayBegin k ts = (k ≡ 0) ⊎ IsSomeAnd (prefix_of k) (λ w. IsSome (behind (mark_of_one w) ts))
+
+-- of the levels up to k an expression begins at this one: no word of one above it stands first
+pub record StartsAt (k : ℕ) (ts : List Tok) (start : ℕ) : Type 0 where
+  pub up_to : start ≤ k
+  pub is : MayBegin start ts
+  pub bare : (j : ℕ) → start < j → j ≤ k → IfSome (prefix_of j) (λ w. behind (mark_of_one w) ts ≡ None)
 
 -- an expression of a level that is at most so deep
 unfoldable pub read_tree : ℕ → ℕ → List Tok → Read

@@ -1,8 +1,8 @@
 // Expressions, from the front of some tokens. Each function answers the tree, its depth and the tokens behind it.
-ghost use Rattle.std.specs.Prelude.{◌≡◌, ◌≤◌, ◌<◌, ◌+◌, ◌-◌, ◌++◌, ◌∷◌, [], IfOk, IfErr, OnOk, length, map, option_map, option_and_then, max};
+ghost use Rattle.std.specs.Prelude.{◌≡◌, ◌≤◌, ◌<◌, ◌+◌, ◌-◌, ◌++◌, ◌∷◌, [], IfOk, IfErr, OnOk, length, map, option_map, option_and_then, max, Some};
 ghost use Rattle.rw_base.specs.declared.limits.TheConstants.{DEPTH_MAX};
 ghost use Rattle.rpl_tree.specs.Seen.{tree_of};
-ghost use Rattle.rpl_parse.specs.Reading.{read_tree, level, prim, number_with_unit, opened, named, args, slots, braces, in_brackets, choices, loops, maps, word_of_one, word_of_two, converts, steps, chain, behind, name_before, turns_of, up_to, binds, got, many, items, some_items};
+ghost use Rattle.rpl_parse.specs.Reading.{read_tree, level, prim, number_with_unit, opened, named, args, slots, braces, MayBegin, StartsAt, climbed, rise, in_brackets, choices, loops, maps, word_of_one, word_of_two, converts, steps, chain, behind, name_before, turns_of, up_to, binds, got, many, items, some_items};
 ghost use Rattle.rpl_parse.specs.Gives.{GivesExpression, GivesMany};
 ghost use Rattle.rpl_parse.specs.Tokens.{toks, bytes_in};
 
@@ -37,8 +37,25 @@ pub(crate) fn expression<'a>(
     level(alloc, text, tokens, limit - 1, k)
 }
 
+/// The level at which tokens begin, of those up to k: that of a word that stands first, or 0. So an expression in brackets
+/// takes one frame of the stack for all levels.
+fn start_of(text: &[u8], tokens: &[TokenAt], k: u8) -> u8
+    ensures { StartsAt k (toks text.now tokens.entry.now) result }
+{
+    let Some(word) = prefix(k) else {
+        return if k == 0 {
+            0
+        } else {
+            start_of(text, tokens, k - 1)
+        };
+    };
+    match behind(text, mark_of_one(word), tokens) {
+        Some(_) => k,
+        None => start_of(text, tokens, k - 1),
+    }
+}
+
 #[cycle(parse)]
-#[tactic(auto, unfolding(crate::specs::Reading::level))]
 fn level<'a>(
     alloc: Global,
     text: &[u8],
@@ -50,20 +67,95 @@ fn level<'a>(
     ensures { GivesExpression text.now (depth + 1) result (level (read_tree depth) depth k
         (toks text.now tokens.entry.now)) }
 {
+    let start = start_of(text, tokens, k);
+    let (first, deep, rest) = begun(alloc, text, tokens, depth, start)?;
+    climb(alloc, text, first, deep, rest, depth, start, k)
+}
+
+/// What stands at the level at which tokens begin: behind a word, or a primary and its dates.
+#[cycle(parse)]
+#[tactic(auto, unfolding(crate::specs::Reading::level))]
+fn begun<'a>(
+    alloc: Global,
+    text: &[u8],
+    tokens: &'a [TokenAt],
+    depth: u8,
+    k: u8,
+) -> Result<(Expr, u8, &'a [TokenAt]), Stop>
+    requires limit { depth < DEPTH_MAX }
+    requires start { MayBegin k (toks text.now tokens.now) }
+    ensures { GivesExpression text.now (depth + 1) result (level (read_tree depth) depth k
+        (toks text.now tokens.entry.now)) }
+{
     if k == 0 {
         let (first, deep, rest) = primary(alloc, text, tokens, depth)?;
         return steps(alloc, text, first, deep, rest, depth);
     }
     let Some(word) = prefix(k) else {
-        let (first, deep, rest) = level(alloc, text, tokens, depth, k - 1)?;
-        return chain(alloc, text, first, deep, rest, depth, k);
+        unreachable!();
     };
     let Some(more) = behind(text, mark_of_one(word), tokens) else {
-        return level(alloc, text, tokens, depth, k - 1);
+        unreachable!();
     };
     let (arg, deep, rest) = expression(alloc, text, more, depth, k)?;
     let whole = one(alloc, word, arg)?;
     Ok((whole, deep + 1, rest))
+}
+
+/// The chains of the levels above one, up to k.
+#[cycle(parse)]
+#[tactic(auto, unfolding(crate::specs::Reading::climbed))]
+fn climb<'a>(
+    alloc: Global,
+    text: &[u8],
+    first: Expr,
+    first_deep: u8,
+    tokens: &'a [TokenAt],
+    depth: u8,
+    start: u8,
+    k: u8,
+) -> Result<(Expr, u8, &'a [TokenAt]), Stop>
+    requires limit { depth < DEPTH_MAX }
+    requires within { first_deep ≤ depth + 1 }
+    requires level { start ≤ k }
+    ensures { GivesExpression text.now (depth + 1) result
+        (climbed (read_tree depth) depth start (k - start)
+        (Some (got (tree_of first) first_deep (toks text.now tokens.entry.now)))) }
+{
+    let mut left = first;
+    let mut deep = first_deep;
+    let mut rest = tokens;
+    for below in start..k {
+        let (whole, whole_deep, after) = rise(alloc, text, left, deep, rest, depth, below + 1)?;
+        left = whole;
+        deep = whole_deep;
+        rest = after;
+    }
+    Ok((left, deep, rest))
+}
+
+/// The other operands of a level, unless a word stands before its expressions.
+#[cycle(parse)]
+fn rise<'a>(
+    alloc: Global,
+    text: &[u8],
+    first: Expr,
+    first_deep: u8,
+    tokens: &'a [TokenAt],
+    depth: u8,
+    k: u8,
+) -> Result<(Expr, u8, &'a [TokenAt]), Stop>
+    requires limit { depth < DEPTH_MAX }
+    requires within { first_deep ≤ depth + 1 }
+    requires level { 0 < k }
+    ensures { GivesExpression text.now (depth + 1) result
+        (rise (read_tree depth) depth k
+        (got (tree_of first) first_deep (toks text.now tokens.entry.now))) }
+{
+    match prefix(k) {
+        Some(_) => Ok((first, first_deep, tokens)),
+        None => chain(alloc, text, first, first_deep, tokens, depth, k),
+    }
 }
 
 #[cycle(parse)]

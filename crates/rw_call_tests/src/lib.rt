@@ -1,16 +1,20 @@
 //! Worked examples of calls below the top one, lowest first: quantities, rating tables, stamps, files, a basin that is built,
-//! a series, edits of inputs, the queue of objects that wait, runs, records of their timesteps, sections and sessions. There is
-//! nothing here but tests: what they compare with was worked out by hand.
+//! a series, edits of inputs, the queue of objects that wait, runs, records of their timesteps, sections, sessions, books, tallies of
+//! many runs, and models that are migrated. There is nothing here but tests: what they compare with was worked out by hand.
 #![tactic(auto)]
 
 #[cfg(test)]
 mod arithmetic;
+#[cfg(test)]
+mod books;
 #[cfg(test)]
 mod building;
 #[cfg(test)]
 mod edits;
 #[cfg(test)]
 mod files;
+#[cfg(test)]
+mod migrated;
 #[cfg(test)]
 mod queue;
 #[cfg(test)]
@@ -29,3 +33,5 @@ mod sessions;
 mod shared;
 #[cfg(test)]
 mod stamps;
+#[cfg(test)]
+mod tallies;

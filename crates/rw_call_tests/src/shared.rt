@@ -1,9 +1,11 @@
 //! What the tests share: basins from the texts of their models, the cells of their slots, and what cells hold.
-ghost use Rattle.rw_series.specs.Series.{IsCell};
+ghost use Rattle.std.specs.Prelude.{◌≡◌};
+ghost use Rattle.rw_series.specs.Series.{IsCell, IsSeriesOf};
 
 use rw_base::{Cell, Qty, StepNo};
 use rw_model::{Basin, Content, Writer};
 use rw_model_toml::read_model;
+use rw_series::Series;
 use std::alloc::Global;
 use std::process::Abort;
 
@@ -29,12 +31,27 @@ pub(crate) fn none_is_wrong(rt: &impl Abort, first: Option<usize>) {
     assert_eq!(rt; first, None);
 }
 
-/// The basin of a model.
-pub(crate) fn basin(rt: &impl Abort, alloc: Global, model: &str) -> Basin {
-    match read_model(alloc, model.as_bytes()) {
-        Ok(basin) => basin,
+/// A value that is never freed. A function that frees a basin takes long to prove, for each way out of it.
+pub(crate) fn lasting<'a, T: Drop + 'a>(rt: &impl Abort, alloc: Global, value: T) -> &'a T
+    ensures { result.now ≡ value }
+{
+    match Box::new(alloc, value) {
+        Ok(kept) => Box::leak(kept),
+        Err(_) => panic!(rt; "memory"),
+    }
+}
+
+/// The basin that the bytes of a model say.
+pub(crate) fn basin_of<'a>(rt: &impl Abort, alloc: Global, model: &[u8]) -> &'a Basin {
+    match read_model(alloc, model) {
+        Ok(basin) => lasting(rt, alloc, basin),
         Err(_) => panic!(rt; "no model"),
     }
+}
+
+/// The basin of a model.
+pub(crate) fn basin<'a>(rt: &impl Abort, alloc: Global, model: &str) -> &'a Basin {
+    basin_of(rt, alloc, model.as_bytes())
 }
 
 /// The cell of an object's slot.
@@ -60,4 +77,25 @@ pub(crate) fn content(rt: &impl Abort, value: i64, number: u16, writer: Writer) 
 /// A value of the inputs.
 pub(crate) fn given(rt: &impl Abort, value: i64) -> Content {
     content(rt, value, 0, Writer::Input)
+}
+
+/// What an object's slot holds at a timestep.
+pub(crate) type Held<'a> = (&'a str, &'a str, u16, i64);
+
+/// A series that holds these values of inputs, and no others.
+pub(crate) fn series_of(rt: &impl Abort, alloc: Global, basin: &Basin, rows: &[Held<'_>]) -> Series
+    ensures { IsSeriesOf basin.now result }
+{
+    let mut series = Series::sized(alloc, basin).expect(rt, "memory");
+    for k in 0..rows.len() {
+        let (object, slot, step, value) = rows[k];
+        let at = cell(rt, basin, object, slot, step);
+        series.restore(basin, at, Some(given(rt, value)));
+    }
+    series
+}
+
+/// Whether the bytes are those of the text.
+pub(crate) fn has_bytes(bytes: &[u8], text: &str) -> bool {
+    bytes == text.as_bytes()
 }

@@ -3,9 +3,9 @@ ghost use Rattle.std.specs.Option.{option_map};
 ghost use Rattle.rw_io.specs.Calls.{GivesRead, SameFaults, Starts};
 ghost use Rattle.rw_io.specs.Outside.{change};
 
+use crate::again::read_again;
 use crate::{Shelf, ShelfFault};
 use std::fs;
-use std::io::Read;
 use std::rt::Files;
 
 /// The runtime's files, of whose bytes nothing is told. It has one count of faults, which is that of every path.
@@ -82,7 +82,7 @@ impl<R: Files + Drop> Shelf for FileShelf<R> {
         let Some(file) = &mut self.opened else {
             return Ok(0);
         };
-        match file.read(buf) {
+        match read_again(file, buf) {
             Ok(count) => {
                 self.taken = self.taken.saturating_add(count as u64);
                 Ok(count)

@@ -2,6 +2,7 @@
 //! does, a whole file is read or a whole text is written, or a count of faults has risen and says whose fault it was.
 #![tactic(auto)]
 
+mod again;
 mod file_shelf;
 mod mem_shelf;
 mod mem_sink;

@@ -2,6 +2,7 @@ ghost use Rattle.std.specs.Prelude.{◌≡◌, None, OnOk};
 ghost use Rattle.rw_io.specs.Calls.{TakesWrite};
 ghost use Rattle.rw_io.specs.Outside.{change};
 
+use crate::again::{flush_again, write_again};
 use crate::{Sink, SinkFault};
 use std::io::Write;
 
@@ -37,8 +38,8 @@ impl<W: Write + Drop> Sink for StdSink<W> {
         if piece.is_empty() {
             return Ok(0);
         }
-        match self.stream.write(piece) {
-            Ok(count) if count > 0 && self.stream.flush().is_ok() => Ok(count),
+        match write_again(&mut self.stream, piece) {
+            Ok(count) if count > 0 && flush_again(&mut self.stream) => Ok(count),
             _ => {
                 self.faults = self.faults.saturating_add(1);
                 Err(SinkFault)

@@ -107,8 +107,8 @@ fn push_steps(
 ) -> Result<(), NoMemory>
     requires slot { (1 ≤ slot) × (slot ≤ tally.now.slots) }
     ensures { OnOk result (string_bytes text.new ≡ string_bytes text.old
-        ++ for_each (λ step. specs.cell_line basin.now slot step (values_in_tally tally.now slot step))
-        tally.now.steps) }
+        ++ for_each (λ step. specs.cell_line basin.now slot step
+        (values_in_tally tally.now slot step)) tally.now.steps) }
 {
     for before in 0..tally.steps() {
         push_cell(text, found, basin, tally, slot, before + 1)?;

@@ -29,7 +29,7 @@ set_before (first ∷ items) zero at one item near there = absurd (omega (arith,
 set_before (first ∷ items) (suc place) zero one item near there = there
 set_before (first ∷ items) (suc place) (suc at) one item near there = set_before items place at one item (omega (arith, near)) there
 
-pushed_before : {A : Type 0} (items : List A) (at : ℕ) (one item : A) → at < length items → slice_get (items ++ one ∷ []) at ≡ Some item
+pub pushed_before : {A : Type 0} (items : List A) (at : ℕ) (one item : A) → at < length items → slice_get (items ++ one ∷ []) at ≡ Some item
     → slice_get items at ≡ Some item
 pushed_before [] at one item near there = absurd (omega (arith, near))
 pushed_before (first ∷ items) zero one item near there = there

@@ -9,7 +9,8 @@ ghost use Rattle.rw_report.specs.Outcome.{outcome_of};
 ghost use Rattle.rw_report.specs.Why.{given_to, holds_words, open_after, put_told, put_words, puts_told, source_words, why_of, writer_words};
 
 use crate::flags::push_content;
-use crate::lines::{line_at, push_object, push_rule};
+use crate::lines::{line_at, push_rule};
+use crate::names::push_object;
 use crate::numbers::{push_count, push_number};
 use rw_base::{Cell, NoMemory, Qty, SlotNo, StepNo};
 use rw_inputs::Inputs;

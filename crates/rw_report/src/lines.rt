@@ -1,19 +1,25 @@
-ghost use Rattle.std.specs.Prelude.{◌≡◌, ◌<◌, ◌++◌, OnOk, Some, slice_get, string_bytes, codes, length};
+ghost use Rattle.std.specs.Prelude.{◌≡◌, ◌≤◌, ◌<◌, ◌+◌, ◌++◌, IsAscii, OnOk, Some, slice_get, string_bytes, codes, drop, length};
 ghost use Rattle.std.specs.Fmt.{decimal};
 ghost use Rattle.rw_run.specs.declared.trace.TraceEvent.TheVariants as TraceEvent;
 ghost use Rattle.rw_run.specs.Trace.{lines_in};
 ghost use Rattle.rw_report.specs.Section.{object_words, slot_words};
+ghost use Rattle.rw_report.specs.Flags.{content_words};
 ghost use Rattle.rw_report.specs.Lines.{ending_words, line_words, lines_words, trace_words, written_words};
+ghost use Rattle.rw_report.specs.Pieces.{AreLineTexts, AreTexts, object_line, slot_front};
 
-use crate::flags::push_content;
+use crate::flags::{push_content, write_content};
 use crate::heading::push_fault;
-use crate::names::{object_words, push_slot};
+use crate::names::{push_object, push_slot};
 use crate::numbers::push_count;
+use crate::pieces::{ROOM, push_piece, write_byte, write_count};
+use crate::told::{LineTexts, line_texts, push_object_line, push_slot_front, text_of};
 use rw_base::{NoMemory, ObjectNo, RuleNo, SlotNo, StepNo};
 use rw_model::{Basin, Content};
-use rw_run::{RunFault, Trace, TraceEvent};
+use rw_run::{RunFault, Trace, TraceEvent, Write};
+use std::alloc::Global;
 
 /// The line of a trace in a place, counted from 0.
+#[inline(always)]
 pub fn line_at(trace: &Trace, place: usize) -> TraceEvent
     requires within { place < length (lines_in trace.now) }
     ensures { slice_get (lines_in trace.now) place ≡ Some result }
@@ -31,21 +37,6 @@ fn push_step(text: &mut String, word: &str, step: StepNo) -> Result<(), NoMemory
 {
     text.push_str(word)?;
     push_count(text, u64::from(step.0))
-}
-
-/// Appends a word and the name of an object.
-pub(crate) fn push_object(
-    text: &mut String,
-    basin: &Basin,
-    word: &str,
-    object: ObjectNo,
-) -> Result<(), NoMemory>
-    ensures { OnOk result (string_bytes text.new
-        ≡ string_bytes text.old ++ (word.now ++ object_words basin.now object.0)) }
-{
-    text.push_str(word)?;
-    text.push_str(object_words(basin, object))?;
-    Ok(())
 }
 
 /// Appends the word `rule` or another, and the number of a rule.
@@ -105,8 +96,8 @@ fn push_end(text: &mut String, basin: &Basin, fault: RunFault) -> Result<(), NoM
     push_fault(text, basin, fault)
 }
 
-// Appends a line of a trace, without its end.
-fn push_line(text: &mut String, basin: &Basin, line: TraceEvent) -> Result<(), NoMemory>
+/// Appends a line of a trace, without its end.
+pub fn push_line(text: &mut String, basin: &Basin, line: TraceEvent) -> Result<(), NoMemory>
     ensures { OnOk result (string_bytes text.new
         ≡ string_bytes text.old ++ line_words basin.now line) }
 {
@@ -134,21 +125,171 @@ fn push_ended(text: &mut String, basin: &Basin, line: TraceEvent) -> Result<(), 
     Ok(())
 }
 
-fn push_lines(text: &mut String, basin: &Basin, trace: &Trace) -> Result<(), NoMemory>
+// Appends the line of a word and an object, of which there may be a text.
+fn push_listed(
+    text: &mut String,
+    basin: &Basin,
+    texts: &[String],
+    word: &str,
+    object: ObjectNo,
+) -> Result<(), NoMemory>
+    requires { AreTexts (object_line basin.now word.now) texts.now }
+    ensures { OnOk result (string_bytes text.new
+        ≡ string_bytes text.old ++ object_line basin.now word.now object.0) }
+{
+    match text_of(texts, object.0) {
+        Some(line) => {
+            text.push_str(line)?;
+            Ok(())
+        }
+        None => push_object_line(text, basin, word, object),
+    }
+}
+
+// Appends how the line of a put to a slot begins, of which there may be a text.
+fn push_front(
+    text: &mut String,
+    basin: &Basin,
+    texts: &[String],
+    slot: SlotNo,
+) -> Result<(), NoMemory>
+    requires { AreTexts (slot_front basin.now) texts.now }
+    ensures { OnOk result (string_bytes text.new
+        ≡ string_bytes text.old ++ slot_front basin.now slot.0) }
+{
+    match text_of(texts, slot.0) {
+        Some(front) => {
+            text.push_str(front)?;
+            Ok(())
+        }
+        None => push_slot_front(text, basin, slot),
+    }
+}
+
+// Writes how the line of a put ends, and answers where that begins.
+#[inline(always)]
+fn write_put(buffer: &mut [u8; ROOM], step: StepNo, content: Content) -> usize
+    ensures start { result ≤ 672 }
+    ensures ascii { IsAscii (drop result buffer.new) }
+    ensures written { drop result buffer.new
+        ≡ decimal step.0 ++ (codes " " ++ (content_words content ++ codes "\n")) }
+{
+    let end = write_byte(buffer, b'\n', ROOM);
+    let held = write_content(buffer, content, end);
+    let between = write_byte(buffer, b' ', held);
+    write_count(buffer, step.0, between)
+}
+
+// Appends how the line of a put ends.
+fn push_put(
+    text: &mut String,
+    buffer: &mut [u8; ROOM],
+    step: StepNo,
+    content: Content,
+) -> Result<(), NoMemory>
+    ensures { OnOk result (string_bytes text.new ≡ string_bytes text.old
+        ++ (decimal step.0 ++ (codes " " ++ (content_words content ++ codes "\n")))) }
+{
+    let start = write_put(buffer, step, content);
+    push_piece(text, buffer, start)?;
+    Ok(())
+}
+
+// Appends the line of a put.
+#[inline(always)]
+fn push_write(
+    text: &mut String,
+    buffer: &mut [u8; ROOM],
+    basin: &Basin,
+    texts: &[String],
+    write: Write,
+) -> Result<(), NoMemory>
+    requires { AreTexts (slot_front basin.now) texts.now }
+    ensures { OnOk result (string_bytes text.new ≡ string_bytes text.old
+        ++ (written_words basin.now write.cell.slot.0 write.cell.step.0 write.content
+        ++ codes "\n")) }
+{
+    push_front(text, basin, texts, write.cell.slot)?;
+    push_put(text, buffer, write.cell.step, write.content)?;
+    Ok(())
+}
+
+// Appends a line of a trace, by its text where there is one.
+fn push_told(
+    text: &mut String,
+    basin: &Basin,
+    texts: &LineTexts,
+    line: TraceEvent,
+) -> Result<(), NoMemory>
+    requires { AreLineTexts basin.now texts.now }
+    ensures { OnOk result (string_bytes text.new
+        ≡ string_bytes text.old ++ (line_words basin.now line ++ codes "\n")) }
+{
+    match line {
+        TraceEvent::Idle(object) => push_listed(
+            text,
+            basin,
+            texts.idle.as_slice(),
+            "idle ",
+            object,
+        ),
+        TraceEvent::Solve(object) => {
+            push_listed(text, basin, texts.solve.as_slice(), "solve ", object)
+        }
+        _ => push_ended(text, basin, line),
+    }
+}
+
+// Appends the line in a place. Most lines are of puts, and of such a line no more than the put is read.
+#[inline(always)]
+fn push_at(
+    text: &mut String,
+    buffer: &mut [u8; ROOM],
+    basin: &Basin,
+    texts: &LineTexts,
+    trace: &Trace,
+    place: usize,
+) -> Result<(), NoMemory>
+    requires within { place < length (lines_in trace.now) }
+    requires texts { AreLineTexts basin.now texts.now }
+    ensures { OnOk result (string_bytes text.new
+        ++ lines_words basin.now (drop (place + 1) (lines_in trace.now))
+        ≡ string_bytes text.old ++ lines_words basin.now (drop place (lines_in trace.now))) }
+{
+    match trace.written(place) {
+        Some(write) => push_write(text, buffer, basin, texts.written.as_slice(), write),
+        None => push_told(text, basin, texts, line_at(trace, place)),
+    }
+}
+
+fn push_lines(
+    text: &mut String,
+    basin: &Basin,
+    texts: &LineTexts,
+    trace: &Trace,
+) -> Result<(), NoMemory>
+    requires { AreLineTexts basin.now texts.now }
     ensures { OnOk result (string_bytes text.new
         ≡ string_bytes text.old ++ lines_words basin.now (lines_in trace.now)) }
 {
+    let mut buffer = [0; ROOM];
     for place in 0..trace.len() {
-        push_ended(text, basin, line_at(trace, place))?;
+        push_at(text, &mut buffer, basin, texts, trace, place)?;
     }
     Ok(())
 }
 
 /// Appends the lines of a trace.
-pub(crate) fn push_trace(text: &mut String, basin: &Basin, trace: &Trace) -> Result<(), NoMemory>
+pub(crate) fn push_trace(
+    alloc: Global,
+    text: &mut String,
+    basin: &Basin,
+    trace: &Trace,
+) -> Result<(), NoMemory>
     ensures { OnOk result (string_bytes text.new
         ≡ string_bytes text.old ++ trace_words basin.now (lines_in trace.now)) }
 {
+    let texts = line_texts(alloc, basin)?;
     text.push_str("# trace\n")?;
-    push_lines(text, basin, trace)
+    push_lines(text, basin, &texts, trace)
 }

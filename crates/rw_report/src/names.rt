@@ -28,6 +28,21 @@ pub fn object_words(basin: &Basin, object: ObjectNo) -> &str
     }
 }
 
+/// Appends a word and the name of an object.
+pub(crate) fn push_object(
+    text: &mut String,
+    basin: &Basin,
+    word: &str,
+    object: ObjectNo,
+) -> Result<(), NoMemory>
+    ensures { OnOk result (string_bytes text.new
+        ≡ string_bytes text.old ++ (word.now ++ object_words basin.now object.0)) }
+{
+    text.push_str(word)?;
+    text.push_str(object_words(basin, object))?;
+    Ok(())
+}
+
 /// Appends the name of a slot behind that of its object, and nothing where there is none of its number.
 pub fn push_slot(text: &mut String, basin: &Basin, slot: SlotNo) -> Result<(), NoMemory>
     ensures { OnOk result

@@ -91,7 +91,8 @@ impl<'a> Sheet<'a> {
         requires same { AreToldBefore self.old.basin (held run.now.series) same self.old.values }
         ensures text { IfOk result (λ done. self.new.text
             ≡ whole_of self.old.basin telling.now.batch (outcome_of run.now)
-            (option_map (λ steps. steps.now) telling.now.reran) telling.now.flags telling.now.trace) }
+            (option_map (λ steps. steps.now) telling.now.reran)
+            telling.now.flags telling.now.trace) }
         ensures values { IfOk result (λ done. AreToldOf self.old.basin (held run.now.series)
             self.new.values) }
         ensures untold { IfErr result (λ fault. self.new.text ≡ []) }

@@ -8,12 +8,11 @@ ghost use Rattle.rw_report.specs.Pieces.{words_at};
 
 use crate::names::push_slot;
 use crate::numbers::push_count;
-use itoa::write_digits;
+use crate::pieces::{ROOM, push_piece, write_number};
 use rw_base::{NoMemory, SlotNo, StepNo};
 use rw_model::{Basin, Content};
 use rw_series::{Series, StepCells};
 use std::alloc::Global;
-use std::str::from_utf8_unchecked;
 
 // Appends a comma and the name of a slot.
 fn push_name(text: &mut String, basin: &Basin, slot: SlotNo) -> Result<(), NoMemory>
@@ -48,27 +47,8 @@ pub(crate) fn push_columns(text: &mut String, basin: &Basin) -> Result<(), NoMem
     Ok(())
 }
 
-// Of so many slots the values are written in one piece.
+// Of so many slots the values are written in one piece, each a comma and the text of a number of 64 bits.
 const BLOCK: u16 = 32;
-
-// The most bytes that they take: each a comma and the text of a number of 64 bits.
-const ROOM: usize = 672;
-
-// Writes a number so that it ends where it is said, and answers where it begins.
-#[inline(always)]
-fn write_number(buffer: &mut [u8; ROOM], number: i64, end: usize) -> usize
-    requires room { (20 ≤ end) × (end ≤ 672) }
-    ensures start { (result ≤ end) × (end ≤ result + 20) }
-    ensures written { drop result buffer.new ≡ signed_decimal number ++ drop end buffer.old }
-    ensures ascii { IsAscii (signed_decimal number) }
-{
-    let start = write_digits(number.unsigned_abs(), buffer, end);
-    if number >= 0 {
-        return start;
-    }
-    buffer[start - 1] = b'-';
-    start - 1
-}
 
 // Writes the value that a cell holds, which is nothing where it is unknown.
 #[inline(always)]
@@ -137,12 +117,12 @@ fn push_block(
         ≡ front ++ for_each (words_at (held cells.now)) last) }
 {
     let at = write_block(buffer, cells, first, last);
-    text.push_str(unsafe { from_utf8_unchecked(&buffer[at..]) })?;
+    push_piece(text, buffer, at)?;
     Ok(())
 }
 
-// The last of the slots that are written in one piece behind the first ones.
-fn last_of_block(first: u16, count: u16) -> u16
+/// The last of the slots that are written in one piece behind the first ones.
+pub(crate) fn last_of_block(first: u16, count: u16) -> u16
     requires { first < count }
     ensures more { first < result }
     ensures few { result ≤ first + 32 }

@@ -110,12 +110,18 @@ fn push_flags_if(text: &mut String, basin: &Basin, run: &Run, flags: bool) -> Re
     }
 }
 
-fn push_trace_if(text: &mut String, basin: &Basin, run: &Run, trace: bool) -> Result<(), NoMemory>
+fn push_trace_if(
+    alloc: Global,
+    text: &mut String,
+    basin: &Basin,
+    run: &Run,
+    trace: bool,
+) -> Result<(), NoMemory>
     ensures { OnOk result (string_bytes text.new ≡ string_bytes text.old
         ++ if_asked trace (trace_words basin.now (lines_in run.now.trace))) }
 {
     if trace {
-        push_trace(text, basin, &run.trace)
+        push_trace(alloc, text, basin, &run.trace)
     } else {
         Ok(())
     }
@@ -169,5 +175,5 @@ pub(crate) fn push_section(
     push_top(text, basin, run, telling)?;
     push_table(alloc, text, lines, basin, run, extent)?;
     push_flags_if(text, basin, run, telling.flags)?;
-    push_trace_if(text, basin, run, telling.trace)
+    push_trace_if(alloc, text, basin, run, telling.trace)
 }

@@ -10,6 +10,8 @@ mod counting;
 #[cfg(test)]
 mod dispatch;
 #[cfg(test)]
+mod each_failure;
+#[cfg(test)]
 mod is_view;
 #[cfg(test)]
 mod kept;

@@ -10,6 +10,7 @@ pub mod BudgetLemmas
 pub mod FilesRead
 pub mod PlainText
 pub mod RulesText
+pub mod AskedText
 pub mod SectionLemmas
 pub mod SessionSections
 pub mod SameValues

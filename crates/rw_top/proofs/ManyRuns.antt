@@ -15,7 +15,7 @@ use Rattle.rw_run.specs.declared.run.Run.{Run}
 use Rattle.rw_series.specs.Series.{held}
 use Rattle.rw_mrm.specs.Summary.{Ended, IsTallyOf, summary_of}
 use Rattle.rw_mrm.specs.Tally.{IsTallyFor, Tally, is_settled, with_run}
-use Rattle.rw_top.specs.Many.{AppendsMany, AreFirstPieces, AreScenarioRuns, IsScenarioRun, ended_by, many_texts, scenario_texts, status_of_runs}
+use Rattle.rw_top.specs.Many.{AppendsMany, AreFirstPieces, AreScenarioRuns, IsScenarioRun, as_ended, many_texts, scenario_texts, status_of_runs}
 use Rattle.rw_top.specs.Policy.{PolicyFile as Rules}
 use Rattle.rw_top.specs.RunText.{ComesBy, IsCodeOf}
 use Rattle.rw_top.specs.Scenarios.{ComesAfter, StopsAtScenario, StopsAtText, WritesScenario, WritesScenarios}
@@ -165,10 +165,10 @@ module _ (basin : Draft) (policy : Rules) (inputs : Inputs) (batches : List Batc
               (trace_of_run basin (count + 1) (outcome_by basin log)) so_far.grew
               (subst (λ t. GrowsBy now.contents after.contents t) (its_text basin (count + 1) log run its) wrote.grew));
           later = let first = so_far.later in let second = wrote.later in omega (arith, first, second);
-          kept = subst (λ (t : Tally). IsTallyOf basin (map (ended_by basin) (logs ++ log ∷ [])) t) (sym tallied)
+          kept = subst (λ (t : Tally). IsTallyOf basin (map (as_ended basin) (logs ++ log ∷ [])) t) (sym tallied)
               (subst (λ runs. IsTallyOf basin runs (with_run basin (is_settled (end_of log)) (cells_of basin log) tally))
-              (sym (map-append (ended_by basin) logs (log ∷ [])))
-              (goes_on (map (ended_by basin) logs) tally (ended_by basin log) so_far.kept));
+              (sym (map-append (as_ended basin) logs (log ∷ [])))
+              (goes_on (map (as_ended basin) logs) tally (as_ended basin log) so_far.kept));
           status_is = ap₂ (λ end s. if is_settled end then s else 1) its.end so_far.status_is ∙ sym (status_more logs log);
         }
 
@@ -204,7 +204,7 @@ module _ (basin : Draft) (policy : Rules) (inputs : Inputs) (batches : List Batc
 
   -- the summary stands behind all of them
   module _ (old now after : SinkView) (tally : Tally) (status : ℕ) (all : WritesScenarios basin policy inputs batches (length batches) (change old now) tally status)
-      (text : List ℕ) (text_is : text ≡ summary_of basin (map (ended_by basin) all.logs)) where
+      (text : List ℕ) (text_is : text ≡ summary_of basin (map (as_ended basin) all.logs)) where
     abbrev ran : List Log
     ran = all.logs
 
@@ -212,7 +212,7 @@ module _ (basin : Draft) (policy : Rules) (inputs : Inputs) (batches : List Batc
     every = subst (λ bs. AreScenarioRuns basin policy inputs bs ran) (take_all (length batches) batches (omega arith)) all.are
 
     whole : joined_sections (many_texts basin ran) ≡ joined_sections (scenario_texts basin 1 ran) ++ text
-    whole = joined_more (scenario_texts basin 1 ran) (summary_of basin (map (ended_by basin) ran))
+    whole = joined_more (scenario_texts basin 1 ran) (summary_of basin (map (as_ended basin) ran))
         ∙ ap (λ t. joined_sections (scenario_texts basin 1 ran) ++ t) (sym text_is)
 
     pub all_written : GrowsBy now.contents after.contents text → AppendsMany basin policy inputs batches (change old after) status

@@ -13,7 +13,8 @@ use Rattle.rw_sample.specs.Texts.{sample_inputs, sample_model, sample_rules}
 
 -- what its text tells besides the table, and how it is come to
 abbrev pub extras_of : Command → Extras
-extras_of command = record { flags = command.flags; trace = command.trace; reuse = command.reuse; order = command.order }
+extras_of command =
+    record { flags = command.flags; trace = command.trace; asked = command.asked; reuse = command.reuse; order = command.order }
 
 -- ---- jobs
 

@@ -43,12 +43,12 @@ scenario_texts basin number [] = []
 scenario_texts basin number (log ∷ logs) = trace_of_run basin number (outcome_by basin log) ∷ scenario_texts basin (number + 1) logs
 
 -- how a run ended, as a summary counts it
-abbrev pub ended_by : Draft → Log → Ended
-ended_by basin log = record { settled = is_settled (end_of log); cells = cells_of basin log }
+abbrev pub as_ended : Draft → Log → Ended
+as_ended basin log = record { settled = is_settled (end_of log); cells = cells_of basin log }
 
 -- the section of each, and the summary of all
 abbrev pub many_texts : Draft → List Log → List (List ℕ)
-many_texts basin logs = scenario_texts basin 1 logs ++ summary_of basin (map (ended_by basin) logs) ∷ []
+many_texts basin logs = scenario_texts basin 1 logs ++ summary_of basin (map (as_ended basin) logs) ∷ []
 
 -- all of them settled
 abbrev pub AllSettled : List Log → Type 0

@@ -81,6 +81,7 @@ impl<'w> Command<'w> {
         Extras {
             flags: self.words.flags,
             trace: self.words.trace,
+            asked: self.words.asked,
             reuse: self.words.reuse,
             order: self.words.order,
         }

@@ -7,6 +7,7 @@
 //! line that says so.
 #![tactic(auto)]
 
+mod asked;
 mod balance;
 mod cell;
 mod check;

@@ -216,9 +216,10 @@ module _ (one_run : (basin : Draft) (policy : Policy) (inputs : List (Cell × �
       → IsBalanceOfRules basin policy inputs end text → IsBalanceOfRules basin policy others other more → (end ≡ other) × (text ≡ more)
   one_book policy inputs others end other text more same left right =
       let log = one_log one_run basin (policy_in_run basin policy) inputs others left.run_text.log right.run_text.log
-      (λ i slot step. (same slot step) i) left.run_text.run right.run_text.run in
-      (left.run_text.end_is ∙ ap end_of log ∙ sym right.run_text.end_is,
-      left.run_text.text_is ∙ ap (λ (l : Log). balance_of_run basin (outcome_by basin l)) log ∙ sym right.run_text.text_is)
+      (λ i slot step. (same slot step) i) left.run_text.run right.run_text.run in (
+        left.run_text.end_is ∙ ap end_of log ∙ sym right.run_text.end_is,
+        left.run_text.text_is ∙ ap (λ (l : Log). balance_of_run basin (outcome_by basin l)) log ∙ sym right.run_text.text_is,
+      )
 
 -- ---- two calls
 
@@ -244,9 +245,12 @@ module _ (one_run : (basin : Draft) (policy : Policy) (inputs : List (Cell × �
       let both = one_why one_run files.basin p x y c left.0 right.0 u.0 v.0 values u.2 v.2 in
       (both.0, alone u.0 v.0 texts next u.1 v.1 both.1)) l r) same a b) left.2 right.2)
   one_by (Sample seed) extras files inputs others status more texts next same left right =
-      alike (Sample seed) status more texts next (left.0 ∙ sym right.0, of_it files.policy _ _ _ (λ p a b. of_same inputs others _ _ _
-      (λ x y values l r. alone l.0 r.0 texts next l.1 r.1 (one_line one_run extras files.basin p x y seed l.0 r.0 values l.2 r.2)) same a b)
-      left.1 right.1)
+      alike (Sample seed) status more texts next (
+        left.0 ∙ sym right.0,
+        of_it files.policy _ _ _ (λ p a b. of_same inputs others _ _ _
+            (λ x y values l r. alone l.0 r.0 texts next l.1 r.1 (one_line one_run extras files.basin p x y seed l.0 r.0 values l.2 r.2)) same a b)
+            left.1 right.1,
+      )
   one_by Balance extras files inputs others status more texts next same left right =
       by_end Balance status more texts next left.0 right.0 left.1 right.1 (of_it files.policy _ _ _ (λ p a b. of_same inputs others _ _ _
       (λ x y values l r.

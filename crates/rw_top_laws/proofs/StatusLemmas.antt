@@ -207,19 +207,23 @@ module _ (call : Call) (command : Command) (asked : AskForCommand call.words com
   wrote_many status job (Some policy) (Some inputs) None rules says told is =
       let none : source_by TracesFile command.paths Mrm ≡ None = sym (ap (source_by TracesFile command.paths) job) ∙ told in
       absurd (none-some _ (sym none))
-  wrote_many status job (Some policy) (Some inputs) (Some scenarios) rules says told is = (is.0, is.2, record {
-    command = command;
-    asked = asked;
-    basin = files.basin;
-    policy = policy;
-    rules = rules;
-    inputs = inputs;
-    read = says;
-    scenarios = scenarios;
-    told = told;
-    are = is.1;
-    grew = subst (λ ts. GrowsBy call.out.before.contents call.out.after.contents (joined_sections ts)) is.3 grew;
-  })
+  wrote_many status job (Some policy) (Some inputs) (Some scenarios) rules says told is = (
+    is.0,
+    is.2,
+    record {
+      command = command;
+      asked = asked;
+      basin = files.basin;
+      policy = policy;
+      rules = rules;
+      inputs = inputs;
+      read = says;
+      scenarios = scenarios;
+      told = told;
+      are = is.1;
+      grew = subst (λ ts. GrowsBy call.out.before.contents call.out.after.contents (joined_sections ts)) is.3 grew;
+    },
+  )
 
   wrote_migrated : command.job ≡ Migrate → (text : Option (List ℕ)) → text ≡ text_wanted command.job read.model.text
       → IsSomeAnd text (λ old. (new : List ℕ) × (texts ≡ new ∷ []) × IsMigrated old new) → WroteMigrated call

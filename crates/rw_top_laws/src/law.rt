@@ -35,6 +35,7 @@ ghost use Rattle.rw_top.specs.Promise.{Promise, WroteBalance, WroteCheck, WroteC
 ghost use Rattle.rw_top.specs.Reading.{AcceptsAll, FilesRead, HoldsTooLong, IsHonestOfAll, LacksCell, ReadsInputs, RefusesEdits, RefusesInputs, RefusesModel, RefusesPolicy, RefusesScenarios};
 ghost use Rattle.rw_top.specs.Refusal.{FailsToRead, FindsTooLong, status_of};
 ghost use Rattle.rw_top.specs.Told.{AreTold};
+ghost use Rattle.rw_top_laws.specs.SureCall.{IsSure};
 ghost use Rattle.rw_top.specs.Written.{AppendsFront, AppendsSections, CountsOfFiles, IsFrontOf, OfFiles, TellsLine, WritesFront, WritesSections, sections_behind};
 ghost use Rattle.std.specs.Prelude.{IsTrue};
 ghost use Rattle.rw_top.specs.Sections.{AreSections, GivenInputs, first_given, joined_sections};
@@ -332,6 +333,12 @@ pub fn statuses()
         ⊎ AskOne call.words (λ command. WritesSections command call.shelf.before.holds call.out) }
     ensures untouched { (call : Call) (status : ℕ) → Promise call status → 2 ≤ status
         → status ≢ 4 → status ≢ 5 → call.out.after.contents ≡ call.out.before.contents }
+{}
+
+/// Over a shelf and an output that never fail no call answers that a file can't be read or the output not be written.
+pub fn sure_calls()
+    ensures { (call : Call) (status : ℕ) → IsSure call → Promise call status
+        → (status ≢ 3) × (status ≢ 4) }
 {}
 
 /// What has to be refused of a command is, with its status, unless memory was wanting: where the shelf tells the files up to the one

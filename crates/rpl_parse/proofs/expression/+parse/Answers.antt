@@ -1,8 +1,10 @@
-use Rattle.rw_base.proofs.Common.{arith, ◌∙◌, sym, ◌∷◌, [], length, map, map-append}
-use Rattle.rpl_parse.specs.Reading.{read_tree, got, many, turns_of}
+use Rattle.rw_base.proofs.Common.{arith, ap, subst, Some, ◌+◌, ◌-◌, ◌∙◌, sym, ◌∷◌, [], length, map, map-append}
+use Rattle.rpl_parse.specs.Reading.{read_tree, got, level, many, climbed, rise, turns_of}
 use Rattle.rpl_tree.specs.Seen.{tree_of}
 use Rattle.rpl_parse.specs.Tokens.{toks}
-use Rattle.rpl_parse.proofs.Faults.{fails_on, many_fault}
+use Rattle.rpl_parse.proofs.Faults.{fails_on, many_fault, tree_fault}
+use Rattle.rpl_parse.proofs.Climb.{climb_fails, climb_goes, fails_from, from_start}
+use Rattle.rpl_parse.specs.Gives.{GivesExpression}
 use Rattle.rpl_parse.proofs.Turns.{items_stops, items_fails, items_goes, steps_goes, chain_goes}
 use Rattle.rpl_parse.proofs.expression.+parse.Goals as goal
 
@@ -64,3 +66,38 @@ chain-loop-turn-preserved t c =
       same = rw (c.in_ok-left.ensures.ok, c.max_of-deep.ensures) (sym go ∙ c.loop-turn.invariant.same);
       within = omega (arith, c.max_of-deep.ensures, c.in_ok-right.ensures.1, c.if-deep-depth.false);
     }
+
+pub climb-returns-in_err-whole : goal.climb-returns-in_err-whole
+climb-returns-in_err-whole t c =
+    let now = got (tree_of c.loop-below.left) c.loop-below.deep (toks c.args.text.now c.loop-below.rest.now) in
+    tree_fault c.args.text.now (c.args.depth + 1) c.from_residual.result _ c.in_err-whole.field-0.0 c.from_residual.ensures.1
+    (fails_on c.in_err-whole.field-0.0 (rise (read_tree c.args.depth) c.args.depth (c.loop-below.below + 1) now) _
+    (λ none. sym c.loop-below.invariant.same
+    ∙ climb_fails (read_tree c.args.depth) c.args.depth c.loop-below.below c.args.k now c.loop-below-test.true none)
+    c.in_err-whole.ensures)
+
+pub climb-loop-below-preserved : goal.climb-loop-below-preserved
+climb-loop-below-preserved t c = record {
+  same =
+      sym (climb_goes (read_tree c.args.depth) c.args.depth c.loop-below.below c.args.k
+      (got (tree_of c.loop-below.left) c.loop-below.deep (toks c.args.text.now c.loop-below.rest.now))
+      (got (tree_of c.in_ok-whole.whole) c.in_ok-whole.whole_deep (toks c.args.text.now c.in_ok-whole.after.now))
+      c.loop-below-test.true c.in_ok-whole.ensures.0) ∙ c.loop-below.invariant.same;
+  within = c.in_ok-whole.ensures.1;
+}
+
+pub level-returns-in_err-first : goal.level-returns-in_err-first
+level-returns-in_err-first t c =
+    let ts = toks c.args.text.now c.args.tokens.now in
+    tree_fault c.args.text.now (c.args.depth + 1) c.from_residual.result _ c.in_err-first.field-0.0 c.from_residual.ensures.1
+    (fails_on c.in_err-first.field-0.0 (level (read_tree c.args.depth) c.args.depth c.start_of-start.result ts) _
+    (λ none. fails_from (read_tree c.args.depth) c.args.depth c.args.k c.start_of-start.result ts c.start_of-start.ensures none)
+    c.in_err-first.ensures)
+
+pub level-returns : goal.level-returns
+level-returns t c =
+    let ts = toks c.args.text.now c.args.tokens.now in
+    subst (λ read. GivesExpression c.args.text.now (c.args.depth + 1) c.climb.result read)
+    (sym (from_start (read_tree c.args.depth) c.args.depth c.args.k c.start_of-start.result ts c.start_of-start.ensures
+    ∙ ap (climbed (read_tree c.args.depth) c.args.depth c.start_of-start.result (c.args.k - c.start_of-start.result)) c.in_ok-first.ensures.0))
+    c.climb.ensures

@@ -1,6 +1,6 @@
-use Rattle.std.proofs.Common.{◌≡◌, ◌≤◌, ◌+◌, ◌-◌, ◌*◌, length, map}
+use Rattle.std.proofs.Common.{Some, ◌≡◌, ◌≤◌, ◌+◌, ◌-◌, ◌*◌, length, map}
 use Rattle.rpl_tree.specs.Seen.{tree_of}
-use Rattle.rpl_parse.specs.Reading.{read_tree, steps, chain, turns_of, got, many, items}
+use Rattle.rpl_parse.specs.Reading.{read_tree, steps, chain, turns_of, got, many, items, climbed}
 use Rattle.rpl_parse.specs.Tokens.{toks}
 use Rattle.rpl_parse.proofs.expression.+parse.Given as goal
 
@@ -8,7 +8,16 @@ abbrev pub decreases-expression : goal.decreases-expression
 decreases-expression l = 1000 * l.limit
 
 abbrev pub decreases-level : goal.decreases-level
-decreases-level l = 1000 * l.depth + 500 + l.k
+decreases-level l = 1000 * l.depth + 7
+
+abbrev pub decreases-begun : goal.decreases-begun
+decreases-begun l = 1000 * l.depth + 6
+
+abbrev pub decreases-rise : goal.decreases-rise
+decreases-rise l = 1000 * l.depth + 3
+
+abbrev pub decreases-climb : goal.decreases-climb
+decreases-climb l = 1000 * l.depth + 4
 
 abbrev pub decreases-up_to : goal.decreases-up_to
 decreases-up_to l = 1000 * l.depth + 1
@@ -85,5 +94,12 @@ abbrev pub invariant-chain-loop-turn : goal.invariant-chain-loop-turn
 invariant-chain-loop-turn l = record {
   same : chain (read_tree l.depth) l.depth l.k (turns_of l.k l.depth - l._turn) (got (tree_of l.left) l.deep (toks l.text l.rest))
       ≡ chain (read_tree l.depth) l.depth l.k (turns_of l.k l.depth) (got (tree_of l.fn.first) l.fn.first_deep (toks l.text l.tokens));
+  within : l.deep ≤ l.depth + 1;
+}
+
+abbrev pub invariant-climb-loop-below : goal.invariant-climb-loop-below
+invariant-climb-loop-below l = record {
+  same : climbed (read_tree l.depth) l.depth l.below (l.k - l.below) (Some (got (tree_of l.left) l.deep (toks l.text l.rest)))
+      ≡ climbed (read_tree l.depth) l.depth l.start (l.k - l.start) (Some (got (tree_of l.fn.first) l.fn.first_deep (toks l.text l.tokens)));
   within : l.deep ≤ l.depth + 1;
 }

@@ -1,0 +1,19 @@
+use Rattle.rw_base.proofs.Common.{◌+◌, ◌∷◌, ap, drop, string_bytes, sym, ◌∙◌}
+use Rattle.rw_series.specs.Series.{held}
+use Rattle.rw_asked.specs.declared.fate.Fate.{Fate}
+use Rattle.rw_asked.specs.Asked.{fates_alone}
+use Rattle.rw_asked.proofs.Telling.{from_place, one_more_put}
+use Rattle.rw_asked.proofs.tells.push_dispatched.Goals as goal
+
+pub loop-place-preserved : goal.loop-place-preserved
+loop-place-preserved c =
+    let cells = held c.args.series.now in
+    let puts = c.args.puts.now in
+    let put = c.index-puts-place.result in
+    let place = c.loop-place.place in
+    let those = from_place puts place put c.loop-place-test.true c.index-puts-place.is in
+    one_more_put c.args.basin.now put c.fate_alone-fate.result (fates_alone cells (drop (place + 1) puts)) (fates_alone cells (drop place puts))
+    (string_bytes c.loop-place.text) (string_bytes c.push_put.new.text) _
+    (ap (fates_alone cells) those ∙ ap (λ (fate : Fate). record { put = put; fate = fate } ∷ fates_alone cells (drop (place + 1) puts))
+    (sym c.fate_alone-fate.ensures)) c.loop-place.invariant
+    c.in_ok-push_put.ensures

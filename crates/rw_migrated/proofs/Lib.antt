@@ -1,0 +1,3 @@
+mod NewFormat
+mod FarInputs
+mod FarTables

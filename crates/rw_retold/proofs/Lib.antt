@@ -1,0 +1,4 @@
+mod Made
+mod Asks
+mod There
+mod Walking

@@ -1,0 +1,127 @@
+ghost use Rattle.std.specs.Prelude.{◌≡◌, [], ◌∷◌, ◌++◌, ℕ, List, OnOk, Ok, map, string_bytes};
+ghost use Rattle.rw_method.specs.Catalogue.{AreInOrder};
+ghost use Rattle.rw_inputs.specs.Placings.{placings};
+ghost use Rattle.rw_run.specs.declared.trace.TraceEvent.{TraceEvent as Told};
+ghost use Rattle.rw_run.specs.Choice.{MayLead};
+ghost use Rattle.rw_run.specs.Log.{Event, Log};
+ghost use Rattle.rw_run.specs.RunOf.{trace_of};
+ghost use Rattle.rw_run.specs.Runs.{with_inputs};
+ghost use Rattle.rw_run.specs.Trace.{lines_in};
+ghost use Rattle.rpl_verify.specs.Verified.{verified};
+ghost use Rattle.rw_rules.specs.Rules.{policy_in};
+ghost use Rattle.rw_engine.specs.Passing.{CanRun};
+ghost use Rattle.rw_asked.specs.Asked.{asked_trace};
+ghost use Rattle.rw_asked.specs.Words.{asked_trace_words};
+ghost use Rattle.rw_retold.specs.Walk.{IsWalkOf, IsWalkedTo};
+
+use crate::walk::{Walk, push_plain};
+use rw_base::{Cell, NoMemory};
+use rw_engine::RunSetup;
+use rw_inputs::Inputs;
+use rw_report::line_at;
+use rw_run::{Trace, TraceEvent, Write};
+use std::alloc::Global;
+
+// Tells the next line, and what was asked for in the event that it begins.
+fn tell_line(
+    walk: &mut Walk,
+    text: &mut String,
+    setup: &RunSetup<'_>,
+    line: TraceEvent,
+) -> Result<(), NoMemory>
+    requires walk { IsWalkOf setup.now.basin.now walk.old }
+    requires fits { verified setup.now.basin.now setup.now.policy.now.blocks
+        ≡ Ok setup.now.policy.now }
+    requires order { AreInOrder
+        (map (λ b. code (b.vtable, b.value)) setup.now.methods.now.methods.items) }
+    ensures walk { IsWalkOf setup.now.basin.now walk.new }
+    ensures goes { (left : List Told) (log : Log) (whole : List ℕ)
+        → IsWalkedTo setup.now.basin.now (policy_in setup.now.basin.now setup.now.policy.now)
+        (line ∷ left) log whole walk.old (string_bytes text.old)
+        → OnOk result (IsWalkedTo setup.now.basin.now
+        (policy_in setup.now.basin.now setup.now.policy.now)
+        left log whole walk.new (string_bytes text.new)) }
+{
+    match line {
+        TraceEvent::Written {
+            slot,
+            step,
+            content,
+        } => {
+            let cell = Cell { slot, step };
+            walk.write(setup.basin, &Write { cell, content });
+            Ok(())
+        }
+        TraceEvent::Opened(step) => {
+            walk.step = step;
+            push_plain(text, setup.basin, line)
+        }
+        TraceEvent::Solve(object) => {
+            push_plain(text, setup.basin, line)?;
+            walk.tell_dispatch(text, setup, object)
+        }
+        TraceEvent::Fire {
+            rule,
+            done,
+            count: _,
+        } => {
+            push_plain(text, setup.basin, line)?;
+            if done {
+                walk.tell_firing(text, setup, rule)
+            } else {
+                Ok(())
+            }
+        }
+        TraceEvent::Idle(_) => push_plain(text, setup.basin, line),
+        TraceEvent::Closed(_) => push_plain(text, setup.basin, line),
+        TraceEvent::Fault(_) => push_plain(text, setup.basin, line),
+    }
+}
+
+// Tells all lines.
+fn tell_all(
+    walk: &mut Walk,
+    text: &mut String,
+    setup: &RunSetup<'_>,
+    trace: &Trace,
+) -> Result<(), NoMemory>
+    requires walk { IsWalkOf setup.now.basin.now walk.old }
+    requires fits { verified setup.now.basin.now setup.now.policy.now.blocks
+        ≡ Ok setup.now.policy.now }
+    requires order { AreInOrder
+        (map (λ b. code (b.vtable, b.value)) setup.now.methods.now.methods.items) }
+    ensures { (log : Log) (whole : List ℕ)
+        → IsWalkedTo setup.now.basin.now (policy_in setup.now.basin.now setup.now.policy.now)
+        (lines_in trace.now) log whole walk.old (string_bytes text.old)
+        → OnOk result (string_bytes text.new ≡ whole) }
+{
+    for place in 0..trace.len() {
+        tell_line(walk, text, setup, line_at(trace, place))?;
+    }
+    Ok(())
+}
+
+/// Appends the trace of a run of the setup from these inputs, whoever was dispatched first, with what became of each put that was
+/// asked for: `docs/FORMATS.md` says how. The one error is want of memory.
+pub fn push_asked_trace(
+    alloc: Global,
+    text: &mut String,
+    setup: &RunSetup<'_>,
+    inputs: &Inputs,
+    trace: &Trace,
+) -> Result<(), NoMemory>
+    requires can { CanRun setup.now.basin.now setup.now.policy.now inputs.now }
+    requires order { AreInOrder
+        (map (λ b. code (b.vtable, b.value)) setup.now.methods.now.methods.items) }
+    ensures { (log : Log) (events : List Event)
+        → MayLead setup.now.basin.now (policy_in setup.now.basin.now setup.now.policy.now)
+        (with_inputs [] (placings setup.now.basin.now inputs.now)) events log
+        → lines_in trace.now ≡ trace_of log
+        → OnOk result (string_bytes text.new ≡ string_bytes text.old
+        ++ asked_trace_words setup.now.basin.now (asked_trace setup.now.basin.now
+        (policy_in setup.now.basin.now setup.now.policy.now) log)) }
+{
+    let mut walk = Walk::begin(alloc, setup, inputs)?;
+    text.push_str("# trace\n")?;
+    tell_all(&mut walk, text, setup, trace)
+}

@@ -1,0 +1,203 @@
+ghost use Rattle.std.specs.Prelude.{◌≡◌, [], ◌∷◌, ◌++◌, ◌≤◌, ℕ, IfOk, List, OnOk, Ok, Some, if◌then◌else◌, map, codes, string_bytes};
+ghost use Rattle.std.specs.Option.{option_or};
+ghost use Rattle.rw_base.specs.declared.number.Cell.{Cell as Place};
+ghost use Rattle.rw_model.specs.Turn.{IsStep};
+ghost use Rattle.rw_method.specs.Catalogue.{AreInOrder};
+ghost use Rattle.rw_series.specs.Series.{held};
+ghost use Rattle.rw_firing.specs.Fire.{Fire as FireDone};
+ghost use Rattle.rw_inputs.specs.Placings.{placings};
+ghost use Rattle.rw_dispatch.specs.Writes.{AreWrites, CanWrite};
+ghost use Rattle.rw_run.specs.declared.trace.TraceEvent.{TraceEvent as Lines};
+ghost use Rattle.rw_run.specs.declared.trace.TraceEvent.TheVariants as TraceEvent;
+ghost use Rattle.rw_run.specs.Dispatch.{dispatched};
+ghost use Rattle.rw_run.specs.Log.{Dispatch, Log, cells_of, last_put, solved, value_in};
+ghost use Rattle.rw_run.specs.Next.{asked_by_rule};
+ghost use Rattle.rw_run.specs.Runs.{with_inputs};
+ghost use Rattle.rw_report.specs.Lines.{line_words};
+ghost use Rattle.rpl_verify.specs.Machine.{fire_of_code};
+ghost use Rattle.rpl_verify.specs.Verified.{verified};
+ghost use Rattle.rw_rules.specs.Rules.{policy_in};
+ghost use Rattle.rw_engine.specs.Passing.{CanRun};
+ghost use Rattle.rw_asked.specs.Asked.{fates_alone, fates_of, lines_of_asks, wanted_of};
+ghost use Rattle.rw_asked.specs.Words.{asked_lines_words};
+ghost use Rattle.rw_retold.specs.Walk.{IsWalkOf, IsWalkedTo};
+
+use crate::checks::{can_write, has_method, is_rule, is_step};
+use rpl_machine::Machine;
+use rw_asked::{push_dispatched, push_fired};
+use rw_base::{Cell, NoMemory, ObjectNo, RuleNo, StepNo};
+use rw_dispatch::{Workspace, judge_dispatch, make};
+use rw_engine::{Engine, RunSetup};
+use rw_firing::RulePut;
+use rw_inputs::Inputs;
+use rw_model::{Basin, Content, Writer};
+use rw_report::{line_at, push_line};
+use rw_run::{Trace, TraceEvent, Write};
+use rw_series::Series;
+use std::alloc::Global;
+
+/// The cells as they were at a line of a trace, the open timestep, and what is wanted to have objects solve and rules fire again.
+#[derive(Drop)]
+pub(crate) struct Walk {
+    pub(crate) series: Series,
+    pub(crate) machine: Machine,
+    pub(crate) work: Workspace,
+    pub(crate) wanted: Vec<Write>,
+    pub(crate) step: StepNo,
+}
+
+/// Appends a line of the trace as it is.
+pub(crate) fn push_plain(text: &mut String, basin: &Basin, line: TraceEvent) -> Result<(), NoMemory>
+    ensures { OnOk result (string_bytes text.new
+        ≡ string_bytes text.old ++ (line_words basin.now line ++ codes "\n")) }
+{
+    push_line(text, basin, line)?;
+    text.push_str("\n")?;
+    Ok(())
+}
+
+// What a put asks for.
+fn asked_by(rule: RuleNo, step: StepNo, put: RulePut) -> Write
+    requires { step.0 ≤ 4096 }
+    ensures { result ≡ asked_by_rule rule.0 step.0 put }
+{
+    Write {
+        cell: Cell {
+            slot: put.slot,
+            step: StepNo(step.0 + u16::from(put.ahead)),
+        },
+        content: Content {
+            value: put.value,
+            number: rule.0,
+            writer: Writer::Rule(rule),
+        },
+    }
+}
+
+// Has what all these ask for.
+fn want_all(
+    wanted: &mut Vec<Write>,
+    rule: RuleNo,
+    step: StepNo,
+    puts: &[RulePut],
+) -> Result<(), NoMemory>
+    requires { step.0 ≤ 4096 }
+    ensures { OnOk result (wanted.new.items ≡ map (asked_by_rule rule.0 step.0) puts.now) }
+{
+    wanted.clear();
+    for put in puts {
+        wanted.push(asked_by(rule, step, *put))?;
+    }
+    Ok(())
+}
+
+impl Walk {
+    /// Before the first timestep of the run of these inputs.
+    pub(crate) fn begin(
+        alloc: Global,
+        setup: &RunSetup<'_>,
+        inputs: &Inputs,
+    ) -> Result<Walk, NoMemory>
+        requires can { CanRun setup.now.basin.now setup.now.policy.now inputs.now }
+        ensures walk { IfOk result (IsWalkOf setup.now.basin.now) }
+        ensures cells { IfOk result (λ walk. (cell : Place) → held walk.series cell
+            ≡ cells_of setup.now.basin.now
+            (with_inputs [] (placings setup.now.basin.now inputs.now)) cell) }
+    {
+        let engine = Engine::without_trace(alloc, setup.basin, setup.policy, inputs)?;
+        let machine = Machine::for_policy(alloc, setup.policy)?;
+        let run = engine.finish();
+        Ok(Walk {
+            series: run.series,
+            machine,
+            work: Workspace::new(true),
+            wanted: Vec::new(alloc),
+            step: StepNo(0),
+        })
+    }
+
+    /// Writes a put that the trace says to be written.
+    pub(crate) fn write(&mut self, basin: &Basin, write: &Write)
+        requires walk { IsWalkOf basin.now self.old }
+        ensures walk { IsWalkOf basin.now self.new }
+        ensures step { self.new.step ≡ self.old.step }
+        ensures cells { CanWrite basin.now write.now → (cell : Place) → held self.new.series cell
+            ≡ option_or (last_put basin.now (write.now ∷ []) cell) (held self.old.series cell) }
+    {
+        if can_write(basin, write) {
+            make(basin, &mut self.series, &[*write]);
+        }
+    }
+
+    /// Tells what an object asked for that is dispatched.
+    pub(crate) fn tell_dispatch(
+        &mut self,
+        text: &mut String,
+        setup: &RunSetup<'_>,
+        object: ObjectNo,
+    ) -> Result<(), NoMemory>
+        requires walk { IsWalkOf setup.now.basin.now self.old }
+        requires order { AreInOrder
+            (map (λ b. code (b.vtable, b.value)) setup.now.methods.now.methods.items) }
+        ensures walk { IsWalkOf setup.now.basin.now self.new }
+        ensures same { (self.new.series ≡ self.old.series) × (self.new.step ≡ self.old.step) }
+        ensures told { (dispatch : Dispatch) → IsStep setup.now.basin.now self.old.step.0
+            → dispatched setup.now.basin.now (held self.old.series) object.0 self.old.step.0
+            ≡ solved dispatch
+            → OnOk result ((string_bytes text.new ≡ string_bytes text.old
+            ++ asked_lines_words setup.now.basin.now
+            (lines_of_asks (fates_alone (held self.old.series) dispatch.asked)))
+            × AreWrites setup.now.basin.now dispatch.written) }
+    {
+        if !is_step(setup.basin, self.step) || !has_method(setup.basin, object) {
+            return Ok(());
+        }
+        let _end = judge_dispatch(
+            setup.basin,
+            setup.methods,
+            &self.series,
+            object,
+            self.step,
+            &mut self.work,
+        );
+        push_dispatched(text, setup.basin, &self.series, self.work.asked.as_slice())
+    }
+
+    /// Tells what a rule asked for that fires.
+    pub(crate) fn tell_firing(
+        &mut self,
+        text: &mut String,
+        setup: &RunSetup<'_>,
+        rule: RuleNo,
+    ) -> Result<(), NoMemory>
+        requires walk { IsWalkOf setup.now.basin.now self.old }
+        requires fits { verified setup.now.basin.now setup.now.policy.now.blocks
+            ≡ Ok setup.now.policy.now }
+        ensures walk { IsWalkOf setup.now.basin.now self.new }
+        ensures same { (self.new.series ≡ self.old.series) × (self.new.step ≡ self.old.step) }
+        ensures told { (fire : FireDone) → IsStep setup.now.basin.now self.old.step.0
+            → fire_of_code setup.now.policy.now.blocks setup.now.basin.now rule.0
+            self.old.step.0 (value_in (held self.old.series)) ≡ Some fire
+            → OnOk result (string_bytes text.new ≡ string_bytes text.old
+            ++ asked_lines_words setup.now.basin.now
+            (lines_of_asks (fates_of setup.now.basin.now (held self.old.series)
+            (wanted_of rule.0 self.old.step.0 (Some fire))))) }
+    {
+        if !is_step(setup.basin, self.step) {
+            return Ok(());
+        }
+        if !is_rule(setup.policy, rule) {
+            return Ok(());
+        }
+        let fired = self.machine.fire(
+            setup.policy,
+            setup.predefs,
+            setup.basin,
+            &self.series,
+            rule,
+            self.step,
+        );
+        want_all(&mut self.wanted, rule, self.step, fired.puts)?;
+        push_fired(text, setup.basin, &self.series, self.wanted.as_slice())
+    }
+}
