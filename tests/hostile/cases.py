@@ -105,6 +105,8 @@ def words_of(draw: Draw, case: Case) -> tuple[list[str], list[str]]:
         read.append("edits")
     if command == "run" and draw.random() < 0.6:
         words += ["--reuse"]
+    elif "--trace" in words and draw.random() < 0.5:
+        words += ["--asked"]
     return words, read
 
 

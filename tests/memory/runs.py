@@ -91,6 +91,7 @@ def of_example(folder: Path) -> Iterator[Run]:
     if not (folder / "policy.rpl").exists():
         yield Run(folder, ["simulate", "model.toml", "inputs.csv"])
         yield Run(folder, ["simulate", "model.toml", "inputs.csv", *more, "--order", "newest"])
+        yield Run(folder, ["simulate", "model.toml", "inputs.csv", "--trace", "--asked"])
         return
     table = (folder / "table.csv").read_text().splitlines()
     slot, step = table[1].split(",")[2], table[-1].split(",")[0]
@@ -98,6 +99,7 @@ def of_example(folder: Path) -> Iterator[Run]:
     yield Run(folder, ["compile", "model.toml", "policy.rpl"])
     run = ["run", "model.toml", "policy.rpl", "inputs.csv"]
     yield Run(folder, run + more)
+    yield Run(folder, [*run, "--trace", "--asked"])
     yield Run(folder, ["why", *run[1:], slot, step])
     yield Run(folder, ["balance", *run[1:]])
     if (folder / "traces.csv").exists():

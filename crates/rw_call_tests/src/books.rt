@@ -1,5 +1,5 @@
 //! Books of water: of a routed reach over three days, and of one of which nothing is known.
-use crate::shared::{Held, basin, has_bytes, none_is_wrong, series_of};
+use crate::shared::{Held, basin, has_bytes, lasting, series_of};
 use rw_books::balance;
 use rw_model::Basin;
 use rw_run::{Run, RunEnd, Trace};
@@ -32,25 +32,9 @@ const FLOWS: &[Held<'static>] = &[
     ("W", "Content", 3, 507),
 ];
 
-// How many days of these flows are closed, and the books.
-const BOOKS: &[(&[Held<'static>], u16, &str)] = &[
-    (
-        FLOWS,
-        3,
-        "# batch 0 settled\nW initial 1000 in 200 out 693 final 507\n",
-    ),
-    (
-        FLOWS,
-        1,
-        "# batch 0 settled\nW initial 1000 in 200 out 300 final 900\n",
-    ),
-    (
-        &[],
-        0,
-        "# batch 0 settled\nW initial 1000 in 0 out 0 final 1000\n",
-    ),
-    (&[], 1, "# batch 0 settled\nW unknown\n"),
-];
+const BOOK: &str = "# batch 0 settled\nW initial 1000 in 200 out 693 final 507\n";
+
+const NOT_KNOWN: &str = "# batch 0 settled\nW unknown\n";
 
 fn is_written(alloc: Global, basin: &Basin, run: &Run, want: &str) -> bool {
     match balance(alloc, basin, run) {
@@ -59,40 +43,23 @@ fn is_written(alloc: Global, basin: &Basin, run: &Run, want: &str) -> bool {
     }
 }
 
-fn is_book(
-    rt: &impl Abort,
-    alloc: Global,
-    basin: &Basin,
-    held: &[Held<'_>],
-    closed: u16,
-    want: &str,
-) -> bool {
+// A run that settled, with these values in its cells.
+fn settled<'a>(rt: &impl Abort, alloc: Global, basin: &Basin, held: &[Held<'_>]) -> &'a Run {
     let run = Run {
         end: RunEnd::Settled,
-        closed,
+        closed: 3,
         series: series_of(rt, alloc, basin, held),
         trace: Trace::new(alloc),
     };
-    is_written(alloc, basin, &run, want)
+    lasting(rt, alloc, run)
 }
 
-fn first_wrong_book(
-    rt: &impl Abort,
-    alloc: Global,
-    basin: &Basin,
-    rows: &[(&[Held<'_>], u16, &str)],
-) -> Option<usize> {
-    for k in 0..rows.len() {
-        let (held, closed, want) = rows[k];
-        if !is_book(rt, alloc, basin, held, closed, want) {
-            return Some(k);
-        }
-    }
-    None
+fn check(rt: &impl Abort, alloc: Global, basin: &Basin) {
+    assert!(rt; is_written(alloc, basin, settled(rt, alloc, basin, FLOWS), BOOK));
+    assert!(rt; is_written(alloc, basin, settled(rt, alloc, basin, &[]), NOT_KNOWN));
 }
 
 #[test]
 fn books_of_a_routed_reach(rt: HostRuntime) {
-    let basin = basin(&rt, rt.alloc(), MODEL);
-    none_is_wrong(&rt, first_wrong_book(&rt, rt.alloc(), &basin, BOOKS));
+    check(&rt, rt.alloc(), basin(&rt, rt.alloc(), MODEL));
 }

@@ -1,5 +1,5 @@
 //! A lake above a reach: what a builder takes, and what the finished basin answers.
-use crate::shared::none_is_wrong;
+use crate::shared::{lasting, none_is_wrong};
 use rw_base::{ObjectNo, SlotNo};
 use rw_calendar::{Stamps, Start, StepLength};
 use rw_model::{AgendaOrder, Basin, BasinBuilder, History, Kind, RunControl};
@@ -50,7 +50,7 @@ fn reach(rt: &impl Abort, alloc: Global) -> Kind {
 }
 
 // A lake whose outflow is linked to the inflow of a reach, which is bound.
-fn lake_and_reach(rt: &impl Abort, alloc: Global) -> Basin {
+fn lake_and_reach<'a>(rt: &impl Abort, alloc: Global) -> &'a Basin {
     let mut builder = begun(rt, alloc);
     builder.object("Lake", lake(rt, alloc)).expect(rt, "a lake");
     builder
@@ -58,7 +58,7 @@ fn lake_and_reach(rt: &impl Abort, alloc: Global) -> Basin {
         .expect(rt, "a reach");
     builder.link(&[SlotNo(12), SlotNo(2)]).expect(rt, "a link");
     builder.bound(SlotNo(12), -5, 40).expect(rt, "bounds");
-    builder.finish().expect(rt, "a basin")
+    lasting(rt, alloc, builder.finish().expect(rt, "a basin"))
 }
 
 fn has_objects(basin: &Basin) -> bool {
@@ -109,5 +109,5 @@ fn check(rt: &impl Abort, basin: &Basin) {
 #[test]
 fn a_basin_holds_what_was_added(rt: HostRuntime) {
     let basin = lake_and_reach(&rt, rt.alloc());
-    check(&rt, &basin);
+    check(&rt, basin);
 }

@@ -1,7 +1,11 @@
 //! Batches of edits that are read, and what inputs give after each.
-use crate::shared::{TWO_GAGES, basin};
-use rw_base::{Cell, SlotNo, StepNo};
-use rw_inputs::{Inputs, apply, read_edits, read_inputs};
+ghost use Rattle.std.specs.Prelude.{All};
+ghost use Rattle.rw_inputs.specs.Edits.{IsBatch};
+ghost use Rattle.rw_inputs.specs.Inputs.{IsInputsOf};
+
+use crate::shared::{TWO_GAGES, basin, lasting};
+use rw_base::{Cell, NoMemory, SlotNo, StepNo};
+use rw_inputs::{Batch, Inputs, apply, read_edits, read_inputs};
 use rw_model::Basin;
 use std::alloc::Global;
 use std::process::Abort;
@@ -34,29 +38,52 @@ fn batch_count(rt: &impl Abort, alloc: Global, basin: &Basin, text: &str) -> usi
         .len()
 }
 
-#[test]
-fn a_batch_for_each_number(rt: HostRuntime) {
-    let alloc = rt.alloc();
-    let basin = basin(&rt, alloc, TWO_GAGES);
-    assert!(&rt; batch_count(&rt, alloc, &basin, EDITS) == 3);
-    assert!(&rt; batch_count(&rt, alloc, &basin, "batch,slot,step,value\n") == 0);
+fn inputs<'a>(rt: &impl Abort, alloc: Global, basin: &Basin) -> &'a Inputs
+    ensures { IsInputsOf basin.now result.now }
+{
+    match read_inputs(alloc, basin, INPUTS.as_bytes()) {
+        Ok(inputs) => lasting(rt, alloc, inputs),
+        Err(_) => panic!(rt; "no inputs"),
+    }
 }
 
-fn check_edited(rt: &impl Abort, alloc: Global, basin: &Basin) {
-    let inputs = read_inputs(alloc, basin, INPUTS.as_bytes()).expect(rt, "inputs");
-    let batches = read_edits(alloc, basin, EDITS.as_bytes()).expect(rt, "edits");
+// The inputs after a batch.
+fn after<'a>(
+    rt: &impl Abort,
+    alloc: Global,
+    basin: &Basin,
+    inputs: &Inputs,
+    batch: &Batch,
+) -> &'a Inputs
+    requires inputs { IsInputsOf basin.now inputs.now }
+    requires batch { IsBatch basin.now batch.now }
+    ensures { IsInputsOf basin.now result.now }
+{
+    match apply(alloc, basin, inputs, batch) {
+        Ok(edited) => lasting(rt, alloc, edited),
+        Err(NoMemory) => panic!(rt; "memory"),
+    }
+}
+
+fn check_edited(rt: &impl Abort, alloc: Global, basin: &Basin, batches: &[Batch])
+    requires { All (IsBatch basin.now) batches.now }
+{
     assert!(rt; batches.len() == 3);
-    let first = apply(alloc, basin, &inputs, &batches[0]).expect(rt, "memory");
-    assert!(rt; given(&first, 1, 1) == Some(100) && given(&first, 1, 2) == Some(130));
-    let second = apply(alloc, basin, &first, &batches[1]).expect(rt, "memory");
-    assert!(rt; given(&second, 1, 2).is_none() && given(&second, 4, 1).is_none());
-    let third = apply(alloc, basin, &second, &batches[2]).expect(rt, "memory");
-    assert!(rt; given(&third, 1, 1) == Some(100) && given(&third, 2, 3) == Some(7));
+    let first = after(rt, alloc, basin, inputs(rt, alloc, basin), &batches[0]);
+    assert!(rt; given(first, 1, 1) == Some(100) && given(first, 1, 2) == Some(130));
+    let second = after(rt, alloc, basin, first, &batches[1]);
+    assert!(rt; given(second, 1, 2).is_none() && given(second, 4, 1).is_none());
+    let third = after(rt, alloc, basin, second, &batches[2]);
+    assert!(rt; given(third, 1, 1) == Some(100) && given(third, 2, 3) == Some(7));
+}
+
+fn check(rt: &impl Abort, alloc: Global, basin: &Basin) {
+    assert!(rt; batch_count(rt, alloc, basin, "batch,slot,step,value\n") == 0);
+    let batches = read_edits(alloc, basin, EDITS.as_bytes()).expect(rt, "edits");
+    check_edited(rt, alloc, basin, &batches);
 }
 
 #[test]
 fn inputs_after_batches(rt: HostRuntime) {
-    let alloc = rt.alloc();
-    let basin = basin(&rt, alloc, TWO_GAGES);
-    check_edited(&rt, alloc, &basin);
+    check(&rt, rt.alloc(), basin(&rt, rt.alloc(), TWO_GAGES));
 }

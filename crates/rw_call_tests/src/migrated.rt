@@ -1,9 +1,10 @@
 //! A model's file made one of format 2.
-use crate::shared::none_is_wrong;
+use crate::shared::{basin_of, none_is_wrong};
 use rw_base::ObjectNo;
 use rw_model::Basin;
-use rw_model_toml::{ModelFault, migrate, read_model};
+use rw_model_toml::{ModelFault, migrate};
 use std::alloc::Global;
+use std::process::Abort;
 
 const FIRST: &str = r#"
 format = 1
@@ -38,16 +39,9 @@ fn is_far_dam(basin: &Basin) -> bool {
         && basin.slot_count() == 3
 }
 
-fn is_read(alloc: Global, text: &[u8]) -> bool {
-    match read_model(alloc, text) {
-        Ok(basin) => is_far_dam(&basin),
-        Err(_) => false,
-    }
-}
-
-fn is_migrated(alloc: Global, text: &str) -> bool {
+fn is_migrated(rt: &impl Abort, alloc: Global, text: &str) -> bool {
     match migrate(alloc, text.as_bytes()) {
-        Ok(new) => is_read(alloc, &new),
+        Ok(new) => is_far_dam(basin_of(rt, alloc, &new)),
         Err(_) => false,
     }
 }
@@ -74,6 +68,6 @@ fn first_wrong_refusal(alloc: Global, rows: &[(&str, &str)]) -> Option<usize> {
 
 #[test]
 fn models_are_migrated(rt: HostRuntime) {
-    assert!(rt; is_migrated(rt.alloc(), FIRST) && is_migrated(rt.alloc(), SECOND));
+    assert!(rt; is_migrated(&rt, rt.alloc(), FIRST) && is_migrated(&rt, rt.alloc(), SECOND));
     none_is_wrong(&rt, first_wrong_refusal(rt.alloc(), REFUSED));
 }

@@ -59,6 +59,6 @@ fn owners_wait_once(basin: &Basin, queue: &mut Queue) -> bool
 #[test]
 fn owners_wait_once_in_order_of_waking(rt: HostRuntime) {
     let basin = basin(&rt, rt.alloc(), MODEL);
-    let mut queue = Queue::for_basin(rt.alloc(), &basin).expect(&rt, "memory");
-    assert!(rt; owners_wait_once(&basin, &mut queue));
+    let mut queue = Queue::for_basin(rt.alloc(), basin).expect(&rt, "memory");
+    assert!(rt; owners_wait_once(basin, &mut queue));
 }

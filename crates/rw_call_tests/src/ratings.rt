@@ -1,8 +1,8 @@
 //! Tables of reservoirs: volumes and elevations, and which rows are no table.
-use crate::shared::none_is_wrong;
+use crate::shared::{lasting, none_is_wrong};
 use rw_table::{Rating, TableFault};
 use std::alloc::{AllocError, Global};
-use std::test::Fail;
+use std::process::Abort;
 
 // Half a cubic metre to a millimetre up to the second row, and from there on a whole one.
 const ROWS: &[(i64, i64)] = &[(0, 0), (1000, 500), (3000, 2500)];
@@ -47,20 +47,20 @@ fn first_wrong_elevation(rating: &Rating, rows: &[(i64, Option<i64>)]) -> Option
     None
 }
 
-#[test]
-fn worked_values(rt: HostRuntime) -> Result<(), Fail> {
-    let rating = Rating::of(rt.alloc(), ROWS)?;
-    none_is_wrong(&rt, first_wrong_volume(&rating, VOLUMES));
-    none_is_wrong(&rt, first_wrong_elevation(&rating, ELEVATIONS));
-    assert!(rt; rating.lowest() == 0);
-    Ok(())
+fn rating<'a>(rt: &impl Abort, alloc: Global, rows: &[(i64, i64)]) -> &'a Rating {
+    match Rating::of(alloc, rows) {
+        Ok(rating) => lasting(rt, alloc, rating),
+        Err(_) => panic!(rt; "no table"),
+    }
 }
 
 #[test]
-fn a_table_begins_at_its_lowest_elevation(rt: HostRuntime) -> Result<(), Fail> {
-    let raised = Rating::of(rt.alloc(), &[(700, 0), (1000, 500)])?;
-    assert!(rt; raised.lowest() == 700);
-    Ok(())
+fn worked_values(rt: HostRuntime) {
+    let rising = rating(&rt, rt.alloc(), ROWS);
+    let raised = rating(&rt, rt.alloc(), &[(700, 0), (1000, 500)]);
+    none_is_wrong(&rt, first_wrong_volume(rising, VOLUMES));
+    none_is_wrong(&rt, first_wrong_elevation(rising, ELEVATIONS));
+    assert!(rt; rising.lowest() == 0 && raised.lowest() == 700);
 }
 
 // Rows that are no table, and why.

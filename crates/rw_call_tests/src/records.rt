@@ -246,5 +246,5 @@ pub(crate) fn check_records<L: Ledger>(
 {
     let basin = basin(rt, alloc, TWO_GAGES);
     assert!(rt; basin.control().stamps.count() == 3);
-    check_in(rt, alloc, &basin, methods, predefs, steps);
+    check_in(rt, alloc, basin, methods, predefs, steps);
 }

@@ -6,7 +6,7 @@ ghost use Rattle.rw_method.specs.Catalogue.{AreInOrder};
 
 use crate::records::check_records;
 use crate::sessions::check_sessions;
-use crate::shared::{basin, content, none_is_wrong};
+use crate::shared::{basin, content, lasting, none_is_wrong};
 use rpl_code::read_code;
 use rpl_predef::{
     Predef, Predefs, absolute, clamped, greatest, least, mul_div, rounded_down, sign,
@@ -48,7 +48,7 @@ kind = "gage"
 slots = ["C.Outflow", "G.GageInflow"]
 "#;
 
-fn run_in<L: Ledger>(
+fn run_in<'a, L: Ledger>(
     rt: &impl Abort,
     alloc: Global,
     basin: &Basin,
@@ -57,40 +57,41 @@ fn run_in<L: Ledger>(
     predefs: &Predefs,
     steps: &mut Steps<L>,
     text: &str,
-) -> Run
+) -> &'a Run
     requires fits { verified basin.now policy.now.blocks ≡ Ok policy.now }
     requires order { AreInOrder (map (λ b. code (b.vtable, b.value)) methods.now.methods.items) }
 {
     let inputs = read_inputs(alloc, basin, text.as_bytes()).expect(rt, "inputs");
-    run_all(alloc, basin, methods, policy, predefs, &inputs, steps).expect(rt, "memory")
+    let run = run_all(alloc, basin, methods, policy, predefs, &inputs, steps).expect(rt, "memory");
+    lasting(rt, alloc, run)
 }
 
 // The run without rules.
-fn run<L: Ledger>(
+fn run<'a, L: Ledger>(
     rt: &impl Abort,
     alloc: Global,
     methods: &Catalogue,
     predefs: &Predefs,
     steps: &mut Steps<L>,
     text: &str,
-) -> Run
+) -> &'a Run
     requires { AreInOrder (map (λ b. code (b.vtable, b.value)) methods.now.methods.items) }
 {
     let basin = basin(rt, alloc, MODEL);
     let none = Verified::none(alloc);
-    run_in(rt, alloc, &basin, methods, &none, predefs, steps, text)
+    run_in(rt, alloc, basin, methods, &none, predefs, steps, text)
 }
 
 // The code that a text is read as, which is accepted.
-fn accepted(rt: &impl Abort, alloc: Global, basin: &Basin, text: &str) -> Verified
+fn accepted<'a>(rt: &impl Abort, alloc: Global, basin: &Basin, text: &str) -> &'a Verified
     requires { length text.now ≤ 16_777_216 }
-    ensures { verified basin.now result.blocks ≡ Ok result }
+    ensures { verified basin.now result.now.blocks ≡ Ok result.now }
 {
     let Ok(code) = read_code(alloc, text.as_bytes()) else {
         panic!(rt; "no code")
     };
     match verify(alloc, code, basin) {
-        Ok(policy) => policy,
+        Ok(policy) => lasting(rt, alloc, policy),
         Err(_) => panic!(rt; "refused"),
     }
 }
@@ -221,18 +222,18 @@ fn check_dam(rt: &impl Abort, run: &Run) {
     assert!(rt; run.end == RunEnd::Settled && run.closed == 1 && run.trace.len() == 12);
 }
 
-fn run_dam<L: Ledger>(
+fn run_dam<'a, L: Ledger>(
     rt: &impl Abort,
     alloc: Global,
     methods: &Catalogue,
     predefs: &Predefs,
     steps: &mut Steps<L>,
-) -> Run
+) -> &'a Run
     requires { AreInOrder (map (λ b. code (b.vtable, b.value)) methods.now.methods.items) }
 {
     let basin = basin(rt, alloc, DAM);
-    let policy = accepted(rt, alloc, &basin, CAP_AND_BASE);
-    run_in(rt, alloc, &basin, methods, &policy, predefs, steps, INFLOW)
+    let policy = accepted(rt, alloc, basin, CAP_AND_BASE);
+    run_in(rt, alloc, basin, methods, policy, predefs, steps, INFLOW)
 }
 
 fn check<L: Ledger>(
@@ -248,9 +249,9 @@ fn check<L: Ledger>(
     requires order { AreInOrder (map (λ b. code (b.vtable, b.value)) methods.now.methods.items) }
 {
     let mut steps = Steps::<L>::of(blank);
-    check_lines(rt, &run(rt, alloc, methods, predefs, &mut steps, MEETING));
-    assert!(rt; ends_in_conflict(&run(rt, alloc, methods, predefs, &mut steps, MEASURED)));
-    check_dam(rt, &run_dam(rt, alloc, methods, predefs, &mut steps));
+    check_lines(rt, run(rt, alloc, methods, predefs, &mut steps, MEETING));
+    assert!(rt; ends_in_conflict(run(rt, alloc, methods, predefs, &mut steps, MEASURED)));
+    check_dam(rt, run_dam(rt, alloc, methods, predefs, &mut steps));
     check_records(rt, alloc, methods, predefs, &mut steps);
     check_sessions(rt, alloc, methods, predefs, &mut steps);
 }

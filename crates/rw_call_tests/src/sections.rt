@@ -1,32 +1,27 @@
 //! The sections of two gages: the faults that no run without rules ends in, and a run with values of each length.
-use crate::shared::{TWO_GAGES, basin, cell, given, none_is_wrong};
+use crate::shared::{Held, TWO_GAGES, basin, lasting, none_is_wrong, series_of};
 use rw_base::{ObjectNo, RuleNo, SlotNo, StepNo};
 use rw_model::Basin;
 use rw_report::section;
 use rw_run::{Run, RunEnd, RunFault, Trace};
-use rw_series::Series;
 use std::alloc::Global;
 use std::process::Abort;
 
 // What passes on the first two days.
-fn passing(rt: &impl Abort, alloc: Global, basin: &Basin) -> Series {
-    let mut series = Series::sized(alloc, basin).expect(rt, "memory");
-    let comes = cell(rt, basin, "Up", "GageInflow", 1);
-    series.restore(basin, comes, Some(given(rt, 70)));
-    let passes = cell(rt, basin, "Low", "GageInflow", 1);
-    series.restore(basin, passes, Some(given(rt, -5)));
-    let leaves = cell(rt, basin, "Low", "GageOutflow", 2);
-    series.restore(basin, leaves, Some(given(rt, 100_000_000_000_000_000)));
-    series
-}
+const PASSING: &[Held<'static>] = &[
+    ("Up", "GageInflow", 1, 70),
+    ("Low", "GageInflow", 1, -5),
+    ("Low", "GageOutflow", 2, 100_000_000_000_000_000),
+];
 
-fn run(rt: &impl Abort, alloc: Global, basin: &Basin, end: RunEnd, closed: u16) -> Run {
-    Run {
+fn run<'a>(rt: &impl Abort, alloc: Global, basin: &Basin, end: RunEnd, closed: u16) -> &'a Run {
+    let run = Run {
         end,
         closed,
-        series: passing(rt, alloc, basin),
+        series: series_of(rt, alloc, basin, PASSING),
         trace: Trace::new(alloc),
-    }
+    };
+    lasting(rt, alloc, run)
 }
 
 // Whether the section of the run begins with the text, and ends with it where it is to be whole.
@@ -69,15 +64,9 @@ const RULE_LIMIT: RunFault = RunFault::RuleLimit {
 
 fn check_days(rt: &impl Abort, alloc: Global, basin: &Basin) {
     let settled = run(rt, alloc, basin, RunEnd::Settled, 3);
-    assert!(rt; is_written(alloc, basin, 4_294_967_295, &settled, SETTLED, true));
+    assert!(rt; is_written(alloc, basin, 4_294_967_295, settled, SETTLED, true));
     let stopped = run(rt, alloc, basin, RunEnd::Fault(RULE_LIMIT), 1);
-    assert!(rt; is_written(alloc, basin, 1, &stopped, STOPPED, true));
-}
-
-#[test]
-fn a_section_has_the_closed_days(rt: HostRuntime) {
-    let basin = basin(&rt, rt.alloc(), TWO_GAGES);
-    check_days(&rt, rt.alloc(), &basin);
+    assert!(rt; is_written(alloc, basin, 1, stopped, STOPPED, true));
 }
 
 // Faults, and the first lines of their sections.
@@ -128,7 +117,7 @@ const FAULTS: &[(RunFault, &str)] = &[
 
 fn is_heading(rt: &impl Abort, alloc: Global, basin: &Basin, fault: RunFault, line: &str) -> bool {
     let run = run(rt, alloc, basin, RunEnd::Fault(fault), 0);
-    is_written(alloc, basin, 4, &run, line, false)
+    is_written(alloc, basin, 4, run, line, false)
 }
 
 fn first_wrong_heading(
@@ -147,7 +136,8 @@ fn first_wrong_heading(
 }
 
 #[test]
-fn a_section_begins_with_its_fault(rt: HostRuntime) {
+fn sections_have_their_fault_and_the_closed_days(rt: HostRuntime) {
     let basin = basin(&rt, rt.alloc(), TWO_GAGES);
-    none_is_wrong(&rt, first_wrong_heading(&rt, rt.alloc(), &basin, FAULTS));
+    check_days(&rt, rt.alloc(), basin);
+    none_is_wrong(&rt, first_wrong_heading(&rt, rt.alloc(), basin, FAULTS));
 }

@@ -41,6 +41,6 @@ fn check(rt: &impl Abort, alloc: Global, basin: &Basin, series: &mut Series)
 fn linked_slots_hold_one_value(rt: HostRuntime) {
     let alloc = rt.alloc();
     let basin = basin(&rt, alloc, TWO_GAGES);
-    let mut series = Series::sized(alloc, &basin).expect(&rt, "memory");
-    check(&rt, alloc, &basin, &mut series);
+    let mut series = Series::sized(alloc, basin).expect(&rt, "memory");
+    check(&rt, alloc, basin, &mut series);
 }

@@ -140,6 +140,6 @@ pub(crate) fn check_sessions<L: Ledger>(
 {
     let basin = basin(rt, alloc, TWO_GAGES);
     let none = Verified::none(alloc);
-    check_session(rt, alloc, &basin, methods, &none, predefs, true, steps);
-    check_session(rt, alloc, &basin, methods, &none, predefs, false, steps);
+    check_session(rt, alloc, basin, methods, &none, predefs, true, steps);
+    check_session(rt, alloc, basin, methods, &none, predefs, false, steps);
 }

@@ -1,4 +1,5 @@
 //! What the tests share: basins from the texts of their models, the cells of their slots, and what cells hold.
+ghost use Rattle.std.specs.Prelude.{◌≡◌};
 ghost use Rattle.rw_series.specs.Series.{IsCell, IsSeriesOf};
 
 use rw_base::{Cell, Qty, StepNo};
@@ -30,12 +31,27 @@ pub(crate) fn none_is_wrong(rt: &impl Abort, first: Option<usize>) {
     assert_eq!(rt; first, None);
 }
 
-/// The basin of a model.
-pub(crate) fn basin(rt: &impl Abort, alloc: Global, model: &str) -> Basin {
-    match read_model(alloc, model.as_bytes()) {
-        Ok(basin) => basin,
+/// A value that is never freed. A function that frees a basin takes long to prove, for each way out of it.
+pub(crate) fn lasting<'a, T: Drop + 'a>(rt: &impl Abort, alloc: Global, value: T) -> &'a T
+    ensures { result.now ≡ value }
+{
+    match Box::new(alloc, value) {
+        Ok(kept) => Box::leak(kept),
+        Err(_) => panic!(rt; "memory"),
+    }
+}
+
+/// The basin that the bytes of a model say.
+pub(crate) fn basin_of<'a>(rt: &impl Abort, alloc: Global, model: &[u8]) -> &'a Basin {
+    match read_model(alloc, model) {
+        Ok(basin) => lasting(rt, alloc, basin),
         Err(_) => panic!(rt; "no model"),
     }
+}
+
+/// The basin of a model.
+pub(crate) fn basin<'a>(rt: &impl Abort, alloc: Global, model: &str) -> &'a Basin {
+    basin_of(rt, alloc, model.as_bytes())
 }
 
 /// The cell of an object's slot.

@@ -2,7 +2,7 @@
 ghost use Rattle.std.specs.Prelude.{◌≡◌, ◌<◌, ◌+◌};
 ghost use Rattle.rw_mrm.specs.Tally.{IsTallyFor};
 
-use crate::shared::{basin, has_bytes, none_is_wrong, series_of};
+use crate::shared::{basin, has_bytes, lasting, none_is_wrong, series_of};
 use rw_base::{ObjectNo, SlotNo, StepNo};
 use rw_inputs::{InputFault, read_traces};
 use rw_model::Basin;
@@ -42,31 +42,27 @@ fn add(basin: &Basin, tally: &mut Tally, run: &Run)
     tally.add(basin, run);
 }
 
-// The run of an inflow that settled, and what is held at its end.
-fn settled(rt: &impl Abort, alloc: Global, basin: &Basin, inflow: i64, storage: i64) -> Run {
+// A run that came to this end, with so many days closed, and with an inflow, an outflow and what is held.
+fn ended<'a>(
+    rt: &impl Abort,
+    alloc: Global,
+    basin: &Basin,
+    end: RunEnd,
+    closed: u16,
+    values: (i64, i64, i64),
+) -> &'a Run {
     let held = [
-        ("Dam", "Inflow", 1, inflow),
-        ("Dam", "Outflow", 1, 0),
-        ("Dam", "Storage", 1, storage),
+        ("Dam", "Inflow", 1, values.0),
+        ("Dam", "Outflow", 1, values.1),
+        ("Dam", "Storage", 1, values.2),
     ];
-    Run {
-        end: RunEnd::Settled,
-        closed: 1,
+    let run = Run {
+        end,
+        closed,
         series: series_of(rt, alloc, basin, &held),
         trace: Trace::new(alloc),
-    }
-}
-
-// The run in which more is to flow out than there is.
-fn spilt(rt: &impl Abort, alloc: Global, basin: &Basin) -> Run
-    ensures { result.closed ≡ 0 }
-{
-    Run {
-        end: RunEnd::Fault(SPILLS),
-        closed: 0,
-        series: series_of(rt, alloc, basin, &[("Dam", "Inflow", 1, 20)]),
-        trace: Trace::new(alloc),
-    }
+    };
+    lasting(rt, alloc, run)
 }
 
 fn is_summed(alloc: Global, basin: &Basin, tally: &Tally, want: &str) -> bool {
@@ -96,10 +92,27 @@ fn check_tally(rt: &impl Abort, alloc: Global, basin: &Basin, tally: &mut Tally)
     requires room { tally.old.room ≡ 4 }
 {
     assert!(rt; is_summed(alloc, basin, tally, OF_NONE));
-    add(basin, tally, &settled(rt, alloc, basin, 10, 1010));
-    add(basin, tally, &settled(rt, alloc, basin, 30, 1030));
-    add(basin, tally, &settled(rt, alloc, basin, 20, 1020));
-    add(basin, tally, &spilt(rt, alloc, basin));
+    let (settled, spilt) = (RunEnd::Settled, RunEnd::Fault(SPILLS));
+    add(
+        basin,
+        tally,
+        ended(rt, alloc, basin, settled, 1, (10, 0, 1010)),
+    );
+    add(
+        basin,
+        tally,
+        ended(rt, alloc, basin, settled, 1, (30, 0, 1030)),
+    );
+    add(
+        basin,
+        tally,
+        ended(rt, alloc, basin, settled, 1, (20, 0, 1020)),
+    );
+    add(
+        basin,
+        tally,
+        ended(rt, alloc, basin, spilt, 0, (20, 1100, 5)),
+    );
     assert!(rt; is_summed(alloc, basin, tally, SUMMARY));
 }
 
@@ -108,7 +121,11 @@ step,stamp,Dam.Inflow,Dam.Outflow,Dam.Storage
 ";
 
 fn has_section(rt: &impl Abort, alloc: Global, basin: &Basin) -> bool {
-    match trace_section(alloc, basin, 4, &spilt(rt, alloc, basin)) {
+    let spilt = ended(rt, alloc, basin, RunEnd::Fault(SPILLS), 0, (20, 1100, 5));
+    if basin.control().stamps.count() < spilt.closed {
+        return false;
+    }
+    match trace_section(alloc, basin, 4, spilt) {
         Ok(text) => has_bytes(&text, SECTION),
         Err(_) => false,
     }
@@ -157,7 +174,7 @@ fn check_traces(rt: &impl Abort, alloc: Global, basin: &Basin) {
 fn runs_of_traces_are_summed(rt: HostRuntime) {
     let alloc = rt.alloc();
     let basin = basin(&rt, alloc, MODEL);
-    let mut tally = Tally::for_basin(alloc, &basin, 4).expect(&rt, "memory");
-    check_tally(&rt, alloc, &basin, &mut tally);
-    check_traces(&rt, alloc, &basin);
+    check_traces(&rt, alloc, basin);
+    let mut tally = Tally::for_basin(alloc, basin, 4).expect(&rt, "memory");
+    check_tally(&rt, alloc, basin, &mut tally);
 }
