@@ -17,9 +17,10 @@ EXAMPLE = "example: python3 -m basin run FOLDER --workers 4 && python3 -m basin 
 
 def task(words: argparse.Namespace) -> None:
     """Runs the parts of a task that are missing."""
+    missing = set(words.plan.missing())
     for number in range(words.task - 1, words.plan.parts, words.tasks):
-        if done := run_part(str(words.plan.folder), number):
-            print(done, flush=True)
+        if number in missing:
+            print(run_part(str(words.plan.folder), number), flush=True)
 
 
 def execute(words: argparse.Namespace) -> None:

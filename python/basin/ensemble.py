@@ -13,6 +13,7 @@ import tempfile
 import time as clock
 import warnings
 from fractions import Fraction
+from pathlib import Path
 from typing import TYPE_CHECKING, Any, Callable, Iterator, Literal, Sequence
 
 import pandas as pd
@@ -105,9 +106,10 @@ def execute(
     ):
         if isinstance(found, BaseException):
             failed.append((number, found))
-        elif found:
+        else:
             done.append(found)
             tell(len(done), len(missing), found)
+    _clear(told)
     if failed:
         number, error = failed[0]
         raise Error(f"{len(failed)} of {len(missing)} parts failed; part {number}: {error}") from error
@@ -116,7 +118,7 @@ def execute(
     return done
 
 
-Outcome = tuple[int, "Done | BaseException | None"]
+Outcome = tuple[int, "Done | BaseException"]
 
 
 def _here(told: Plan, missing: list[int]) -> Iterator[Outcome]:
@@ -186,8 +188,16 @@ def _clear(told: Plan) -> None:
     """Removes what workers that died left half written."""
     for path in (told.folder / "parts").glob(".*"):
         with contextlib.suppress(FileNotFoundError):
-            if clock.time() - path.stat().st_mtime > AN_HOUR:
+            if _is_left(path):
                 path.unlink()
+
+
+def _is_left(path: Path) -> bool:
+    """Whether nobody writes a file any more: its process has ended, or on another machine it is an hour old."""
+    before, _, process = path.name.rpartition(".")
+    if before.endswith(f".{os.uname().nodename}"):
+        return not Path(f"/proc/{process}").exists()
+    return clock.time() - path.stat().st_mtime > AN_HOUR
 
 
 def faults(told: Plan) -> pd.DataFrame:

@@ -16,7 +16,7 @@ from .calls import MOST_ROWS
 from .errors import Refused
 from .files import Model
 from .inputs import Inputs, LaidOver
-from .netcdf import add_texts, add_time, add_whole, appearing
+from .netcdf import add_texts, add_time, add_whole, appearing, opened
 from .plans import NAMES, Plan
 from .rows import Row, batches_text
 from .tables import UNKNOWN, Section, is_exact, numbers, sections
@@ -55,19 +55,27 @@ class Values:
         self.closed[trace], self.faults[trace] = len(found), section.fault
 
 
-def run_part(folder: str, number: int) -> Done | None:
-    """Runs a part and writes its values; `None` where they are there."""
+def run_part(folder: str, number: int) -> Done:
+    """Runs a part and writes its values. Where they are there it tells of them: a worker may die behind its writing."""
     plan = Plan.read(folder)
-    if plan.part(number).exists():
-        return None
-    begun, used = clock.time(), sum(os.times()[:4])
-    model, names = model_of(plan.folder, plan.digest), plan.names[number]
-    rows = stored_rows(plan.folder, number, plan.first(number), len(names))
-    values = values_of(plan, model, rows)
-    write(plan, model, number, values)
-    faults, refused = (sum(map(bool, texts)) for texts in (values.faults, values.refused))
+    begun, used, names = clock.time(), sum(os.times()[:4]), plan.names[number]
+    faults, refused = kept(plan, number) if plan.part(number).exists() else run_anew(plan, number)
     processor = sum(os.times()[:4]) - used
     return Done(number, len(names) - faults - refused, faults, refused, begun, clock.time(), processor)
+
+
+def run_anew(plan: Plan, number: int) -> tuple[int, int]:
+    """Runs a part and writes its values: how many traces ended in a fault, and how many are refused."""
+    model, names = model_of(plan.folder, plan.digest), plan.names[number]
+    values = values_of(plan, model, stored_rows(plan.folder, number, plan.first(number), len(names)))
+    write(plan, model, number, values)
+    return sum(map(bool, values.faults)), sum(map(bool, values.refused))
+
+
+def kept(plan: Plan, number: int) -> tuple[int, int]:
+    """The same of a part that is there."""
+    with opened(plan.part(number)) as part:
+        return sum(map(bool, part["fault"][:])), sum(map(bool, part["refused"][:]))
 
 
 def values_of(plan: Plan, model: Model, rows: list[list[Row]]) -> Values:

@@ -352,6 +352,25 @@ def of_faults(folder: Path) -> Iterator[Outcome]:
             yield f"{name}: console", f"{complaints}" if complaints else None
 
 
+def of_denials(folder: Path) -> Iterator[Outcome]:
+    """A rule that a higher one denies: the page says so, or that the program doesn't tell it."""
+    files = [TOP / "tests/language/confirms" / name for name in ("model.toml", "policy.rpl", "inputs.csv")]
+    page = folder / "denials.html"
+    yield "denials: page", reported(files, page)
+    is_asked = asked_run("run", *files)[1]
+    with Browser() as browser:
+        browser.open(page, "#slot=Lower.Outflow&step=2")
+        told = [one.text.split(". It looked at")[0].replace("\n", " ") for one in browser.all("#why > ol > li")]
+        wanted = ['rule 3 "pass on" set 50 m3/step (R3)', 'rule 2 "least" set 50 m3/step (R2), which holds']
+        if is_asked:
+            wanted.append('rule 3 "pass on" wanted 100 m3/step (R3) and was denied: 50 of rule 2 "least" (R2) is held')
+        yield "denials: why", None if told == wanted else f"{told}"
+        note = "no --asked" in browser.text("#why")
+        yield "denials: note", None if note != is_asked else "says nothing of --asked, or too much"
+        found = browser.text("#effects")
+        yield "denials: effects", None if "so what it put later was denied, in 3 timesteps" in found else found
+
+
 def of_hostile(folder: Path) -> Iterator[Outcome]:
     """Names that a browser might obey are texts."""
     rule = HOSTILE.replace('"', "'")
@@ -400,6 +419,14 @@ def long_run(folder: Path, objects: int, days: int) -> list[Path]:
     return paths
 
 
+def opened(browser: Browser, page: Path, address: str) -> float:
+    """How many seconds a page takes until it can be used; of several the least counts on a machine that does more."""
+    browser.driver.get("about:blank")
+    began = monotonic()
+    browser.open(page, address)
+    return monotonic() - began
+
+
 def of_long(folder: Path, pictures: Path | None) -> Iterator[Outcome]:
     """Ten years of days and a hundred objects: the page's size, and how long it takes until it can be used."""
     page = folder / "long.html"
@@ -407,11 +434,7 @@ def of_long(folder: Path, pictures: Path | None) -> Iterator[Outcome]:
     size = page.stat().st_size
     yield f"long: {size:,} bytes", None if size <= SMALL else "too large"
     with Browser() as browser:
-        browser.open(page)  # so that the browser itself has begun
-        began = monotonic()
-        browser.open(page, "#slot=Dam50.Outflow&step=3000")
-        browser.driver.refresh()
-        taken = (monotonic() - began) / 2
+        taken = min(opened(browser, page, f"#slot=Dam50.Outflow&step={step}") for step in (3000, 3001, 3002))
         yield f"long: opens in {taken:.1f} s", None if taken <= QUICK else "too slow"
         told = browser.text("#why")
         yield "long: what is left out is said", None if "Who put what is told here" in told or "set" in told else told
@@ -437,7 +460,7 @@ def main() -> int:
         if pictures:
             pictures.mkdir(exist_ok=True)
         tests = [of_example(shown_of(example, folder), pictures) for example in EXAMPLES]
-        tests += [of_faults(folder), of_hostile(folder), of_long(folder, pictures)]
+        tests += [of_faults(folder), of_denials(folder), of_hostile(folder), of_long(folder, pictures)]
         for outcomes in tests:
             for what, wrong in outcomes:
                 passed, failed = (passed + 1, failed) if wrong is None else (passed, failed + 1)

@@ -68,7 +68,7 @@ CALLS = {
     "inputs": ["{wide} --model {model}", "{table} --model {model} --only {name} --unknown {name}"],
     "map": ["{model} --text"],
     "plot": ["{table} --flags --text", "{table} {name} --text --with {table} --from {name}"],
-    "report": ["{model} {policy} {inputs}"],
+    "report": ["{model} {policy} {inputs}", "{model} {policy} {inputs} --edits {edits}", "{model} {policy} {inputs} --why {name}"],
     "restart": ["{model} {table} --policy {policy}", "{model} {table} --step 1 --inputs {inputs} --edits {edits} --batch 1"],
     "rules": ["{model} {policy}", "{model} {policy} --csv", "{model} {policy} --code"],
     "slots": ["{model} {inputs}", "{model} --csv"],

@@ -37,7 +37,7 @@ const sliderOf = (svg, unit, slots) => {
 };
 const legendOf = (slots, unit) => {
   const buttons = slots.map((slot, place) => {
-    const words = `${slot.name} ${rounded(shownOf(state.run, slot)[state.at])} ${unit}`;
+    const words = `${slot.name} ${rounded(shownOf(state.run, slot)[state.at])} ${slot.unit ? unit : ""}`;
     const button = make("button", { type: "button", "aria-pressed": slot === state.slot }, swatchOf(colourOf(place), dashOf(place)), words);
     button.addEventListener("click", () => go(slot, state.at + 1));
     return button;

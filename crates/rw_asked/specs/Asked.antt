@@ -133,7 +133,7 @@ asked_after basin policy log (event ∷ events) =
 -- the line of the trace that it is, if it is one
 abbrev pub plain_of : AskedLine → Option TraceEvent
 plain_of (plain_line line) = Some line
-plain_of (left_line put fate) = None
+plain_of (left_line put became) = None
 plain_of (over_line cell held) = None
 
 -- without the lines that it hasn't
@@ -147,7 +147,7 @@ put_in_line line = None
 -- the put that a line tells, written or not, if it tells one
 abbrev pub put_told_by : AskedLine → Option Asked
 put_told_by (plain_line line) = put_in_line line
-put_told_by (left_line put fate) = Some put
+put_told_by (left_line put became) = Some put
 put_told_by (over_line cell held) = None
 
 -- ---- what a fate says
@@ -168,7 +168,7 @@ abbrev pub IsGranted : Fate → Type 0
 IsGranted Written = Unit {0}
 IsGranted (Over held) = Unit {0}
 IsGranted (Kept held) = Unit {0}
-IsGranted fate = ⊥
+IsGranted became = ⊥
 
 abbrev pub AllGranted : List Ask → Type 0
 AllGranted [] = Unit {0}

@@ -23,7 +23,7 @@ fate_words Late = codes "late"
 abbrev pub held_words : Fate → List ℕ
 held_words (Kept held) = codes " held " ++ content_words held
 held_words (Denied held) = codes " held " ++ content_words held
-held_words fate = []
+held_words became = []
 
 -- the slot and the timestep of a cell, each behind a space
 abbrev pub cell_place : Draft → Cell → List ℕ

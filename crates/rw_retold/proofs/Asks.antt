@@ -1,5 +1,6 @@
 -- What a firing asks for can be written where it is in the run, and is to slots of the basin.
-use Rattle.rw_base.proofs.Common.{◌≡◌, ◌∙◌, ◌≤◌, ◌+◌, ℕ, ℤ, Bool, true, false, List, [], ◌∷◌, Option, Some, None, All, All-cons, All-filter, All-head, All-nil, All-tail}
+use Rattle.rw_base.proofs.Common.{◌≡◌, ◌∙◌, ◌≤◌, ◌+◌, ℕ, ℤ, Bool, true, false, List, [], ◌∷◌, Option, Some, None, All, All-cons, All-filter}
+use Rattle.rw_base.proofs.Common.{All-head, All-nil, All-tail}
 use Rattle.rw_base.proofs.Common.{arith, ap, sym, subst, refl, cond, filter, if◌then◌else◌, map, nat_le, nat_tests}
 use Rattle.rw_base.specs.declared.number.Cell.{Cell}
 use Rattle.rw_model.specs.Draft.{Draft, IsSlot}

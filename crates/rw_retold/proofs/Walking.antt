@@ -1,6 +1,8 @@
 -- Line by line through a trace.
-use Rattle.rw_base.proofs.Common.{◌≡◌, ◌∙◌, ◌≤◌, ℕ, ℤ, Bool, true, false, false≢true, List, [], ◌∷◌, ◌++◌, Option, Some, None, All-head, All-nil, All-tail}
-use Rattle.rw_base.proofs.Common.{OnOk, Ok, Err, Result, append_assoc, append-nil, arith, ap, ap₂, codes, flat_map, if◌then◌else◌, length, map, option_or, refl, same_Some, subst, sym}
+use Rattle.rw_base.proofs.Common.{◌≡◌, ◌∙◌, ◌≤◌, ℕ, ℤ, Bool, true, false, false≢true, List, [], ◌∷◌, ◌++◌, Option, Some, None, All-head, All-nil}
+use Rattle.rw_base.proofs.Common.{All-tail}
+use Rattle.rw_base.proofs.Common.{OnOk, Ok, Err, Result, append_assoc, append-nil, arith, ap, ap₂, codes, flat_map, if◌then◌else◌, length, map}
+use Rattle.rw_base.proofs.Common.{option_or, refl, same_Some, subst, sym}
 use Rattle.rw_base.specs.declared.number.Cell.{Cell}
 use Rattle.rw_base.specs.declared.memory.NoMemory.{NoMemory}
 use Rattle.rw_base.specs.declared.number.ObjectNo.{ObjectNo}
@@ -15,7 +17,8 @@ use Rattle.rw_run.specs.declared.trace.TraceEvent.{TraceEvent}
 use Rattle.rw_run.specs.declared.trace.TraceEvent.TheVariants as Line
 use Rattle.rw_run.specs.Choice.{MayFollow, MayLead}
 use Rattle.rw_run.specs.Dispatch.{dispatched, puts_written}
-use Rattle.rw_run.specs.Log.{Asked, Cells, Dispatch, Event, Firing, Log, placed, opened, closed, idle, solved, fired, fault, cells_of, last_put, value_in, written_by}
+use Rattle.rw_run.specs.Log.{Asked, Cells, Dispatch, Event, Firing, Log, placed, opened, closed, idle, solved, fired, fault, cells_of, last_put}
+use Rattle.rw_run.specs.Log.{value_in, written_by}
 use Rattle.rw_run.specs.Next.{Policy}
 use Rattle.rw_run.specs.Frame.{log_after}
 use Rattle.rw_run.specs.RunOf.{line_of, lines, trace_of}
@@ -28,7 +31,8 @@ use Rattle.rpl_policy.specs.Policy.{policy_of_code}
 use Rattle.rpl_policy.proofs.Asking.{code_asks}
 use Rattle.rw_report.proofs.Growing.{written}
 use Rattle.rw_report.specs.Lines.{line_words}
-use Rattle.rw_asked.specs.Asked.{AskedLine, asked_after, asked_lines, asked_trace, fates_alone, fates_of, lines_of_asks, plain_line, put_in_line, wanted_by, wanted_of}
+use Rattle.rw_asked.specs.Asked.{AskedLine, asked_after, asked_lines, asked_trace, fates_alone, fates_of, lines_of_asks, plain_line, put_in_line}
+use Rattle.rw_asked.specs.Asked.{wanted_by, wanted_of}
 use Rattle.rw_asked.specs.Words.{asked_lines_words}
 use Rattle.rw_asked.proofs.Follow.{IsOwn, may_own}
 use Rattle.rw_asked.proofs.Reused.{appended}
@@ -108,7 +112,8 @@ pub record Begins (basin : Draft) (policy : Policy) (line : TraceEvent) (left : 
   pub text_is : text ++ asked_lines_words basin (asked_lines basin policy (cells_of basin now) event ++ asked_after basin policy (event ∷ now) events)
       ≡ whole
 
-module _ (basin : Draft) (policy : Policy) (line : TraceEvent) (left : List TraceEvent) (log : Log) (whole : List ℕ) (walk : Walk) (text : List ℕ) where
+module _ (basin : Draft) (policy : Policy) (line : TraceEvent) (left : List TraceEvent) (log : Log) (whole : List ℕ) (walk : Walk)
+    (text : List ℕ) where
   begins_by : (now : Log) (events : List Event) (pending : List Asked) → MayLead basin policy now events log
       → line ∷ left ≡ map line_of pending ++ flat_map lines events
       → ((cell : Cell) → cells_of basin now cell ≡ option_or (last_put basin pending cell) (held walk.series cell))
@@ -200,7 +205,8 @@ alone basin policy now cells (solved one) made dispatch fires = absurd (dispatch
 alone basin policy now cells (fired one) made dispatch fires = absurd (fires refl)
 alone basin policy now cells (fault why) made dispatch fires = (refl, refl)
 
-module _ (basin : Draft) (policy : Policy) (line : TraceEvent) (left : List TraceEvent) (log : Log) (whole : List ℕ) (walk : Walk) (text : List ℕ) where
+module _ (basin : Draft) (policy : Policy) (line : TraceEvent) (left : List TraceEvent) (log : Log) (whole : List ℕ) (walk : Walk)
+    (text : List ℕ) where
   alone_goes : (b : Begins basin policy line left log whole walk text) (new : Walk) (grown : List ℕ) → new.series ≡ walk.series
       → (line_code line ≡ 2 → ⊥) → (line_code line ≡ 3 → ⊥) → IsAtStep basin (standing (b.event ∷ b.now)) new.step.0
       → grown ≡ text ++ (line_words basin line ++ codes "\n") → IsWalkedTo basin policy left log whole new grown
@@ -229,7 +235,8 @@ pub opened_goes : (basin : Draft) (policy : Policy) (step : StepNo) (left : List
     → OnOk result (IsWalkedTo basin policy left log whole new grown)
 opened_goes basin policy step left log whole walk new text grown stands same to (Ok done) is =
     let b = begins basin policy (Line.Opened step) left log whole walk text stands refl in
-    alone_goes basin policy (Line.Opened step) left log whole walk text b new grown same (λ e. absurd (omega (arith, e))) (λ e. absurd (omega (arith, e)))
+    alone_goes basin policy (Line.Opened step) left log whole walk text b new grown same (λ e. absurd (omega (arith, e)))
+    (λ e. absurd (omega (arith, e)))
     (at_opened basin policy b.now step new.step.0 b.event b.made b.is (ap (λ (n : StepNo). n.0) to)) is
 opened_goes basin policy step left log whole walk new text grown stands same to (Err want) is = tt
 
@@ -264,7 +271,8 @@ TellsDispatch basin object walk mid grown result =
     × AreWrites basin dispatch.written)
 
 pub solve_goes : (basin : Draft) (policy : Policy) (object : ObjectNo) (left : List TraceEvent) (log : Log) (whole : List ℕ) (walk new : Walk)
-    (text mid grown : List ℕ) → IsWalkedTo basin policy (Line.Solve object ∷ left) log whole walk text → new.series ≡ walk.series → new.step ≡ walk.step
+    (text mid grown : List ℕ) → IsWalkedTo basin policy (Line.Solve object ∷ left) log whole walk text
+    → new.series ≡ walk.series → new.step ≡ walk.step
     → mid ≡ text ++ (line_words basin (Line.Solve object) ++ codes "\n") → (result : Result (Unit {0}) NoMemory)
     → TellsDispatch basin object.0 walk mid grown result → OnOk result (IsWalkedTo basin policy left log whole new grown)
 solve_goes basin policy object left log whole walk new text mid grown stands same stays first (Err want) told = tt
@@ -328,7 +336,8 @@ pub fire_goes : (basin : Draft) (blocks : List Block) (rule : RuleNo) (done : Bo
     → IsWalkedTo basin (policy_of_code basin blocks) (Line.Fire rule done count ∷ left) log whole walk text
     → new.series ≡ walk.series → new.step ≡ walk.step
     → mid ≡ text ++ (line_words basin (Line.Fire rule done count) ++ codes "\n") → (result : Result (Unit {0}) NoMemory)
-    → TellsFiring basin blocks rule.0 done walk mid grown result → OnOk result (IsWalkedTo basin (policy_of_code basin blocks) left log whole new grown)
+    → TellsFiring basin blocks rule.0 done walk mid grown result
+    → OnOk result (IsWalkedTo basin (policy_of_code basin blocks) left log whole new grown)
 fire_goes basin blocks rule done count left log whole walk new text mid grown stands same stays first (Err want) told = tt
 fire_goes basin blocks rule done count left log whole walk new text mid grown stands same stays first (Ok finished) told =
     let policy = policy_of_code basin blocks in
@@ -360,8 +369,10 @@ fire_goes basin blocks rule done count left log whole walk new text mid grown st
     (code_asks blocks basin firing.rule firing.step (value_in cells) fire fires) own.0))
     (subst (λ event. IsAtStep basin (standing (event ∷ b.now)) new.step.0) (sym is)
     (subst (λ (n : StepNo). IsAtStep basin (inside firing.step) n.0) (sym stays) at))
-    (told_text basin line (lines_of_asks (fates_of basin (held walk.series) (wanted_where done rule.0 walk.step.0 (Some fire)))) text mid grown first tells
-    ∙ ap (λ seen. text ++ asked_lines_words basin (plain_line line ∷ lines_of_asks (fates_of basin seen (wanted_where done rule.0 walk.step.0 (Some fire)))))
+    (told_text basin line (lines_of_asks (fates_of basin (held walk.series) (wanted_where done rule.0 walk.step.0 (Some fire))))
+    text mid grown first tells
+    ∙ ap (λ seen. text ++ asked_lines_words basin
+    (plain_line line ∷ lines_of_asks (fates_of basin seen (wanted_where done rule.0 walk.step.0 (Some fire)))))
     (sym b.cells)
     ∙ ap (λ puts. text ++ asked_lines_words basin (plain_line line ∷ lines_of_asks (fates_of basin cells puts))) (sym wants)
     ∙ ap (λ one. text ++ asked_lines_words basin (plain_line one ∷ lines_of_asks (fates_of basin cells (wanted_by policy cells firing))))
@@ -403,7 +414,8 @@ module _ (basin : Draft) (policy : Policy) (write : Asked) (left : List TraceEve
         cells = λ cell.
             cells cell
             ∙ or_joined (last_put basin pending cell) (if is_shared basin put.cell cell then Some put.content else None) (held walk.series cell)
-            ∙ ap (λ (one : Asked). option_or (last_put basin pending cell) (option_or (last_put basin (one ∷ []) cell) (held walk.series cell))) (sym same)
+            ∙ ap (λ (one : Asked). option_or (last_put basin pending cell) (option_or (last_put basin (one ∷ []) cell) (held walk.series cell)))
+            (sym same)
             ∙ ap (option_or (last_put basin pending cell)) (sym (wrote cell));
         can = All-tail (CanWrite basin) put pending can;
         at = subst (λ (n : StepNo). IsAtStep basin (standing now) n.0) (sym step_is) at;
@@ -421,13 +433,14 @@ may_after : (basin : Draft) (policy : Policy) (old : Log) (events : List Event) 
 may_after basin policy old [] log leads = leads
 may_after basin policy old (event ∷ events) log leads = may_after basin policy (event ∷ old) events log leads.1
 
-asked_placed : (basin : Draft) (policy : Policy) (log : Log) (inputs : List (Cell × ℤ)) → asked_trace basin policy (with_inputs log inputs) ≡ asked_trace basin policy log
+asked_placed : (basin : Draft) (policy : Policy) (log : Log) (inputs : List (Cell × ℤ))
+    → asked_trace basin policy (with_inputs log inputs) ≡ asked_trace basin policy log
 asked_placed basin policy log [] = refl
 asked_placed basin policy log (input ∷ inputs) =
     asked_placed basin policy (placed input.0 input.1 ∷ log) inputs ∙ append-nil (asked_trace basin policy log)
 
-pub stands_first : (basin : Draft) (policy : Policy) (inputs : List (Cell × ℤ)) (log : Log) (events : List Event) (told : List TraceEvent) (walk : Walk)
-    (text : List ℕ) → MayLead basin policy (with_inputs [] inputs) events log → told ≡ trace_of log
+pub stands_first : (basin : Draft) (policy : Policy) (inputs : List (Cell × ℤ)) (log : Log) (events : List Event) (told : List TraceEvent)
+    (walk : Walk) (text : List ℕ) → MayLead basin policy (with_inputs [] inputs) events log → told ≡ trace_of log
     → ((cell : Cell) → held walk.series cell ≡ cells_of basin (with_inputs [] inputs) cell)
     → IsWalkedTo basin policy told log (text ++ asked_lines_words basin (asked_trace basin policy log)) walk text
 stands_first basin policy inputs log events told walk text leads are cells =
@@ -462,7 +475,8 @@ pub stands_last : (basin : Draft) (policy : Policy) (log : Log) (whole text : Li
 stands_last basin policy log whole text walk stands =
     end_by basin policy log whole text stands.now stands.events stands.pending stands.leads stands.lines_are stands.text_is
 
-pub tells_done : (basin : Draft) (blocks : List Block) (rule : ℕ) (done : Bool) (walk : Walk) (mid grown : List ℕ) (result : Result (Unit {0}) NoMemory)
+pub tells_done : (basin : Draft) (blocks : List Block) (rule : ℕ) (done : Bool) (walk : Walk) (mid grown : List ℕ)
+    (result : Result (Unit {0}) NoMemory)
     → done ≡ true → TellsFiring basin blocks rule true walk mid grown result → TellsFiring basin blocks rule done walk mid grown result
 tells_done basin blocks rule done walk mid grown result is told = subst (λ k. TellsFiring basin blocks rule k walk mid grown result) (sym is) told
 

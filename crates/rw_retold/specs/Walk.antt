@@ -31,7 +31,8 @@ IsAtStep basin over step = Unit {0}
 
 -- these lines are left of the log's trace: those of puts of the event that was told last, which aren't written yet, and those of the
 -- events that follow it. With what is told of these the text is the whole
-pub record IsWalkedTo (basin : Draft) (policy : Policy) (left : List TraceEvent) (log : Log) (whole : List ℕ) (walk : Walk) (text : List ℕ) : Type 0 where
+pub record IsWalkedTo (basin : Draft) (policy : Policy) (left : List TraceEvent) (log : Log) (whole : List ℕ) (walk : Walk)
+    (text : List ℕ) : Type 0 where
   pub now : Log
   pub events : List Event
   pub pending : List Asked

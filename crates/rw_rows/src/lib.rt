@@ -10,11 +10,15 @@ mod counting;
 #[cfg(test)]
 mod dispatch;
 #[cfg(test)]
+mod each_failure;
+#[cfg(test)]
 mod is_view;
 #[cfg(test)]
 mod kept;
 #[cfg(test)]
 mod kinds;
+#[cfg(test)]
+mod many;
 #[cfg(test)]
 mod methods;
 #[cfg(test)]

@@ -70,7 +70,7 @@ fn is_text(written: &[u8], want: Text<'_>) -> bool {
     }
 }
 
-fn owned(alloc: Global, words: &[&str]) -> Result<Vec<String>, NoMemory> {
+pub(crate) fn owned(alloc: Global, words: &[&str]) -> Result<Vec<String>, NoMemory> {
     let mut owned = Vec::new(alloc);
     for word in words {
         owned.push(String::from_str(alloc, *word)?)?;
@@ -78,7 +78,7 @@ fn owned(alloc: Global, words: &[&str]) -> Result<Vec<String>, NoMemory> {
     Ok(owned)
 }
 
-fn file(alloc: Global, path: &str, text: &[u8]) -> Result<(String, Vec<u8>), NoMemory> {
+pub(crate) fn file(alloc: Global, path: &str, text: &[u8]) -> Result<(String, Vec<u8>), NoMemory> {
     let path = String::from_str(alloc, path)?;
     let bytes = Vec::from_slice(alloc, text)?;
     Ok((path, bytes))
@@ -91,7 +91,7 @@ fn files(alloc: Global, model: &[u8], inputs: &[u8]) -> Result<Vec<(String, Vec<
     Ok(files)
 }
 
-fn one_call(alloc: Global, number: u64) -> Result<Vec<u64>, NoMemory> {
+pub(crate) fn one_call(alloc: Global, number: u64) -> Result<Vec<u64>, NoMemory> {
     let mut calls = Vec::new(alloc);
     calls.push(number)?;
     Ok(calls)
@@ -103,10 +103,10 @@ fn sink(alloc: Global, failing: u64) -> Result<MemSink, NoMemory> {
 
 // What a call reads and writes.
 #[derive(Drop)]
-struct Ends {
-    shelf: MemShelf,
-    out: MemSink,
-    err: MemSink,
+pub(crate) struct Ends {
+    pub(crate) shelf: MemShelf,
+    pub(crate) out: MemSink,
+    pub(crate) err: MemSink,
 }
 
 // The numbers of the calls that are to fail, where no call has the number 0.
@@ -158,7 +158,7 @@ fn call_counted<L: Ledger>(
     )
 }
 
-fn call(
+pub(crate) fn call(
     alloc: Global,
     methods: &Catalogue,
     words: &[String],
@@ -258,6 +258,20 @@ pub(crate) fn runs_by(
         edits,
         want,
     )
+}
+
+/// Whether `migrate` writes another model, with which `simulate` comes to what is wanted.
+pub(crate) fn migrates(alloc: Global, want: Simulation<'_>) -> Result<bool, NoMemory> {
+    let words = owned(alloc, &["migrate", "m.toml"])?;
+    let mut ends = ends_of(
+        alloc,
+        files(alloc, want.model, want.inputs)?,
+        Failing::Nothing,
+    )?;
+    let status = call(alloc, &all_methods(alloc)?, &words, &mut ends)?;
+    let model = ends.out.held();
+    let again = Simulation { model, ..want };
+    Ok(status == 0 && model != want.model && simulates(alloc, Failing::Nothing, again)?)
 }
 
 /// Whether `simulate` comes to what is wanted.

@@ -1,5 +1,5 @@
 -- Causes as the code comes to them, step by step.
-use Rattle.rw_top.proofs.Common.{AreRead, BadEdits, BadInputs, BadModel, BadPolicy, Cause, Change, Checked, Command, Declared, Err, FILE_MAX, File}
+use Rattle.rw_top.proofs.Common.{AreRead, BadEdits, BadInputs, BadModel, BadPolicy, BadScenarios, Cause, Change, Checked, Command, Declared, Err, FILE_MAX, File}
 use Rattle.rw_top.proofs.Common.{FileCause, FilesRead, Holds, IsErrOf, IsPolicyRefusal, IsReading, IsSomeAnd, IsTooLong, List, LongFile, MatchResult}
 use Rattle.rw_top.proofs.Common.{None, NoneFell, Ok, Option, Reaches, Reason, Refusal, Result, Rose, ShelfView, SinkView, Some, WasFound, ap, arith}
 use Rattle.rw_top.proofs.Common.{change, checked, false, inl, inr, option_map, path_of, reason_of, refl, refusal_after, status_by, status_of, subst}
@@ -35,7 +35,7 @@ use Rattle.rw_top.specs.Written.{Stops}
 use Rattle.rw_top.specs.Ready.{IsMadeOf}
 use Rattle.rw_top.specs.declared.policy.Policy.TheVariants as Held
 use Rattle.rw_top.specs.declared.refusal.Refusal.TheVariants.{CannotRead, CannotWrite, NoMemory, Model, Grammar, Types, Code, Block as BlockAt}
-use Rattle.rw_top.specs.declared.refusal.Refusal.TheVariants.{Inputs, Edits, NoCell, TooLong}
+use Rattle.rw_top.specs.declared.refusal.Refusal.TheVariants.{Inputs, Edits, Traces, NoCell, TooLong}
 use Rattle.rw_top.specs.Command.{extras_of}
 
 -- a fault that doesn't tell nothing tells why
@@ -60,6 +60,7 @@ told_status (BlockAt kind block place) reason tells =
     let same : BadPolicy (BadBlocks (Misfit (block_refusal kind block place))) ≡ reason = cc in ap status_by same
 told_status (Inputs kind row column) reason tells = let same : BadInputs (refused_at kind row column) ≡ reason = cc in ap status_by same
 told_status (Edits kind row column) reason tells = let same : BadEdits (refused_at kind row column) ≡ reason = cc in ap status_by same
+told_status (Traces kind row column) reason tells = let same : BadScenarios (refused_at kind row column) ≡ reason = cc in ap status_by same
 told_status (TooLong file) reason tells = let same : LongFile file ≡ reason = cc in ap status_by same
 told_status why reason tells = absurd cc
 

@@ -28,11 +28,11 @@ pub use Rattle.rw_top.specs.Promise.{Promise, RefusedCommand, RefusedWords, WasR
 pub use Rattle.rw_top.specs.Reading.{Accepts, AcceptsAll, AreRead, FilesRead, HoldsTooLong, IsHonest, IsHonestOfAll, IsHonestUpTo, IsTextAt}
 pub use Rattle.rw_top.specs.Reading.{IsTooLong, Reaches, ReadsInputs, ReadsModel, ReadsPolicy, RefusesInputs, RefusesModel, RefusesPolicy, SaysAt}
 pub use Rattle.rw_top.specs.Reading.{WasRead, reads_code}
-pub use Rattle.rw_top.specs.Reason.{BadEdits, BadInputs, BadModel, BadPolicy, IsFoundReason, IsHonestFor, LongFile, Reason, file_of, policy_status}
+pub use Rattle.rw_top.specs.Reason.{BadEdits, BadInputs, BadModel, BadPolicy, BadScenarios, IsFoundReason, IsHonestFor, LongFile, Reason, file_of, policy_status}
 pub use Rattle.rw_top.specs.Reason.{status_by}
 pub use Rattle.rw_top.specs.Refusal.{Cause, EndsWith, FailsToRead, FileCause, FindsTooLong, IsPolicyRefusal, WasFound, reason_of, refusal_after}
 pub use Rattle.rw_top.specs.Refusal.{status_of}
-pub use Rattle.rw_top.specs.RunText.{IsRunText, section_text}
+pub use Rattle.rw_top.specs.RunText.{IsRunText, told_section}
 pub use Rattle.rw_top.specs.Seen.{files_seen, policy_of}
 pub use Rattle.rw_top.specs.Written.{IsTextOf, TellsLine, WritesAll, WritesFront, status_of_end}
 pub use Rattle.rw_words.specs.declared.job.Job.{Job}

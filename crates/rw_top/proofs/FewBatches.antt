@@ -1,11 +1,11 @@
--- A text gives at most 64 batches of edits.
+-- A text gives at most 64 batches.
 use Rattle.rw_top.proofs.Common.{Bool, Err, List, None, Ok, Option, Result, Some, [], arith, false, if◌then◌else◌, length, nat_tests, refl, subst}
 use Rattle.rw_top.proofs.Common.{true, ℕ, ◌++◌, ◌+◌, ◌∷◌, ◌≡◌, ◌≤◌}
 use Rattle.rw_base.proofs.Common.{length-append, length-set, nat_le}
 use Rattle.rw_base.specs.Answers.{unless_refused}
 use Rattle.rw_model.specs.Draft.{Draft}
 use Rattle.rw_inputs.specs.declared.wrong.Wrong.{Wrong}
-use Rattle.rw_inputs.specs.EditRows.{at_row, batch_behind, batches_with, edits_of, batch_follows, four_fields, is_header_of, more_batches}
+use Rattle.rw_inputs.specs.EditRows.{at_row, batch_behind, batches_with, batch_follows, four_fields, is_header_of, more_batches}
 use Rattle.rw_inputs.specs.EditRows.{batches_opened, read_batch, read_edit, read_under, with_edit, wrong_among}
 use Rattle.rw_inputs.specs.Edits.{Batch}
 use Rattle.rw_inputs.specs.Number.{read_number}
@@ -80,5 +80,5 @@ few_read : (word : List ℕ) (basin : Draft) (records : List Fields) (all : List
 few_read word basin [] all is = absurd cc
 few_read word basin (header ∷ rows) all is = few_behind basin (is_header_of word header) rows all _ is
 
-pub few_batches : (basin : Draft) (text : List ℕ) (all : List Batch) → edits_of basin text ≡ Ok all → length all ≤ 64
-few_batches basin text all is = few_read _ basin (records_of text) all is
+pub few_batches : (word : List ℕ) (basin : Draft) (text : List ℕ) (all : List Batch) → read_under word basin (records_of text) ≡ Ok all → length all ≤ 64
+few_batches word basin text all is = few_read word basin (records_of text) all is

@@ -1,17 +1,18 @@
 -- Files that were read one after the other.
 use Rattle.rw_top.proofs.Common.{AreRead, Change, Command, Err, FileCause, FilesRead, Holds, IfSome, IsSome, IsSomeAnd, Refusal, ShelfView, sym, List}
-use Rattle.rw_top.proofs.Common.{None, Option, Reaches, ReadsInputs, ReadsModel, ReadsPolicy, SaysAt, Some, option_map, policy_of, subst, ℕ, ◌≡◌}
+use Rattle.rw_top.proofs.Common.{File, None, Option, Reaches, ReadsInputs, ReadsModel, ReadsPolicy, SaysAt, Some, option_map, policy_of, subst, ℕ, ◌≡◌}
 use Rattle.rw_inputs.specs.Edits.{Batch}
 use Rattle.rw_inputs.specs.Inputs.{Inputs as Given}
 use Rattle.rw_base.specs.declared.number.Cell.{Cell}
 use Rattle.rw_model.specs.Draft.{Draft, IsSlot}
 use Rattle.rw_top.specs.declared.files.Behind.{Behind}
 use Rattle.rw_top.specs.declared.policy.Policy.{Policy as Held}
-use Rattle.rw_top.specs.declared.refusal.File.TheVariants.{Policy, Inputs, Edits}
+use Rattle.rw_top.specs.declared.refusal.File.TheVariants.{Policy, Inputs, Edits, Traces}
 use Rattle.rw_top.specs.Cell.{FindsCell}
-use Rattle.rw_top.specs.Reading.{IsCellRead, LacksCell, ReadsEdits}
+use Rattle.rw_base.proofs.Common.{Bool, IsTrue, false, if◌then◌else◌, refl, true}
+use Rattle.rw_top.specs.Reading.{IsCellRead, LacksCell, ReadsBatches, ReadsModelText, text_wanted}
 use Rattle.rw_top.specs.Ready.{AreBehind, AreEdits, AreReadAs, IsFit, IsReadAs}
-use Rattle.rw_top.proofs.Findings.{accepts_all, reaches_edits, reaches_inputs, reaches_later}
+use Rattle.rw_top.proofs.Findings.{accepts_all, reaches_edits, reaches_inputs, reaches_later, reaches_scenarios}
 
 -- the policy that was read, in the definitions' terms
 seen_policy : (command : Command) (holds : Holds) (basin : Draft) (found : Option Held) → SaysAt command Policy found (IsReadAs command holds basin)
@@ -25,17 +26,17 @@ pub policy_fits : (command : Command) (holds : Holds) (basin : Draft) (found : O
 policy_fits command holds basin None says = tt
 policy_fits command holds basin (Some policy) says = says.fits
 
--- and the edits
-seen_edits : {A : Type 0} (command : Command) (holds : Holds) (basin : Draft) (found : Option A) (items : A → List Batch)
-    → SaysAt command Edits found (λ x. AreReadAs command holds basin (items x))
-    → SaysAt command Edits (option_map items found) (ReadsEdits command holds basin)
-seen_edits command holds basin None items says = says
-seen_edits command holds basin (Some x) items says = says.are
+-- and the batches of a file
+seen_batches : {A : Type 0} (command : Command) (holds : Holds) (file : File) (basin : Draft) (found : Option A) (items : A → List Batch)
+    → SaysAt command file found (λ x. AreReadAs command holds file basin (items x))
+    → SaysAt command file (option_map items found) (ReadsBatches command holds file basin)
+seen_batches command holds file basin None items says = says
+seen_batches command holds file basin (Some x) items says = says.are
 
-pub edits_fit : {A : Type 0} (command : Command) (holds : Holds) (basin : Draft) (found : Option A) (items : A → List Batch)
-    → SaysAt command Edits found (λ x. AreReadAs command holds basin (items x)) → IfSome found (λ x. AreEdits basin (items x))
-edits_fit command holds basin None items says = tt
-edits_fit command holds basin (Some x) items says = record { fit = says.fit; few = says.few }
+pub batches_fit : {A : Type 0} (command : Command) (holds : Holds) (file : File) (basin : Draft) (found : Option A) (items : A → List Batch)
+    → SaysAt command file found (λ x. AreReadAs command holds file basin (items x)) → IfSome found (λ x. AreEdits basin (items x))
+batches_fit command holds file basin None items says = tt
+batches_fit command holds file basin (Some x) items says = record { fit = says.fit; few = says.few }
 
 -- behind the policy stand the inputs, of a shelf that holds the same
 pub inputs_reached : (command : Command) (holds now : Holds) → ((path : List ℕ) → now path ≡ holds path)
@@ -56,39 +57,63 @@ edits_reached command holds now same basin policy inputs model rules given =
     (reaches_edits command holds basin (option_map policy_of policy) inputs model
     (seen_policy command holds basin policy rules) given)
 
--- edits that were read later, of a shelf that holds the same
-pub edits_earlier : {A : Type 0} (command : Command) (holds now : Holds) → ((path : List ℕ) → now path ≡ holds path)
-    → (basin : Draft) (found : Option A) (items : A → List Batch)
-    → SaysAt command Edits found (λ x. AreReadAs command now basin (items x))
-    → SaysAt command Edits found (λ x. AreReadAs command holds basin (items x))
-edits_earlier command holds now same basin found items says =
+-- batches that were read later, of a shelf that holds the same
+pub batches_earlier : {A : Type 0} (command : Command) (holds now : Holds) → ((path : List ℕ) → now path ≡ holds path)
+    → (file : File) (basin : Draft) (found : Option A) (items : A → List Batch)
+    → SaysAt command file found (λ x. AreReadAs command now file basin (items x))
+    → SaysAt command file found (λ x. AreReadAs command holds file basin (items x))
+batches_earlier command holds now same file basin found items says =
     let one : now ≡ holds = λ i path. same path i in
-    subst (λ h. SaysAt command Edits found (λ x. AreReadAs command h basin (items x))) one says
+    subst (λ h. SaysAt command file found (λ x. AreReadAs command h file basin (items x))) one says
 
-abbrev files_with : Draft → Behind → Option Cell → FilesRead
-files_with basin behind cell = record {
+-- and behind the edits the scenarios
+pub scenarios_reached : {A : Type 0} (command : Command) (holds now : Holds) → ((path : List ℕ) → now path ≡ holds path)
+    → (basin : Draft) (edits : Option A) (items : A → List Batch) → Reaches command holds Edits
+    → SaysAt command Edits edits (λ x. AreReadAs command holds Edits basin (items x)) → Reaches command now Traces
+scenarios_reached command holds now same basin edits items reached says =
+    reaches_later command holds now same Traces
+    (reaches_scenarios command holds basin (option_map items edits) reached (seen_batches command holds Edits basin edits items says))
+
+abbrev files_with : Draft → Behind → Option Cell → Option (List ℕ) → FilesRead
+files_with basin behind cell text = record {
   basin = basin;
   policy = option_map policy_of behind.policy;
   inputs = behind.inputs;
   edits = option_map (λ batches. batches.items) behind.edits;
+  scenarios = option_map (λ batches. batches.items) behind.scenarios;
   cell = cell;
+  text = text;
 }
 
 -- all files of a command
 pub all_read : (command : Command) (holds now : Holds) → ((path : List ℕ) → now path ≡ holds path)
-    → (basin : Draft) (behind : Behind) (cell : Option Cell) → ReadsModel command holds basin
-    → AreBehind command now basin behind → FindsCell command basin cell → AreRead command holds (files_with basin behind cell)
-all_read command holds now same basin behind cell model others finds =
+    → (basin : Draft) (behind : Behind) (cell : Option Cell) (text : Option (List ℕ)) → ReadsModelText command holds basin text
+    → AreBehind command now basin behind → FindsCell command basin cell → AreRead command holds (files_with basin behind cell text)
+all_read command holds now same basin behind cell text model others finds =
     let one : now ≡ holds = λ i path. same path i in
     record {
-      model = model;
+      model = model.model;
       policy = subst (λ h. SaysAt command Policy (option_map policy_of behind.policy) (ReadsPolicy command h basin)) one
           (seen_policy command now basin behind.policy others.policy);
       inputs = subst (λ h. SaysAt command Inputs behind.inputs (ReadsInputs command h basin)) one others.inputs;
-      edits = subst (λ h. SaysAt command Edits (option_map (λ batches. batches.items) behind.edits) (ReadsEdits command h basin)) one
-          (seen_edits command now basin behind.edits (λ batches. batches.items) others.edits);
+      edits = subst (λ h. SaysAt command Edits (option_map (λ batches. batches.items) behind.edits) (ReadsBatches command h Edits basin)) one
+          (seen_batches command now Edits basin behind.edits (λ batches. batches.items) others.edits);
+      scenarios =
+          subst (λ h. SaysAt command Traces (option_map (λ batches. batches.items) behind.scenarios) (ReadsBatches command h Traces basin)) one
+          (seen_batches command now Traces basin behind.scenarios (λ batches. batches.items) others.scenarios);
       cell = finds;
+      text_is = model.text_is;
     }
+
+-- what is seen of something is there with it
+pub some_kept : {A B : Type 0} (f : A → B) (kept : Option A) → IsSome (option_map f kept) → IsSome kept
+some_kept f None some = absurd cc
+some_kept f (Some x) some = refl
+
+-- a text that is wanted is there
+pub text_there : (wants : Bool) (text : List ℕ) (kept : Option (List ℕ)) → kept ≡ (if wants then Some text else None) → IsTrue wants → IsSome kept
+text_there true text kept is wanted = subst IsSome (sym is) refl
+text_there false text kept is wanted = absurd cc
 
 abbrev IsThere : Draft → Cell → Type 0
 IsThere basin cell = IsSlot basin.objects cell.slot.0
@@ -108,14 +133,18 @@ no_cell command shelf basin behind why model now same others lacks =
     let policy = subst (λ h. SaysAt command Policy (option_map policy_of behind.policy) (ReadsPolicy command h basin)) one
     (seen_policy command now basin behind.policy others.policy) in
     let inputs = subst (λ h. SaysAt command Inputs behind.inputs (ReadsInputs command h basin)) one others.inputs in
-    let edits = subst (λ h. SaysAt command Edits (option_map (λ batches. batches.items) behind.edits) (ReadsEdits command h basin)) one
-    (seen_edits command now basin behind.edits (λ batches. batches.items) others.edits) in
+    let edits = subst (λ h. SaysAt command Edits (option_map (λ batches. batches.items) behind.edits) (ReadsBatches command h Edits basin)) one
+    (seen_batches command now Edits basin behind.edits (λ batches. batches.items) others.edits) in
+    let scenarios =
+    subst (λ h. SaysAt command Traces (option_map (λ batches. batches.items) behind.scenarios) (ReadsBatches command h Traces basin)) one
+    (seen_batches command now Traces basin behind.scenarios (λ batches. batches.items) others.scenarios) in
     let its : LacksCell command holds = record {
       basin = basin;
       model = model;
       accepted =
           accepts_all command holds basin (option_map policy_of behind.policy) behind.inputs (option_map (λ batches. batches.items) behind.edits)
-          model policy inputs edits;
+          (option_map (λ batches. batches.items) behind.scenarios)
+          model policy inputs edits scenarios;
       seeks = lacks.1;
       none = lacks.2;
     } in

@@ -1,20 +1,20 @@
 -- What is found of a file is one thing, where the shelf tells what its path holds: the file is accepted, or refused with
 -- one status, or too long.
-use Rattle.rw_top.proofs.Common.{Accepts, AcceptsAll, AreRead, BadEdits, BadInputs, BadModel, BadPolicy, Command, Err, FILE_MAX, File, FilesRead}
+use Rattle.rw_top.proofs.Common.{Accepts, AcceptsAll, AreRead, BadEdits, BadInputs, BadScenarios, BadModel, BadPolicy, Command, Err, FILE_MAX, File, FilesRead}
 use Rattle.rw_top.proofs.Common.{Holds, HoldsTooLong, IfSome, InputRefusal, IsFoundReason, IsSome, IsSomeAnd, IsTooLong, List, LongFile, ModelRefusal}
 use Rattle.rw_top.proofs.Common.{ReadsFile, None, Ok, Option, Reaches, ReadsInputs, ReadsModel, ReadsPolicy, Reason, Refuses, RefusesInputs}
 use Rattle.rw_top.proofs.Common.{RefusesModel, RefusesPolicy, SaysAt, Some, WasRead, ap, ap₂, arith, cases_lt, file_of, inl, inr, length, model_of}
 use Rattle.rw_top.proofs.Common.{order, path_of, policy_status, reads_code, refl, status_by, subst, sym, ℕ, ◌<◌, ◌∙◌, ◌≡◌, ◌≤◌, ◌⊎◌}
 use Rattle.rw_model.specs.Draft.{Draft}
-use Rattle.rw_inputs.specs.EditRows.{edits_of}
 use Rattle.rw_inputs.specs.Edits.{Batch}
 use Rattle.rw_inputs.specs.Inputs.{Inputs as Given}
 use Rattle.rw_top.specs.Cell.{cell_asked}
 use Rattle.std.specs.Prelude.{option_and_then}
 use Rattle.rw_top.specs.Command.{Source, AtPath, OfSample, path_in, source_of}
-use Rattle.rw_top.specs.Reading.{HasText, LacksCell, ReadsEdits, RefusesEdits}
+use Rattle.rw_top.specs.Reading.{HasText, LacksCell, ReadsBatches, ReadsEdits, ReadsScenarios, RefusesBatches, RefusesEdits, RefusesScenarios}
+use Rattle.rw_top.specs.Reading.{batches_read}
 use Rattle.rw_top.specs.Policy.{PolicyFile as Rules, PolicyRefusal, RefusesText}
-use Rattle.rw_top.specs.declared.refusal.File.TheVariants.{Model, Policy, Inputs, Edits}
+use Rattle.rw_top.specs.declared.refusal.File.TheVariants.{Model, Policy, Inputs, Edits, Traces}
 use Rattle.rw_top.proofs.CommandLemmas.{is_there}
 use Rattle.rw_top.proofs.OneReading.{one_policy_status, policy_clash, refuses_clash}
 
@@ -65,6 +65,7 @@ one_file Model Model same = refl
 one_file Policy Policy same = refl
 one_file Inputs Inputs same = refl
 one_file Edits Edits same = refl
+one_file Traces Traces same = refl
 one_file a b same = absurd (omega (arith, same))
 
 -- the shelf tells of that file, and of each that is read before it
@@ -104,14 +105,14 @@ module _ (command : Command) (holds : Holds) where
       let there : Refuses b h.text why = subst (λ t. Refuses b t why) text (subst (λ d. Refuses d r.text why) basin r.are) in
       refuses_clash b h.text i why h.are there
 
-  -- nor are edits
-  edits_clash : (why : InputRefusal) (b : Draft) (batches : List Batch)
-      → IsTold command holds Model → IsTold command holds Edits
-      → RefusesEdits command holds why → ReadsEdits command holds b batches → ⊥
-  edits_clash why b batches model edits r h =
+  -- nor are batches
+  batches_clash : (file : File) (why : InputRefusal) (b : Draft) (batches : List Batch)
+      → IsTold command holds Model → IsTold command holds file
+      → RefusesBatches command holds file why → ReadsBatches command holds file b batches → ⊥
+  batches_clash file why b batches model told r h =
       let basin = one_basin r.basin b model r.model h.model in
-      let text = same_text command holds Edits r.text h.text edits r.read h.read in
-      let both : Err why ≡ Ok batches = sym r.are ∙ ap₂ edits_of basin text ∙ h.are in cc
+      let text = same_text command holds file r.text h.text told r.read h.read in
+      let both : Err why ≡ Ok batches = sym r.are ∙ ap₂ (batches_read file) basin text ∙ h.are in cc
 
   -- nor is a policy
   refused_policy : (why : PolicyRefusal) (b : Draft) (rules : Rules)
@@ -130,6 +131,7 @@ module _ (command : Command) (holds : Holds) where
   IsBad Policy status = (why : PolicyRefusal) × (status ≡ policy_status why) × RefusesPolicy command holds why
   IsBad Inputs status = (status ≡ 8) × ((why : InputRefusal) × RefusesInputs command holds why)
   IsBad Edits status = (status ≡ 8) × ((why : InputRefusal) × RefusesEdits command holds why)
+  IsBad Traces status = (status ≡ 8) × ((why : InputRefusal) × RefusesScenarios command holds why)
 
   accepted_text : (file : File) → Accepts command holds file
       → (text : List ℕ) × WasRead command holds file text
@@ -137,6 +139,7 @@ module _ (command : Command) (holds : Holds) where
   accepted_text Policy accepted = (accepted.2.text, accepted.2.read)
   accepted_text Inputs accepted = (accepted.2.text, accepted.2.read)
   accepted_text Edits accepted = (accepted.2.text, accepted.2.read)
+  accepted_text Traces accepted = (accepted.2.text, accepted.2.read)
 
   bad_text : (file : File) (status : ℕ) → IsBad file status
       → (text : List ℕ) × WasRead command holds file text
@@ -144,6 +147,7 @@ module _ (command : Command) (holds : Holds) where
   bad_text Policy status bad = (bad.2.text, bad.2.read)
   bad_text Inputs status bad = (bad.1.1.text, bad.1.1.read)
   bad_text Edits status bad = (bad.1.1.text, bad.1.1.read)
+  bad_text Traces status bad = (bad.1.1.text, bad.1.1.read)
 
   one_status : (file : File) (a b : ℕ) → IsToldUpTo command holds file → IsBad file a → IsBad file b → a ≡ b
   one_status Model a b told bad other = bad.0 ∙ sym other.0
@@ -153,6 +157,7 @@ module _ (command : Command) (holds : Holds) where
       (subst (λ t. RefusesText (reads_code command t) bad.2.basin t bad.0) text bad.2.is) other.2.is ∙ sym other.1
   one_status Inputs a b told bad other = bad.0 ∙ sym other.0
   one_status Edits a b told bad other = bad.0 ∙ sym other.0
+  one_status Traces a b told bad other = bad.0 ∙ sym other.0
 
   bad_clash : (file : File) (status : ℕ) → IsToldUpTo command holds file
       → Accepts command holds file → IsBad file status → ⊥
@@ -163,7 +168,9 @@ module _ (command : Command) (holds : Holds) where
   bad_clash Inputs status told accepted bad =
       inputs_clash bad.1.0 accepted.0 accepted.1 (told Model (omega arith)) (told Inputs (omega arith)) bad.1.1 accepted.2
   bad_clash Edits status told accepted bad =
-      edits_clash bad.1.0 accepted.0 accepted.1 (told Model (omega arith)) (told Edits (omega arith)) bad.1.1 accepted.2
+      batches_clash Edits bad.1.0 accepted.0 accepted.1 (told Model (omega arith)) (told Edits (omega arith)) bad.1.1 accepted.2
+  bad_clash Traces status told accepted bad =
+      batches_clash Traces bad.1.0 accepted.0 accepted.1 (told Model (omega arith)) (told Traces (omega arith)) bad.1.1 accepted.2
 
   -- what is found of a file that isn't accepted, and the status that it brings
   abbrev Finding : File → ℕ → Type 0
@@ -191,9 +198,10 @@ module _ (command : Command) (holds : Holds) where
   finding (BadPolicy why) found = inl (why, refl, found)
   finding (BadInputs why) found = inl (refl, (why, found))
   finding (BadEdits why) found = inl (refl, (why, found))
+  finding (BadScenarios why) found = inl (refl, (why, found))
   finding (LongFile file) found = inr (found, refl)
 
-  -- behind a model that is read stands the policy, behind both the inputs, and behind these the edits
+  -- behind a model that is read stands the policy, behind both the inputs, behind these the edits, and behind all the scenarios
   pub reaches_model : Reaches command holds Model
   reaches_model earlier named before = absurd (omega (arith, before))
 
@@ -202,6 +210,7 @@ module _ (command : Command) (holds : Holds) where
   reaches_policy basin model Policy named before = absurd (omega (arith, before))
   reaches_policy basin model Inputs named before = absurd (omega (arith, before))
   reaches_policy basin model Edits named before = absurd (omega (arith, before))
+  reaches_policy basin model Traces named before = absurd (omega (arith, before))
 
   policy_there : (basin : Draft) (policy : Option Rules) → SaysAt command Policy policy (ReadsPolicy command holds basin)
       → ReadsFile command Policy → Accepts command holds Policy
@@ -214,6 +223,7 @@ module _ (command : Command) (holds : Holds) where
   reaches_inputs basin policy model says Policy named before = policy_there basin policy says named
   reaches_inputs basin policy model says Inputs named before = absurd (omega (arith, before))
   reaches_inputs basin policy model says Edits named before = absurd (omega (arith, before))
+  reaches_inputs basin policy model says Traces named before = absurd (omega (arith, before))
 
   inputs_there : (basin : Draft) (inputs : Option Given) → SaysAt command Inputs inputs (ReadsInputs command holds basin)
       → ReadsFile command Inputs → Accepts command holds Inputs
@@ -227,6 +237,7 @@ module _ (command : Command) (holds : Holds) where
   reaches_edits basin policy inputs model rules given Policy named before = policy_there basin policy rules named
   reaches_edits basin policy inputs model rules given Inputs named before = inputs_there basin inputs given named
   reaches_edits basin policy inputs model rules given Edits named before = absurd (omega (arith, before))
+  reaches_edits basin policy inputs model rules given Traces named before = absurd (omega (arith, before))
 
   -- and of a shelf that holds the same
   pub reaches_later : (now : Holds) → ((path : List ℕ) → now path ≡ holds path) → (file : File) → Reaches command holds file
@@ -239,18 +250,34 @@ module _ (command : Command) (holds : Holds) where
   edits_there basin None says named = absurd (not_named (source_of command Edits) says named)
   edits_there basin (Some batches) says named = (basin, batches, says)
 
+  pub reaches_scenarios : (basin : Draft) (edits : Option (List Batch)) → Reaches command holds Edits
+      → SaysAt command Edits edits (ReadsEdits command holds basin) → Reaches command holds Traces
+  reaches_scenarios basin edits reached says Model named before = reached Model named (omega arith)
+  reaches_scenarios basin edits reached says Policy named before = reached Policy named (omega arith)
+  reaches_scenarios basin edits reached says Inputs named before = reached Inputs named (omega arith)
+  reaches_scenarios basin edits reached says Edits named before = edits_there basin edits says named
+  reaches_scenarios basin edits reached says Traces named before = absurd (omega (arith, before))
+
+  scenarios_there : (basin : Draft) (scenarios : Option (List Batch)) → SaysAt command Traces scenarios (ReadsScenarios command holds basin)
+      → ReadsFile command Traces → Accepts command holds Traces
+  scenarios_there basin None says named = absurd (not_named (source_of command Traces) says named)
+  scenarios_there basin (Some batches) says named = (basin, batches, says)
+
   -- where the files of the command are read, each of them is accepted
-  pub accepts_all : (basin : Draft) (policy : Option Rules) (inputs : Option Given) (edits : Option (List Batch)) → ReadsModel command holds basin
+  pub accepts_all : (basin : Draft) (policy : Option Rules) (inputs : Option Given) (edits scenarios : Option (List Batch))
+      → ReadsModel command holds basin
       → SaysAt command Policy policy (ReadsPolicy command holds basin) → SaysAt command Inputs inputs (ReadsInputs command holds basin)
-      → SaysAt command Edits edits (ReadsEdits command holds basin) → AcceptsAll command holds
-  accepts_all basin policy inputs edits model rules given batches Model named = (basin, model)
-  accepts_all basin policy inputs edits model rules given batches Policy named = policy_there basin policy rules named
-  accepts_all basin policy inputs edits model rules given batches Inputs named = inputs_there basin inputs given named
-  accepts_all basin policy inputs edits model rules given batches Edits named = edits_there basin edits batches named
+      → SaysAt command Edits edits (ReadsEdits command holds basin) → SaysAt command Traces scenarios (ReadsScenarios command holds basin)
+      → AcceptsAll command holds
+  accepts_all basin policy inputs edits scenarios model rules given batches told Model named = (basin, model)
+  accepts_all basin policy inputs edits scenarios model rules given batches told Policy named = policy_there basin policy rules named
+  accepts_all basin policy inputs edits scenarios model rules given batches told Inputs named = inputs_there basin inputs given named
+  accepts_all basin policy inputs edits scenarios model rules given batches told Edits named = edits_there basin edits batches named
+  accepts_all basin policy inputs edits scenarios model rules given batches told Traces named = scenarios_there basin scenarios told named
 
   pub accepts_read : (files : FilesRead) → AreRead command holds files → AcceptsAll command holds
   accepts_read files read =
-      accepts_all files.basin files.policy files.inputs files.edits read.model read.policy read.inputs read.edits
+      accepts_all files.basin files.policy files.inputs files.edits files.scenarios read.model read.policy read.inputs read.edits read.scenarios
 
   -- the file of a reason is read
   pub names : (reason : Reason) → IsFoundReason command holds reason → ReadsFile command (file_of reason)
@@ -258,6 +285,7 @@ module _ (command : Command) (holds : Holds) where
   names (BadPolicy why) found = is_there (source_of command Policy) (HasText holds Policy found.text) found.read
   names (BadInputs why) found = is_there (source_of command Inputs) (HasText holds Inputs found.text) found.read
   names (BadEdits why) found = is_there (source_of command Edits) (HasText holds Edits found.text) found.read
+  names (BadScenarios why) found = is_there (source_of command Traces) (HasText holds Traces found.text) found.read
   names (LongFile file) found = sourced (source_of command file) (is_there (path_of command file) (IsTooLong holds) found.longer)
 
   reached : (reason : Reason) → IsFoundReason command holds reason → Reaches command holds (file_of reason)
@@ -265,6 +293,7 @@ module _ (command : Command) (holds : Holds) where
   reached (BadPolicy why) found = reaches_policy found.basin found.model
   reached (BadInputs why) found = found.reached
   reached (BadEdits why) found = found.reached
+  reached (BadScenarios why) found = found.reached
   reached (LongFile file) found = found.reached
 
   -- where the file of a reason is accepted, the reason isn't found

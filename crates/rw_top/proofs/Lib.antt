@@ -10,9 +10,13 @@ pub mod BudgetLemmas
 pub mod FilesRead
 pub mod PlainText
 pub mod RulesText
+pub mod AskedText
 pub mod SectionLemmas
 pub mod SessionSections
 pub mod SameValues
 pub mod FewBatches
 pub mod WhyText
 pub mod SampleText
+pub mod BalanceText
+pub mod MigratedText
+pub mod ManyRuns

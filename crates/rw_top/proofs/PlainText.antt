@@ -1,5 +1,5 @@
 -- The section of what a run comes to.
-use Rattle.rw_top.proofs.Common.{IsRunText, IsSome, List, Option, ap, ℕ, ◌∙◌, ◌≡◌}
+use Rattle.rw_top.proofs.Common.{IsRunText, IsSome, List, Option, false, sym, ℕ, ◌∙◌, ◌≡◌}
 use Rattle.rw_base.proofs.Common.{Bool, IsTrue}
 use Rattle.rw_base.specs.declared.number.StepNo.{StepNo}
 use Rattle.rw_model.proofs.Common.{Draft}
@@ -10,6 +10,8 @@ use Rattle.rw_report.specs.Whole.{whole_of}
 use Rattle.rw_run.proofs.Common.{Log, Policy}
 use Rattle.rw_run.specs.RunOf.{IsRunOf}
 use Rattle.rw_run.specs.declared.run.Run.{Run}
+use Rattle.rw_top.proofs.RulesText.{told_plain}
+use Rattle.rw_top.specs.RunText.{tells_asks}
 use Rattle.rw_top.specs.declared.extras.Extras.{Extras}
 
 pub text_is_run : ((basin : Draft) (batch : ℕ) (log : Log) (run : Run) (reran : Option (List StepNo)) (flags trace : Bool)
@@ -17,11 +19,12 @@ pub text_is_run : ((basin : Draft) (batch : ℕ) (log : Log) (run : Run) (reran 
     → whole_of basin batch (outcome_of run) reran flags trace ≡ whole_of basin batch (outcome_by basin log) reran flags trace)
     → (basin : Draft) (policy : Policy) (extras : Extras) (reran : Option (List StepNo)) (number : ℕ) (inputs : Inputs) (run : Run) (text : List ℕ)
     → ComesTo basin policy inputs run
-    → (IsTrue extras.trace → IsSome run.trace) → text ≡ whole_of basin number (outcome_of run) reran extras.flags extras.trace
+    → (IsTrue extras.trace → IsSome run.trace) → tells_asks extras ≡ false → text ≡ whole_of basin number (outcome_of run) reran extras.flags extras.trace
     → IsRunText basin policy extras reran number inputs run.end text
-text_is_run texts basin policy extras reran number inputs run text comes kept is = record {
+text_is_run texts basin policy extras reran number inputs run text comes kept silent is = record {
   log = comes.log;
   run = comes.whole;
   end_is = comes.is.end;
-  text_is = is ∙ texts basin number comes.log run reran extras.flags extras.trace comes.is kept;
+  text_is = is ∙ texts basin number comes.log run reran extras.flags extras.trace comes.is kept
+      ∙ sym (told_plain basin policy extras number reran comes.log silent);
 }

@@ -2,18 +2,34 @@
 use Rattle.rw_top.proofs.Common.{AskForCommand, Call, Cause, Command, Fault, FilesRead, IsTextOf, Job, List, None, Promise, Refusal, RefusedCommand}
 use Rattle.rw_top.proofs.Common.{RefusedWords, RunEnd, Settled, Some, WasRefused, WritesAll, Wrote, arith, inl, inr, status_of, status_of_end, ℕ, ◌∙◌}
 use Rattle.rw_top.proofs.Common.{◌≡◌, ◌≤◌}
-use Rattle.rw_words.specs.declared.job.Job.TheVariants.{Simulate, Check, Compile, Run, Why, Sample}
+use Rattle.rw_words.specs.declared.job.Job.TheVariants.{Simulate, Check, Compile, Run, Why, Sample, Balance, Mrm, Migrate}
 use Rattle.rw_top.specs.declared.refusal.Refusal.TheVariants.{Words, NoMemory}
 use Rattle.rw_top.specs.Promise.{UnreadWords}
-use Rattle.rw_top.specs.Written.{CountsReused}
+use Rattle.rw_top.specs.Written.{CountsReused, scenarios_in}
 use Rattle.rw_top.proofs.CommandLemmas.{asks_clash, of_command}
 use Rattle.rw_top.proofs.DueLemmas.{cell_due, complete, due, none_due, none_lacks}
 use Rattle.rw_top.specs.declared.extras.Extras.{Extras}
 use Rattle.rw_top.specs.Command.{extras_of}
+use Rattle.rw_top.specs.Many.{AreScenarioRuns, many_texts, status_of_runs}
+use Rattle.rw_top.specs.Policy.{PolicyFile as Rules}
+use Rattle.rw_inputs.specs.Inputs.{Inputs}
+use Rattle.rw_run.specs.Log.{Log}
+use Rattle.rw_run.specs.RunOf.{end_of}
+use Rattle.rw_mrm.specs.Tally.{is_settled}
+use Rattle.rw_top.proofs.Common.{IsSomeAnd, Option, [], false, if◌then◌else◌, true, ◌∷◌}
+use Rattle.rw_base.proofs.Common.{Bool}
 
 at_most_1 : (end : RunEnd) → status_of_end end ≤ 1
 at_most_1 Settled = omega arith
 at_most_1 (Fault why) = omega arith
+
+runs_at_most_1 : (logs : List Log) → status_of_runs logs ≤ 1
+runs_at_most_1 [] = omega arith
+runs_at_most_1 (log ∷ logs) = by (is_settled (end_of log)) (runs_at_most_1 logs)
+  where
+    by : (settled : Bool) → status_of_runs logs ≤ 1 → (if settled then status_of_runs logs else 1) ≤ 1
+    by true most = most
+    by false most = omega arith
 
 status_at_most_1 : (job : Job) (extras : Extras) (files : FilesRead) (status : ℕ) (texts : List (List ℕ)) → IsTextOf job extras files status texts
     → status ≤ 1
@@ -23,6 +39,17 @@ status_at_most_1 Compile extras files status texts is = omega (arith, is.0)
 status_at_most_1 Why extras files status texts is = let most = at_most_1 is.0 in omega (arith, most, is.1)
 status_at_most_1 Run extras files status texts is = let most = at_most_1 is.0 in omega (arith, most, is.1)
 status_at_most_1 (Sample seed) extras files status texts is = omega (arith, is.0)
+status_at_most_1 Balance extras files status texts is = let most = at_most_1 is.0 in omega (arith, most, is.1)
+status_at_most_1 Mrm extras files status texts is = both files.policy files.inputs is
+  where
+    both : (policy : Option Rules) (inputs : Option Inputs)
+        → IsSomeAnd policy (λ p. IsSomeAnd inputs (λ i. (logs : List Log) × AreScenarioRuns files.basin p i (scenarios_in files) logs
+        × (status ≡ status_of_runs logs) × (texts ≡ many_texts files.basin logs)))
+        → status ≤ 1
+    both None inputs is = absurd is
+    both (Some policy) None is = absurd is
+    both (Some policy) (Some inputs) is = let most = runs_at_most_1 is.0 in omega (arith, most, is.2)
+status_at_most_1 Migrate extras files status texts is = omega (arith, is.0)
 
 at_least_2 : (why : Refusal) → 2 ≤ status_of why
 at_least_2 Words = omega arith

@@ -1,6 +1,6 @@
 -- The run by a policy, from the run by its code, and its section.
 use Rattle.rw_top.proofs.Common.{Declared, IsRunText, List, Err, None, Ok, Option, Result, RunEnd, [], arith, false, refl, subst, sym, ℕ, ℤ, ◌∙◌, ◌≡◌}
-use Rattle.rw_base.proofs.Common.{Bool, IsOk, IsSome, IsTrue, ap}
+use Rattle.rw_base.proofs.Common.{◌≤◌, Bool, IsOk, IsSome, IsTrue, ap, if◌then◌else◌}
 use Rattle.rw_base.specs.declared.number.Cell.{Cell}
 use Rattle.rw_base.specs.declared.number.StepNo.{StepNo}
 use Rattle.rw_engine.specs.Passing.{ComesTo}
@@ -25,7 +25,8 @@ use Rattle.rpl_types.specs.Nodes.{Types}
 use Rattle.rpl_verify.specs.Budget.{AreAccepted}
 use Rattle.rpl_verify.specs.Verified.{Accepted}
 use Rattle.rw_top.specs.Policy.{PolicyFile as Rules, Ruleset, Code}
-use Rattle.rw_top.specs.RunText.{ComesBy, IsCodeOf, IsRerun, IsRulesText, policy_in_run}
+use Rattle.rw_asked.specs.Asked.{asked_trace}
+use Rattle.rw_top.specs.RunText.{ComesBy, IsCodeOf, IsRerun, IsRulesText, asked_section_text, policy_in_run, section_text, tells_asks, told_section}
 use Rattle.rw_top.specs.Sections.{GivenInputs}
 use Rattle.rw_top.specs.declared.extras.Extras.{Extras}
 
@@ -34,16 +35,33 @@ pub types_of : (result : Result (List Types) NodeRefusal) → IsOk result → (t
 types_of (Ok types) is = (types, refl)
 types_of (Err why) is = absurd cc
 
+-- where what became of puts isn't told, no policy is asked for it
+pub told_plain : (basin : Draft) (policy : Policy) (extras : Extras) (number : ℕ) (reran : Option (List StepNo)) (log : Log) → tells_asks extras ≡ false
+    → told_section basin policy extras number reran log ≡ section_text basin extras number reran log
+told_plain basin policy extras number reran log none =
+    ap (λ k. if k then asked_section_text basin policy extras number reran log else section_text basin extras number reran log) none
+
 -- a run by a policy, as one by another that has it too
 by_other : (basin : Draft) (one other : Policy) (extras : Extras) (reran : Option (List StepNo)) (number : ℕ) (inputs : Inputs) (end : RunEnd)
     (text : List ℕ)
-    → ((log : Log) → IsRun basin one (placings basin inputs) log → IsRun basin other (placings basin inputs) log)
+    → ((log : Log) → IsRun basin one (placings basin inputs) log → IsRun basin other (placings basin inputs) log) → tells_asks extras ≡ false
     → IsRunText basin one extras reran number inputs end text → IsRunText basin other extras reran number inputs end text
-by_other basin one other extras reran number inputs end text has is =
-    record { log = is.log; run = has is.log is.run; end_is = is.end_is; text_is = is.text_is }
+by_other basin one other extras reran number inputs end text has none is = record {
+  log = is.log;
+  run = has is.log is.run;
+  end_is = is.end_is;
+  text_is = is.text_is ∙ told_plain basin one extras number reran is.log none ∙ sym (told_plain basin other extras number reran is.log none);
+}
+
+-- to do the same goes both ways
+pub alike_turned : {one other : Policy} → FireAlike one other → FireAlike other one
+alike_turned alike = record {
+  rules = sym alike.rules;
+  same = λ rule step values is. sym (alike.same rule step values (record { first = is.first; last = subst (λ n. rule ≤ n) (sym alike.rules) is.last }));
+}
 
 -- code without blocks lets nothing fire
-none_alike : (basin : Draft) (blocks : List Block) → blocks ≡ [] → FireAlike (policy_of_code basin blocks) no_rules
+pub none_alike : (basin : Draft) (blocks : List Block) → blocks ≡ [] → FireAlike (policy_of_code basin blocks) no_rules
 none_alike basin blocks none =
     subst (λ bs. FireAlike (policy_of_code basin bs) no_rules) (sym none)
     (record { rules = refl; same = λ rule step values is. absurd (omega (arith, is.first, is.last)) })
@@ -51,11 +69,11 @@ none_alike basin blocks none =
 pub without_rules : ((basin : Draft) (one other : Policy) (inputs : List (Cell × ℤ)) (log : Log) → FireAlike one other → IsRun basin one inputs log
     → IsRun basin other inputs log)
     → (basin : Draft) (blocks : List Block) (extras : Extras) (reran : Option (List StepNo)) (number : ℕ) (inputs : Inputs) (end : RunEnd)
-    (text : List ℕ) → blocks ≡ []
+    (text : List ℕ) → blocks ≡ [] → tells_asks extras ≡ false
     → IsRunText basin (policy_of_code basin blocks) extras reran number inputs end text → IsRunText basin no_rules extras reran number inputs end text
-without_rules same_runs basin blocks extras reran number inputs end text none is =
+without_rules same_runs basin blocks extras reran number inputs end text none silent is =
     by_other basin (policy_of_code basin blocks) no_rules extras reran number inputs end text
-    (λ log run. same_runs basin (policy_of_code basin blocks) no_rules (placings basin inputs) log (none_alike basin blocks none) run) is
+    (λ log run. same_runs basin (policy_of_code basin blocks) no_rules (placings basin inputs) log (none_alike basin blocks none) run) silent is
 
 -- by code
 pub by_code : (basin : Draft) (code : Accepted) (inputs : Inputs) (run : Run) → AreAccepted basin code.blocks code.budgets
@@ -94,10 +112,15 @@ pub code_of_ruleset : (basin : Draft) (rules : List Declared) (code : Accepted) 
     → IsRun basin (policy_of_rules basin rules) (placings basin inputs) log)
     → ((inputs : Inputs) (log : Log) → IsRun basin (policy_of_rules basin rules) (placings basin inputs) log
     → AreVerified basin (translate rules) (code_budgets_of rules) log)
+    → ((inputs : Inputs) (log : Log) → IsRun basin (policy_of_code basin (translate rules)) (placings basin inputs) log
+    → asked_trace basin (policy_of_code basin (translate rules)) log ≡ asked_trace basin (policy_of_rules basin rules) log)
     → IsCodeOf basin (Ruleset rules) code
-code_of_ruleset basin rules code same accepted means firings = record {
+code_of_ruleset basin rules code same accepted means firings asks = record {
   comes = λ inputs run'. by_ruleset basin rules code.blocks inputs run' same accepted (means inputs) (firings inputs);
   runs = λ inputs log whole. means inputs log (subst (λ bs. IsRun basin (policy_of_code basin bs) (placings basin inputs) log) same whole);
+  asks = λ inputs log whole.
+      ap (λ bs. asked_trace basin (policy_of_code basin bs) log) same
+      ∙ asks inputs log (subst (λ bs. IsRun basin (policy_of_code basin bs) (placings basin inputs) log) same whole);
 }
 
 -- what the law says of the text of a run, by its log
@@ -115,16 +138,17 @@ of_basin own basin number run reran extras text same is = is ∙ ap (λ b. whole
 -- the section of what the run comes to, with the timesteps that were run again
 pub section_by : TextsOfRuns → (basin : Draft) (policy : Rules) (extras : Extras) (reran : Option (List StepNo)) (number : ℕ) (given : GivenInputs)
     (run : Run) (text : List ℕ)
-    → (comes : ComesBy basin policy given.inputs run) → (IsTrue extras.trace → IsSome run.trace)
+    → (comes : ComesBy basin policy given.inputs run) → (IsTrue extras.trace → IsSome run.trace) → tells_asks extras ≡ false
     → IsRerun basin (policy_in_run basin policy) extras.reuse given comes.log reran
     → text ≡ whole_of basin number (outcome_of run) reran extras.flags extras.trace → IsRulesText basin policy extras number given run.end text
-section_by texts basin policy extras reran number given run text comes kept again is = record {
+section_by texts basin policy extras reran number given run text comes kept silent again is = record {
   reran = reran;
   run_text = record {
     log = comes.log;
     run = comes.whole;
     end_is = comes.is.end;
-    text_is = is ∙ texts basin number comes.log run reran extras.flags extras.trace comes.is kept;
+    text_is = is ∙ texts basin number comes.log run reran extras.flags extras.trace comes.is kept
+        ∙ sym (told_plain basin (policy_in_run basin policy) extras number reran comes.log silent);
   };
   verified = comes.verified;
   rerun = again;

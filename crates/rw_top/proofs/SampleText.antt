@@ -24,7 +24,7 @@ use Rattle.rw_top.specs.declared.extras.Extras.{Extras}
 -- ---- its files
 
 -- where the text of a file comes from, by the job and the words
-abbrev source_by : File → List (List ℕ) → Job → Option Source
+abbrev pub source_by : File → List (List ℕ) → Job → Option Source
 source_by file paths job = option_map (λ place. source_at job paths place) (place_among (files_of job) file)
 
 -- what was read of a file of the sample is its text
@@ -79,7 +79,7 @@ sample_by outcomes basin policy inputs seed run text comes kept is = record {
 }
 
 -- of the files of a command
-of_both : (files : FilesRead) (policy : Rules) (inputs : Inputs) → files.policy ≡ Some policy → files.inputs ≡ Some inputs
+pub of_both : (files : FilesRead) (policy : Rules) (inputs : Inputs) → files.policy ≡ Some policy → files.inputs ≡ Some inputs
     → (P : Rules → Inputs → Type 0) → P policy inputs → OfBoth files P
 of_both files policy inputs has_policy has_inputs P is =
     subst (λ o. IsSomeAnd o (λ p. IsSomeAnd files.inputs (P p))) (sym has_policy) (subst (λ o. IsSomeAnd o (P policy)) (sym has_inputs) is)

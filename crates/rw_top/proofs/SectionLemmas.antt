@@ -1,16 +1,17 @@
 -- Sections that are written one behind another.
 use Rattle.rw_top.proofs.Common.{Change, Err, FilesRead, GrowsBy, GrowsBy-trans, IsSomeAnd, Job, List, MatchResult, None, Ok, Option, PrefixGrew}
-use Rattle.rw_top.proofs.Common.{PrefixGrew-right, Refusal, Result, RunEnd, SinkView, Some, [], ap, change, inr, length, refl, status_of_end, subst}
+use Rattle.rw_top.proofs.Common.{PrefixGrew-right, Refusal, Result, RunEnd, SinkView, Some, [], ap, change, inl, inr, length, refl, status_of_end, subst}
 use Rattle.rw_top.proofs.Common.{sym, ℕ, ◌++◌, ◌+◌, ◌∙◌, ◌∷◌, ◌≡◌, ◌≤◌}
 use Rattle.rw_base.proofs.Common.{All, append-nil, append_assoc, arith}
 use Rattle.std.proofs.lemmas.List.Elements.{All-head, All-tail}
 use Rattle.rw_inputs.specs.Edits.{Batch, after_batch}
 use Rattle.rw_inputs.specs.Inputs.{Inputs, value_at}
-use Rattle.rw_top.specs.Sections.{AppendsAll, AppendsFirst, AppendsOne, AreFirstSections, AreSections, StopsAmong, StopsAtOne, GivenInputs}
+use Rattle.rw_top.specs.Sections.{AppendsAll, AppendsFirst, AppendsOne, AreFirstSections, AreSections, StopsAmong, StopsAmongPieces, StopsAtOne}
+use Rattle.rw_top.specs.Sections.{GivenInputs}
 use Rattle.rw_top.specs.Sections.{edited_given, first_given, joined_sections}
 use Rattle.rw_top.specs.Policy.{PolicyFile as Rules}
 use Rattle.rw_top.specs.RunText.{CountsSections, IsPlainText, IsRulesText}
-use Rattle.rw_top.specs.Written.{Appends, AppendsFront, CountsOfFiles, IsFrontOf, IsOne, OfBoth, Stops, batches_in}
+use Rattle.rw_top.specs.Written.{Appends, AppendsFront, CountsOfFiles, IsFrontOf, IsOne, OfBoth, Stops, WritesSectionWise, batches_in, sections_behind}
 use Rattle.rw_words.specs.declared.job.Job.TheVariants.{Simulate, Run}
 use Rattle.rw_top.specs.declared.refusal.Refusal.TheVariants.{CannotWrite, NoMemory}
 use Rattle.rw_top.specs.declared.extras.Extras.{Extras}
@@ -117,6 +118,16 @@ pub made_front : (job : Job) (extras : Extras) (files : FilesRead) (out : Change
     → PrefixGrew out.before.contents out.after.contents text → AppendsFront job extras files out
 made_front job extras files out status text one grew = record { done = []; text = text; is = one.1; grew = grew }
 
+-- pieces that are a front of the text of a job
+pub pieces_stopped : (job : Job) (extras : Extras) (files : FilesRead) (out : Change SinkView) (AreFirst : List (List ℕ) → Type 0)
+    → WritesSectionWise job → ((texts : List (List ℕ)) → AreFirst texts → IsFrontOf job extras files texts)
+    → (why : Refusal) → StopsAmongPieces AreFirst (sections_behind job files) out why → Stops job extras files out why
+pieces_stopped job extras files out AreFirst runs front NoMemory stops =
+    inr (record { runs = runs; texts = stops.texts; are = front stops.texts stops.are; fewer = stops.fewer; grew = stops.grew })
+pieces_stopped job extras files out AreFirst runs front CannotWrite stops =
+    (record { done = stops.done; text = stops.text; is = front (stops.done ++ stops.text ∷ []) stops.are; grew = stops.grew }, stops.rose)
+pieces_stopped job extras files out AreFirst runs front why stops = absurd stops
+
 -- a run without rules
 pub one_run : (extras : Extras) (files : FilesRead) (inputs : Inputs) (end : RunEnd) (status : ℕ) (text : List ℕ) → files.inputs ≡ Some inputs
     → status ≡ status_of_end end → IsPlainText files.basin extras 0 (first_given inputs) end text → IsOne Simulate extras files status text
@@ -155,8 +166,4 @@ module _ (files : FilesRead) (policy : Rules) (inputs : Inputs) (has_policy : fi
 
     pub rules_stopped : (why : Refusal) → StopsAmong (IsRulesText files.basin policy extras) 0 (first_given inputs) (batches_in files) out why
         → Stops Run extras files out why
-    rules_stopped NoMemory stops =
-        inr (record { runs = refl; texts = stops.texts; are = front stops.texts stops.are; fewer = stops.fewer; grew = stops.grew })
-    rules_stopped CannotWrite stops =
-        (record { done = stops.done; text = stops.text; is = front (stops.done ++ stops.text ∷ []) stops.are; grew = stops.grew }, stops.rose)
-    rules_stopped why stops = absurd stops
+    rules_stopped why stops = pieces_stopped Run extras files out _ (inl refl) front why stops

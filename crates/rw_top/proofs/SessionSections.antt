@@ -21,6 +21,7 @@ use Rattle.rw_top.specs.Reused.{IsNextSection, WritesFrom, told_of}
 use Rattle.rw_top.specs.RunText.{ComesBy, CountsRun, CountsSections, IsCodeOf, IsRerun, IsRulesText, policy_in_run}
 use Rattle.rw_top.specs.Sections.{AppendsOne, CountsAll, GivenInputs, edited_given, first_given}
 use Rattle.rw_top.specs.declared.extras.Extras.{Extras}
+use Rattle.rw_top.proofs.AskedText.{reused_silent}
 use Rattle.rw_top.proofs.RulesText.{TextsOfRuns, section_by}
 use Rattle.rw_top.proofs.SectionLemmas.{goes_on, last_section}
 
@@ -83,7 +84,7 @@ module _ (basin : Draft) (policy : Rules) (code : Accepted) (means : IsCodeOf ba
       let by : ComesBy basin policy given.inputs run =
       means.comes given.inputs run (subst (λ i. ComesTo basin (policy_in basin code) i run) (sym next.inputs_are) comes) in
       let same : next.log ≡ by.log = one_run basin (policy_in_run basin policy) (placings basin given.inputs) next.log by.log next.run by.whole in
-      section_by texts basin policy extras reran number given run text by kept
+      section_by texts basin policy extras reran number given run text by kept (reused_silent extras.asked extras.reuse reuses)
       (subst (λ reuse. IsRerun basin (policy_in_run basin policy) reuse given by.log reran) (sym reuses)
       (subst (λ log. IsRerun basin (policy_in_run basin policy) true given log reran) same
       (subst (IsRerun basin (policy_in_run basin policy) true given next.log) (sym told) next.rerun)))

@@ -1,11 +1,11 @@
 -- The command that the words ask for, and the files that it reads.
 use Rattle.std.specs.Prelude.{◌≡◌, ℕ, suc, ◌==◌, List, [], ◌∷◌, slice_index_or, Option, Some, None, option_and_then, option_map, IsSome, Bool, true, false, if◌then◌else◌}
 use Rattle.rw_words.specs.declared.job.Job.{Job}
-use Rattle.rw_words.specs.declared.job.Job.TheVariants.{Simulate, Check, Compile, Run, Why, Sample}
+use Rattle.rw_words.specs.declared.job.Job.TheVariants.{Simulate, Check, Compile, Run, Why, Sample, Balance, Mrm, Migrate}
 use Rattle.rw_words.specs.Command.{Command, asked_command as asked_by, command_seen}
 use Rattle.rw_words.specs.Plain.{plain_command}
 use Rattle.rw_top.specs.declared.refusal.File.{File}
-use Rattle.rw_top.specs.declared.refusal.File.TheVariants.{Model, Policy, Inputs, Edits}
+use Rattle.rw_top.specs.declared.refusal.File.TheVariants.{Model, Policy, Inputs, Edits, Traces}
 use Rattle.rw_top.specs.declared.extras.Extras.{Extras}
 use Rattle.rw_top.specs.declared.command.Command.{Command as Named}
 use Rattle.rw_top.specs.declared.command.Source.{Source as Held}
@@ -13,7 +13,8 @@ use Rattle.rw_sample.specs.Texts.{sample_inputs, sample_model, sample_rules}
 
 -- what its text tells besides the table, and how it is come to
 abbrev pub extras_of : Command → Extras
-extras_of command = record { flags = command.flags; trace = command.trace; reuse = command.reuse; order = command.order }
+extras_of command =
+    record { flags = command.flags; trace = command.trace; asked = command.asked; reuse = command.reuse; order = command.order }
 
 -- ---- jobs
 
@@ -25,6 +26,9 @@ files_of Compile = Model ∷ Policy ∷ []
 files_of Run = Model ∷ Policy ∷ Inputs ∷ []
 files_of Why = Model ∷ Policy ∷ Inputs ∷ []
 files_of (Sample seed) = Model ∷ Policy ∷ Inputs ∷ []
+files_of Balance = Model ∷ Policy ∷ Inputs ∷ []
+files_of Mrm = Model ∷ Policy ∷ Inputs ∷ Traces ∷ []
+files_of Migrate = Model ∷ []
 
 -- its policy may be code. What is compiled is always read as a ruleset, and the sample has one
 abbrev pub takes_code : Job → Bool
@@ -34,11 +38,19 @@ takes_code Compile = false
 takes_code Run = true
 takes_code Why = true
 takes_code (Sample seed) = false
+takes_code Balance = true
+takes_code Mrm = true
+takes_code Migrate = true
 
 -- it asks for a cell of the basin
 abbrev pub seeks_cell : Job → Bool
 seeks_cell Why = true
 seeks_cell job = false
+
+-- it wants the text of its model, besides what that is read as
+abbrev pub wants_text : Job → Bool
+wants_text Migrate = true
+wants_text job = false
 
 -- ---- files
 
@@ -48,6 +60,7 @@ order Model = 0
 order Policy = 1
 order Inputs = 2
 order Edits = 3
+order Traces = 4
 
 -- where a file stands among others, from 0 on
 abbrev pub place_among : List File → File → Option ℕ
@@ -71,12 +84,13 @@ abbrev pub path_in : Source → Option (List ℕ)
 path_in (AtPath path) = Some path
 path_in (OfSample seed) = None
 
--- the text of a file of the sample. It has no edits
+-- the text of a file of the sample. It has no edits and no traces
 abbrev pub sample_text : (seed : ℕ) → File → List ℕ
 sample_text seed Model = sample_model
 sample_text seed Policy = sample_rules
 sample_text seed Inputs = sample_inputs seed
 sample_text seed Edits = []
+sample_text seed Traces = []
 
 -- ---- commands
 
@@ -88,6 +102,9 @@ source_at Check paths place = AtPath (slice_index_or paths place [])
 source_at Compile paths place = AtPath (slice_index_or paths place [])
 source_at Run paths place = AtPath (slice_index_or paths place [])
 source_at Why paths place = AtPath (slice_index_or paths place [])
+source_at Balance paths place = AtPath (slice_index_or paths place [])
+source_at Mrm paths place = AtPath (slice_index_or paths place [])
+source_at Migrate paths place = AtPath (slice_index_or paths place [])
 
 -- where that of a file comes from that its job reads
 abbrev pub named_source : Command → File → Option Source

@@ -7,6 +7,8 @@ pub mod Told
 pub mod Reason
 pub mod RunText
 pub mod Sections
+pub mod Many
+pub mod Scenarios
 pub mod Reused
 pub mod Budgets
 pub mod Seen

@@ -23,7 +23,7 @@ use Rattle.rw_top.specs.Command.{path_of}
 use Rattle.rw_words.specs.Command.{Command}
 use Rattle.rw_top.specs.declared.refusal.File.{File}
 use Rattle.rw_top.specs.declared.refusal.Refusal.{Refusal}
-use Rattle.rw_top.specs.declared.refusal.Refusal.TheVariants.{Words, CannotRead, CannotWrite, NoMemory, Model, Grammar, Types, Code, Block, Inputs, Edits, NoCell, TooLong}
+use Rattle.rw_top.specs.declared.refusal.Refusal.TheVariants.{Words, CannotRead, CannotWrite, NoMemory, Model, Grammar, Types, Code, Block, Inputs, Edits, Traces, NoCell, TooLong}
 
 -- what is wrong with what the basin is built of
 abbrev pub build_words : BuildFault → List ℕ
@@ -154,6 +154,12 @@ edits_line kind row column =
     (codes "basin: edits: row " ++ decimal row)
     ++ ((codes " column " ++ decimal column) ++ ((codes ": " ++ input_words kind) ++ codes "\n"))
 
+-- the line on traces that are refused
+abbrev pub traces_line : InputKind → ℕ → ℕ → List ℕ
+traces_line kind row column =
+    (codes "basin: traces: row " ++ decimal row)
+    ++ ((codes " column " ++ decimal column) ++ ((codes ": " ++ input_words kind) ++ codes "\n"))
+
 -- the line on words that ask for nothing
 abbrev pub words_line : List ℕ
 words_line = codes "basin: words refused\n"
@@ -180,6 +186,7 @@ refusal_line command (Code fault) = code_line fault
 refusal_line command (Block kind block place) = block_line kind block place
 refusal_line command (Inputs kind row column) = inputs_line kind row column
 refusal_line command (Edits kind row column) = edits_line kind row column
+refusal_line command (Traces kind row column) = traces_line kind row column
 refusal_line command NoCell = codes "basin: why: no such cell\n"
 refusal_line command (TooLong file) =
     (codes "basin: too long " ++ told_path command file) ++ codes "\n"

@@ -16,12 +16,15 @@ use Rattle.rw_top.specs.Call.{Call}
 use Rattle.rw_top.specs.Command.{AskNothing, AskForCommand, extras_of}
 use Rattle.rw_words.specs.Command.{Command}
 use Rattle.rw_words.specs.declared.job.Job.TheVariants.{Sample}
+use Rattle.rw_model_toml.specs.Migrated.{IsMigrated}
+use Rattle.rw_run.specs.Log.{Log}
+use Rattle.rw_top.specs.Many.{AreScenarioRuns, many_texts}
 use Rattle.rw_top.specs.Policy.{PolicyFile as Rules, Ruleset}
 use Rattle.rw_top.specs.Reason.{Reason, IsFoundReason, IsHonestFor, status_by}
 use Rattle.rw_top.specs.Lines.{refusal_line, memory_line, words_line}
-use Rattle.rw_top.specs.Reading.{AcceptsAll, IsHonestOfAll, LacksCell, ReadsEdits, ReadsInputs, ReadsPolicy, SaysAt}
+use Rattle.rw_top.specs.Reading.{AcceptsAll, IsHonestOfAll, LacksCell, ReadsEdits, ReadsInputs, ReadsModel, ReadsPolicy, ReadsScenarios, SaysAt}
 use Rattle.rw_top.specs.Refusal.{Cause, EndsWith, status_of}
-use Rattle.rw_top.specs.RunText.{IsRulesText, IsSampleOf, IsSimulated, IsWhyOfRules}
+use Rattle.rw_top.specs.RunText.{IsBalanceOfRules, IsRulesText, IsSampleOf, IsSimulated, IsWhyOfRules}
 use Rattle.rw_top.specs.Sections.{AreSections, first_given, joined_sections}
 use Rattle.rw_top.specs.Written.{CountsReused, TellsLine, WritesAll}
 use Rattle.rw_top.specs.declared.refusal.File.TheVariants.{Edits}
@@ -157,4 +160,41 @@ pub record WroteSample (call : Call) : Type 0 where
   pub job : command.job ≡ Sample seed
   pub text : List ℕ
   pub is : IsSampleOf seed text
+  pub grew : GrowsBy call.out.before.contents call.out.after.contents text
+
+-- the books of water of the run by a policy that is accepted, which ends so
+pub record WroteBalance (call : Call) (end : RunEnd) : Type 0 where
+  pub command : Command
+  pub asked : AskForCommand call.words command
+  pub basin : Draft
+  pub policy : Rules
+  pub rules : ReadsPolicy command call.shelf.before.holds basin policy
+  pub inputs : Rows
+  pub read : ReadsInputs command call.shelf.before.holds basin inputs
+  pub text : List ℕ
+  pub is : IsBalanceOfRules basin policy inputs end text
+  pub grew : GrowsBy call.out.before.contents call.out.after.contents text
+
+-- the sections of the runs of all scenarios by a policy that is accepted, and their summary
+pub record WroteMany (call : Call) (logs : List Log) : Type 0 where
+  pub command : Command
+  pub asked : AskForCommand call.words command
+  pub basin : Draft
+  pub policy : Rules
+  pub rules : ReadsPolicy command call.shelf.before.holds basin policy
+  pub inputs : Rows
+  pub read : ReadsInputs command call.shelf.before.holds basin inputs
+  pub scenarios : List Batch
+  pub told : ReadsScenarios command call.shelf.before.holds basin scenarios
+  pub are : AreScenarioRuns basin policy inputs scenarios logs
+  pub grew : GrowsBy call.out.before.contents call.out.after.contents (joined_sections (many_texts basin logs))
+
+-- a model that is accepted, in format 2
+pub record WroteMigrated (call : Call) : Type 0 where
+  pub command : Command
+  pub asked : AskForCommand call.words command
+  pub basin : Draft
+  pub model : ReadsModel command call.shelf.before.holds basin
+  pub text : List ℕ
+  pub is : IsMigrated model.text text
   pub grew : GrowsBy call.out.before.contents call.out.after.contents text

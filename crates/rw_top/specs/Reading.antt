@@ -1,12 +1,12 @@
 -- What the files that a command names are found to be.
-use Rattle.std.specs.Prelude.{◌≡◌, Bool, ◌&&◌, ℕ, ◌<◌, ◌≤◌, List, Ok, Err, Option, None, MatchOption, length, IfSome, IsSome, IsSomeAnd, IsTrue, Result}
+use Rattle.std.specs.Prelude.{◌≡◌, Bool, ◌&&◌, ℕ, ◌<◌, ◌≤◌, List, Ok, Err, Option, None, Some, if◌then◌else◌, MatchOption, length, IfSome, IsSome, IsSomeAnd, IsTrue, Result}
 use Rattle.rw_io.specs.Causes.{Rose}
 use Rattle.rw_io.specs.declared.whole_file.TheConstants.{FILE_MAX}
 use Rattle.rw_model.specs.Draft.{Draft}
 use Rattle.rw_model_toml.specs.Model.{model_of}
 use Rattle.rw_model_toml.specs.Refusal.{ModelRefusal}
 use Rattle.rw_base.specs.declared.number.Cell.{Cell}
-use Rattle.rw_inputs.specs.EditRows.{edits_of}
+use Rattle.rw_inputs.specs.EditRows.{edits_of, scenarios_of}
 use Rattle.rw_inputs.specs.Edits.{Batch}
 use Rattle.rw_inputs.specs.Refusal.{InputRefusal}
 use Rattle.rw_inputs.specs.Inputs.{Inputs as Given}
@@ -14,13 +14,14 @@ use Rattle.rw_inputs.specs.Reading.{Reads, Refuses}
 use Rattle.rw_io.specs.Outside.{Change, Holds, ShelfView}
 use Rattle.rw_model.specs.Draft.{IsSlot}
 use Rattle.rw_top.specs.Cell.{FindsCell, cell_asked}
-use Rattle.rw_top.specs.Command.{ReadsFile, Source, AtPath, OfSample, order, path_of, sample_text, seeks_cell, source_of, takes_code}
+use Rattle.rw_top.specs.Command.{ReadsFile, Source, AtPath, OfSample, order, path_of, sample_text, seeks_cell, source_of, takes_code, wants_text}
 use Rattle.rw_top.specs.declared.refusal.Refusal.{Refusal}
 use Rattle.rw_top.specs.declared.refusal.Refusal.TheVariants.{NoCell}
 use Rattle.rw_words.specs.Command.{Command}
 use Rattle.rw_top.specs.Policy.{is_code, IsPolicyFileOf, PolicyFile as Rules, PolicyRefusal, RefusesText}
 use Rattle.rw_top.specs.declared.refusal.File.{File}
-use Rattle.rw_top.specs.declared.refusal.File.TheVariants.{Model, Policy, Inputs, Edits}
+use Rattle.rw_words.specs.declared.job.Job.{Job}
+use Rattle.rw_top.specs.declared.refusal.File.TheVariants.{Model, Policy, Inputs, Edits, Traces}
 
 -- the text is all that the path holds, where that is told, and no longer than a file may be
 pub record IsTextAt (holds : Holds) (text path : List ℕ) : Type 0 where
@@ -46,6 +47,15 @@ pub record ReadsModel (command : Command) (holds : Holds) (basin : Draft) : Type
   pub read : WasRead command holds Model text
   pub is : model_of text ≡ Ok basin
 
+-- the text of a model as a job wants it
+abbrev pub text_wanted : Job → List ℕ → Option (List ℕ)
+text_wanted job text = if wants_text job then Some text else None
+
+-- the command names a model of this basin, whose text is this, where that is wanted
+pub record ReadsModelText (command : Command) (holds : Holds) (basin : Draft) (text : Option (List ℕ)) : Type 0 where
+  pub model : ReadsModel command holds basin
+  pub text_is : text ≡ text_wanted command.job model.text
+
 -- whether the command reads the text of its policy as code
 abbrev pub reads_code : Command → List ℕ → Bool
 reads_code command text = takes_code command.job && is_code text
@@ -64,22 +74,38 @@ pub record ReadsInputs (command : Command) (holds : Holds) (basin : Draft) (inpu
   pub read : WasRead command holds Inputs text
   pub are : Reads basin text inputs
 
--- the command names a model of this basin, and these batches of edits for it
-pub record ReadsEdits (command : Command) (holds : Holds) (basin : Draft) (batches : List Batch) : Type 0 where
+-- what a text of batches is read as, by its file
+abbrev pub batches_read : File → Draft → List ℕ → Result (List Batch) InputRefusal
+batches_read Traces basin text = scenarios_of basin text
+batches_read file basin text = edits_of basin text
+
+-- the command names a model of this basin, and in this file these batches for it
+pub record ReadsBatches (command : Command) (holds : Holds) (file : File) (basin : Draft) (batches : List Batch) : Type 0 where
   pub model : ReadsModel command holds basin
   pub text : List ℕ
-  pub read : WasRead command holds Edits text
-  pub are : edits_of basin text ≡ Ok batches
+  pub read : WasRead command holds file text
+  pub are : batches_read file basin text ≡ Ok batches
+
+-- batches of edits
+abbrev pub ReadsEdits : Command → Holds → Draft → List Batch → Type 0
+ReadsEdits command holds basin batches = ReadsBatches command holds Edits basin batches
+
+-- and scenarios, in a file of traces
+abbrev pub ReadsScenarios : Command → Holds → Draft → List Batch → Type 0
+ReadsScenarios command holds basin batches = ReadsBatches command holds Traces basin batches
 
 -- ---- all files of a command
 
--- what they say: the basin of its model, and the policy, the inputs, the edits and the cell, where it names them
+-- what they say: the basin of its model, and the policy, the inputs, the edits, the scenarios and the cell, where it names them, and the
+-- text of the model, where it is wanted
 pub record FilesRead : Type 0 where
   pub basin : Draft
   pub policy : Option Rules
   pub inputs : Option Given
   pub edits : Option (List Batch)
+  pub scenarios : Option (List Batch)
   pub cell : Option Cell
+  pub text : Option (List ℕ)
 
 -- a file that the command doesn't read says nothing, and any other is this
 abbrev pub SaysAt : {A : Type 0} → Command → File → Option A → (A → Type 0) → Type 0
@@ -91,7 +117,9 @@ pub record AreRead (command : Command) (holds : Holds) (files : FilesRead) : Typ
   pub policy : SaysAt command Policy files.policy (ReadsPolicy command holds files.basin)
   pub inputs : SaysAt command Inputs files.inputs (ReadsInputs command holds files.basin)
   pub edits : SaysAt command Edits files.edits (ReadsEdits command holds files.basin)
+  pub scenarios : SaysAt command Traces files.scenarios (ReadsScenarios command holds files.basin)
   pub cell : FindsCell command files.basin files.cell
+  pub text_is : files.text ≡ text_wanted command.job model.text
 
 -- the file is accepted
 abbrev pub Accepts : Command → Holds → File → Type 0
@@ -102,6 +130,8 @@ Accepts command holds Inputs =
     (basin : Draft) × (inputs : Given) × ReadsInputs command holds basin inputs
 Accepts command holds Edits =
     (basin : Draft) × (batches : List Batch) × ReadsEdits command holds basin batches
+Accepts command holds Traces =
+    (basin : Draft) × (batches : List Batch) × ReadsScenarios command holds basin batches
 
 -- every file that the command reads is
 abbrev pub AcceptsAll : Command → Holds → Type 0
@@ -137,14 +167,22 @@ pub record RefusesInputs (command : Command) (holds : Holds) (why : InputRefusal
   pub read : WasRead command holds Inputs text
   pub are : Refuses basin text why
 
--- the command names a model, edits are reached, and are refused for this
-pub record RefusesEdits (command : Command) (holds : Holds) (why : InputRefusal) : Type 0 where
+-- the command names a model, the batches of this file are reached, and are refused for this
+pub record RefusesBatches (command : Command) (holds : Holds) (file : File) (why : InputRefusal) : Type 0 where
   pub basin : Draft
   pub model : ReadsModel command holds basin
-  pub reached : Reaches command holds Edits
+  pub reached : Reaches command holds file
   pub text : List ℕ
-  pub read : WasRead command holds Edits text
-  pub are : edits_of basin text ≡ Err why
+  pub read : WasRead command holds file text
+  pub are : batches_read file basin text ≡ Err why
+
+-- those of edits
+abbrev pub RefusesEdits : Command → Holds → InputRefusal → Type 0
+RefusesEdits command holds why = RefusesBatches command holds Edits why
+
+-- and scenarios
+abbrev pub RefusesScenarios : Command → Holds → InputRefusal → Type 0
+RefusesScenarios command holds why = RefusesBatches command holds Traces why
 
 -- every file of the command is accepted, and it asks for a cell that its basin doesn't have
 pub record LacksCell (command : Command) (holds : Holds) : Type 0 where

@@ -5,16 +5,17 @@ use Rattle.rw_model_toml.specs.Refusal.{ModelRefusal}
 use Rattle.rw_io.specs.Outside.{Change, Holds, ShelfView}
 use Rattle.rw_words.specs.Command.{Command}
 use Rattle.rw_top.specs.Policy.{PolicyRefusal, BadRules, BadBlocks}
-use Rattle.rw_top.specs.Reading.{HoldsTooLong, IsHonestUpTo, RefusesEdits, RefusesInputs, RefusesModel, RefusesPolicy}
+use Rattle.rw_top.specs.Reading.{HoldsTooLong, IsHonestUpTo, RefusesEdits, RefusesInputs, RefusesModel, RefusesPolicy, RefusesScenarios}
 use Rattle.rw_top.specs.declared.refusal.File.{File}
-use Rattle.rw_top.specs.declared.refusal.File.TheVariants.{Model, Policy, Inputs, Edits}
+use Rattle.rw_top.specs.declared.refusal.File.TheVariants.{Model, Policy, Inputs, Edits, Traces}
 
--- its model, its policy, its inputs, its edits, or a file that is too long
+-- its model, its policy, its inputs, its edits, its scenarios, or a file that is too long
 pub data Reason : Type 0 where
   BadModel : ModelRefusal → Reason
   BadPolicy : PolicyRefusal → Reason
   BadInputs : InputRefusal → Reason
   BadEdits : InputRefusal → Reason
+  BadScenarios : InputRefusal → Reason
   LongFile : File → Reason
 
 -- the status of a call whose policy is refused for this
@@ -28,6 +29,7 @@ status_by (BadModel why) = 6
 status_by (BadPolicy why) = policy_status why
 status_by (BadInputs why) = 8
 status_by (BadEdits why) = 8
+status_by (BadScenarios why) = 8
 status_by (LongFile file) = 10
 
 -- the file of which it is found
@@ -36,6 +38,7 @@ file_of (BadModel why) = Model
 file_of (BadPolicy why) = Policy
 file_of (BadInputs why) = Inputs
 file_of (BadEdits why) = Edits
+file_of (BadScenarios why) = Traces
 file_of (LongFile file) = file
 
 -- it is found, of a command and what the shelf holds
@@ -44,6 +47,7 @@ IsFoundReason command holds (BadModel why) = RefusesModel command holds why
 IsFoundReason command holds (BadPolicy why) = RefusesPolicy command holds why
 IsFoundReason command holds (BadInputs why) = RefusesInputs command holds why
 IsFoundReason command holds (BadEdits why) = RefusesEdits command holds why
+IsFoundReason command holds (BadScenarios why) = RefusesScenarios command holds why
 IsFoundReason command holds (LongFile file) = HoldsTooLong command holds file
 
 -- the shelf is honest of each file that is read up to there

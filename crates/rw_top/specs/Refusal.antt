@@ -9,7 +9,7 @@ use Rattle.rw_model.specs.Draft.{Draft}
 use Rattle.rw_model_toml.specs.Fault.{model_refusal_of}
 use Rattle.rw_model_toml.specs.Model.{model_of}
 use Rattle.rw_model_toml.specs.Refusal.{ModelRefusal}
-use Rattle.rw_inputs.specs.EditRows.{edits_of}
+use Rattle.rw_inputs.specs.EditRows.{edits_of, scenarios_of}
 use Rattle.rw_inputs.specs.Reading.{Refuses}
 use Rattle.rw_inputs.specs.Refusal.{InputRefusal, refused_at}
 use Rattle.rpl_parse.specs.Parsing.{grammar_refusal_of as refusal_of_grammar}
@@ -19,12 +19,12 @@ use Rattle.rpl_verify.specs.Fits.{refusal as block_refusal}
 use Rattle.rw_top.specs.Command.{path_of}
 use Rattle.rw_words.specs.Command.{Command}
 use Rattle.rw_top.specs.Policy.{Unread, Misfit, PolicyRefusal, BadRules, BadBlocks, RefusesText, BadGrammar, BadNode}
-use Rattle.rw_top.specs.Reason.{Reason, BadModel, BadPolicy, BadInputs, BadEdits, LongFile, IsFoundReason}
+use Rattle.rw_top.specs.Reason.{Reason, BadModel, BadPolicy, BadInputs, BadEdits, BadScenarios, LongFile, IsFoundReason}
 use Rattle.rw_top.specs.Reading.{HoldsTooLong, LacksCell, Reaches}
 use Rattle.rw_top.specs.Written.{WritesFront, WritesSections}
 use Rattle.rw_top.specs.declared.refusal.File.{File}
 use Rattle.rw_top.specs.declared.refusal.Refusal.{Refusal}
-use Rattle.rw_top.specs.declared.refusal.Refusal.TheVariants.{Words, CannotRead, CannotWrite, NoMemory, Model, Grammar, Types, Code, Block, Inputs, Edits, NoCell, TooLong}
+use Rattle.rw_top.specs.declared.refusal.Refusal.TheVariants.{Words, CannotRead, CannotWrite, NoMemory, Model, Grammar, Types, Code, Block, Inputs, Edits, Traces, NoCell, TooLong}
 
 abbrev pub status_of : Refusal → ℕ
 status_of Words = 2
@@ -38,6 +38,7 @@ status_of (Code fault) = 9
 status_of (Block kind block place) = 9
 status_of (Inputs kind row column) = 8
 status_of (Edits kind row column) = 8
+status_of (Traces kind row column) = 8
 status_of NoCell = 8
 status_of (TooLong file) = 10
 
@@ -50,6 +51,7 @@ reason_of (Code fault) = option_map (λ why. BadPolicy (BadBlocks (Unread why)))
 reason_of (Block kind block place) = Some (BadPolicy (BadBlocks (Misfit (block_refusal kind block place))))
 reason_of (Inputs kind row column) = Some (BadInputs (refused_at kind row column))
 reason_of (Edits kind row column) = Some (BadEdits (refused_at kind row column))
+reason_of (Traces kind row column) = Some (BadScenarios (refused_at kind row column))
 reason_of (TooLong file) = Some (LongFile file)
 reason_of why = None
 
@@ -92,7 +94,7 @@ FileCause command shelf NoMemory = ⊤
 FileCause command shelf NoCell = LacksCell command shelf.before.holds
 FileCause command shelf why = TellsReason command shelf why
 
--- why the command is refused. After a failed write a front of its text was written, after want of memory the first sections of a run
+-- why the command is refused. After a failed write a front of its text was written, after want of memory the first sections of runs
 -- or nothing, and else nothing
 abbrev pub Cause : Command → Change ShelfView → Change SinkView → Refusal → Type 0
 Cause command shelf out CannotWrite =
@@ -114,6 +116,11 @@ IsInputRefusal basin text why =
 abbrev pub IsEditRefusal : Draft → List ℕ → Refusal → Type 0
 IsEditRefusal basin text why =
     (why ≡ NoMemory) ⊎ ((bad : InputRefusal) × (reason_of why ≡ Some (BadEdits bad)) × (edits_of basin text ≡ Err bad))
+
+-- why the bytes of a file of traces give no scenarios for the basin
+abbrev pub IsScenarioRefusal : Draft → List ℕ → Refusal → Type 0
+IsScenarioRefusal basin text why =
+    (why ≡ NoMemory) ⊎ ((bad : InputRefusal) × (reason_of why ≡ Some (BadScenarios bad)) × (scenarios_of basin text ≡ Err bad))
 
 -- why the bytes of a policy's file, which are read as code or as a ruleset, give no policy for the basin
 abbrev pub IsPolicyRefusal : Bool → Draft → List ℕ → Refusal → Type 0

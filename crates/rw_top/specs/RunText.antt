@@ -1,5 +1,5 @@
 -- The text of a run.
-use Rattle.std.specs.Prelude.{◌≡◌, ◌+◌, ℕ, Bool, true, false, List, length, IsSomeAnd, Option, Some, None, Ok}
+use Rattle.std.specs.Prelude.{◌≡◌, ◌+◌, ℕ, Bool, true, false, List, length, IsSomeAnd, Option, Some, None, Ok, ◌++◌, ◌&&◌, not, if◌then◌else◌}
 use Rattle.rw_base.specs.declared.number.StepNo.{StepNo}
 use Rattle.rw_run.specs.Reuse.{AreOpened, AreRerun}
 use Rattle.rw_rerun.specs.Session.{numbers_of_steps}
@@ -25,7 +25,10 @@ use Rattle.rw_run.specs.RunOf.{IsRunOf, end_of}
 use Rattle.rw_report.specs.Outcome.{outcome_by}
 use Rattle.rw_base.specs.declared.number.Cell.{Cell}
 use Rattle.rw_report.specs.Whole.{whole_of}
+use Rattle.rw_asked.specs.Asked.{asked_trace}
+use Rattle.rw_asked.specs.Words.{asked_trace_words}
 use Rattle.rw_report.specs.Why.{why_of}
+use Rattle.rw_books.specs.Text.{balance_of_run}
 use Rattle.rpl_tree.specs.Budget.{Budget}
 use Rattle.rpl_verify.specs.Budget.{AreAccepted}
 use Rattle.rpl_policy.specs.Firings.{AreVerified}
@@ -40,26 +43,39 @@ use Rattle.rw_top.specs.Policy.{IsRulesetOf, PolicyFile as Rules, Ruleset, Code,
 
 -- nothing but the table
 abbrev pub no_extras : Extras
-no_extras = record { flags = false; trace = false; reuse = false; order = Oldest }
+no_extras = record { flags = false; trace = false; asked = false; reuse = false; order = Oldest }
 
 -- the section of a log, with this number and the timesteps that were run again, where they are told, and with flags and trace where they
 -- are asked for
 abbrev pub section_text : Draft → Extras → ℕ → Option (List StepNo) → Log → List ℕ
 section_text basin extras number reran log = whole_of basin number (outcome_by basin log) reran extras.flags extras.trace
 
+-- the same, where the trace tells what became of each put that was asked for
+abbrev pub asked_section_text : Draft → Policy → Extras → ℕ → Option (List StepNo) → Log → List ℕ
+asked_section_text basin policy extras number reran log =
+    whole_of basin number (outcome_by basin log) reran extras.flags false ++ asked_trace_words basin (asked_trace basin policy log)
+
+-- that is told where it is asked for. Words that ask for it where timesteps are reused, or for no trace, are refused
+abbrev pub tells_asks : Extras → Bool
+tells_asks extras = extras.asked && not extras.reuse
+
+abbrev pub told_section : Draft → Policy → Extras → ℕ → Option (List StepNo) → Log → List ℕ
+told_section basin policy extras number reran log =
+    if tells_asks extras then asked_section_text basin policy extras number reran log else section_text basin extras number reran log
+
 -- the section of this number, of the run of a basin by a policy from inputs, and how the run ends
 pub record IsRunText (basin : Draft) (policy : Policy) (extras : Extras) (reran : Option (List StepNo)) (number : ℕ) (inputs : Inputs) (end : RunEnd) (text : List ℕ) : Type 0 where
   pub log : Log
   pub run : IsRun basin policy (placings basin inputs) log
   pub end_is : end ≡ end_of log
-  pub text_is : text ≡ section_text basin extras number reran log
+  pub text_is : text ≡ told_section basin policy extras number reran log
 
 -- the section of the run without rules in which the object is dispatched that has waited shortest
 pub record IsNewestText (basin : Draft) (extras : Extras) (number : ℕ) (inputs : Inputs) (end : RunEnd) (text : List ℕ) : Type 0 where
   pub log : Log
   pub run : IsPickedRun basin no_rules newest (placings basin inputs) log
   pub end_is : end ≡ end_of log
-  pub text_is : text ≡ section_text basin extras number None log
+  pub text_is : text ≡ told_section basin no_rules extras number None log
 
 -- the section of the run without rules, in this order of dispatches
 abbrev pub IsSimulated : Order → Draft → Extras → ℕ → Inputs → RunEnd → List ℕ → Type 0
@@ -75,6 +91,13 @@ pub record IsWhyText (basin : Draft) (policy : Policy) (inputs : Inputs) (cell :
   pub run : IsRun basin policy (placings basin inputs) log
   pub end_is : end ≡ end_of log
   pub text_is : text ≡ why_of basin inputs (outcome_by basin log) cell
+
+-- the books of water of that run, and how it ends
+pub record IsBalanceText (basin : Draft) (policy : Policy) (inputs : Inputs) (end : RunEnd) (text : List ℕ) : Type 0 where
+  pub log : Log
+  pub run : IsRun basin policy (placings basin inputs) log
+  pub end_is : end ≡ end_of log
+  pub text_is : text ≡ balance_of_run basin (outcome_by basin log)
 
 -- ---- by the policy of a file
 
@@ -96,11 +119,13 @@ pub record ComesBy (basin : Draft) (policy : Rules) (inputs : Inputs) (run : Run
   pub is : IsRunOf basin log run
   pub verified : IsVerifiedRun basin policy log
 
--- the runs of the code are those by it, in which each firing is verified
+-- the runs of the code are those by it, in which each firing is verified, and they ask for the same
 pub record IsCodeOf (basin : Draft) (policy : Rules) (code : Accepted) : Type 0 where
   pub comes : (inputs : Inputs) (run : Run) → ComesTo basin (policy_in basin code) inputs run → ComesBy basin policy inputs run
   pub runs : (inputs : Inputs) (log : Log) → IsRun basin (policy_in basin code) (placings basin inputs) log
       → IsRun basin (policy_in_run basin policy) (placings basin inputs) log
+  pub asks : (inputs : Inputs) (log : Log) → IsRun basin (policy_in basin code) (placings basin inputs) log
+      → asked_trace basin (policy_in basin code) log ≡ asked_trace basin (policy_in_run basin policy) log
 
 -- the timesteps that are told of a run: none, or, where timesteps are to be reused and there was a run before it, those that aren't
 abbrev pub IsRerun : Draft → Policy → (reuse : Bool) → GivenInputs → Log → Option (List StepNo) → Type 0
@@ -133,6 +158,11 @@ CountsSections basin policy inputs batches steps =
 -- how a cell came to what it holds in the run by it, in which each firing is verified
 pub record IsWhyOfRules (basin : Draft) (policy : Rules) (inputs : Inputs) (cell : Cell) (end : RunEnd) (text : List ℕ) : Type 0 where
   pub run_text : IsWhyText basin (policy_in_run basin policy) inputs cell end text
+  pub verified : IsVerifiedRun basin policy run_text.log
+
+-- the books of the run by it, in which each firing is verified
+pub record IsBalanceOfRules (basin : Draft) (policy : Rules) (inputs : Inputs) (end : RunEnd) (text : List ℕ) : Type 0 where
+  pub run_text : IsBalanceText basin (policy_in_run basin policy) inputs end text
   pub verified : IsVerifiedRun basin policy run_text.log
 
 -- ---- the sample

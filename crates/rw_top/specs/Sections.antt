@@ -52,7 +52,30 @@ AreFirstSections IsSection number given (batch ∷ batches) (text ∷ next ∷ t
     ((end : RunEnd) × IsSection number given end text)
     × AfterBatch batch given (λ edited. AreFirstSections IsSection (number + 1) edited batches (next ∷ texts))
 
--- ---- what is appended of them
+-- ---- what is appended of a text that is written piece by piece
+
+-- the first pieces, each whole, and no more than so many
+pub record AppendsPieces (AreFirst : List (List ℕ) → Type 0) (most : ℕ) (out : Change SinkView) : Type 0 where
+  pub texts : List (List ℕ)
+  pub are : AreFirst texts
+  pub fewer : length texts ≤ most
+  pub grew : GrowsBy out.before.contents out.after.contents (joined_sections texts)
+
+-- the first ones, and of the last of these a front
+pub record AppendsPiece (AreFirst : List (List ℕ) → Type 0) (out : Change SinkView) : Type 0 where
+  pub done : List (List ℕ)
+  pub text : List ℕ
+  pub are : AreFirst (done ++ text ∷ [])
+  pub grew : PrefixGrew out.before.contents out.after.contents (joined_sections done ++ text)
+  pub rose : Rose out.before.faults out.after.faults
+
+-- why not all are, of which there is one more than so many
+abbrev pub StopsAmongPieces : (List (List ℕ) → Type 0) → ℕ → Change SinkView → Refusal → Type 0
+StopsAmongPieces AreFirst most out NoMemory = AppendsPieces AreFirst most out
+StopsAmongPieces AreFirst most out CannotWrite = AppendsPiece AreFirst out
+StopsAmongPieces AreFirst most out why = ⊥
+
+-- ---- what is appended of sections
 
 -- all of them, and the run of the last one ends so
 pub record AppendsAll (IsSection : ℕ → GivenInputs → RunEnd → List ℕ → Type 0) (number : ℕ) (given : GivenInputs) (batches : List Batch) (out : Change SinkView) (end : RunEnd) : Type 0 where
@@ -61,25 +84,13 @@ pub record AppendsAll (IsSection : ℕ → GivenInputs → RunEnd → List ℕ �
   pub grew : GrowsBy out.before.contents out.after.contents (joined_sections texts)
 
 -- the first ones, each whole, and not all of them
-pub record AppendsFirst (IsSection : ℕ → GivenInputs → RunEnd → List ℕ → Type 0) (number : ℕ) (given : GivenInputs) (batches : List Batch) (out : Change SinkView) : Type 0 where
-  pub texts : List (List ℕ)
-  pub are : AreFirstSections IsSection number given batches texts
-  pub fewer : length texts ≤ length batches
-  pub grew : GrowsBy out.before.contents out.after.contents (joined_sections texts)
-
--- the first ones, and of the last of these a front
-pub record AppendsPart (IsSection : ℕ → GivenInputs → RunEnd → List ℕ → Type 0) (number : ℕ) (given : GivenInputs) (batches : List Batch) (out : Change SinkView) : Type 0 where
-  pub done : List (List ℕ)
-  pub text : List ℕ
-  pub are : AreFirstSections IsSection number given batches (done ++ text ∷ [])
-  pub grew : PrefixGrew out.before.contents out.after.contents (joined_sections done ++ text)
-  pub rose : Rose out.before.faults out.after.faults
+abbrev pub AppendsFirst : (ℕ → GivenInputs → RunEnd → List ℕ → Type 0) → ℕ → GivenInputs → List Batch → Change SinkView → Type 0
+AppendsFirst IsSection number given batches out = AppendsPieces (AreFirstSections IsSection number given batches) (length batches) out
 
 -- why not all are
 abbrev pub StopsAmong : (ℕ → GivenInputs → RunEnd → List ℕ → Type 0) → ℕ → GivenInputs → List Batch → Change SinkView → Refusal → Type 0
-StopsAmong IsSection number given batches out NoMemory = AppendsFirst IsSection number given batches out
-StopsAmong IsSection number given batches out CannotWrite = AppendsPart IsSection number given batches out
-StopsAmong IsSection number given batches out why = ⊥
+StopsAmong IsSection number given batches out why =
+    StopsAmongPieces (AreFirstSections IsSection number given batches) (length batches) out why
 
 -- ---- and of one of them
 

@@ -11,4 +11,4 @@ policy_of (Held.Ruleset typed) = Ruleset (rules_of typed.rules)
 policy_of (Held.Code code) = Code code.blocks code.budgets
 
 abbrev pub files_seen : Read → FilesRead
-files_seen read = record { basin = read.basin; policy = option_map policy_of read.policy; inputs = read.inputs; edits = option_map (λ batches. batches.items) read.edits; cell = read.cell }
+files_seen read = record { basin = read.basin; policy = option_map policy_of read.policy; inputs = read.inputs; edits = option_map (λ batches. batches.items) read.edits; scenarios = option_map (λ batches. batches.items) read.scenarios; cell = read.cell; text = option_map (λ bytes. bytes.items) read.text }

@@ -13,14 +13,17 @@ use Rattle.rw_top.specs.Budgets.{check_text}
 use Rattle.rw_words.specs.Command.{Command}
 use Rattle.rw_top.specs.Policy.{PolicyFile as Rules, code_in_file}
 use Rattle.rw_top.specs.Reading.{AreRead, FilesRead}
-use Rattle.rw_top.specs.RunText.{CountsSections, IsPlainText, IsRulesText, IsSampleText, IsWhyOfRules}
+use Rattle.rw_top.specs.RunText.{CountsSections, IsBalanceOfRules, IsPlainText, IsRulesText, IsSampleText, IsWhyOfRules}
+use Rattle.rw_model_toml.specs.Migrated.{IsMigrated}
+use Rattle.rw_run.specs.Log.{Log}
+use Rattle.rw_top.specs.Many.{AreFirstPieces, AreScenarioRuns, many_texts, status_of_runs}
 use Rattle.rw_top.specs.Command.{extras_of}
 use Rattle.rw_top.specs.Sections.{AreFirstSections, AreSections, first_given, joined_sections}
 use Rattle.rw_top.specs.declared.extras.Extras.{Extras}
 use Rattle.rw_top.specs.declared.refusal.Refusal.{Refusal}
 use Rattle.rw_top.specs.declared.refusal.Refusal.TheVariants.{CannotWrite, NoMemory}
 use Rattle.rw_words.specs.declared.job.Job.{Job}
-use Rattle.rw_words.specs.declared.job.Job.TheVariants.{Simulate, Check, Compile, Run, Why, Sample}
+use Rattle.rw_words.specs.declared.job.Job.TheVariants.{Simulate, Check, Compile, Run, Why, Sample, Balance, Mrm, Migrate}
 
 -- the status of a run that was written: 0 where it settled
 abbrev pub status_of_end : RunEnd → ℕ
@@ -30,6 +33,10 @@ status_of_end (Fault why) = 1
 -- the batches of edits that the files give
 abbrev pub batches_in : FilesRead → List Batch
 batches_in files = unwrap_or files.edits []
+
+-- and the scenarios
+abbrev pub scenarios_in : FilesRead → List Batch
+scenarios_in files = unwrap_or files.scenarios []
 
 -- of the policy and the inputs this holds
 abbrev pub OfBoth : FilesRead → (Rules → Inputs → Type 0) → Type 0
@@ -59,6 +66,14 @@ IsTextOf Why extras files status texts =
 IsTextOf (Sample seed) extras files status texts =
     (status ≡ 0) × OfBoth files (λ policy inputs.
     (text : List ℕ) × (texts ≡ text ∷ []) × IsSampleText files.basin policy inputs seed text)
+IsTextOf Balance extras files status texts =
+    (end : RunEnd) × (status ≡ status_of_end end) × OfBoth files (λ policy inputs.
+    (text : List ℕ) × (texts ≡ text ∷ []) × IsBalanceOfRules files.basin policy inputs end text)
+IsTextOf Mrm extras files status texts =
+    OfBoth files (λ policy inputs. (logs : List Log) × AreScenarioRuns files.basin policy inputs (scenarios_in files) logs
+    × (status ≡ status_of_runs logs) × (texts ≡ many_texts files.basin logs))
+IsTextOf Migrate extras files status texts =
+    (status ≡ 0) × IsSomeAnd files.text (λ old. (new : List ℕ) × (texts ≡ new ∷ []) × IsMigrated old new)
 
 -- the first sections of it
 abbrev pub IsFrontOf : Job → Extras → FilesRead → List (List ℕ) → Type 0
@@ -75,8 +90,22 @@ IsFrontOf Why extras files texts =
 IsFrontOf (Sample seed) extras files texts =
     OfBoth files (λ policy inputs.
     (text : List ℕ) × (texts ≡ text ∷ []) × IsSampleText files.basin policy inputs seed text)
+IsFrontOf Balance extras files texts =
+    OfBoth files (λ policy inputs.
+    (end : RunEnd) × (text : List ℕ) × (texts ≡ text ∷ []) × IsBalanceOfRules files.basin policy inputs end text)
+IsFrontOf Mrm extras files texts = OfBoth files (λ policy inputs. AreFirstPieces files.basin policy inputs (scenarios_in files) texts)
+IsFrontOf Migrate extras files texts = IsSomeAnd files.text (λ old. (new : List ℕ) × (texts ≡ new ∷ []) × IsMigrated old new)
 
 -- ---- what a job appends
+
+-- it writes the sections of runs as they are made
+abbrev pub WritesSectionWise : Job → Type 0
+WritesSectionWise job = (job ≡ Run) ⊎ (job ≡ Mrm)
+
+-- how many sections stand behind the first one: one for each batch of edits, or, behind those of scenarios, the summary
+abbrev pub sections_behind : Job → FilesRead → ℕ
+sections_behind Mrm files = length (scenarios_in files)
+sections_behind job files = length (batches_in files)
 
 -- all sections
 pub record Appends (job : Job) (extras : Extras) (files : FilesRead) (out : Change SinkView) (status : ℕ) : Type 0 where
@@ -91,12 +120,12 @@ pub record AppendsFront (job : Job) (extras : Extras) (files : FilesRead) (out :
   pub is : IsFrontOf job extras files (done ++ text ∷ [])
   pub grew : PrefixGrew out.before.contents out.after.contents (joined_sections done ++ text)
 
--- the first sections of a run, each whole, and fewer than all: there is one more than there are batches
+-- the first sections, each whole, and fewer than all
 pub record AppendsSections (job : Job) (extras : Extras) (files : FilesRead) (out : Change SinkView) : Type 0 where
-  pub runs : job ≡ Run
+  pub runs : WritesSectionWise job
   pub texts : List (List ℕ)
   pub are : IsFrontOf job extras files texts
-  pub fewer : length texts ≤ length (batches_in files)
+  pub fewer : length texts ≤ sections_behind job files
   pub grew : GrowsBy out.before.contents out.after.contents (joined_sections texts)
 
 -- why not all are
@@ -128,7 +157,7 @@ abbrev pub CountsReused : Command → Holds → Change ℕ → Type 0
 CountsReused command holds steps =
     command.job ≡ Run → IsTrue command.reuse → OfFiles command holds (λ files. CountsOfFiles files steps)
 
--- nothing was appended, or the first sections of a run
+-- nothing was appended, or the first sections of runs
 abbrev pub WritesSections : Command → Holds → Change SinkView → Type 0
 WritesSections command holds out =
     (out.after.contents ≡ out.before.contents) ⊎ OfFiles command holds (λ files. AppendsSections command.job (extras_of command) files out)

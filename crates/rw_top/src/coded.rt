@@ -13,13 +13,15 @@ use crate::policy::Policy;
 use rpl_compile::accepted::compiled_budgets;
 use rpl_compile::compile;
 use rpl_policy::law::firings_are_verified;
-use rpl_rulesets::law::{firings_of_rules_are_verified, rulesets_have_runs};
+use rpl_rulesets::law::{firings_of_rules_are_verified, rules_keep_promises, rulesets_have_runs};
 use rpl_types::Typed;
 use rpl_types::law::accepted;
 use rpl_verify::Verified;
 use rpl_verify::law::answered_code_is_safe;
+use rw_asked::law::same_asks;
 use rw_base::NoMemory;
 use rw_model::Basin;
+use rw_run::law::choices;
 use std::alloc::Global;
 
 /// Code of a file runs as itself.
@@ -44,6 +46,9 @@ pub(crate) fn code_of_rules(
     accepted();
     compiled_budgets();
     rulesets_have_runs();
+    rules_keep_promises();
+    same_asks();
+    choices();
     firings_of_rules_are_verified();
     let _rules = typed.rules();
     let code = compile(alloc, typed, basin)?;

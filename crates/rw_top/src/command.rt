@@ -1,6 +1,6 @@
 // The files of a command: which it reads, and where the text of each comes from.
 ghost use Rattle.std.specs.Prelude.{◌≡◌, map, option_map, slice_index_or, [], Some};
-ghost use Rattle.rw_top.specs.Command.{command_said, extras_of, files_of, named_source, path_in, path_of, place_among, seeks_cell, source_at, source_of, source_seen, takes_code};
+ghost use Rattle.rw_top.specs.Command.{command_said, extras_of, files_of, named_source, path_in, path_of, place_among, seeks_cell, source_at, source_of, source_seen, takes_code, wants_text};
 ghost use Rattle.rw_top.specs.declared.refusal.File.TheVariants as F;
 
 use crate::File;
@@ -14,8 +14,11 @@ fn place(job: Job, file: File) -> Option<usize>
     match (job, file) {
         (_, File::Model) => Some(0),
         (Job::Check | Job::Compile | Job::Run | Job::Why | Job::Sample(_), File::Policy) => Some(1),
+        (Job::Balance | Job::Mrm, File::Policy) => Some(1),
         (Job::Simulate, File::Inputs) => Some(1),
         (Job::Run | Job::Why | Job::Sample(_), File::Inputs) => Some(2),
+        (Job::Balance | Job::Mrm, File::Inputs) => Some(2),
+        (Job::Mrm, File::Traces) => Some(3),
         _ => None,
     }
 }
@@ -60,6 +63,7 @@ fn source_at<'w>(job: Job, paths: &[&'w str], place: usize) -> Source<'w>
         Job::Simulate | Job::Check | Job::Compile | Job::Run | Job::Why => {
             Source::Path(path_at(paths, place))
         }
+        Job::Balance | Job::Mrm | Job::Migrate => Source::Path(path_at(paths, place)),
     }
 }
 
@@ -77,6 +81,7 @@ impl<'w> Command<'w> {
         Extras {
             flags: self.words.flags,
             trace: self.words.trace,
+            asked: self.words.asked,
             reuse: self.words.reuse,
             order: self.words.order,
         }
@@ -88,6 +93,7 @@ impl<'w> Command<'w> {
     {
         match self.words.job {
             Job::Simulate | Job::Check | Job::Run | Job::Why => true,
+            Job::Balance | Job::Mrm | Job::Migrate => true,
             Job::Compile | Job::Sample(_) => false,
         }
     }
@@ -99,6 +105,18 @@ impl<'w> Command<'w> {
         match self.words.job {
             Job::Why => true,
             Job::Simulate | Job::Check | Job::Run | Job::Compile | Job::Sample(_) => false,
+            Job::Balance | Job::Mrm | Job::Migrate => false,
+        }
+    }
+
+    /// Whether it wants the text of its model, too.
+    pub(crate) fn wants_text(&self) -> bool
+        ensures { result ≡ wants_text self.now.words.job }
+    {
+        match self.words.job {
+            Job::Migrate => true,
+            Job::Simulate | Job::Check | Job::Run | Job::Compile | Job::Sample(_) => false,
+            Job::Why | Job::Balance | Job::Mrm => false,
         }
     }
 
@@ -137,6 +155,7 @@ impl<'w> Command<'w> {
             File::Policy => self.named(File::Policy),
             File::Inputs => self.named(File::Inputs),
             File::Edits => self.edits(),
+            File::Traces => self.named(File::Traces),
         }
     }
 

@@ -7,6 +7,8 @@ pub struct Extras {
     pub flags: bool,
     /// What happened, line by line.
     pub trace: bool,
+    /// With that, what became of each put that was asked for.
+    pub asked: bool,
     /// After a batch of edits, which timesteps were run again: the others are taken over.
     pub reuse: bool,
     /// Which of the objects that wait is dispatched first, in a run without rules.

@@ -1,11 +1,11 @@
 // The files of a command, read or made, and judged, each before the next.
-ghost use Rattle.std.specs.Prelude.{◌≡◌, ℕ, ◌≤◌, List, MatchResult, IfOk, IfSome, IsSomeAnd, IsTrue, Some, length};
+ghost use Rattle.std.specs.Prelude.{◌≡◌, ℕ, ◌≤◌, List, MatchResult, IfOk, IfSome, IsSome, IsSomeAnd, IsTrue, Some, length, option_map};
 ghost use Rattle.rw_base.specs.declared.limits.TheConstants.{TEXT_MAX};
 ghost use Rattle.rw_model.specs.Draft.{IsSlot};
 ghost use Rattle.rw_io.specs.Causes.{NoneFell};
 ghost use Rattle.rw_io.specs.Outside.{Change, ShelfView, change};
-ghost use Rattle.rw_top.specs.Command.{AtPath, OfSample, command_said, seeks_cell, source_of, source_seen};
-ghost use Rattle.rw_top.specs.Reading.{AreRead, Reaches, ReadsInputs, ReadsModel, SaysAt, WasRead, reads_code};
+ghost use Rattle.rw_top.specs.Command.{AtPath, OfSample, command_said, seeks_cell, source_of, source_seen, wants_text};
+ghost use Rattle.rw_top.specs.Reading.{AreRead, Reaches, ReadsInputs, ReadsModel, ReadsModelText, SaysAt, WasRead, reads_code, text_wanted};
 ghost use Rattle.rw_top.specs.Refusal.{FileCause, IsPolicyRefusal};
 ghost use Rattle.rw_top.specs.Ready.{AreBehind, AreEdits, AreReadAs, IsFit, IsMadeOf, IsReadAs};
 ghost use Rattle.rw_top.specs.Seen.{files_seen};
@@ -13,7 +13,7 @@ ghost use Rattle.rw_top.specs.declared.refusal.File.TheVariants as F;
 
 use crate::cell::find_cell;
 use crate::command::{Command, Source};
-use crate::judging::{is_code, judge_edits, judge_inputs, judge_model, judge_policy};
+use crate::judging::{is_code, judge_edits, judge_inputs, judge_model, judge_policy, judge_traces};
 use crate::policy::Policy;
 use crate::sample::sample_text;
 use crate::{File, Refusal};
@@ -23,14 +23,17 @@ use rw_io::{Shelf, read_all};
 use rw_model::Basin;
 use std::alloc::Global;
 
-/// What the files of a command say: the policy, the inputs and the edits, where it names them; and the cell that it asks for.
+/// What the files of a command say: the policy, the inputs, the edits and the scenarios, where it names them; the cell that it asks
+/// for; and the text of its model, where it wants that.
 #[derive(Drop)]
 pub(crate) struct Files {
     pub(crate) basin: Basin,
     pub(crate) policy: Option<Policy>,
     pub(crate) inputs: Option<Inputs>,
     pub(crate) edits: Option<Vec<Batch>>,
+    pub(crate) scenarios: Option<Vec<Batch>>,
     pub(crate) cell: Option<Cell>,
+    pub(crate) text: Option<Vec<u8>>,
 }
 
 // The whole of a file that the command reads from a path, where each file before it is accepted.
@@ -95,20 +98,36 @@ fn read_text<S: Shelf>(
     }
 }
 
-// Reads and judges the model of the command.
+// The text of a model, where the command wants it.
+fn wanted(command: &Command<'_>, text: Vec<u8>) -> Option<Vec<u8>>
+    ensures { option_map (λ bytes. bytes.items) result
+        ≡ text_wanted (command_said command.now).job text.items }
+{
+    if command.wants_text() {
+        Some(text)
+    } else {
+        None
+    }
+}
+
+// Reads and judges the model of the command, and keeps its text where that is wanted.
 fn read_basin<S: Shelf>(
     alloc: Global,
     command: &Command<'_>,
     shelf: &mut S,
-) -> Result<Basin, Refusal>
+) -> Result<(Basin, Option<Vec<u8>>), Refusal>
     ensures read { MatchResult result
-        (ReadsModel (command_said command.now) (S.seen shelf.old).holds)
+        (λ pair. ReadsModelText (command_said command.now) (S.seen shelf.old).holds pair.0
+        (option_map (λ bytes. bytes.items) pair.1))
         (FileCause (command_said command.now) (change (S.seen shelf.old) (S.seen shelf.new))) }
     ensures held { (p : List ℕ) → (S.seen shelf.new).holds p ≡ (S.seen shelf.old).holds p }
     ensures later { NoneFell (S.seen shelf.old).faults (S.seen shelf.new).faults }
 {
     match read_text(alloc, command, File::Model, command.model(), shelf) {
-        Ok(text) => judge_model(alloc, &text),
+        Ok(text) => match judge_model(alloc, &text) {
+            Ok(basin) => Ok((basin, wanted(command, text))),
+            Err(refusal) => Err(refusal),
+        },
         Err(refusal) => Err(refusal),
     }
 }
@@ -192,9 +211,10 @@ fn read_changes<S: Shelf>(
     requires reached { Reaches (command_said command.now) (S.seen shelf.old).holds F.Edits }
     ensures read { MatchResult result (λ found. SaysAt (command_said command.now) F.Edits found
         (λ batches. AreReadAs (command_said command.now)
-        (S.seen shelf.old).holds basin.now batches.items))
+        (S.seen shelf.old).holds F.Edits basin.now batches.items))
         (FileCause (command_said command.now) (change (S.seen shelf.old) (S.seen shelf.new))) }
     ensures held { (p : List ℕ) → (S.seen shelf.new).holds p ≡ (S.seen shelf.old).holds p }
+    ensures later { NoneFell (S.seen shelf.old).faults (S.seen shelf.new).faults }
 {
     let Some(source) = command.source(File::Edits) else {
         return Ok(None);
@@ -204,6 +224,61 @@ fn read_changes<S: Shelf>(
             Ok(batches) => Ok(Some(batches)),
             Err(refusal) => Err(refusal),
         },
+        Err(refusal) => Err(refusal),
+    }
+}
+
+// Reads and judges the scenarios, where the command names a file of traces, for the basin of its model.
+fn read_scenarios<S: Shelf>(
+    alloc: Global,
+    command: &Command<'_>,
+    basin: &Basin,
+    shelf: &mut S,
+) -> Result<Option<Vec<Batch>>, Refusal>
+    requires model { ReadsModel (command_said command.now) (S.seen shelf.old).holds basin.now }
+    requires reached { Reaches (command_said command.now) (S.seen shelf.old).holds F.Traces }
+    ensures read { MatchResult result (λ found. SaysAt (command_said command.now) F.Traces found
+        (λ batches. AreReadAs (command_said command.now)
+        (S.seen shelf.old).holds F.Traces basin.now batches.items))
+        (FileCause (command_said command.now) (change (S.seen shelf.old) (S.seen shelf.new))) }
+    ensures held { (p : List ℕ) → (S.seen shelf.new).holds p ≡ (S.seen shelf.old).holds p }
+{
+    let Some(source) = command.source(File::Traces) else {
+        return Ok(None);
+    };
+    match read_text(alloc, command, File::Traces, source, shelf) {
+        Ok(text) => match judge_traces(alloc, basin, &text) {
+            Ok(batches) => Ok(Some(batches)),
+            Err(refusal) => Err(refusal),
+        },
+        Err(refusal) => Err(refusal),
+    }
+}
+
+// Reads and judges the edits, and then the scenarios.
+fn read_batches<S: Shelf>(
+    alloc: Global,
+    command: &Command<'_>,
+    basin: &Basin,
+    shelf: &mut S,
+) -> Result<(Option<Vec<Batch>>, Option<Vec<Batch>>), Refusal>
+    requires model { ReadsModel (command_said command.now) (S.seen shelf.old).holds basin.now }
+    requires reached { Reaches (command_said command.now) (S.seen shelf.old).holds F.Edits }
+    ensures read { MatchResult result (λ found. SaysAt (command_said command.now) F.Edits found.0
+        (λ batches. AreReadAs (command_said command.now)
+        (S.seen shelf.old).holds F.Edits basin.now batches.items)
+        × SaysAt (command_said command.now) F.Traces found.1
+        (λ batches. AreReadAs (command_said command.now)
+        (S.seen shelf.old).holds F.Traces basin.now batches.items))
+        (FileCause (command_said command.now) (change (S.seen shelf.old) (S.seen shelf.new))) }
+    ensures held { (p : List ℕ) → (S.seen shelf.new).holds p ≡ (S.seen shelf.old).holds p }
+{
+    let edits = match read_changes(alloc, command, basin, shelf) {
+        Ok(edits) => edits,
+        Err(refusal) => return Err(refusal),
+    };
+    match read_scenarios(alloc, command, basin, shelf) {
+        Ok(scenarios) => Ok((edits, scenarios)),
         Err(refusal) => Err(refusal),
     }
 }
@@ -240,9 +315,10 @@ struct Behind {
     policy: Option<Policy>,
     inputs: Option<Inputs>,
     edits: Option<Vec<Batch>>,
+    scenarios: Option<Vec<Batch>>,
 }
 
-// Reads and judges the files behind the model: the policy, the inputs and the edits.
+// Reads and judges the files behind the model: the policy, the inputs, the edits and the scenarios.
 fn read_others<S: Shelf>(
     alloc: Global,
     command: &Command<'_>,
@@ -259,18 +335,19 @@ fn read_others<S: Shelf>(
         Ok(pair) => pair,
         Err(refusal) => return Err(refusal),
     };
-    match read_changes(alloc, command, basin, shelf) {
-        Ok(edits) => Ok(Behind {
+    match read_batches(alloc, command, basin, shelf) {
+        Ok((edits, scenarios)) => Ok(Behind {
             policy,
             inputs,
             edits,
+            scenarios,
         }),
         Err(refusal) => Err(refusal),
     }
 }
 
-/// Reads and judges the files of the command: its model, its policy, its inputs and its edits, in this order, where it names
-/// them, and finds the cell that it asks for.
+/// Reads and judges the files of the command: its model, its policy, its inputs, its edits and its traces, in this order, where it
+/// names them, and finds the cell that it asks for.
 pub(crate) fn read_files<S: Shelf>(
     alloc: Global,
     command: &Command<'_>,
@@ -282,12 +359,16 @@ pub(crate) fn read_files<S: Shelf>(
     ensures fits { IfOk result (λ files. IfSome files.policy (IsFit files.basin)) }
     ensures edits { IfOk result (λ files. IfSome files.edits
         (λ batches. AreEdits files.basin batches.items)) }
+    ensures scenarios { IfOk result (λ files. IfSome files.scenarios
+        (λ batches. AreEdits files.basin batches.items)) }
     ensures cell { IfOk result (λ files. IsTrue (seeks_cell (command_said command.now).job)
         → IsSomeAnd files.cell (λ cell. IsSlot files.basin.objects cell.slot.0)) }
+    ensures text { IfOk result (λ files. IsTrue (wants_text (command_said command.now).job)
+        → IsSome files.text) }
     ensures held { (p : List ℕ) → (S.seen shelf.new).holds p ≡ (S.seen shelf.old).holds p }
 {
-    let basin = match read_basin(alloc, command, shelf) {
-        Ok(basin) => basin,
+    let (basin, text) = match read_basin(alloc, command, shelf) {
+        Ok(pair) => pair,
         Err(refusal) => return Err(refusal),
     };
     let behind = match read_others(alloc, command, &basin, shelf) {
@@ -300,7 +381,9 @@ pub(crate) fn read_files<S: Shelf>(
             policy: behind.policy,
             inputs: behind.inputs,
             edits: behind.edits,
+            scenarios: behind.scenarios,
             cell,
+            text,
         }),
         Err(refusal) => Err(refusal),
     }

@@ -19,7 +19,8 @@ ghost use Rattle.rw_model_toml.specs.Model.{model_of};
 ghost use Rattle.rw_top.specs.Policy.{RefusesBlock, RefusesNode, is_code};
 ghost use Rattle.rw_top.specs.Ready.{AreMadeOf, IsMadeOf};
 ghost use Rattle.rw_top.specs.declared.policy.Policy.TheVariants as Held;
-ghost use Rattle.rw_top.specs.Refusal.{IsEditRefusal, IsInputRefusal, IsModelRefusal, IsPolicyRefusal};
+ghost use Rattle.rw_top.specs.declared.refusal.File.TheVariants as F;
+ghost use Rattle.rw_top.specs.Refusal.{IsEditRefusal, IsInputRefusal, IsModelRefusal, IsPolicyRefusal, IsScenarioRefusal};
 
 use crate::Refusal;
 use crate::policy::Policy;
@@ -29,7 +30,7 @@ use rpl_parse::{ParseFault, parse};
 use rpl_tree::ParsedRules;
 use rpl_types::{TypeFault, Typed, check};
 use rpl_verify::{Verified, VerifyFault, verify};
-use rw_inputs::{Batch, InputFault, Inputs, read_edits, read_inputs};
+use rw_inputs::{Batch, InputFault, Inputs, read_edits, read_inputs, read_traces};
 use rw_model::Basin;
 use rw_model_toml::{ModelFault, read_model};
 use std::alloc::Global;
@@ -67,13 +68,25 @@ pub(crate) fn judge_inputs(alloc: Global, basin: &Basin, text: &[u8]) -> Result<
 
 /// The batches of edits of a text, for the basin.
 pub(crate) fn judge_edits(alloc: Global, basin: &Basin, text: &[u8]) -> Result<Vec<Batch>, Refusal>
-    ensures { MatchResult result (λ batches. AreMadeOf basin.now text.now batches.items)
+    ensures { MatchResult result (λ batches. AreMadeOf F.Edits basin.now text.now batches.items)
         (IsEditRefusal basin.now text.now) }
 {
     match read_edits(alloc, basin, text) {
         Ok(batches) => Ok(batches),
         Err(InputFault::NoMemory) => Err(Refusal::NoMemory),
         Err(InputFault::Refused { kind, row, column }) => Err(Refusal::Edits(kind, row, column)),
+    }
+}
+
+/// The scenarios of a text of traces, for the basin.
+pub(crate) fn judge_traces(alloc: Global, basin: &Basin, text: &[u8]) -> Result<Vec<Batch>, Refusal>
+    ensures { MatchResult result (λ batches. AreMadeOf F.Traces basin.now text.now batches.items)
+        (IsScenarioRefusal basin.now text.now) }
+{
+    match read_traces(alloc, basin, text) {
+        Ok(batches) => Ok(batches),
+        Err(InputFault::NoMemory) => Err(Refusal::NoMemory),
+        Err(InputFault::Refused { kind, row, column }) => Err(Refusal::Traces(kind, row, column)),
     }
 }
 

@@ -16,12 +16,15 @@ ghost use Rattle.rw_words.specs.declared.job.Job.TheVariants as J;
 ghost use Rattle.rw_top.specs.Written.{Appends, CountsOfFiles, CountsReused, IsOne, Stops, WritesAll, status_of_end};
 
 use crate::Refusal;
+use crate::balance::balance_by_policy;
 use crate::check::budgets;
 use crate::coded::code_of;
 use crate::command::Command;
 use crate::compile::code_text;
 use crate::extras::Extras;
 use crate::files::{Files, read_files};
+use crate::many::write_many;
+use crate::migrate::migrated_text;
 use crate::reused::write_reused;
 use crate::sample::sample_by_policy;
 use crate::sections::write_sections;
@@ -132,6 +135,48 @@ fn tell_why<L: Ledger>(
     Ok((text, status_of_run(&end)))
 }
 
+// The books of the run of the files by their policy, and the status with which they are written.
+fn balance<L: Ledger>(
+    alloc: Global,
+    files: &Files,
+    methods: &Catalogue,
+    predefs: &Predefs,
+    steps: &mut Steps<L>,
+) -> Result<(Vec<u8>, u8), NoMemory>
+    requires order { AreInOrder (map (λ b. code (b.vtable, b.value)) methods.now.methods.items) }
+    requires ready { AreReady J.Balance files.now }
+    ensures { (extras : Extras) → IfOk result
+        (λ pair. IsOne J.Balance extras (files_seen files.now) pair.1 pair.0.items) }
+{
+    let Some(policy) = &files.policy else {
+        unreachable!();
+    };
+    let Some(inputs) = &files.inputs else {
+        unreachable!();
+    };
+    let none = Verified::none(alloc);
+    let setup = RunSetup {
+        basin: &files.basin,
+        methods,
+        policy: &none,
+        predefs,
+    };
+    let (text, end) = balance_by_policy(alloc, &setup, policy, inputs, steps)?;
+    Ok((text, status_of_run(&end)))
+}
+
+// The model of the files in format 2, and the status with which it is written.
+fn migrate(alloc: Global, files: &Files) -> Result<(Vec<u8>, u8), NoMemory>
+    requires ready { AreReady J.Migrate files.now }
+    ensures { (extras : Extras) → IfOk result
+        (λ pair. IsOne J.Migrate extras (files_seen files.now) pair.1 pair.0.items) }
+{
+    let Some(text) = &files.text else {
+        unreachable!();
+    };
+    Ok((migrated_text(alloc, text)?, 0))
+}
+
 // The line on the run of the sample of a seed, whose files these are, and the status with which it is written.
 fn sample<L: Ledger>(
     alloc: Global,
@@ -187,11 +232,11 @@ fn write_made<K: Sink>(
     }
 }
 
-// The batches of edits, where there are any.
-fn batches_of(edits: &Option<Vec<Batch>>) -> &[Batch]
-    ensures { result.now ≡ unwrap_or (option_map (λ batches. batches.items) edits.now) [] }
+// The batches of a file, where there is one.
+fn batches_of(read: &Option<Vec<Batch>>) -> &[Batch]
+    ensures { result.now ≡ unwrap_or (option_map (λ batches. batches.items) read.now) [] }
 {
-    match edits {
+    match read {
         Some(batches) => batches,
         None => &[],
     }
@@ -256,7 +301,9 @@ fn run<K: Sink, L: Ledger>(
         policy,
         inputs,
         edits,
+        scenarios: _,
         cell: _,
+        text: _,
     } = files;
     let Some(policy) = policy else {
         unreachable!();
@@ -279,6 +326,49 @@ fn run<K: Sink, L: Ledger>(
         Ok(end) => Ok(status_of_run(&end)),
         Err(refusal) => Err(refusal),
     }
+}
+
+// Writes the sections of the runs of the files' scenarios by their policy, and the summary.
+fn many<K: Sink, L: Ledger>(
+    alloc: Global,
+    files: Files,
+    methods: &Catalogue,
+    predefs: &Predefs,
+    steps: &mut Steps<L>,
+    out: &mut K,
+) -> Result<u8, Refusal>
+    requires order { AreInOrder (map (λ b. code (b.vtable, b.value)) methods.now.methods.items) }
+    requires ready { AreReady J.Mrm files }
+    ensures { (extras : Extras) → MatchResult result
+        (Appends J.Mrm extras (files_seen files) (change (K.seen out.old) (K.seen out.new)))
+        (Stops J.Mrm extras (files_seen files) (change (K.seen out.old) (K.seen out.new))) }
+{
+    let Files {
+        basin,
+        policy,
+        inputs,
+        edits: _,
+        scenarios,
+        cell: _,
+        text: _,
+    } = files;
+    let Some(policy) = policy else {
+        unreachable!();
+    };
+    let Some(inputs) = inputs else {
+        unreachable!();
+    };
+    let by = match code_of(alloc, policy, &basin) {
+        Ok(by) => by,
+        Err(NoMemory) => return Err(Refusal::NoMemory),
+    };
+    let setup = RunSetup {
+        basin: &basin,
+        methods,
+        policy: &by,
+        predefs,
+    };
+    write_many(alloc, &setup, &inputs, batches_of(&scenarios), steps, out)
 }
 
 // Writes the text of a job by what its files say, and answers the status of that.
@@ -315,6 +405,12 @@ fn write_job<K: Sink, L: Ledger>(
             let made = sample(alloc, &files, seed, methods, predefs, steps);
             write_made(job, extras, &files, made, out)
         }
+        Job::Balance => {
+            let made = balance(alloc, &files, methods, predefs, steps);
+            write_made(job, extras, &files, made, out)
+        }
+        Job::Migrate => write_made(job, extras, &files, migrate(alloc, &files), out),
+        Job::Mrm => many(alloc, files, methods, predefs, steps, out),
         Job::Run => run(alloc, files, methods, predefs, extras, steps, out),
     }
 }

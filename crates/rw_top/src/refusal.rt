@@ -15,6 +15,7 @@ pub enum File {
     Policy,
     Inputs,
     Edits,
+    Traces,
 }
 
 /// Why the text of a command isn't written, or not wholly.
@@ -42,6 +43,8 @@ pub enum Refusal {
     Inputs(InputKind, u32, u8),
     /// The edits are refused: what is wrong, in which row and column.
     Edits(InputKind, u32, u8),
+    /// The traces are refused: what is wrong, in which row and column.
+    Traces(InputKind, u32, u8),
     /// The basin has no cell that the words name.
     NoCell,
     /// More bytes were taken of that file than a file may hold.
@@ -68,6 +71,7 @@ impl Refusal {
             Refusal::Block(_, _, _) => 9,
             Refusal::Inputs(_, _, _) => 8,
             Refusal::Edits(_, _, _) => 8,
+            Refusal::Traces(_, _, _) => 8,
             Refusal::NoCell => 8,
             Refusal::TooLong(_) => 10,
         }

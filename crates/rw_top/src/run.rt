@@ -7,7 +7,7 @@ ghost use Rattle.rpl_types.specs.Judged.{rules_judged};
 ghost use Rattle.rpl_verify.specs.Verified.{verified};
 ghost use Rattle.rw_top.specs.Policy.{PolicyFile, Ruleset, Code};
 ghost use Rattle.rw_top.specs.Ready.{IsFit};
-ghost use Rattle.rw_top.specs.RunText.{ComesBy, IsCodeOf, IsRulesText};
+ghost use Rattle.rw_top.specs.RunText.{ComesBy, IsCodeOf, IsRulesText, tells_asks};
 ghost use Rattle.rw_top.specs.Seen.{policy_of};
 
 use crate::coded::{code_of_rules, code_runs};
@@ -119,6 +119,7 @@ pub(crate) fn tell_by_code<L: Ledger>(
         (map (λ b. code (b.vtable, b.value)) setup.now.methods.now.methods.items) }
     requires inputs { IsInputsOf setup.now.basin.now inputs.now }
     requires plain { extras.reuse ≡ false }
+    requires silent { tells_asks extras ≡ false }
     requires sheet { sheet.old.basin ≡ setup.now.basin.now }
     ensures text { (policy : PolicyFile) (before : Option Rows)
         → IsCodeOf setup.now.basin.now policy setup.now.policy.now

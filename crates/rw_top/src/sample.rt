@@ -17,7 +17,7 @@ use rw_report::law::texts_of_runs;
 use rw_sample::{sample_inputs, sample_line, sample_model, sample_rules};
 use std::alloc::Global;
 
-/// The text of a file of the sample. It has no edits.
+/// The text of a file of the sample. It has no edits and no traces.
 pub(crate) fn sample_text(alloc: Global, seed: u64, file: File) -> Result<Vec<u8>, NoMemory>
     ensures { IfOk result (λ text. text.items ≡ sample_text seed file) }
 {
@@ -25,7 +25,7 @@ pub(crate) fn sample_text(alloc: Global, seed: u64, file: File) -> Result<Vec<u8
         File::Model => sample_model(alloc),
         File::Policy => sample_rules(alloc),
         File::Inputs => sample_inputs(alloc, seed),
-        File::Edits => Ok(Vec::new(alloc)),
+        File::Edits | File::Traces => Ok(Vec::new(alloc)),
     }
 }
 

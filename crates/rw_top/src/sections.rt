@@ -1,5 +1,5 @@
 // The sections of a run by code, each written as soon as it is made.
-ghost use Rattle.std.specs.Prelude.{◌≡◌, ◌≤◌, ◌+◌, [], ◌∷◌, false, length, map, IfOk, MatchOption, MatchResult, Ok, Option};
+ghost use Rattle.std.specs.Prelude.{◌≡◌, ◌≤◌, ◌+◌, [], ◌∷◌, false, true, length, map, IfOk, MatchOption, MatchResult, Ok, Option};
 ghost use Rattle.std.specs.List.{All};
 ghost use Rattle.rw_inputs.specs.Edits.{IsBatch, after_batch};
 ghost use Rattle.rw_inputs.specs.Inputs.{Inputs as Rows, IsInputsOf, value_at};
@@ -7,10 +7,11 @@ ghost use Rattle.rw_io.specs.Outside.{change};
 ghost use Rattle.rw_method.specs.Catalogue.{AreInOrder};
 ghost use Rattle.rpl_verify.specs.Verified.{verified};
 ghost use Rattle.rw_top.specs.Policy.{PolicyFile as Rules};
-ghost use Rattle.rw_top.specs.RunText.{IsCodeOf, IsRulesText};
+ghost use Rattle.rw_top.specs.RunText.{IsCodeOf, IsRulesText, tells_asks};
 ghost use Rattle.rw_top.specs.Sections.{AppendsAll, AppendsOne, StopsAmong, StopsAtOne, first_given};
 
 use crate::Refusal;
+use crate::asked::{asked_by_code, tells_asks};
 use crate::extras::Extras;
 use crate::run::tell_by_code;
 use rw_base::{Ledger, NoMemory, Steps};
@@ -21,7 +22,81 @@ use rw_model::Basin;
 use rw_report::Sheet;
 use std::alloc::Global;
 
+// Writes the section of the run from inputs, with what became of each put, and answers how the run ended.
+fn write_asked<K: Sink, L: Ledger>(
+    alloc: Global,
+    setup: &RunSetup<'_>,
+    extras: Extras,
+    number: u32,
+    inputs: &Inputs,
+    steps: &mut Steps<L>,
+    out: &mut K,
+) -> Result<RunEnd, Refusal>
+    requires order { AreInOrder
+        (map (λ b. code (b.vtable, b.value)) setup.now.methods.now.methods.items) }
+    requires fits { verified setup.now.basin.now setup.now.policy.now.blocks
+        ≡ Ok setup.now.policy.now }
+    requires inputs { IsInputsOf setup.now.basin.now inputs.now }
+    requires asked { tells_asks extras ≡ true }
+    ensures { (policy : Rules) (before : Option Rows)
+        → IsCodeOf setup.now.basin.now policy setup.now.policy.now → MatchResult result
+        (AppendsOne (IsRulesText setup.now.basin.now policy extras)
+        number (record { before = before; inputs = inputs.now })
+        (change (K.seen out.old) (K.seen out.new)))
+        (StopsAtOne (IsRulesText setup.now.basin.now policy extras)
+        number (record { before = before; inputs = inputs.now })
+        (change (K.seen out.old) (K.seen out.new))) }
+{
+    let told = match asked_by_code(alloc, setup, extras, number, inputs, steps) {
+        Ok(told) => told,
+        Err(NoMemory) => return Err(Refusal::NoMemory),
+    };
+    match write_all(out, &told.0) {
+        Ok(()) => Ok(told.1),
+        Err(WriteFault) => Err(Refusal::CannotWrite),
+    }
+}
+
 // Writes the section of the run from inputs, and answers how the run ended.
+fn write_told<K: Sink, L: Ledger>(
+    alloc: Global,
+    setup: &RunSetup<'_>,
+    extras: Extras,
+    number: u32,
+    inputs: &Inputs,
+    steps: &mut Steps<L>,
+    sheet: &mut Sheet<'_>,
+    out: &mut K,
+) -> Result<RunEnd, Refusal>
+    requires order { AreInOrder
+        (map (λ b. code (b.vtable, b.value)) setup.now.methods.now.methods.items) }
+    requires fits { verified setup.now.basin.now setup.now.policy.now.blocks
+        ≡ Ok setup.now.policy.now }
+    requires inputs { IsInputsOf setup.now.basin.now inputs.now }
+    requires plain { extras.reuse ≡ false }
+    requires silent { tells_asks extras ≡ false }
+    requires sheet { sheet.old.basin ≡ setup.now.basin.now }
+    ensures out { (policy : Rules) (before : Option Rows)
+        → IsCodeOf setup.now.basin.now policy setup.now.policy.now → MatchResult result
+        (AppendsOne (IsRulesText setup.now.basin.now policy extras)
+        number (record { before = before; inputs = inputs.now })
+        (change (K.seen out.old) (K.seen out.new)))
+        (StopsAtOne (IsRulesText setup.now.basin.now policy extras)
+        number (record { before = before; inputs = inputs.now })
+        (change (K.seen out.old) (K.seen out.new))) }
+    ensures sheet { sheet.new.basin ≡ sheet.old.basin }
+{
+    let end = match tell_by_code(alloc, setup, extras, number, inputs, steps, sheet) {
+        Ok(end) => end,
+        Err(NoMemory) => return Err(Refusal::NoMemory),
+    };
+    match write_all(out, sheet.text()) {
+        Ok(()) => Ok(end),
+        Err(WriteFault) => Err(Refusal::CannotWrite),
+    }
+}
+
+// The same, whether what became of each put is told or not.
 fn write_section<K: Sink, L: Ledger>(
     alloc: Global,
     setup: &RunSetup<'_>,
@@ -49,13 +124,10 @@ fn write_section<K: Sink, L: Ledger>(
         (change (K.seen out.old) (K.seen out.new))) }
     ensures sheet { sheet.new.basin ≡ sheet.old.basin }
 {
-    let end = match tell_by_code(alloc, setup, extras, number, inputs, steps, sheet) {
-        Ok(end) => end,
-        Err(NoMemory) => return Err(Refusal::NoMemory),
-    };
-    match write_all(out, sheet.text()) {
-        Ok(()) => Ok(end),
-        Err(WriteFault) => Err(Refusal::CannotWrite),
+    if tells_asks(extras) {
+        write_asked(alloc, setup, extras, number, inputs, steps, out)
+    } else {
+        write_told(alloc, setup, extras, number, inputs, steps, sheet, out)
     }
 }
 

@@ -1,10 +1,11 @@
 // The text of a run without rules.
-ghost use Rattle.std.specs.Prelude.{◌≡◌, [], map, IfOk, None};
+ghost use Rattle.std.specs.Prelude.{◌≡◌, [], false, map, IfOk, None};
 ghost use Rattle.rw_inputs.specs.Inputs.{IsInputsOf};
 ghost use Rattle.rw_method.specs.Catalogue.{AreInOrder};
 ghost use Rattle.rw_run.specs.Next.{no_rules};
-ghost use Rattle.rw_top.specs.RunText.{IsNewestText, IsRunText, IsSimulated};
+ghost use Rattle.rw_top.specs.RunText.{IsNewestText, IsRunText, IsSimulated, tells_asks};
 
+use crate::asked::{asked_of_newest, asked_of_oldest, tells_asks};
 use crate::extras::Extras;
 use rw_base::{Ledger, NoMemory, Steps};
 use rw_engine::{RunEnd, RunSetup, run_all_of};
@@ -28,6 +29,7 @@ fn text_of_oldest<L: Ledger>(
     requires order { AreInOrder
         (map (λ b. code (b.vtable, b.value)) setup.now.methods.now.methods.items) }
     requires inputs { IsInputsOf setup.now.basin.now inputs.now }
+    requires silent { tells_asks extras ≡ false }
     ensures { IfOk result (λ pair. IsRunText setup.now.basin.now no_rules extras None 0
         inputs.now pair.1 pair.0.items) }
 {
@@ -56,6 +58,7 @@ fn text_of_newest(
     requires order { AreInOrder
         (map (λ b. code (b.vtable, b.value)) setup.now.methods.now.methods.items) }
     requires inputs { IsInputsOf setup.now.basin.now inputs.now }
+    requires silent { tells_asks extras ≡ false }
     ensures { IfOk result (λ pair. IsNewestText setup.now.basin.now extras 0
         inputs.now pair.1 pair.0.items) }
 {
@@ -89,7 +92,19 @@ pub(crate) fn text_without_rules<L: Ledger>(
         inputs.now pair.1 pair.0.items) }
 {
     match extras.order {
-        Order::Oldest => text_of_oldest(alloc, setup, extras, inputs, steps),
-        Order::Newest => text_of_newest(alloc, setup, extras, inputs),
+        Order::Oldest => {
+            if tells_asks(extras) {
+                asked_of_oldest(alloc, setup, extras, inputs, steps)
+            } else {
+                text_of_oldest(alloc, setup, extras, inputs, steps)
+            }
+        }
+        Order::Newest => {
+            if tells_asks(extras) {
+                asked_of_newest(alloc, setup, extras, inputs)
+            } else {
+                text_of_newest(alloc, setup, extras, inputs)
+            }
+        }
     }
 }

@@ -5,7 +5,7 @@ ghost use Rattle.rw_io.specs.Known.{GrowsBy, PrefixGrew};
 ghost use Rattle.rw_top.specs.Command.{command_said};
 ghost use Rattle.rw_io.specs.Outside.{change};
 ghost use Rattle.rw_top.specs.Written.{TellsLine};
-ghost use Rattle.rw_top.specs.Lines.{block_line, code_line, edits_line, grammar_line, inputs_line, refusal_line, model_line, told_path, types_line, memory_line, words_line};
+ghost use Rattle.rw_top.specs.Lines.{block_line, code_line, edits_line, grammar_line, inputs_line, refusal_line, model_line, told_path, types_line, memory_line, traces_line, words_line};
 
 use crate::command::Command;
 use crate::fault_words::{
@@ -210,6 +210,19 @@ fn tell_edits<E: Sink>(err: &mut E, kind: InputKind, row: u32, column: u8)
     );
 }
 
+fn tell_traces<E: Sink>(err: &mut E, kind: InputKind, row: u32, column: u8)
+    ensures { TellsLine (change (E.seen err.old) (E.seen err.new)) (traces_line kind row column) }
+{
+    tell_place(
+        err,
+        "basin: traces: row ",
+        row,
+        " column ",
+        u32::from(column),
+        input_words(kind),
+    );
+}
+
 // The path of a file as a line has it.
 fn told_path<'w>(command: &Command<'w>, file: File) -> &'w str
     ensures { result.now ≡ told_path (command_said command.now) file }
@@ -255,6 +268,7 @@ pub(crate) fn tell<E: Sink>(err: &mut E, command: &Command<'_>, refusal: &Refusa
         Refusal::Block(kind, block, place) => tell_block(err, *kind, *block, *place),
         Refusal::Inputs(kind, row, column) => tell_inputs(err, *kind, *row, *column),
         Refusal::Edits(kind, row, column) => tell_edits(err, *kind, *row, *column),
+        Refusal::Traces(kind, row, column) => tell_traces(err, *kind, *row, *column),
         Refusal::NoCell => tell_line(err, "basin: why: no such cell", ""),
         Refusal::TooLong(file) => tell_line(err, "basin: too long ", told_path(command, *file)),
     }

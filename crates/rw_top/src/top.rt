@@ -34,10 +34,14 @@ use std::alloc::Global;
 /// writes the text of its code. The status is 0. `why MODEL POLICY INPUTS SLOT STEP` reads the files that `run` reads, runs the
 /// basin in the same way, and writes how the cell of that slot and timestep came to what it holds at the end, with the status of
 /// that run. `sample SEED` reads no file: it makes the model, the ruleset and the inputs of the sample of that seed, runs them as
-/// `run` does, and writes one line on the run. The status is 0.
+/// `run` does, and writes one line on the run. The status is 0. `balance MODEL POLICY INPUTS` reads and runs as `run` does, and writes
+/// the books of each object that holds water, with the status of that run. `mrm MODEL POLICY INPUTS TRACES` reads traces, too, and
+/// writes the table of the run of each, from the inputs as they were read with the trace's own values, as soon as it is made, and
+/// then a summary of all. The status is 0 where all of these runs settled, and else 1. `migrate MODEL` reads the model, and writes
+/// it in format 2. The status is 0.
 ///
 /// With each other status one line on `err` says why: 2 the words, 3 a file that can't be read, 4 an output that can't be
-/// written, 5 want of memory, 6 the model, 7 the ruleset, 8 the inputs, the edits or the cell, 9 the code, 10 a file of more than 16,777,216
+/// written, 5 want of memory, 6 the model, 7 the ruleset, 8 the inputs, the edits, the traces or the cell, 9 the code, 10 a file of more than 16,777,216
 /// bytes. A failure of `err` changes no status.
 pub fn basin_main<S: Shelf, K: Sink, E: Sink, L: Ledger>(
     alloc: Global,

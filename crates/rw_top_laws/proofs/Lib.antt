@@ -1,6 +1,7 @@
 mod OneText
 mod OneAnswer
 mod OneSample
+mod OneScenario
 mod OneOutput
 mod FirstCall
 mod Dues

@@ -1,5 +1,5 @@
 -- Runs with edits have one text, with the timesteps that are run again too, and a cell has one reason.
-use Rattle.rw_top.proofs.Common.{List, None, Option, RunEnd, Some, IsSomeAnd, [], ap, ap₂, length, refl, subst, sym, section_text, true, false, ℕ, ℤ}
+use Rattle.rw_top.proofs.Common.{List, None, Option, RunEnd, Some, IsSomeAnd, [], ap, ap₂, length, refl, subst, sym, told_section, true, false, ℕ, ℤ}
 use Rattle.rw_top.proofs.Common.{◌++◌, ◌+◌, ◌∙◌, ◌∷◌}
 use Rattle.rw_top.proofs.Common.{Bool, ◌≡◌}
 use Rattle.rw_base.proofs.Common.{All-contains, Contains, arith, none-some, suc, zero, ◌<◌, ◌≤◌}
@@ -135,7 +135,7 @@ module _ (one_run : (basin : Draft) (policy : Policy) (inputs : List (Cell × �
         let told = one_told by extras.reuse a b right.run_text.log left.reran right.reran same.before
         (subst (λ l. IsRerun basin by extras.reuse a l left.reran) log left.rerun) right.rerun in (
           left.run_text.end_is ∙ ap end_of log ∙ sym right.run_text.end_is,
-          left.run_text.text_is ∙ ap₂ (λ r l. section_text basin extras number r l) told log ∙ sym right.run_text.text_is,
+          left.run_text.text_is ∙ ap₂ (λ r l. told_section basin by extras number r l) told log ∙ sym right.run_text.text_is,
         )
 
     pub one_section : (extras : Extras) (number : ℕ) (given : GivenInputs) (end other : RunEnd) (text more : List ℕ)

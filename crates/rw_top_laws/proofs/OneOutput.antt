@@ -6,13 +6,12 @@ use Rattle.rw_top.specs.declared.refusal.File.{File}
 use Rattle.rw_base.proofs.Common.{Bool, IsSome, none-some, same_Some}
 use Rattle.std.specs.Prelude.{IfSome, MatchOption, option_and_then}
 use Rattle.rw_base.specs.declared.number.Cell.{Cell}
-use Rattle.rw_inputs.specs.EditRows.{edits_of}
 use Rattle.rw_inputs.specs.Edits.{Batch}
 use Rattle.rw_inputs.specs.Inputs.{Inputs, value_at}
 use Rattle.rw_io.specs.Known.{GrowsBy}
 use Rattle.rw_model.proofs.Common.{Draft}
 use Rattle.rw_report.specs.Outcome.{outcome_by}
-use Rattle.rw_run.proofs.Common.{IsRun, Log, Policy}
+use Rattle.rw_run.proofs.Common.{IsRun, Log, Policy, end_of}
 use Rattle.rw_sample.specs.Line.{sample_line}
 use Rattle.rpl_code.specs.declared.block.Block.{Block}
 use Rattle.rpl_tree.specs.Budget.{Budget}
@@ -23,16 +22,19 @@ use Rattle.rw_top_laws.proofs.OneText.{one_simulated}
 use Rattle.rw_top_laws.specs.Alike.{AppendAlike, AskAlike, TellAlike}
 use Rattle.rw_top.specs.Call.{Call}
 use Rattle.rw_top.specs.Cell.{cell_asked}
-use Rattle.rw_top.specs.Command.{AskForCommand, AtPath, OfSample, Source, extras_of, path_in, source_of}
+use Rattle.rw_top.specs.Command.{AskForCommand, AskOne, AtPath, OfSample, Source, extras_of, path_in, source_of}
 use Rattle.rw_top.specs.Policy.{Code, IsPolicyFileOf, PolicyFile as Rules, Ruleset}
 use Rattle.rw_top.specs.Promise.{Promise}
-use Rattle.rw_top.specs.Reading.{AreRead, HasText, ReadsEdits, SaysAt}
-use Rattle.rw_top.specs.RunText.{IsPlainText, IsRulesText, IsSampleText, IsWhyOfRules, policy_in_run}
+use Rattle.rw_top.specs.Reading.{AreRead, HasText, ReadsBatches, SaysAt, batches_read, text_wanted}
+use Rattle.rw_books.specs.Text.{balance_of_run}
+use Rattle.rw_top.specs.Many.{many_texts, status_of_runs}
+use Rattle.rw_top_laws.proofs.OneScenario.{one_many}
+use Rattle.rw_top.specs.RunText.{IsBalanceOfRules, IsPlainText, IsRulesText, IsSampleText, IsWhyOfRules, policy_in_run}
 use Rattle.rw_top.specs.Sections.{AreSections, first_given, joined_sections}
-use Rattle.rw_top.specs.Written.{IsTextOf, WritesAll, status_of_end}
+use Rattle.rw_top.specs.Written.{IsTextOf, WritesAll, scenarios_in, status_of_end}
 use Rattle.rw_top.specs.declared.extras.Extras.{Extras}
-use Rattle.rw_top.specs.declared.refusal.File.TheVariants.{Edits, Inputs as InputsFile, Model, Policy as PolicyFile}
-use Rattle.rw_words.specs.declared.job.Job.TheVariants.{Check, Compile, Run, Sample, Simulate, Why}
+use Rattle.rw_top.specs.declared.refusal.File.TheVariants.{Edits, Inputs as InputsFile, Model, Policy as PolicyFile, Traces}
+use Rattle.rw_words.specs.declared.job.Job.TheVariants.{Balance, Check, Compile, Migrate, Mrm, Run, Sample, Simulate, Why}
 
 -- ---- a file's text
 
@@ -85,13 +87,15 @@ both_said None (Some y) N P Q left_clash right_clash same left right = right_cla
 both_said (Some x) None N P Q left_clash right_clash same left right = left_clash x right left
 both_said (Some x) (Some y) N P Q left_clash right_clash same left right = same x y left right
 
--- the same basin, policy, edits and cell, and inputs with the same values
+-- the same basin, policy, edits, scenarios, cell and text, and inputs with the same values
 record SayAlike (a b : FilesRead) : Type 0 where
   basin : a.basin ≡ b.basin
   policy : a.policy ≡ b.policy
   inputs : AreBoth a.inputs b.inputs
   edits : a.edits ≡ b.edits
+  scenarios : a.scenarios ≡ b.scenarios
   cell : a.cell ≡ b.cell
+  text : a.text ≡ b.text
 
 module _ (command : Command) (one other : Holds) (alike : TellAlike command one other) where
   one_text_of : (file : File) (text more : List ℕ) → WasRead command one file text → WasRead command other file more → text ≡ more
@@ -114,18 +118,26 @@ module _ (command : Command) (one other : Holds) (alike : TellAlike command one 
       let text = one_text_of InputsFile left.text right.text left.read right.read in
       λ i slot step. (same_values basin right.text inputs more (subst (λ t. Reads basin t inputs) text left.are) right.are slot step) i
 
-  one_edits_of : (basin : Draft) (batches more : List Batch) → ReadsEdits command one basin batches → ReadsEdits command other basin more
-      → batches ≡ more
-  one_edits_of basin batches more left right =
-      let text = one_text_of Edits left.text right.text left.read right.read in
-      let both : Ok batches ≡ Ok more = sym left.are ∙ ap (edits_of basin) text ∙ right.are in cc
+  one_batches_of : (file : File) (basin : Draft) (batches more : List Batch) → ReadsBatches command one file basin batches
+      → ReadsBatches command other file basin more → batches ≡ more
+  one_batches_of file basin batches more left right =
+      let text = one_text_of file left.text right.text left.read right.read in
+      let both : Ok batches ≡ Ok more = sym left.are ∙ ap (batches_read file basin) text ∙ right.are in cc
+
+  one_said : (file : File) (basin others : Draft) → basin ≡ others → (found more : Option (List Batch))
+      → SaysAt command file found (ReadsBatches command one file basin) → SaysAt command file more (ReadsBatches command other file others)
+      → found ≡ more
+  one_said file basin others same found more left right =
+      said_once found more _ (ReadsBatches command one file others) (ReadsBatches command other file others)
+      (λ x none reads. unread command one file reads.text none reads.read)
+      (λ y none reads. unread command other file reads.text none reads.read) (one_batches_of file others)
+      (subst (λ d. SaysAt command file found (ReadsBatches command one file d)) same left) right
 
   say_alike : (a b : FilesRead) → AreRead command one a → AreRead command other b → SayAlike a b
   say_alike a b left right =
       let basin = one_basin a.basin b.basin left.model right.model in
       let policy = subst (λ d. SaysAt command PolicyFile a.policy (ReadsPolicy command one d)) basin left.policy in
       let inputs = subst (λ d. SaysAt command InputsFile a.inputs (ReadsInputs command one d)) basin left.inputs in
-      let edits = subst (λ d. SaysAt command Edits a.edits (ReadsEdits command one d)) basin left.edits in
       record {
         basin = basin;
         policy = said_once a.policy b.policy _ (ReadsPolicy command one b.basin) (ReadsPolicy command other b.basin)
@@ -134,9 +146,10 @@ module _ (command : Command) (one other : Holds) (alike : TellAlike command one 
         inputs = both_said a.inputs b.inputs _ (ReadsInputs command one b.basin) (ReadsInputs command other b.basin)
             (λ x none reads. unread command one InputsFile reads.text none reads.read)
             (λ y none reads. unread command other InputsFile reads.text none reads.read) (values_of b.basin) inputs right.inputs;
-        edits = said_once a.edits b.edits _ (ReadsEdits command one b.basin) (ReadsEdits command other b.basin)
-            (λ x none reads. unread command one Edits reads.text none reads.read)
-            (λ y none reads. unread command other Edits reads.text none reads.read) (one_edits_of b.basin) edits right.edits;
+        edits = one_said Edits a.basin b.basin basin a.edits b.edits left.edits right.edits;
+        scenarios = one_said Traces a.basin b.basin basin a.scenarios b.scenarios left.scenarios right.scenarios;
+        text = left.text_is ∙ ap (text_wanted command.job) (one_text_of Model left.model.text right.model.text left.model.read right.model.read)
+            ∙ sym right.text_is;
         cell = left.cell.is ∙ ap (λ (d : Draft). cell_asked command d) basin ∙ sym right.cell.is;
       }
 
@@ -157,15 +170,25 @@ of_it : {A : Type 0} (found : Option A) (R : Type 0) (P Q : A → Type 0) → ((
 of_it None R P Q both left right = absurd left
 of_it (Some x) R P Q both left right = both x left right
 
-abbrev with_parts : Draft → Option Rules → Option Inputs → Option (List Batch) → Option Cell → FilesRead
-with_parts basin policy inputs edits cell = record { basin = basin; policy = policy; inputs = inputs; edits = edits; cell = cell }
+-- the same files, with other inputs
+abbrev with_inputs : FilesRead → Option Inputs → FilesRead
+with_inputs files inputs = record files { inputs = inputs }
 
+-- the same status, and the same text
 abbrev Same : ℕ → ℕ → List (List ℕ) → List (List ℕ) → Type 0
 Same status more texts others = (status ≡ more) × (texts ≡ others)
 
-by_end : (status more : ℕ) (texts others : List (List ℕ)) (end other : RunEnd) → status ≡ status_of_end end → more ≡ status_of_end other
-    → (end ≡ other) × (texts ≡ others) → Same status more texts others
-by_end status more texts others end other left right same = (left ∙ ap status_of_end same.0 ∙ sym right, same.1)
+-- but for a model that is migrated
+abbrev SameOf : Job → ℕ → ℕ → List (List ℕ) → List (List ℕ) → Type 0
+SameOf job status more texts others = (status ≡ more) × (¬ (job ≡ Migrate) → texts ≡ others)
+
+alike : (job : Job) (status more : ℕ) (texts others : List (List ℕ)) → Same status more texts others → SameOf job status more texts others
+alike job status more texts others same = (same.0, λ other. same.1)
+
+by_end : (job : Job) (status more : ℕ) (texts others : List (List ℕ)) (end other : RunEnd) → status ≡ status_of_end end
+    → more ≡ status_of_end other → (end ≡ other) × (texts ≡ others) → SameOf job status more texts others
+by_end job status more texts others end other left right same =
+    alike job status more texts others (left ∙ ap status_of_end same.0 ∙ sym right, same.1)
 
 alone : (text more : List ℕ) (texts others : List (List ℕ)) → texts ≡ text ∷ [] → others ≡ more ∷ [] → text ≡ more → texts ≡ others
 alone text more texts others left right same = left ∙ ap (λ (t : List ℕ). t ∷ []) same ∙ sym right
@@ -188,50 +211,75 @@ module _ (one_run : (basin : Draft) (policy : Policy) (inputs : List (Cell × �
       left.run right.run in
       left.text_is ∙ ap (λ (l : Log). sample_line basin seed (outcome_by basin l)) log ∙ sym right.text_is
 
-  -- files with one basin that say alike have one text
-  one_by : (job : Job) (policy : Option Rules) (inputs others : Option Inputs) (edits : Option (List Batch)) (cell : Option Cell)
-      (status more : ℕ) (texts next : List (List ℕ)) → AreBoth inputs others
-      → IsTextOf job extras (with_parts basin policy inputs edits cell) status texts
-      → IsTextOf job extras (with_parts basin policy others edits cell) more next
-      → Same status more texts next
-  one_by Simulate policy inputs others edits cell status more texts next same left right =
-      by_end status more texts next left.0 right.0 left.1 right.1 (of_same inputs others _ _ _
-      (λ x y values a b. one_plain x y values left.0 right.0 texts next a b) same left.2 right.2)
-  one_by Check policy inputs others edits cell status more texts next same left right =
-      (left.0 ∙ sym right.0, of_it policy _ _ _ (λ p a b. a ∙ sym b) left.1 right.1)
-  one_by Compile policy inputs others edits cell status more texts next same left right =
-      (left.0 ∙ sym right.0, of_it policy _ _ _ (λ p a b. a ∙ sym b) left.1 right.1)
-  one_by Run policy inputs others edits cell status more texts next same left right =
-      by_end status more texts next left.0 right.0 left.1 right.1 (of_it policy _ _ _ (λ p a b. of_same inputs others _ _ _
-      (λ x y values l r. one_sections one_run basin p extras x y _ left.0 right.0 texts next values l r) same a b) left.2 right.2)
-  one_by Why policy inputs others edits cell status more texts next same left right =
-      by_end status more texts next left.0 right.0 left.1 right.1 (of_it policy _ _ _ (λ p a b. of_same inputs others _ _ _
-      (λ x y values l r. of_it cell _ _ _ (λ c u v.
-      let both = one_why one_run basin p x y c left.0 right.0 u.0 v.0 values u.2 v.2 in
-      (both.0, alone u.0 v.0 texts next u.1 v.1 both.1)) l r) same a b) left.2 right.2)
-  one_by (Sample seed) policy inputs others edits cell status more texts next same left right = (
-    left.0 ∙ sym right.0,
-    of_it policy _ _ _ (λ p a b. of_same inputs others _ _ _
-        (λ x y values l r. alone l.0 r.0 texts next l.1 r.1 (one_line p x y seed l.0 r.0 values l.2 r.2)) same a b) left.1 right.1,
-  )
+  one_book : (policy : Rules) (inputs others : Inputs) (end other : RunEnd) (text more : List ℕ)
+      → ((slot step : ℕ) → value_at inputs slot step ≡ value_at others slot step)
+      → IsBalanceOfRules basin policy inputs end text → IsBalanceOfRules basin policy others other more → (end ≡ other) × (text ≡ more)
+  one_book policy inputs others end other text more same left right =
+      let log = one_log one_run basin (policy_in_run basin policy) inputs others left.run_text.log right.run_text.log
+      (λ i slot step. (same slot step) i) left.run_text.run right.run_text.run in (
+        left.run_text.end_is ∙ ap end_of log ∙ sym right.run_text.end_is,
+        left.run_text.text_is ∙ ap (λ (l : Log). balance_of_run basin (outcome_by basin l)) log ∙ sym right.run_text.text_is,
+      )
 
 -- ---- two calls
 
 module _ (one_run : (basin : Draft) (policy : Policy) (inputs : List (Cell × ℤ)) (log other : Log) → IsRun basin policy inputs log
     → IsRun basin policy inputs other → log ≡ other) where
+  -- files that say alike have one text
+  one_by : (job : Job) (extras : Extras) (files : FilesRead) (inputs others : Option Inputs) (status more : ℕ) (texts next : List (List ℕ))
+      → AreBoth inputs others → IsTextOf job extras (with_inputs files inputs) status texts
+      → IsTextOf job extras (with_inputs files others) more next → SameOf job status more texts next
+  one_by Simulate extras files inputs others status more texts next same left right =
+      by_end Simulate status more texts next left.0 right.0 left.1 right.1 (of_same inputs others _ _ _
+      (λ x y values a b. one_plain one_run extras files.basin x y values left.0 right.0 texts next a b) same left.2 right.2)
+  one_by Check extras files inputs others status more texts next same left right =
+      alike Check status more texts next (left.0 ∙ sym right.0, of_it files.policy _ _ _ (λ p a b. a ∙ sym b) left.1 right.1)
+  one_by Compile extras files inputs others status more texts next same left right =
+      alike Compile status more texts next (left.0 ∙ sym right.0, of_it files.policy _ _ _ (λ p a b. a ∙ sym b) left.1 right.1)
+  one_by Run extras files inputs others status more texts next same left right =
+      by_end Run status more texts next left.0 right.0 left.1 right.1 (of_it files.policy _ _ _ (λ p a b. of_same inputs others _ _ _
+      (λ x y values l r. one_sections one_run files.basin p extras x y _ left.0 right.0 texts next values l r) same a b) left.2 right.2)
+  one_by Why extras files inputs others status more texts next same left right =
+      by_end Why status more texts next left.0 right.0 left.1 right.1 (of_it files.policy _ _ _ (λ p a b. of_same inputs others _ _ _
+      (λ x y values l r. of_it files.cell _ _ _ (λ c u v.
+      let both = one_why one_run files.basin p x y c left.0 right.0 u.0 v.0 values u.2 v.2 in
+      (both.0, alone u.0 v.0 texts next u.1 v.1 both.1)) l r) same a b) left.2 right.2)
+  one_by (Sample seed) extras files inputs others status more texts next same left right =
+      alike (Sample seed) status more texts next (
+        left.0 ∙ sym right.0,
+        of_it files.policy _ _ _ (λ p a b. of_same inputs others _ _ _
+            (λ x y values l r. alone l.0 r.0 texts next l.1 r.1 (one_line one_run extras files.basin p x y seed l.0 r.0 values l.2 r.2)) same a b)
+            left.1 right.1,
+      )
+  one_by Balance extras files inputs others status more texts next same left right =
+      by_end Balance status more texts next left.0 right.0 left.1 right.1 (of_it files.policy _ _ _ (λ p a b. of_same inputs others _ _ _
+      (λ x y values l r.
+      let both = one_book one_run extras files.basin p x y left.0 right.0 l.0 r.0 values l.2 r.2 in
+      (both.0, alone l.0 r.0 texts next l.1 r.1 both.1)) same a b) left.2 right.2)
+  one_by Mrm extras files inputs others status more texts next same left right =
+      alike Mrm status more texts next (of_it files.policy _ _ _ (λ p a b. of_same inputs others _ _ _ (λ x y values l r.
+      let logs = one_many one_run files.basin p x y values (scenarios_in files) l.0 r.0 l.1 r.1 in
+      (l.2 ∙ ap status_of_runs logs ∙ sym r.2, l.3 ∙ ap (many_texts files.basin) logs ∙ sym r.3)) same a b) left right)
+  one_by Migrate extras files inputs others status more texts next same left right =
+      (left.0 ∙ sym right.0, λ other. absurd (other refl))
+
   one_of_files : (job : Job) (extras : Extras) (a b : FilesRead) (status more : ℕ) (texts next : List (List ℕ)) → SayAlike a b
-      → IsTextOf job extras a status texts → IsTextOf job extras b more next → Same status more texts next
+      → IsTextOf job extras a status texts → IsTextOf job extras b more next → SameOf job status more texts next
   one_of_files job extras a b status more texts next same left right =
-      one_by one_run extras b.basin job b.policy a.inputs b.inputs b.edits b.cell status more texts next same.inputs
-      (subst (λ c. IsTextOf job extras (with_parts b.basin b.policy a.inputs b.edits c) status texts) same.cell
-      (subst (λ e. IsTextOf job extras (with_parts b.basin b.policy a.inputs e a.cell) status texts) same.edits
-      (subst (λ p. IsTextOf job extras (with_parts b.basin p a.inputs a.edits a.cell) status texts) same.policy
-      (subst (λ d. IsTextOf job extras (with_parts d a.policy a.inputs a.edits a.cell) status texts) same.basin
-      left))))
-      right
+      let files : a ≡ with_inputs b a.inputs = λ i. record {
+        basin = same.basin i;
+        policy = same.policy i;
+        inputs = a.inputs;
+        edits = same.edits i;
+        scenarios = same.scenarios i;
+        cell = same.cell i;
+        text = same.text i;
+      } in
+      one_by job extras b a.inputs b.inputs status more texts next same.inputs
+      (subst (λ f. IsTextOf job extras f status texts) files left) right
 
   pub one_output : (one other : Call) (status more : ℕ) → AskAlike one other → Promise one status → Promise other more → status ≤ 1
-      → more ≤ 1 → (status ≡ more) × AppendAlike one.out other.out
+      → more ≤ 1 → (status ≡ more) × (¬ AskOne one.words (λ command. command.job ≡ Migrate) → AppendAlike one.out other.out)
   one_output one other status more alike first second low high =
       let a = first.done low in
       let b = second.done high in
@@ -244,9 +292,10 @@ module _ (one_run : (basin : Draft) (policy : Policy) (inputs : List (Cell × �
       let same = one_of_files b.command.job (extras_of b.command) text.0 b.text.0 status more text.2.texts b.text.2.texts say
       text.2.is b.text.2.is in (
         same.0,
-        (
-          joined_sections b.text.2.texts,
-          subst (λ ts. GrowsBy one.out.before.contents one.out.after.contents (joined_sections ts)) same.1 text.2.grew,
-          b.text.2.grew,
-        ),
+        λ none.
+            let texts = same.1 (λ migrates. none (a.command, a.asked, ap (λ (c : Command). c.job) command ∙ migrates)) in (
+              joined_sections b.text.2.texts,
+              subst (λ ts. GrowsBy one.out.before.contents one.out.after.contents (joined_sections ts)) texts text.2.grew,
+              b.text.2.grew,
+            ),
       )

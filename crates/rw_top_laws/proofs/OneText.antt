@@ -1,5 +1,5 @@
 -- A run has one end and one text.
-use Rattle.rw_top.proofs.Common.{IsRunText, List, None, RunEnd, [], ap, ap₂, length, refl, subst, suc, sym, section_text, zero, ℕ, ℤ, ◌++◌, ◌∙◌, ◌∷◌}
+use Rattle.rw_top.proofs.Common.{IsRunText, List, None, RunEnd, [], ap, ap₂, length, refl, subst, suc, sym, told_section, zero, ℕ, ℤ, ◌++◌, ◌∙◌, ◌∷◌}
 use Rattle.rw_top.proofs.Common.{◌≡◌}
 use Rattle.rw_base.specs.declared.number.Cell.{Cell}
 use Rattle.rw_model.proofs.Common.{Draft, all_slots}
@@ -53,7 +53,7 @@ one_text one_run basin policy extras reran number inputs others end other text m
     let given = same_to inputs others same (length (all_slots basin.objects)) basin.control.stamps.count in
     let log =
     one_run basin policy (placings basin others) left.log right.log (subst (λ xs. IsRun basin policy xs left.log) given left.run) right.run in
-    (left.end_is ∙ ap end_of log ∙ sym right.end_is, left.text_is ∙ ap (section_text basin extras number reran) log ∙ sym right.text_is)
+    (left.end_is ∙ ap end_of log ∙ sym right.end_is, left.text_is ∙ ap (told_section basin policy extras number reran) log ∙ sym right.text_is)
 
 -- a rule that picks has one run, too
 same_picked : (basin : Draft) (policy : Policy) (rule : Picking) (old : Log) (xs ys : List Event) (x y : Log) → LeadsPicked basin policy rule old xs x
@@ -85,4 +85,4 @@ one_simulated one_run Newest basin extras number inputs others end other text mo
     let given = same_to inputs others same (length (all_slots basin.objects)) basin.control.stamps.count in
     let log = one_picked basin no_rules newest (placings basin others) left.log right.log
     (subst (λ xs. IsPickedRun basin no_rules newest xs left.log) given left.run) right.run in
-    (left.end_is ∙ ap end_of log ∙ sym right.end_is, left.text_is ∙ ap (section_text basin extras number None) log ∙ sym right.text_is)
+    (left.end_is ∙ ap end_of log ∙ sym right.end_is, left.text_is ∙ ap (told_section basin no_rules extras number None) log ∙ sym right.text_is)

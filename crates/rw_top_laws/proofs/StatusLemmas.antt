@@ -1,5 +1,5 @@
 -- What each status says of a call that keeps its promise.
-use Rattle.rw_top.proofs.Common.{AskOne, AskNothing, AskForCommand, BadEdits, BadInputs, BadModel, BadPolicy, AreRead, Call, Command, FailsToRead}
+use Rattle.rw_top.proofs.Common.{AskOne, AskNothing, AskForCommand, BadEdits, BadInputs, BadModel, BadPolicy, BadScenarios, AreRead, Call, Command, FailsToRead}
 use Rattle.rw_top.proofs.Common.{Fault, FilesRead, FindsTooLong, GrowsBy, Holds, InputRefusal, IsRunText, IsSomeAnd, IsTextOf, Job, None}
 use Rattle.rw_top.proofs.Common.{Option, ReadsInputs, ReadsPolicy, SaysAt, Some, List, LongFile, ModelRefusal, Promise, Reason}
 use Rattle.rw_top.proofs.Common.{RefusedCommand, RefusesInputs, RefusesModel, RefusesPolicy, Rose, RunEnd, Settled, WasFound, WasRefused, WritesFront}
@@ -11,22 +11,29 @@ use Rattle.rw_run.specs.Next.{no_rules}
 use Rattle.rw_run.specs.declared.fault.RunFault.{RunFault}
 use Rattle.rw_base.specs.declared.number.Cell.{Cell}
 use Rattle.rw_top.specs.Cell.{FindsCell}
-use Rattle.rw_top.specs.Promise.{WroteRules, WroteSample, WroteWhy}
-use Rattle.rw_top.specs.Reading.{LacksCell, RefusesEdits}
+use Rattle.rw_top.specs.Promise.{WroteBalance, WroteMany, WroteMigrated, WroteRules, WroteSample, WroteWhy}
+use Rattle.rw_top.specs.Reading.{LacksCell, ReadsModel, ReadsScenarios, RefusesEdits, RefusesScenarios, text_wanted}
 use Rattle.rpl_compile.specs.Translate.{translate}
-use Rattle.rw_top.specs.RunText.{IsRulesText, IsSampleText, IsWhyOfRules}
-use Rattle.rw_top.proofs.SampleText.{inputs_of_sample, model_of_sample, ruleset_of_sample}
+use Rattle.rw_top.specs.RunText.{IsBalanceOfRules, IsRulesText, IsSampleText, IsWhyOfRules}
+use Rattle.rw_top.specs.Many.{AllSettled, AreScenarioRuns, many_texts, status_of_runs}
+use Rattle.rw_model_toml.specs.Migrated.{IsMigrated}
+use Rattle.rw_inputs.specs.Edits.{Batch}
+use Rattle.rw_run.specs.Log.{Log}
+use Rattle.rw_run.specs.RunOf.{end_of}
+use Rattle.rw_mrm.specs.Tally.{is_settled}
+use Rattle.rw_base.proofs.Common.{All-cons, All-head, All-nil, All-tail, if◌then◌else◌, none-some, same_Some, subst, unwrap_or}
+use Rattle.rw_top.proofs.SampleText.{inputs_of_sample, model_of_sample, ruleset_of_sample, source_by}
 use Rattle.rw_top.specs.Sections.{AreSections, joined_sections}
-use Rattle.rw_top.specs.Written.{WritesSections, batches_in}
+use Rattle.rw_top.specs.Written.{WritesSections, batches_in, scenarios_in}
 use Rattle.rw_top.proofs.SectionLemmas.{one_grown}
 use Rattle.rw_base.proofs.Common.{sym, ◌&&◌}
 use Rattle.rw_inputs.specs.Inputs.{Inputs as Given}
 use Rattle.rpl_code.specs.Spelling.{spelt}
 use Rattle.rw_top.specs.Budgets.{check_text}
 use Rattle.rw_top.specs.Policy.{BadCode, RulesRefusal, BadRules, BadBlocks, PolicyFile as Rules, Ruleset, Code, code_in_file, is_code}
-use Rattle.rw_words.specs.declared.job.Job.TheVariants.{Simulate, Check, Compile, Run, Why, Sample}
-use Rattle.rw_top.specs.declared.refusal.File.TheVariants.{Policy as PolicyFile, Inputs as InputsFile}
-use Rattle.rw_top.specs.declared.refusal.Refusal.TheVariants.{Words, CannotRead, CannotWrite, NoMemory, Inputs, Edits, NoCell}
+use Rattle.rw_words.specs.declared.job.Job.TheVariants.{Simulate, Check, Compile, Run, Why, Sample, Balance, Mrm, Migrate}
+use Rattle.rw_top.specs.declared.refusal.File.TheVariants.{Policy as PolicyFile, Inputs as InputsFile, Traces as TracesFile}
+use Rattle.rw_top.specs.declared.refusal.Refusal.TheVariants.{Words, CannotRead, CannotWrite, NoMemory, Inputs, Edits, Traces, NoCell}
 use Rattle.rw_top.proofs.CauseLemmas.{told_status}
 use Rattle.rw_top.proofs.OneReading.{one_kind}
 use Rattle.rw_top.specs.Command.{extras_of}
@@ -40,6 +47,26 @@ settles P (Fault why) is wrote = absurd (omega (arith, is))
 faults : (P : RunEnd → Type 0) (end : RunEnd) → 1 ≡ status_of_end end → P end → (why : RunFault) × P (Fault why)
 faults P Settled is wrote = absurd (omega (arith, is))
 faults P (Fault why) is wrote = (why, wrote)
+
+-- a status of 0 is that of runs that all settled
+ended : (log : Log) (end : RunEnd) → end_of log ≡ end → (rest : ℕ) → 0 ≡ (if is_settled end then rest else 1) → (end_of log ≡ Settled) × (0 ≡ rest)
+ended log Settled is rest status = (is, status)
+ended log (Fault why) is rest status = absurd (omega (arith, status))
+
+abbrev HasSettled : Log → Type 0
+HasSettled log = end_of log ≡ Settled
+
+all_settled : (logs : List Log) → 0 ≡ status_of_runs logs → AllSettled logs
+all_settled [] status = All-nil HasSettled
+all_settled (log ∷ logs) status =
+    let both = ended log (end_of log) refl (status_of_runs logs) status in All-cons HasSettled log logs both.0 (all_settled logs both.1)
+
+-- and one of 1 isn't
+some_faulted : (logs : List Log) → 1 ≡ status_of_runs logs → AllSettled logs → ⊥
+some_faulted [] status all = absurd (omega (arith, status))
+some_faulted (log ∷ logs) status all =
+    some_faulted logs (subst (λ end. 1 ≡ (if is_settled end then status_of_runs logs else 1)) (All-head HasSettled log logs all) status)
+    (All-tail HasSettled log logs all)
 
 module _ (call : Call) (command : Command) (asked : AskForCommand call.words command) (files : FilesRead)
     (read : AreRead command call.shelf.before.holds files) (texts : List (List ℕ))
@@ -146,13 +173,90 @@ module _ (call : Call) (command : Command) (asked : AskForCommand call.words com
       let as_code : reads_code command its.text ≡ true = its.is.0 in
       absurd (one_kind _ as_code (ap (λ j. takes_code j && is_code its.text) job))
 
-  settled_by : (job : Job) → command.job ≡ job → IsTextOf job (extras_of command) files 0 texts
-      → WroteRun call Settled ⊎ WroteRules call Settled ⊎ WroteWhy call Settled ⊎ WroteCheck call ⊎ WroteCode call ⊎ WroteSample call
+  wrote_balance : (end : RunEnd) (policy : Option Rules) (inputs : Option Given)
+      → SaysAt command PolicyFile policy (ReadsPolicy command holds files.basin)
+      → SaysAt command InputsFile inputs (ReadsInputs command holds files.basin)
+      → IsSomeAnd policy (λ rules. IsSomeAnd inputs (λ given.
+      (text : List ℕ) × (texts ≡ text ∷ []) × IsBalanceOfRules files.basin rules given end text)) → WroteBalance call end
+  wrote_balance end None inputs rules says is = absurd is
+  wrote_balance end (Some policy) None rules says is = absurd is
+  wrote_balance end (Some policy) (Some inputs) rules says is = record {
+    command = command;
+    asked = asked;
+    basin = files.basin;
+    policy = policy;
+    rules = rules;
+    inputs = inputs;
+    read = says;
+    text = is.0;
+    is = is.2;
+    grew = one is.0 is.1;
+  }
+
+  -- the scenarios of `mrm` are there
+  wrote_many : (status : ℕ) → command.job ≡ Mrm → (policy : Option Rules) (inputs : Option Given) (scenarios : Option (List Batch))
+      → SaysAt command PolicyFile policy (ReadsPolicy command holds files.basin)
+      → SaysAt command InputsFile inputs (ReadsInputs command holds files.basin)
+      → SaysAt command TracesFile scenarios (ReadsScenarios command holds files.basin)
+      → IsSomeAnd policy (λ rules. IsSomeAnd inputs (λ given. (logs : List Log)
+      × AreScenarioRuns files.basin rules given (unwrap_or scenarios []) logs
+      × (status ≡ status_of_runs logs) × (texts ≡ many_texts files.basin logs)))
+      → (logs : List Log) × (status ≡ status_of_runs logs) × WroteMany call logs
+  wrote_many status job None inputs scenarios rules says told is = absurd is
+  wrote_many status job (Some policy) None scenarios rules says told is = absurd is
+  wrote_many status job (Some policy) (Some inputs) None rules says told is =
+      let none : source_by TracesFile command.paths Mrm ≡ None = sym (ap (source_by TracesFile command.paths) job) ∙ told in
+      absurd (none-some _ (sym none))
+  wrote_many status job (Some policy) (Some inputs) (Some scenarios) rules says told is = (
+    is.0,
+    is.2,
+    record {
+      command = command;
+      asked = asked;
+      basin = files.basin;
+      policy = policy;
+      rules = rules;
+      inputs = inputs;
+      read = says;
+      scenarios = scenarios;
+      told = told;
+      are = is.1;
+      grew = subst (λ ts. GrowsBy call.out.before.contents call.out.after.contents (joined_sections ts)) is.3 grew;
+    },
+  )
+
+  wrote_migrated : command.job ≡ Migrate → (text : Option (List ℕ)) → text ≡ text_wanted command.job read.model.text
+      → IsSomeAnd text (λ old. (new : List ℕ) × (texts ≡ new ∷ []) × IsMigrated old new) → WroteMigrated call
+  wrote_migrated job None kept is = absurd is
+  wrote_migrated job (Some old) kept is =
+      let same : old ≡ read.model.text = same_Some _ _ (kept ∙ ap (λ j. text_wanted j read.model.text) job) in
+      record {
+        command = command;
+        asked = asked;
+        basin = files.basin;
+        model = read.model;
+        text = is.0;
+        is = subst (λ t. IsMigrated t is.0) same is.2;
+        grew = one is.0 is.1;
+      }
+
+  abbrev WroteSettled : Type 0
+  WroteSettled = WroteRun call Settled ⊎ WroteRules call Settled ⊎ WroteWhy call Settled ⊎ WroteCheck call ⊎ WroteCode call ⊎ WroteSample call
+      ⊎ WroteBalance call Settled ⊎ ((logs : List Log) × WroteMany call logs × AllSettled logs) ⊎ WroteMigrated call
+
+  settled_by : (job : Job) → command.job ≡ job → IsTextOf job (extras_of command) files 0 texts → WroteSettled
   settled_by Simulate job is = inl (settles (WroteRun call) is.0 is.1 (wrote_run is.0 files.inputs read.inputs is.2))
   settled_by Check job is = inr (inr (inr (inl (wrote_check files.policy read.policy is.1))))
   settled_by Compile job is = inr (inr (inr (inr (inl (wrote_code job files.policy read.policy is.1)))))
   settled_by (Sample seed) job is =
-      inr (inr (inr (inr (inr (wrote_sample seed job files.policy files.inputs read.policy read.inputs is.1)))))
+      inr (inr (inr (inr (inr (inl (wrote_sample seed job files.policy files.inputs read.policy read.inputs is.1))))))
+  settled_by Balance job is =
+      inr (inr (inr (inr (inr (inr (inl (settles (WroteBalance call) is.0 is.1
+      (wrote_balance is.0 files.policy files.inputs read.policy read.inputs is.2))))))))
+  settled_by Mrm job is =
+      let many = wrote_many 0 job files.policy files.inputs files.scenarios read.policy read.inputs read.scenarios is in
+      inr (inr (inr (inr (inr (inr (inr (inl (many.0, many.2, all_settled many.0 many.1))))))))
+  settled_by Migrate job is = inr (inr (inr (inr (inr (inr (inr (inr (wrote_migrated job files.text read.text_is is.1))))))))
   settled_by Why job is =
       inr (inr (inl (settles (WroteWhy call) is.0 is.1
       (wrote_why is.0 files.policy files.inputs files.cell read.policy read.inputs read.cell is.2))))
@@ -160,31 +264,43 @@ module _ (call : Call) (command : Command) (asked : AskForCommand call.words com
       inr (inl (settles (WroteRules call) is.0 is.1 (wrote_rules is.0 files.policy files.inputs read.policy read.inputs is.2)))
 
   abbrev WroteFault : RunEnd → Type 0
-  WroteFault end = WroteRun call end ⊎ WroteRules call end ⊎ WroteWhy call end
+  WroteFault end = WroteRun call end ⊎ WroteRules call end ⊎ WroteWhy call end ⊎ WroteBalance call end
 
-  faulted_by : (job : Job) → IsTextOf job (extras_of command) files 1 texts
-      → (why : RunFault) × (WroteRun call (Fault why) ⊎ WroteRules call (Fault why) ⊎ WroteWhy call (Fault why))
-  faulted_by Simulate is = faults WroteFault is.0 is.1 (inl (wrote_run is.0 files.inputs read.inputs is.2))
-  faulted_by Run is = faults WroteFault is.0 is.1 (inr (inl (wrote_rules is.0 files.policy files.inputs read.policy read.inputs is.2)))
-  faulted_by Why is =
-      faults WroteFault is.0 is.1 (inr (inr (wrote_why is.0 files.policy files.inputs files.cell read.policy read.inputs read.cell is.2)))
-  faulted_by Check is = absurd (omega (arith, is.0))
-  faulted_by Compile is = absurd (omega (arith, is.0))
-  faulted_by (Sample seed) is = absurd (omega (arith, is.0))
+  abbrev WroteFaulted : Type 0
+  WroteFaulted = ((why : RunFault) × WroteFault (Fault why)) ⊎ ((logs : List Log) × WroteMany call logs × ¬ AllSettled logs)
+
+  faulted_by : (job : Job) → command.job ≡ job → IsTextOf job (extras_of command) files 1 texts → WroteFaulted
+  faulted_by Simulate job is = inl (faults WroteFault is.0 is.1 (inl (wrote_run is.0 files.inputs read.inputs is.2)))
+  faulted_by Run job is =
+      inl (faults WroteFault is.0 is.1 (inr (inl (wrote_rules is.0 files.policy files.inputs read.policy read.inputs is.2))))
+  faulted_by Why job is =
+      inl (faults WroteFault is.0 is.1
+      (inr (inr (inl (wrote_why is.0 files.policy files.inputs files.cell read.policy read.inputs read.cell is.2)))))
+  faulted_by Balance job is =
+      inl (faults WroteFault is.0 is.1 (inr (inr (inr (wrote_balance is.0 files.policy files.inputs read.policy read.inputs is.2)))))
+  faulted_by Mrm job is =
+      let many = wrote_many 1 job files.policy files.inputs files.scenarios read.policy read.inputs read.scenarios is in
+      inr (many.0, many.2, some_faulted many.0 many.1)
+  faulted_by Check job is = absurd (omega (arith, is.0))
+  faulted_by Compile job is = absurd (omega (arith, is.0))
+  faulted_by (Sample seed) job is = absurd (omega (arith, is.0))
+  faulted_by Migrate job is = absurd (omega (arith, is.0))
 
 pub settled : (call : Call) → Promise call 0
     → WroteRun call Settled ⊎ WroteRules call Settled ⊎ WroteWhy call Settled ⊎ WroteCheck call ⊎ WroteCode call ⊎ WroteSample call
+    ⊎ WroteBalance call Settled ⊎ ((logs : List Log) × WroteMany call logs × AllSettled logs) ⊎ WroteMigrated call
 settled call promise =
     let wrote = promise.done (omega arith) in
     let appends = wrote.text.2 in
     settled_by call wrote.command wrote.asked wrote.text.0 wrote.text.1 appends.texts appends.grew wrote.command.job refl appends.is
 
 pub faulted : (call : Call) → Promise call 1
-    → (why : RunFault) × (WroteRun call (Fault why) ⊎ WroteRules call (Fault why) ⊎ WroteWhy call (Fault why))
+    → ((why : RunFault) × (WroteRun call (Fault why) ⊎ WroteRules call (Fault why) ⊎ WroteWhy call (Fault why) ⊎ WroteBalance call (Fault why)))
+    ⊎ ((logs : List Log) × WroteMany call logs × ¬ AllSettled logs)
 faulted call promise =
     let wrote = promise.done (omega arith) in
     let appends = wrote.text.2 in
-    faulted_by call wrote.command wrote.asked wrote.text.0 wrote.text.1 appends.texts appends.grew wrote.command.job appends.is
+    faulted_by call wrote.command wrote.asked wrote.text.0 wrote.text.1 appends.texts appends.grew wrote.command.job refl appends.is
 
 module _ (call : Call) where
   by_words : (why : Refusal) → 2 ≡ status_of why → WasRefused call why → AskNothing call.words
@@ -273,9 +389,11 @@ module _ (call : Call) where
   bad_code command reason is found = absurd (omega (arith, is))
 
   bad_inputs : (command : Command) (reason : Reason) → 8 ≡ status_by reason → WasFound command call.shelf reason
-      → (why : InputRefusal) × (RefusesInputs command call.shelf.before.holds why ⊎ RefusesEdits command call.shelf.before.holds why)
+      → (why : InputRefusal) × (RefusesInputs command call.shelf.before.holds why ⊎ RefusesEdits command call.shelf.before.holds why
+      ⊎ RefusesScenarios command call.shelf.before.holds why)
   bad_inputs command (BadInputs why) is found = (why, inl found)
-  bad_inputs command (BadEdits why) is found = (why, inr found)
+  bad_inputs command (BadEdits why) is found = (why, inr (inl found))
+  bad_inputs command (BadScenarios why) is found = (why, inr (inr found))
   bad_inputs command (BadPolicy (BadRules why)) is found = absurd (omega (arith, is))
   bad_inputs command (BadPolicy (BadBlocks why)) is found = absurd (omega (arith, is))
   bad_inputs command reason is found = absurd (omega (arith, is))
@@ -301,7 +419,8 @@ module _ (call : Call) where
 
   -- 8 is that of a row, or of a cell that isn't there
   abbrev RowOrCell : Command → Type 0
-  RowOrCell command = ((why : InputRefusal) × (RefusesInputs command call.shelf.before.holds why ⊎ RefusesEdits command call.shelf.before.holds why))
+  RowOrCell command = ((why : InputRefusal) × (RefusesInputs command call.shelf.before.holds why ⊎ RefusesEdits command call.shelf.before.holds why
+      ⊎ RefusesScenarios command call.shelf.before.holds why))
       ⊎ LacksCell command call.shelf.before.holds
 
   by_row : (why : Refusal) → 8 ≡ status_of why → why ≢ NoCell → RefusedCommand call why → AskOne call.words RowOrCell
@@ -313,6 +432,7 @@ module _ (call : Call) where
   row_or_cell NoCell is was = (was.command, was.asked, inr was.cause.0)
   row_or_cell (Inputs kind row column) is was = by_row (Inputs kind row column) is (λ same. cc) was
   row_or_cell (Edits kind row column) is was = by_row (Edits kind row column) is (λ same. cc) was
+  row_or_cell (Traces kind row column) is was = by_row (Traces kind row column) is (λ same. cc) was
   row_or_cell why is was = absurd (omega (arith, is))
 
   pub inputs : Promise call 8 → AskOne call.words RowOrCell

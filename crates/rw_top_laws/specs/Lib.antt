@@ -1,3 +1,4 @@
 pub mod FirstCall
 pub mod Alike
+pub mod Books
 pub mod SureCall

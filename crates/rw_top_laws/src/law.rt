@@ -1,5 +1,5 @@
 //! What the definitions of this crate speak of is one thing. Each law is the `ensures` of a function that does nothing.
-ghost use Rattle.std.specs.Prelude.{◌≡◌, ◌≢◌, ◌≤◌, ◌<◌, ◌-◌, ◌^◌, ◌↔◌, ◌⊎◌, ℕ, ℤ, Bool, false, List, [], ◌∷◌, ◌++◌, Option, None, Some, IfSome, IsSome, IsSomeAnd, length, take};
+ghost use Rattle.std.specs.Prelude.{◌≡◌, ◌≢◌, ◌≤◌, ◌<◌, ◌-◌, ◌^◌, ◌↔◌, ◌⊎◌, ℕ, ℤ, Bool, false, List, [], ◌∷◌, ◌++◌, Option, None, Some, IfSome, IsSome, IsSomeAnd, length, slice_get, take};
 ghost use Rattle.rw_plain_reservoir.specs.FirstForm.{FirstModel, IsFirstForm, IsFirstFlows};
 ghost use Rattle.rw_plain_reservoir.specs.Table.{IsFirstText};
 ghost use Rattle.rw_io.specs.Causes.{Rose};
@@ -31,12 +31,12 @@ ghost use Rattle.rw_words.specs.declared.order.Order.{Order};
 ghost use Rattle.rw_top_laws.specs.FirstCall.{IsFirstCall};
 ghost use Rattle.rw_top.specs.Lines.{memory_line, refusal_line, words_line};
 ghost use Rattle.rw_top.specs.Policy.{BadCode, RulesRefusal, BadRules, BadBlocks, PolicyFile, Ruleset, Code, IsPolicyFileOf, code_in_file};
-ghost use Rattle.rw_top.specs.Promise.{Promise, WroteCheck, WroteCode, WroteRules, WroteRun, WroteSample, WroteWhy};
-ghost use Rattle.rw_top.specs.Reading.{AcceptsAll, FilesRead, HoldsTooLong, IsHonestOfAll, LacksCell, ReadsInputs, RefusesEdits, RefusesInputs, RefusesModel, RefusesPolicy};
+ghost use Rattle.rw_top.specs.Promise.{Promise, WroteBalance, WroteCheck, WroteCode, WroteMany, WroteMigrated, WroteRules, WroteRun, WroteSample, WroteWhy};
+ghost use Rattle.rw_top.specs.Reading.{AcceptsAll, FilesRead, HoldsTooLong, IsHonestOfAll, LacksCell, ReadsInputs, RefusesEdits, RefusesInputs, RefusesModel, RefusesPolicy, RefusesScenarios};
 ghost use Rattle.rw_top.specs.Refusal.{FailsToRead, FindsTooLong, status_of};
 ghost use Rattle.rw_top.specs.Told.{AreTold};
 ghost use Rattle.rw_top_laws.specs.SureCall.{IsSure};
-ghost use Rattle.rw_top.specs.Written.{AppendsFront, AppendsSections, CountsOfFiles, IsFrontOf, OfFiles, TellsLine, WritesFront, WritesSections, batches_in};
+ghost use Rattle.rw_top.specs.Written.{AppendsFront, AppendsSections, CountsOfFiles, IsFrontOf, OfFiles, TellsLine, WritesFront, WritesSections, sections_behind};
 ghost use Rattle.std.specs.Prelude.{IsTrue};
 ghost use Rattle.rw_top.specs.Sections.{AreSections, GivenInputs, first_given, joined_sections};
 ghost use Rattle.rw_words.specs.declared.job.Job.{Job};
@@ -49,12 +49,18 @@ ghost use Rattle.rpl_tree.specs.Budget.{Budget};
 ghost use Rattle.rw_base.specs.declared.number.StepNo.{StepNo};
 ghost use Rattle.rw_base.specs.declared.number.Cell.{Cell};
 ghost use Rattle.rw_inputs.specs.Edits.{Batch};
-ghost use Rattle.rw_top.specs.RunText.{IsRulesText, IsRunText, IsSampleOf, IsSimulated, IsWhyOfRules, no_extras, policy_in_run};
+ghost use Rattle.rpl_code.specs.declared.block.Block.{Block};
+ghost use Rattle.rw_top.specs.Many.{AllSettled, AreScenarioRuns, IsScenarioRun};
+ghost use Rattle.rw_top_laws.specs.Books.{TellsClosedBooks};
+ghost use Rattle.rw_top.specs.RunText.{IsBalanceOfRules, IsRulesText, IsRunText, IsSampleOf, IsSimulated, IsWhyOfRules, no_extras, policy_in_run};
 ghost use Rattle.rw_top.specs.declared.extras.Extras.{Extras};
 ghost use Rattle.rw_top.specs.declared.refusal.File.{File};
 ghost use Rattle.rw_top.specs.declared.refusal.Refusal.{Refusal};
 
 use rpl_compile::accepted::compiled_budgets;
+use rpl_policy::law::code_keeps_promises;
+use rpl_rulesets::law::rulesets_have_runs;
+use rw_book_laws::law::every_book_of_events;
 use rw_model_toml::law::files_are_basins;
 use rw_plain_reservoir::law::first_text;
 use rw_report::law::texts_of_runs;
@@ -121,11 +127,13 @@ pub fn one_answer()
     one_run();
 }
 
-/// Calls with the same words over shelves that tell the same files, which answer 0 or 1, answer the same and append the same bytes.
+/// Calls with the same words over shelves that tell the same files, which answer 0 or 1, answer the same and append the same bytes,
+/// but for a model that is migrated, of whose bytes the table alone is said.
 pub fn one_output()
     ensures { (one other : Call) (status more : ℕ) → AskAlike one other
         → Promise one status → Promise other more → status ≤ 1 → more ≤ 1
-        → (status ≡ more) × AppendAlike one.out other.out }
+        → (status ≡ more) × (¬ AskOne one.words (λ command. command.job ≡ J.Migrate)
+        → AppendAlike one.out other.out) }
 {
     one_run();
 }
@@ -159,7 +167,7 @@ pub fn told_lines()
 
 /// What stands behind 3, 10, 4 and 5: a fault of the file was counted; more bytes were taken than a file may have; what was written
 /// begins the text of the command; and the sections that were written before memory was wanting are whole and fewer than all, which
-/// are one more than the batches.
+/// are one more than the batches of edits, or than the scenarios.
 pub fn broken_off()
     ensures rose { (command : Command) (shelf : Change ShelfView) (file : File)
         → FailsToRead command shelf file
@@ -175,7 +183,7 @@ pub fn broken_off()
     ensures fewer { (job : Job) (extras : Extras) (files : FilesRead) (out : Change SinkView)
         → AppendsSections job extras files out
         → (texts : List (List ℕ)) × IsFrontOf job extras files texts
-        × (length texts ≤ length (batches_in files))
+        × (length texts ≤ sections_behind job files)
         × GrowsBy out.before.contents out.after.contents (joined_sections texts) }
 {}
 
@@ -211,6 +219,40 @@ pub fn firings_of_sections()
         × AreAccepted basin (code_in_file policy) budgets
         × AreVerified basin (code_in_file policy) budgets log }
 {}
+
+/// The books that `balance` writes close: of each object of which all is known, what it held before the run, and what flowed in less
+/// what flowed out, is what it holds.
+pub fn closed_books()
+    ensures code { (basin : Draft) (blocks : List Block) (budgets : List Budget) (inputs : Inputs)
+        (end : RunEnd) (text : List ℕ) → IsBasin basin
+        → IsBalanceOfRules basin (Code blocks budgets) inputs end text
+        → TellsClosedBooks basin end text }
+    ensures rules { (basin : Draft) (rules : List Declared) (inputs : Inputs) (end : RunEnd)
+        (text : List ℕ) → IsBasin basin → IsTyped basin rules
+        → rule_count rules ≤ 200 → function_count rules ≤ 200
+        → IsBalanceOfRules basin (Ruleset rules) inputs end text
+        → TellsClosedBooks basin end text }
+{
+    every_book_of_events();
+    code_keeps_promises();
+    rulesets_have_runs();
+}
+
+/// The run of a scenario goes by the inputs and its own batch alone, so that no other one counts for it: it has one run, wherever it
+/// stands among others.
+pub fn scenarios_apart()
+    ensures one { (basin : Draft) (policy : PolicyFile) (inputs others : Inputs) (batch : Batch)
+        (log other : Log)
+        → ((slot step : ℕ) → value_at inputs slot step ≡ value_at others slot step)
+        → IsScenarioRun basin policy inputs batch log
+        → IsScenarioRun basin policy others batch other → log ≡ other }
+    ensures each { (basin : Draft) (policy : PolicyFile) (inputs : Inputs) (batches : List Batch)
+        (logs : List Log) (place : ℕ) (batch : Batch)
+        → AreScenarioRuns basin policy inputs batches logs → slice_get batches place ≡ Some batch
+        → IsSomeAnd (slice_get logs place) (IsScenarioRun basin policy inputs batch) }
+{
+    one_run();
+}
 
 /// The sample of a seed has one line.
 pub fn one_sample()
@@ -254,15 +296,17 @@ pub fn first_call()
     files_are_basins();
 }
 
-/// What each status says of a call that keeps its promise. Want of memory, 5, may always come. Then nothing was written, or, of a
-/// command that runs a policy, the first sections, each whole, and fewer than all.
+/// What each status says of a call that keeps its promise. Want of memory, 5, may always come. Then nothing was written, or, of
+/// `run` and of `mrm`, the first sections, each whole, and fewer than all.
 pub fn statuses()
     ensures settled { (call : Call) → Promise call 0
         → WroteRun call Settled ⊎ WroteRules call Settled ⊎ WroteWhy call Settled
-        ⊎ WroteCheck call ⊎ WroteCode call ⊎ WroteSample call }
+        ⊎ WroteCheck call ⊎ WroteCode call ⊎ WroteSample call ⊎ WroteBalance call Settled
+        ⊎ ((logs : List Log) × WroteMany call logs × AllSettled logs) ⊎ WroteMigrated call }
     ensures faulted { (call : Call) → Promise call 1
-        → (why : RunFault) × (WroteRun call (Fault why) ⊎ WroteRules call (Fault why)
-        ⊎ WroteWhy call (Fault why)) }
+        → ((why : RunFault) × (WroteRun call (Fault why) ⊎ WroteRules call (Fault why)
+        ⊎ WroteWhy call (Fault why) ⊎ WroteBalance call (Fault why)))
+        ⊎ ((logs : List Log) × WroteMany call logs × ¬ AllSettled logs) }
     ensures words { (call : Call) → Promise call 2 → AskNothing call.words }
     ensures read_fault { (call : Call) → Promise call 3
         → AskOne call.words (λ command. (file : File) × FailsToRead command call.shelf file) }
@@ -279,7 +323,8 @@ pub fn statuses()
         × RefusesPolicy command call.shelf.before.holds (BadBlocks why)) }
     ensures inputs { (call : Call) → Promise call 8 → AskOne call.words
         (λ command. ((why : InputRefusal) × (RefusesInputs command call.shelf.before.holds why
-        ⊎ RefusesEdits command call.shelf.before.holds why))
+        ⊎ RefusesEdits command call.shelf.before.holds why
+        ⊎ RefusesScenarios command call.shelf.before.holds why))
         ⊎ LacksCell command call.shelf.before.holds) }
     ensures too_long { (call : Call) → Promise call 10
         → AskOne call.words (λ command. (file : File) × FindsTooLong command call.shelf file) }
@@ -325,6 +370,11 @@ pub fn dues()
         → RefusesEdits command call.shelf.before.holds why
         → AreTold command call.shelf 3
         → (status ≡ 8) ⊎ (status ≡ 5) }
+    ensures scenarios { (call : Call) (status : ℕ) (command : Command) (why : InputRefusal)
+        → Promise call status → AskForCommand call.words command
+        → RefusesScenarios command call.shelf.before.holds why
+        → AreTold command call.shelf 4
+        → (status ≡ 8) ⊎ (status ≡ 5) }
     ensures long { (call : Call) (status : ℕ) (command : Command) (file : File)
         → Promise call status → AskForCommand call.words command
         → HoldsTooLong command call.shelf.before.holds file
@@ -333,13 +383,13 @@ pub fn dues()
     ensures cell { (call : Call) (status : ℕ) (command : Command)
         → Promise call status → AskForCommand call.words command
         → LacksCell command call.shelf.before.holds
-        → AreTold command call.shelf 3
+        → AreTold command call.shelf 4
         → (status ≡ 8) ⊎ (status ≡ 5) }
     ensures none { (call : Call) (status : ℕ) (command : Command)
         → Promise call status → AskForCommand call.words command
         → AcceptsAll command call.shelf.before.holds
         → ¬ LacksCell command call.shelf.before.holds
-        → AreTold command call.shelf 3 → ¬ Rose call.out.before.faults call.out.after.faults
+        → AreTold command call.shelf 4 → ¬ Rose call.out.before.faults call.out.after.faults
         → (status ≤ 1) ⊎ (status ≡ 5) }
 {}
 

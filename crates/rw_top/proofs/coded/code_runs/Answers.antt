@@ -1,3 +1,4 @@
+use Rattle.rw_base.proofs.Common.{refl}
 use Rattle.rw_inputs.specs.Placings.{placings}
 use Rattle.rw_top.proofs.RulesText.{by_code}
 use Rattle.rw_top.proofs.coded.code_runs.Goals as goal
@@ -10,4 +11,5 @@ returns c = λ basin code fits.
           by_code basin code inputs run' accepted
           (λ log whole. c.firings_are_verified.ensures basin code.blocks code.budgets (placings basin inputs) log accepted whole);
       runs = λ inputs log whole. whole;
+      asks = λ inputs log whole. refl;
     }

@@ -5,5 +5,5 @@ pub returns-in-Ok : goal.returns-in-Ok
 returns-in-Ok c = record {
   are = c.in-Ok.ensures.answers;
   fit = c.in-Ok.ensures.made;
-  few = few_batches c.args.basin.now c.args.text.now c.in-Ok.batches.items c.in-Ok.ensures.answers;
+  few = few_batches _ c.args.basin.now c.args.text.now c.in-Ok.batches.items c.in-Ok.ensures.answers;
 }

@@ -1,5 +1,5 @@
-use Rattle.rw_top.proofs.Common.{IfOk, files_seen, subst, sym}
-use Rattle.rw_top.specs.Written.{IsOne}
+use Rattle.rw_top.proofs.Common.{IfOk, MatchResult, change, files_seen, subst, sym}
+use Rattle.rw_top.specs.Written.{Appends, IsOne, Stops}
 use Rattle.rw_top.proofs.perform.write_job.Goals as goal
 
 pub write_made-requires-in-Check : goal.write_made-requires-in-Check
@@ -19,3 +19,20 @@ write_made-requires-in-Why g c =
 
 pub write_made-requires-in-Sample : goal.write_made-requires-in-Sample
 write_made-requires-in-Sample g c = c.sample-made.ensures c.args.extras
+
+pub write_made-requires-in-Balance : goal.write_made-requires-in-Balance
+write_made-requires-in-Balance g c =
+    subst (λ job. IfOk c.balance-made.result (λ pair. IsOne job c.args.extras (files_seen c.args.files) pair.1 pair.0.items)) (sym c.in-Balance.is)
+    (c.balance-made.ensures c.args.extras)
+
+pub write_made-requires-in-Migrate : goal.write_made-requires-in-Migrate
+write_made-requires-in-Migrate g c =
+    subst (λ job. IfOk c.migrate.result (λ pair. IsOne job c.args.extras (files_seen c.args.files) pair.1 pair.0.items)) (sym c.in-Migrate.is)
+    (c.migrate.ensures c.args.extras)
+
+pub returns-in-Mrm-clause-text : goal.returns-in-Mrm-clause-text
+returns-in-Mrm-clause-text g c =
+    subst (λ job. MatchResult c.many.result
+    (Appends job c.args.extras (files_seen c.args.files) (change (g.K.Sink.seen c.args.out.now) (g.K.Sink.seen c.many.new.out)))
+    (Stops job c.args.extras (files_seen c.args.files) (change (g.K.Sink.seen c.args.out.now) (g.K.Sink.seen c.many.new.out)))) (sym c.in-Mrm.is)
+    (c.many.ensures c.args.extras)

@@ -14,7 +14,7 @@ returns-clause-text g c = λ policy before means.
     let basin = c.args.setup.now.basin.now in
     let comes = means.comes c.args.inputs.now c.in_ok-run.run' c.in_ok-run.ensures.run in
     section_by c.texts_of_runs.ensures.whole basin policy c.args.extras None c.args.number (record { before = before; inputs = c.args.inputs.now })
-    c.in_ok-run.run' _ comes c.in_ok-run.ensures.kept
+    c.in_ok-run.run' _ comes c.in_ok-run.ensures.kept c.requires.silent
     (untold basin (policy_in_run basin policy) c.args.extras.reuse (record { before = before; inputs = c.args.inputs.now }) comes.log
     c.requires.plain)
     (of_basin c.args.sheet.now.basin basin c.args.number c.in_ok-run.run' None c.args.extras _ c.requires.sheet c.in_ok-tell.ensures.text)

@@ -8,9 +8,9 @@ pub returns : goal.returns
 returns g c =
     let basin = c.args.setup.now.basin.now in
     let inputs = c.args.inputs.now in
-    without_rules c.same_runs.ensures.alike basin _ c.args.extras None _ inputs _ _ (ap (λ (a : Accepted). a.blocks) c.requires.none)
+    without_rules c.same_runs.ensures.alike basin _ c.args.extras None _ inputs _ _ (ap (λ (a : Accepted). a.blocks) c.requires.none) c.requires.silent
     (text_is_run c.texts_of_runs.ensures.whole basin _ c.args.extras None _ inputs c.in_ok-run.run' _ c.in_ok-run.ensures.run c.in_ok-run.ensures.kept
-    c.in_ok-text.ensures.text)
+    c.requires.silent c.in_ok-text.ensures.text)
 
 pub run_all_of-requires-clause-can : goal.run_all_of-requires-clause-can
 run_all_of-requires-clause-can g c = record {

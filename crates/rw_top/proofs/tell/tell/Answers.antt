@@ -23,3 +23,6 @@ returns-in-Block g c = rw c.in-Block.is c.tell_block.ensures
 
 pub returns-in-Edits : goal.returns-in-Edits
 returns-in-Edits g c = rw c.in-Edits.is c.tell_edits.ensures
+
+pub returns-in-Traces : goal.returns-in-Traces
+returns-in-Traces g c = rw c.in-Traces.is c.tell_traces.ensures

@@ -24,3 +24,6 @@ returns-clause-none c = due.of_none
 
 pub returns-clause-cell : goal.returns-clause-cell
 returns-clause-cell c = due.of_cell
+
+pub returns-clause-scenarios : goal.returns-clause-scenarios
+returns-clause-scenarios c = due.of_scenarios

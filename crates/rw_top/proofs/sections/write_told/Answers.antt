@@ -1,4 +1,4 @@
-use Rattle.rw_top.proofs.sections.write_section.Goals as goal
+use Rattle.rw_top.proofs.sections.write_told.Goals as goal
 
 pub returns-in-Ok-write_all-clause-out : goal.returns-in-Ok-write_all-clause-out
 returns-in-Ok-write_all-clause-out g c = λ policy before means. record {
