@@ -6,7 +6,8 @@
    `once` or `on`, the status or minus the signal, how many bytes of output, of the output `same`, `whole` (nothing, or
    a front that ends just before the first line of a section or of the summary) or `other`, and of the error stream
    `none`, `same`, `memory` or `other`; and at the end a line `calls N`. With REQUESTS_STEP=K only each K-th call is
-   tried, and with 0 none is.
+   tried, and with 0 none is. With REQUESTS_AT=N there are no children: the N-th call of the program itself fails, and
+   with REQUESTS_ON=1 all later ones do, too.
    Linux with the GNU C library. */
 #define _GNU_SOURCE
 #include <errno.h>
@@ -37,8 +38,8 @@ struct text {
 enum role { ASLEEP, PARENT, CHILD };
 
 static enum role role = ASLEEP;
-static int fails_on; /* in a child: whether all later calls fail, too */
-static unsigned long calls, step;
+static int fails_on; /* whether all later calls fail, too */
+static unsigned long calls, step, failing_at;
 static struct text written[3], wanted[3];
 static char *said; /* shared by a child and its parent */
 
@@ -55,7 +56,7 @@ static void read_wanted(const char *name, struct text *text) {
 }
 
 __attribute__((constructor)) static void begin(void) {
-  const char *path = getenv("REQUESTS_LOG"), *each = getenv("REQUESTS_STEP");
+  const char *path = getenv("REQUESTS_LOG"), *each = getenv("REQUESTS_STEP"), *at = getenv("REQUESTS_AT");
   int file = path ? open(path, O_WRONLY | O_CREAT | O_APPEND, 0644) : -1;
   if (file < 0) return;
   fcntl(file, F_DUPFD_CLOEXEC, LOG);
@@ -64,6 +65,8 @@ __attribute__((constructor)) static void begin(void) {
   read_wanted("REQUESTS_ERR", &wanted[2]);
   said = mmap(0, SAID, PROT_READ | PROT_WRITE, MAP_SHARED | MAP_ANONYMOUS, -1, 0);
   step = each ? strtoul(each, 0, 10) : 1;
+  failing_at = at ? strtoul(at, 0, 10) : 0;
+  if (failing_at) fails_on = getenv("REQUESTS_ON") != 0, step = 0;
   calls = 0;
   role = PARENT;
 }
@@ -142,7 +145,8 @@ static int fails(void) {
   if (role == CHILD) failing = fails_on;
   if (role == PARENT) {
     calls++;
-    failing = step && (calls - 1) % step == 0 && (forked(0) || forked(1));
+    if (failing_at) failing = fails_on ? calls >= failing_at : calls == failing_at;
+    else failing = step && (calls - 1) % step == 0 && (forked(0) || forked(1));
   }
   if (failing) errno = ENOMEM;
   return failing;

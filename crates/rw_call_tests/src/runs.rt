@@ -82,8 +82,13 @@ fn run<'a, L: Ledger>(
     run_in(rt, alloc, basin, methods, &none, predefs, steps, text)
 }
 
-// The code that a text is read as, which is accepted.
-fn accepted<'a>(rt: &impl Abort, alloc: Global, basin: &Basin, text: &str) -> &'a Verified
+/// The code that a text is read as, which is accepted.
+pub(crate) fn accepted<'a>(
+    rt: &impl Abort,
+    alloc: Global,
+    basin: &Basin,
+    text: &str,
+) -> &'a Verified
     requires { length text.now ≤ 16_777_216 }
     ensures { verified basin.now result.now.blocks ≡ Ok result.now }
 {
@@ -185,7 +190,8 @@ kind = "reservoir"
 initial_storage = 1000
 "#;
 
-const CAP_AND_BASE: &str =
+/// Rule 1 holds the dam at 1020, and rule 2 lets 50 out of it.
+pub(crate) const CAP_AND_BASE: &str =
     "CODE 1\nRULE\nLOCALS -\nslot Dam.Storage\nnow\nread\nnum 1020\ncall Min\nput Dam.Storage 0\nEND\nRULE\nLOCALS -\nnum 50\nput Dam.Outflow 0\nEND\n";
 
 const INFLOW: &str = "slot,step,value\nDam.Inflow,1,100\n";
@@ -271,7 +277,8 @@ fn method(alloc: Global, number: u8) -> Result<Box<dyn Method>, AllocError> {
     }
 }
 
-fn all_methods(alloc: Global) -> Result<Vec<Box<dyn Method>>, AllocError> {
+/// The methods of all kinds.
+pub(crate) fn all_methods(alloc: Global) -> Result<Vec<Box<dyn Method>>, AllocError> {
     let mut methods = Vec::new(alloc);
     for number in 1..10 {
         methods.push(method(alloc, number)?)?;
@@ -279,10 +286,9 @@ fn all_methods(alloc: Global) -> Result<Vec<Box<dyn Method>>, AllocError> {
     Ok(methods)
 }
 
-#[test]
-fn runs_come_to_what_they_should(rt: HostRuntime) -> Result<(), Fail> {
-    let methods = Catalogue::of(all_methods(rt.alloc())?).expect(&rt, "a catalogue");
-    let mut functions = Vec::new(rt.alloc());
+/// The predefined functions.
+pub(crate) fn predefs(alloc: Global) -> Result<Predefs, Fail> {
+    let mut functions = Vec::new(alloc);
     functions.push(Predef::of(1, least))?;
     functions.push(Predef::of(2, greatest))?;
     functions.push(Predef::of(3, absolute))?;
@@ -290,9 +296,16 @@ fn runs_come_to_what_they_should(rt: HostRuntime) -> Result<(), Fail> {
     functions.push(Predef::of(5, rounded_down))?;
     functions.push(Predef::of(6, sign))?;
     functions.push(Predef::of(7, mul_div))?;
-    let Ok(predefs) = Predefs::of(functions) else {
-        return Err(Fail::from("no predefined functions"));
-    };
+    match Predefs::of(functions) {
+        Ok(predefs) => Ok(predefs),
+        Err(_) => Err(Fail::from("no predefined functions")),
+    }
+}
+
+#[test]
+fn runs_come_to_what_they_should(rt: HostRuntime) -> Result<(), Fail> {
+    let methods = Catalogue::of(all_methods(rt.alloc())?).expect(&rt, "a catalogue");
+    let predefs = predefs(rt.alloc())?;
     check::<Brand>(&rt, rt.alloc(), Blank::new(1), &methods, &predefs);
     Ok(())
 }

@@ -10,7 +10,8 @@ use rw_method::Catalogue;
 use std::alloc::Global;
 use std::test::Fail;
 
-const RUN: [&str; 7] = [
+/// The words of such a run.
+pub(crate) const RUN: [&str; 7] = [
     "run", "m.toml", "p.rpl", "i.csv", "--edits", "e.csv", "--reuse",
 ];
 
@@ -29,7 +30,8 @@ const DAM_OF_THREE: &[u8] =
 const DAM_AND_NUMBER: &[u8] =
     b"format = 1\n[run]\nstart = \"2020-01-01T00:00\"\nstep = \"24h\"\nsteps = 6\n[[object]]\nname = \"Dam\"\nkind = \"reservoir\"\ninitial_storage = 1000\n[[object]]\nname = \"D\"\nkind = \"data\"\nslots = [{ name = \"X\", unit = \"m3/step\" }]\n";
 
-const QUOTIENT: &[u8] = b"RULE \"a\": D.X[t] := 100 / D.Y[t]; ENDRULE\n";
+/// The policy of a run that faults.
+pub(crate) const QUOTIENT: &[u8] = b"RULE \"a\": D.X[t] := 100 / D.Y[t]; ENDRULE\n";
 
 const PASS: &[u8] = b"RULE \"pass\": Dam.Outflow[t] := Dam.Inflow[t]; ENDRULE\n";
 
@@ -41,8 +43,11 @@ const LOOK_AHEAD: &[u8] =
 const PUT_AHEAD: &[u8] =
     b"RULE \"a\": D.X[t + 1] := D.Y[t]; ENDRULE\nRULE \"b\": D.X[t] := 0; ENDRULE\n";
 
-// An edit takes a fault away, one brings another, and one takes that away; no timestep is kept behind a fault.
-const MENDED: Simulation<'static> = Simulation {
+/// Its edits, which take a fault away, bring another, and take that away.
+pub(crate) const MENDING: &[u8] = b"batch,slot,step,value\n1,D.Y,2,4\n2,D.Y,1,0\n3,D.Y,1,5\n";
+
+/// What it comes to: no timestep is kept behind a fault.
+pub(crate) const MENDED: Simulation<'static> = Simulation {
     model: TWO_NUMBERS,
     inputs: b"slot,step,value\nD.Y,1,5\nD.Y,2,0\n",
     status: 0,
@@ -100,12 +105,7 @@ const GIVEN_AHEAD: Simulation<'static> = Simulation {
 
 // The policy and the edits of a run, and what it comes to.
 const RUNS: &[(Failing, &[u8], &[u8], Simulation<'static>)] = &[
-    (
-        Failing::Nothing,
-        QUOTIENT,
-        b"batch,slot,step,value\n1,D.Y,2,4\n2,D.Y,1,0\n3,D.Y,1,5\n",
-        MENDED,
-    ),
+    (Failing::Nothing, QUOTIENT, MENDING, MENDED),
     (
         Failing::Nothing,
         PASS,

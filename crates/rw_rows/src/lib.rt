@@ -38,4 +38,6 @@ mod statuses;
 #[cfg(test)]
 mod streams;
 #[cfg(test)]
+mod sure;
+#[cfg(test)]
 mod users;

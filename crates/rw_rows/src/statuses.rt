@@ -62,7 +62,8 @@ pub(crate) struct Simulation<'a> {
     pub(crate) err: Text<'a>,
 }
 
-fn is_text(written: &[u8], want: Text<'_>) -> bool {
+/// Whether this is the text that is wanted.
+pub(crate) fn is_text(written: &[u8], want: Text<'_>) -> bool {
     match want {
         Any => true,
         Whole(text) => written == text,
@@ -166,6 +167,12 @@ pub(crate) fn call(
 ) -> Result<u8, NoMemory>
     requires { AreInOrder (map (λ b. code (b.vtable, b.value)) methods.now.methods.items) }
 {
+    let predefs = all_functions(alloc)?;
+    Ok(call_counted::<Brand>(alloc, Blank::new(1), words, ends, methods, &predefs))
+}
+
+/// The predefined functions.
+pub(crate) fn all_functions(alloc: Global) -> Result<Predefs, NoMemory> {
     let mut functions = Vec::new(alloc);
     functions.push(Predef::of(1, least))?;
     functions.push(Predef::of(2, greatest))?;
@@ -174,10 +181,10 @@ pub(crate) fn call(
     functions.push(Predef::of(5, rounded_down))?;
     functions.push(Predef::of(6, sign))?;
     functions.push(Predef::of(7, mul_div))?;
-    let Ok(predefs) = Predefs::of(functions) else {
-        return Err(NoMemory);
-    };
-    Ok(call_counted::<Brand>(alloc, Blank::new(1), words, ends, methods, &predefs))
+    match Predefs::of(functions) {
+        Ok(predefs) => Ok(predefs),
+        Err(_) => Err(NoMemory),
+    }
 }
 
 /// The methods of all kinds.
