@@ -93,7 +93,9 @@ impl Method for WaterUserMethod {
 
     fn solve(&self, kind: &Kind, view: &View, solved: &mut Solved) {
         match kind {
-            Kind::WaterUser { depletion, supply } => *solved = solve_user(view, *depletion, *supply),
+            Kind::WaterUser { depletion, supply } => {
+                *solved = solve_user(view, *depletion, *supply);
+            }
             _ => unreachable!(),
         }
     }

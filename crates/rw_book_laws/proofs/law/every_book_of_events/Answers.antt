@@ -11,8 +11,11 @@ use Rattle.rw_book_laws.proofs.law.every_book_of_events.Goals as goal
 pub returns : goal.returns
 returns c = λ basin policy inputs log valid promise run.
     books_close basin (cells_of basin log) (last_closed log) valid (λ step first last.
-    let led = record { events = run.events; leads = c.choices.ensures.events basin policy (with_inputs [] inputs) run.events log run.leads } in
-    let closing = closings basin valid policy promise inputs log led step first last in
+    let closing =
+    closings basin valid policy promise inputs log
+    (record { events = run.events; leads = c.choices.ensures.events basin policy (with_inputs [] inputs) run.events log run.leads })
+    step first last
+    in
     λ object kind own.
     subst (IsBalanced kind) (sym (same_view basin (cells_of basin log) (cells_of basin closing.0) object step
     (λ cell low. c.closed_timesteps_stay.ensures basin policy inputs log closing.0 step valid promise run closing.1 cell low)))
