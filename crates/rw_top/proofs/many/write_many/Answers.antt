@@ -1,6 +1,6 @@
 use Rattle.rw_base.proofs.Common.{map}
 use Rattle.rw_mrm.specs.Summary.{summary_by}
-use Rattle.rw_top.specs.Many.{ended_by}
+use Rattle.rw_top.specs.Many.{as_ended}
 use Rattle.rw_top.proofs.ManyRuns.{all_written, none_stops, stops_last}
 use Rattle.rw_top.proofs.many.write_many.Goals as goal
 
@@ -15,7 +15,7 @@ returns-in-Ok-write_summary g c = λ policy means.
     let all = c.in-Ok-write_scenarios.ensures.written policy means in
     all_written basin policy c.args.inputs.now c.args.batches.now (g.K.Sink.seen c.args.out.now) (g.K.Sink.seen c.write_scenarios.new.out)
     (g.K.Sink.seen c.write_summary.new.out) tally c.in-Ok-write_scenarios.status all (summary_by basin tally)
-    (c.summary_of_runs.ensures basin (map (ended_by basin) all.logs) tally c.in-Ok-write_scenarios.ensures.made all.kept)
+    (c.summary_of_runs.ensures basin (map (as_ended basin) all.logs) tally c.in-Ok-write_scenarios.ensures.made all.kept)
     c.in-Ok-write_summary.ensures.grew
 
 pub returns : goal.returns
@@ -25,5 +25,5 @@ returns g c = λ policy means.
     let all = c.in-Ok-write_scenarios.ensures.written policy means in
     stops_last basin policy c.args.inputs.now c.args.batches.now (g.K.Sink.seen c.args.out.now) (g.K.Sink.seen c.write_scenarios.new.out)
     (g.K.Sink.seen c.write_summary.new.out) tally c.in-Ok-write_scenarios.status all (summary_by basin tally)
-    (c.summary_of_runs.ensures basin (map (ended_by basin) all.logs) tally c.in-Ok-write_scenarios.ensures.made all.kept)
+    (c.summary_of_runs.ensures basin (map (as_ended basin) all.logs) tally c.in-Ok-write_scenarios.ensures.made all.kept)
     c.in-Err-write_summary.refusal c.in-Err-write_summary.ensures
