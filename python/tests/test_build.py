@@ -63,4 +63,4 @@ def test_builds_are_alike_and_the_wheel_runs(tmp_path: Path) -> None:
 def test_the_bench() -> None:
     words = [TOP / "python/bench", *VALLEY, "Upper.Inflow", "--traces", "20", "--keep", "3", "--workers", "0"]
     done = subprocess.run(words, capture_output=True, text=True, check=True)
-    assert "times bare runs" in done.stdout and "the caller had at most" in done.stdout
+    assert "times bare mrm" in done.stdout and "the caller had at most" in done.stdout
