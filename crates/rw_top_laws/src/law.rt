@@ -1,5 +1,5 @@
 //! What the definitions of this crate speak of is one thing. Each law is the `ensures` of a function that does nothing.
-ghost use Rattle.std.specs.Prelude.{◌≡◌, ◌≢◌, ◌≤◌, ◌<◌, ◌-◌, ◌^◌, ◌↔◌, ◌⊎◌, ℕ, ℤ, Bool, false, List, [], ◌∷◌, ◌++◌, Option, None, Some, IfSome, IsSome, IsSomeAnd, length, slice_get, take};
+ghost use Rattle.std.specs.Prelude.{◌≡◌, ◌≢◌, ◌≤◌, ◌<◌, ◌-◌, ◌^◌, ◌↔◌, ◌⊎◌, ℕ, ℤ, Bool, false, List, [], ◌∷◌, ◌++◌, Option, None, Some, IfSome, IsSome, IsSomeAnd, codes, length, slice_get, take};
 ghost use Rattle.rw_plain_reservoir.specs.FirstForm.{FirstModel, IsFirstForm, IsFirstFlows};
 ghost use Rattle.rw_plain_reservoir.specs.Table.{IsFirstText};
 ghost use Rattle.rw_io.specs.Causes.{Rose};
@@ -41,7 +41,11 @@ ghost use Rattle.std.specs.Prelude.{IsTrue};
 ghost use Rattle.rw_top.specs.Sections.{AreSections, GivenInputs, first_given, joined_sections};
 ghost use Rattle.rw_words.specs.declared.job.Job.{Job};
 ghost use Rattle.rw_words.specs.declared.job.Job.TheVariants as J;
-ghost use Rattle.rw_run.specs.Log.{Log};
+ghost use Rattle.rw_run.specs.Log.{Log, fault};
+ghost use Rattle.rw_report.specs.Outcome.{outcome_by};
+ghost use Rattle.rw_report.specs.Whole.{trace_of_run};
+ghost use Rattle.rw_words.specs.Plain.{plain_command};
+ghost use Rattle.rw_top.specs.declared.refusal.File.TheVariants as F;
 ghost use Rattle.rw_run.specs.Runs.{IsRun};
 ghost use Rattle.rw_inputs.specs.Placings.{placings};
 ghost use Rattle.rpl_policy.specs.Firings.{AreVerified};
@@ -50,7 +54,7 @@ ghost use Rattle.rw_base.specs.declared.number.StepNo.{StepNo};
 ghost use Rattle.rw_base.specs.declared.number.Cell.{Cell};
 ghost use Rattle.rw_inputs.specs.Edits.{Batch};
 ghost use Rattle.rpl_code.specs.declared.block.Block.{Block};
-ghost use Rattle.rw_top.specs.Many.{AllSettled, AreScenarioRuns, IsScenarioRun};
+ghost use Rattle.rw_top.specs.Many.{AllSettled, AreScenarioRuns, IsScenarioRun, scenario_texts, status_of_runs};
 ghost use Rattle.rw_top_laws.specs.Books.{TellsClosedBooks};
 ghost use Rattle.rw_top.specs.RunText.{IsBalanceOfRules, IsRulesText, IsRunText, IsSampleOf, IsSimulated, IsWhyOfRules, no_extras, policy_in_run};
 ghost use Rattle.rw_top.specs.declared.extras.Extras.{Extras};
@@ -253,6 +257,23 @@ pub fn scenarios_apart()
 {
     one_run();
 }
+
+/// Which files the words of `mrm`, `balance` and `migrate` name; and runs of two scenarios, whose sections count from 1 and which
+/// have the status 0 where both settle, and 1 whichever of them ends in a fault.
+pub fn worked_scenarios_of_calls()
+    ensures traces { path_of (plain_command J.Mrm
+        (codes "m" ∷ codes "p" ∷ codes "i" ∷ codes "t" ∷ [])) F.Traces ≡ Some (codes "t") }
+    ensures untraced { path_of (plain_command J.Balance
+        (codes "m" ∷ codes "p" ∷ codes "i" ∷ [])) F.Traces ≡ None }
+    ensures model { path_of (plain_command J.Migrate (codes "m" ∷ [])) F.Model ≡ Some (codes "m") }
+    ensures alone { path_of (plain_command J.Migrate (codes "m" ∷ [])) F.Policy ≡ None }
+    ensures numbers { (basin : Draft) (log other : Log)
+        → scenario_texts basin 1 (log ∷ other ∷ []) ≡ trace_of_run basin 1 (outcome_by basin log)
+        ∷ trace_of_run basin 2 (outcome_by basin other) ∷ [] }
+    ensures settled { status_of_runs ([] ∷ [] ∷ []) ≡ 0 }
+    ensures first { (why : RunFault) → status_of_runs ((fault why ∷ []) ∷ [] ∷ []) ≡ 1 }
+    ensures last { (why : RunFault) → status_of_runs ([] ∷ (fault why ∷ []) ∷ []) ≡ 1 }
+{}
 
 /// The sample of a seed has one line.
 pub fn one_sample()
