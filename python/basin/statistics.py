@@ -18,7 +18,7 @@ from .tables import UNKNOWN, Whole, is_exact
 
 Percent = Union[int, float, str, Fraction]
 STATISTICS = "ensemble.nc"
-ROOM = 96 * 2**20  # of values that are held at once, in bytes
+ROOM = 48 * 2**20  # of values that are held at once, in bytes
 BYTES = 16  # of a value, and of its place in order
 
 
