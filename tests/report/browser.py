@@ -1,6 +1,7 @@
 """Chromium without a screen, with a page that tools/report wrote."""
 
 import base64
+import time
 from collections.abc import Callable
 from pathlib import Path
 
@@ -60,6 +61,13 @@ class Browser:
     def text(self, selector: str) -> str:
         """The text of the first one, also where it doesn't stand on the screen."""
         return self.one(selector).get_property("textContent")
+
+    def said(self, selector: str, wanted: str, seconds: float = 10) -> str:
+        """The text of an element once it has what is wanted, or as it is when the time is over."""
+        end = time.monotonic() + seconds
+        while wanted not in (text := self.text(selector)) and time.monotonic() < end:
+            time.sleep(0.05)
+        return text
 
     def choose(self, name: str, value: object) -> None:
         """Chooses a value of a list, or gives one to a field, as a reader does."""

@@ -241,7 +241,8 @@ def of_parts(browser: Browser, shown: Shown) -> Iterator[Outcome]:
     is_right = len(copied) == len(shown.sections[0].rows) + 1 and copied[1].split("\t")[2:] == ["" if value is None else str(value) for value in values]
     yield "the copied table", None if is_right else copied[1]
     browser.one("#copy").click()
-    yield "copy", None if "is copied" in browser.text("#said") else browser.text("#said")
+    said = browser.said("#said", "is copied")
+    yield "copy", None if "is copied" in said else said
 
 
 def of_keys(browser: Browser, shown: Shown) -> Iterator[Outcome]:
