@@ -1,8 +1,8 @@
-ghost use Rattle.std.specs.Prelude.{◌≡◌, ◌≤◌, ◌<◌, ◌^◌, IsTrue, length};
+ghost use Rattle.std.specs.Prelude.{◌≡◌, ◌≤◌, ◌<◌, ◌^◌, ◌&&◌, None, Some, if◌then◌else◌, length, nat_le};
 ghost use Rattle.std.specs.Option.{ForSome};
 ghost use Rattle.std.specs.List.{list_all};
 ghost use Rattle.rw_base.specs.Byte.{is_digit};
-ghost use Rattle.rw_inputs.specs.Number.{number_after, is_number_text, read_number, read_signed, byte_position};
+ghost use Rattle.rw_inputs.specs.Number.{number_after, read_number, read_signed, byte_position};
 
 // The greatest number of digits of a number.
 const DIGITS_MAX: usize = 18;
@@ -13,34 +13,28 @@ fn is_digit(byte: u8) -> bool
     48 <= byte && byte <= 57
 }
 
-fn has_digits_alone(text: &[u8]) -> bool
-    ensures { result ≡ list_all is_digit text.now }
+// Whether so many digits are a number's.
+fn is_length(length: usize) -> bool
+    ensures { result ≡ (nat_le 1 length && nat_le length 18) }
 {
-    for byte in text {
-        if !is_digit(*byte) {
-            return false;
-        }
-    }
-    true
+    1 <= length && length <= DIGITS_MAX
 }
 
-fn is_number(text: &[u8]) -> bool
-    ensures { result ≡ is_number_text text.now }
-{
-    (1 <= text.len() && text.len() <= DIGITS_MAX) && has_digits_alone(text)
-}
-
-// The number that the digits spell.
-fn number_of(digits: &[u8]) -> u64
-    requires { IsTrue (is_number_text digits.now) }
-    ensures number { result ≡ number_after 0 digits.now }
-    ensures small { result < 10 ^ 18 }
+// The number that the digits spell, where there are digits alone.
+fn number_of(text: &[u8]) -> Option<u64>
+    requires { length text.now ≤ 18 }
+    ensures number { result ≡ (if list_all is_digit text.now
+        then Some (number_after 0 text.now) else None) }
+    ensures small { ForSome result (λ number. number < 10 ^ 18) }
 {
     let mut number = 0u64;
-    for digit in digits {
-        number = number * 10 + u64::from(*digit - b'0');
+    for byte in text {
+        if !is_digit(*byte) {
+            return None;
+        }
+        number = number * 10 + u64::from(*byte - b'0');
     }
-    number
+    Some(number)
 }
 
 /// The number that a text of 1 to 18 digits spells.
@@ -48,8 +42,8 @@ pub(crate) fn read_number(text: &[u8]) -> Option<u64>
     ensures number { result ≡ read_number text.now }
     ensures small { ForSome result (λ number. number < 10 ^ 18) }
 {
-    if is_number(text) {
-        Some(number_of(text))
+    if is_length(text.len()) {
+        number_of(text)
     } else {
         None
     }

@@ -82,21 +82,24 @@ fn span_of(first: &[u8], last: &[u8]) -> Option<(u64, u64)>
     Some((first, last))
 }
 
-// The same number twice.
-fn span_of_one(text: &[u8]) -> Option<(u64, u64)>
-    ensures { result ≡ span_of (read_number text.now) (read_number text.now) }
+// Two numbers round the first `-`.
+fn span_between(text: &[u8]) -> Option<(u64, u64)>
+    requires { read_number text.now ≡ None }
+    ensures { result ≡ span_in text.now (byte_position 45 text.now) }
 {
-    let number = read_number(text)?;
-    Some((number, number))
+    match position_of(b'-', text) {
+        Some(dash) => span_of(&text[..dash], &text[dash + 1..]),
+        None => None,
+    }
 }
 
 // One number, or two numbers round the first `-`.
 fn span_in(text: &[u8]) -> Option<(u64, u64)>
     ensures { result ≡ span_in text.now (byte_position 45 text.now) }
 {
-    match position_of(b'-', text) {
-        Some(dash) => span_of(&text[..dash], &text[dash + 1..]),
-        None => span_of_one(text),
+    match read_number(text) {
+        Some(number) => Some((number, number)),
+        None => span_between(text),
     }
 }
 
