@@ -1,4 +1,5 @@
-ghost use Rattle.std.specs.Prelude.{◌≡◌, option_map, ◌<◌, ◌+◌, ◌≤◌, ◌++◌, [], length, OnOk, IfErr};
+ghost use Rattle.std.specs.Prelude.{◌≡◌, option_map, ◌<◌, ◌+◌, ◌≤◌, ◌++◌, [], length, OnOk, IfOk, IfErr};
+ghost use Rattle.rw_method.specs.declared.solved.Solved.TheVariants as Solved;
 ghost use Rattle.rw_method.specs.declared.places.TheConstants.{OUTFLOW, POOL_ELEVATION, STORAGE};
 ghost use Rattle.rw_method.specs.View.{given};
 ghost use Rattle.rw_method.specs.Puts.{solved_put, level_puts, evaporation_put, release_puts, known_after, is_bounded};
@@ -70,14 +71,21 @@ fn ask_all(
     max_release: Option<i64>,
     balanced: Balanced,
 ) -> Result<(), Solved>
-    requires { length puts.old < 4 }
-    ensures asks { Asks (can_get (option_map (λ rating. rating.now) table.entry) view.entry.now)
+    requires { puts.old ≡ [] }
+    ensures ok { IfOk result (λ _. Solved.Puts puts.new
+        ≡ answer_of_puts (can_get (option_map (λ rating. rating.now) table.entry) view.entry.now)
         (solved_put balanced
         ++ level_puts (option_map (λ rating. rating.now) table.entry) (given view.entry.now STORAGE)
         (given view.entry.now POOL_ELEVATION) balanced
         ++ evaporation_put evaporation evaporated ++ release_puts max_release
-        (known_after view.entry.now balanced OUTFLOW))
-        puts.old puts.new result }
+        (known_after view.entry.now balanced OUTFLOW))) }
+    ensures err { IfErr result (λ answer. answer
+        ≡ answer_of_puts (can_get (option_map (λ rating. rating.now) table.entry) view.entry.now)
+        (solved_put balanced
+        ++ level_puts (option_map (λ rating. rating.now) table.entry) (given view.entry.now STORAGE)
+        (given view.entry.now POOL_ELEVATION) balanced
+        ++ evaporation_put evaporation evaporated ++ release_puts max_release
+        (known_after view.entry.now balanced OUTFLOW))) }
 {
     match ask_contents(view, table, puts, balanced) {
         Ok(()) => ask_derived(

@@ -2,23 +2,24 @@ ghost use Rattle.std.specs.Prelude.{◌≡◌};
 ghost use Rattle.rw_model.specs.declared.kind.Kind.TheVariants as Kind;
 ghost use Rattle.rw_method.specs.Solve.{solve_of};
 
+use crate::answering::answer_solved;
 use rw_method::places::{INFLOW, OUTFLOW_1, OUTFLOW_2};
-use rw_method::{Method, Share, Solved, View, put_solved, solve_balance};
+use rw_method::{Method, Share, Solved, View, solve_balance};
 use rw_model::Kind;
 
 /// The method of a bifurcation: what flows in is parted into two outflows.
 #[derive(Debug, Drop)]
 pub struct BifurcationMethod;
 
-pub(crate) fn solve_bifurcation(view: &View) -> Solved
-    ensures { result ≡ solve_of Kind.Bifurcation view.entry.now }
+pub(crate) fn solve_bifurcation(view: &View, solved: &mut Solved)
+    ensures { solved.new ≡ solve_of Kind.Bifurcation view.entry.now }
 {
     let terms = [
         view.term(Share::Brings, INFLOW),
         view.term(Share::Takes, OUTFLOW_1),
         view.term(Share::Takes, OUTFLOW_2),
     ];
-    put_solved(view, solve_balance(Some(0), &terms))
+    answer_solved(view, solve_balance(Some(0), &terms), solved);
 }
 
 impl Method for BifurcationMethod {
@@ -30,7 +31,7 @@ impl Method for BifurcationMethod {
 
     fn solve(&self, kind: &Kind, view: &View, solved: &mut Solved) {
         match kind {
-            Kind::Bifurcation => *solved = solve_bifurcation(view),
+            Kind::Bifurcation => solve_bifurcation(view, solved),
             _ => unreachable!(),
         }
     }

@@ -2,6 +2,7 @@
 //! definition of a dispatch says of its kind. No call takes memory.
 #![tactic(auto)]
 
+mod answering;
 mod bifurcation;
 mod confluence;
 mod gage;

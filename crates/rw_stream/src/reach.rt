@@ -6,9 +6,10 @@ ghost use Rattle.rw_method.specs.Term.{IsWithin};
 ghost use Rattle.rw_method.specs.Balance.{known_sum, side_flows};
 ghost use Rattle.rw_method.specs.Solve.{solve_of};
 
+use crate::answering::answer_solved;
 use rw_base::Qty;
 use rw_method::places::{INFLOW, OUTFLOW, REACH_SIDE};
-use rw_method::{Method, Share, Solved, View, put_solved, side_flows, solve_balance};
+use rw_method::{Method, Share, Solved, View, side_flows, solve_balance};
 use rw_model::Kind;
 
 /// The method of a reach: what flowed in as many timesteps ago as its lag flows out, and what flows in by the side.
@@ -35,30 +36,31 @@ fn lagged_outflow(past: Option<Qty>, side: Option<i128>) -> Option<i128>
     }
 }
 
-fn solve_unlagged(view: &View, side: Option<i128>) -> Solved
+fn solve_unlagged(view: &View, side: Option<i128>, solved: &mut Solved)
     requires { ForSome side (IsWithin 3) }
     ensures { (history : List ℤ) (local_inflow diversion return_flow : Bool)
         → side ≡ side_flows view.entry.now REACH_SIDE local_inflow diversion return_flow
-        → result
+        → solved.new
         ≡ solve_of (Kind.Reach zero history local_inflow diversion return_flow) view.entry.now }
 {
     let terms = [
         view.term(Share::Brings, INFLOW),
         view.term(Share::Takes, OUTFLOW),
     ];
-    put_solved(view, solve_balance(side, &terms))
+    answer_solved(view, solve_balance(side, &terms), solved);
 }
 
-fn solve_lagged(view: &View, side: Option<i128>) -> Solved
+fn solve_lagged(view: &View, side: Option<i128>, solved: &mut Solved)
     requires { ForSome side (IsWithin 3) }
     ensures { (lag : ℕ) (history : List ℤ) (local_inflow diversion return_flow : Bool)
         → side ≡ side_flows view.entry.now REACH_SIDE local_inflow diversion return_flow
-        → result
+        → solved.new
         ≡ solve_of (Kind.Reach (suc lag) history local_inflow diversion return_flow)
         view.entry.now }
 {
     let terms = [view.term(Share::Takes, OUTFLOW)];
-    put_solved(view, solve_balance(lagged_outflow(view.past, side), &terms))
+    let steady = lagged_outflow(view.past, side);
+    answer_solved(view, solve_balance(steady, &terms), solved);
 }
 
 pub(crate) fn solve_reach(
@@ -67,16 +69,17 @@ pub(crate) fn solve_reach(
     local_inflow: bool,
     diversion: bool,
     return_flow: bool,
-) -> Solved
+    solved: &mut Solved,
+)
     ensures { (history : List ℤ)
-        → result
+        → solved.new
         ≡ solve_of (Kind.Reach lag history local_inflow diversion return_flow) view.entry.now }
 {
     let side = side_flows(view, REACH_SIDE, local_inflow, diversion, return_flow);
     if lag == 0 {
-        solve_unlagged(view, side)
+        solve_unlagged(view, side, solved);
     } else {
-        solve_lagged(view, side)
+        solve_lagged(view, side, solved);
     }
 }
 
@@ -95,7 +98,7 @@ impl Method for ReachMethod {
                 diversion,
                 return_flow,
                 ..
-            } => *solved = solve_reach(view, *lag, *local_inflow, *diversion, *return_flow),
+            } => solve_reach(view, *lag, *local_inflow, *diversion, *return_flow, solved),
             _ => unreachable!(),
         }
     }

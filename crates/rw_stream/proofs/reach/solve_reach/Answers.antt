@@ -15,5 +15,5 @@ returns-then-lag-eq0 c history =
 pub returns-else-lag-eq0 : goal.returns-else-lag-eq0
 returns-else-lag-eq0 c history =
     after_another
-    (λ lag. c.solve_lagged.result ≡ solve_of (Reach lag history c.args.local_inflow c.args.diversion c.args.return_flow) c.args.view.now)
+    (λ lag. c.solve_lagged.new.solved ≡ solve_of (Reach lag history c.args.local_inflow c.args.diversion c.args.return_flow) c.args.view.now)
     c.args.lag c.if-lag-eq0.false (λ lag. c.solve_lagged.ensures lag history _ _ _ c.side_flows-side.ensures.flow)

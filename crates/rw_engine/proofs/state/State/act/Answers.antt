@@ -49,7 +49,8 @@ returns-in_err-note_lines-2 g c = λ place waits taken.
     let basin = c.args.setup.now.basin.now in
     let policy = c.args.setup.now.policy.now in
     let old = c.args.self.now in
-    wanted basin policy (Some c.args.object.0) c.args.step.0 old _ _ c.from_residual-in_err-note_lines-2.result _ c.from_residual-in_err-note_lines-2.ensures.1
+    wanted basin policy (Some c.args.object.0) c.args.step.0 old _ _ c.from_residual-in_err-note_lines-2.result _
+    c.from_residual-in_err-note_lines-2.ensures.1
     (keeps_noted basin policy old _ c.requires.within
     (stays_counted basin policy old _ c.args.object.0 c.raise.ensures refl c.requires.within.made.engine.rules refl
     c.judge_dispatch-end.ensures.work.keeps)
