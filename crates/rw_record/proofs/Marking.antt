@@ -81,52 +81,26 @@ one_added slots steps marks new cells noted cell keeps fresh many sets = record 
     either false true = refl
     either false false = refl
 
--- a list in which each stands once, without the last of them
-record IsBut (first : List Cell) (last : Cell) : Type 0 where
-  once : IsDistinct is_same_cell first
-  fresh : list_any (is_same_cell last) first ≡ false
-
-but_last : (first : List Cell) (last : Cell) → IsDistinct is_same_cell (first ++ last ∷ []) → IsBut first last
-but_last first last once =
-    let turned =
-    IsDistinct-IsPermutation is_same_cell cells_equiv.symm (first ++ last ∷ []) (last ∷ first) (IsPermutation-to_front first last) once in
-    record {
-      once = IsDistinct-tail is_same_cell last first turned;
-      fresh =
-          list_any_none (is_same_cell last) first (All-from_recursion (λ cell. is_same_cell last cell ≡ false) first
-          (IsDistinct-head is_same_cell last first turned));
-    }
-
--- the last one is noted no more, and has no mark
-pub one_taken : (slots steps : ℕ) (marks new : List Bool) (all noted : List Held) (last : Held) → all ≡ noted ++ last ∷ []
-    → KeepsMarks slots steps marks all
+-- the first one is noted no more, and has no mark
+pub first_taken : (slots steps : ℕ) (marks new : List Bool) (first : Held) (rest : List Held) → KeepsMarks slots steps marks (first ∷ rest)
     → length new ≡ slots * steps
     → ((other : Cell) → IsTrue (has_mark slots steps other)
-    → is_cell_marked slots new other ≡ (if is_same_cell last.cell other then false else is_cell_marked slots marks other))
-    → KeepsMarks slots steps new noted
-one_taken slots steps marks new all noted last is keeps many sets = record {
+    → is_cell_marked slots new other ≡ (if is_same_cell first.cell other then false else is_cell_marked slots marks other))
+    → KeepsMarks slots steps new rest
+first_taken slots steps marks new first rest keeps many sets = record {
   many = many;
   marked = λ other there.
-      sets other there ∙ ap (λ was. if is_same_cell last.cell other then false else was) (keeps.marked other there ∙ noted_all other)
-      ∙ by other (is_same_cell last.cell other) refl;
-  once = but.once;
+      sets other there ∙ ap (λ was. if is_same_cell first.cell other then false else was) (keeps.marked other there)
+      ∙ by other (is_same_cell first.cell other) refl;
+  once = IsDistinct-tail is_same_cell first.cell (cells_noted rest) keeps.once;
 }
   where
-    cells : cells_noted all ≡ cells_noted noted ++ last.cell ∷ []
-    cells = ap cells_noted is ∙ map-append (λ (one : Held). one.cell) noted (last ∷ [])
+    fresh : is_noted rest first.cell ≡ false
+    fresh =
+        list_any_none (is_same_cell first.cell) (cells_noted rest) (All-from_recursion (λ cell. is_same_cell first.cell cell ≡ false)
+        (cells_noted rest) (IsDistinct-head is_same_cell first.cell (cells_noted rest) keeps.once))
 
-    but : IsBut (cells_noted noted) last.cell
-    but = but_last (cells_noted noted) last.cell (subst (IsDistinct is_same_cell) cells keeps.once)
-
-    noted_all : (other : Cell) → is_noted all other ≡ (is_noted noted other || (is_same_cell other last.cell || false))
-    noted_all other = ap (list_any (is_same_cell other)) cells ∙ list_any-append (is_same_cell other) (cells_noted noted) (last.cell ∷ [])
-
-    or_none : (was : Bool) → (was || (false || false)) ≡ was
-    or_none true = refl
-    or_none false = refl
-
-    by : (other : Cell) (same : Bool) → is_same_cell last.cell other ≡ same
-        → (if same then false else (is_noted noted other || (is_same_cell other last.cell || false))) ≡ is_noted noted other
-    by other true same = sym (ap (is_noted noted) (sym (same_cell last.cell other same)) ∙ but.fresh)
-    by other false apart =
-        ap (λ same. is_noted noted other || (same || false)) (cells_equiv.symm other last.cell ∙ apart) ∙ or_none (is_noted noted other)
+    by : (other : Cell) (same : Bool) → is_same_cell first.cell other ≡ same
+        → (if same then false else (is_same_cell other first.cell || is_noted rest other)) ≡ is_noted rest other
+    by other true same = sym (ap (is_noted rest) (sym (same_cell first.cell other same)) ∙ fresh)
+    by other false apart = ap (λ same. same || is_noted rest other) (cells_equiv.symm other first.cell ∙ apart)

@@ -2,5 +2,6 @@ pub mod Noted
 pub mod Notes
 pub mod Marks
 pub mod Record
+pub mod Merge
 pub mod Back
 pub mod Worked

@@ -324,15 +324,24 @@ fn add(
     Ok(())
 }
 
+// Takes the marks of these cells away.
+fn unmark(marks: &mut Vec<bool>, slots: u16, steps: u16, items: &[Held])
+    requires { KeepsMarks slots steps marks.old.items items.now }
+    ensures { KeepsMarks slots steps marks.new.items [] }
+{
+    for one in items {
+        mark_if(marks, slots, steps, one.cell, false);
+    }
+}
+
 // Takes all cells out, with their marks.
 fn clear(marks: &mut Vec<bool>, slots: u16, steps: u16, items: &mut Vec<Held>)
     requires { KeepsMarks slots steps marks.old.items items.old.items }
     ensures marks { KeepsMarks slots steps marks.new.items items.new.items }
     ensures empty { items.new.items ≡ [] }
 {
-    while let Some(one) = items.pop() {
-        mark_if(marks, slots, steps, one.cell, false);
-    }
+    unmark(marks, slots, steps, items.as_slice());
+    items.clear();
 }
 
 // Marks a cell, or takes its mark away, if there is a mark for it.

@@ -1,11 +1,12 @@
-ghost use Rattle.std.specs.Prelude.{◌≡◌, ◌↔◌, ◌||◌, nat_lt, IfOk, MatchOption, Contains, Some, drop, length};
+ghost use Rattle.std.specs.Prelude.{◌≡◌, ◌≤◌, ◌↔◌, ◌++◌, ◌||◌, nat_lt, IfOk, MatchOption, Contains, Some, drop, length, true};
 ghost use Rattle.rw_run.specs.Trace.{lines_in};
 ghost use Rattle.rw_run.specs.declared.held.Held.{Held as WasHeld};
 ghost use Rattle.rw_record.specs.Noted.{AreOnce, noted_in};
-ghost use Rattle.rw_record.specs.Record.{AreRisingCells, IsLarge, IsRecordOf, greatest_step, least_step};
+ghost use Rattle.rw_record.specs.Merge.{AddsBelow, MergesInto, NeverFall, PartsInto};
+ghost use Rattle.rw_record.specs.Record.{AreRisingCells, IsBelow, IsLarge, IsRecordOf, greatest_step, least_step};
 
 use crate::Noted;
-use rw_base::{Cell, NoMemory, StepNo};
+use rw_base::{Cell, NoMemory, SlotNo, StepNo};
 use rw_run::{Held, Trace};
 use std::alloc::Global;
 use std::marker::Model;
@@ -112,6 +113,83 @@ fn is_large(cells: usize, trace: &Trace, from: usize) -> bool
     cells > MOST_KEPT || trace.len().saturating_sub(from) > MOST_KEPT
 }
 
+// Whether a cell is of a lower slot than another, or of the same slot at an earlier timestep.
+#[inline(always)]
+fn is_below(cell: Cell, other: Cell) -> bool
+    ensures { (result ≡ true) ↔ IsBelow cell other }
+{
+    cell.slot.0 < other.slot.0 || (cell.slot.0 == other.slot.0 && cell.step.0 < other.step.0)
+}
+
+// Those of the cells that rise as they stand, and the others. They were noted object by object, so most of them rise.
+fn part(alloc: Global, cells: &[Held]) -> Result<(Vec<Held>, Vec<Held>), NoMemory>
+    ensures { IfOk result (λ parts. PartsInto cells.now parts.0.items parts.1.items) }
+{
+    let mut rising = Vec::with_capacity(alloc, cells.len())?;
+    let mut others = Vec::new(alloc);
+    let mut last = Cell {
+        slot: SlotNo(0),
+        step: StepNo(0),
+    };
+    for one in cells {
+        if is_below(one.cell, last) {
+            others.push(*one)?;
+        } else {
+            last = one.cell;
+            rising.push(*one)?;
+        }
+    }
+    Ok((rising, others))
+}
+
+// Adds those of the others, from a place on, that are below a cell, and answers the place behind them.
+#[inline(always)]
+fn add_below(
+    all: &mut Vec<Held>,
+    others: &[Held],
+    from: usize,
+    cell: Cell,
+) -> Result<usize, NoMemory>
+    requires { from ≤ length others.now }
+    ensures { IfOk result (AddsBelow others.now from cell all.old.items all.new.items) }
+{
+    let mut place = from;
+    while place < others.len() {
+        if !is_below(others[place].cell, cell) {
+            return Ok(place);
+        }
+        all.push(others[place])?;
+        place = place + 1;
+    }
+    Ok(place)
+}
+
+// Adds the cells from a place on.
+fn add_rest(all: &mut Vec<Held>, others: &[Held], from: usize) -> Result<(), NoMemory>
+    ensures { IfOk result (λ _. all.new.items ≡ all.old.items ++ drop from others.now) }
+{
+    for place in from..others.len() {
+        all.push(others[place])?;
+    }
+    Ok(())
+}
+
+// Brings two lists of cells that never fall into one.
+fn merge(alloc: Global, rising: &[Held], others: &[Held]) -> Result<Vec<Held>, NoMemory>
+    requires rising { NeverFall rising.now }
+    requires others { NeverFall others.now }
+    ensures { IfOk result (λ all. MergesInto rising.now others.now all.items) }
+{
+    let mut all = Vec::with_capacity(alloc, rising.len() + others.len())?;
+    let mut place = 0;
+    for one in rising {
+        place = add_below(&mut all, others, place, one.cell)?;
+        all.push(*one)?;
+    }
+    add_rest(&mut all, others, place)?;
+    Ok(all)
+}
+
 // The cells, rising by slot and then by timestep.
 fn rising(alloc: Global, cells: &[Held]) -> Result<Vec<Held>, NoMemory>
     requires { AreOnce cells.now }
@@ -119,9 +197,9 @@ fn rising(alloc: Global, cells: &[Held]) -> Result<Vec<Held>, NoMemory>
     ensures members { IfOk result (λ sorted. (one : WasHeld)
         → Contains sorted.items one ↔ Contains cells.now one) }
 {
-    let mut sorted = cells.to_vec(alloc)?;
-    sorted.sort_unstable_by_key(|held| (held.cell.slot.0, held.cell.step.0));
-    Ok(sorted)
+    let (rising, mut others) = part(alloc, cells)?;
+    others.sort_unstable_by_key(|held| (held.cell.slot.0, held.cell.step.0));
+    merge(alloc, rising.as_slice(), others.as_slice())
 }
 
 // The least timestep at which one of the cells is.
