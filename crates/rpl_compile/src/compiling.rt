@@ -12,8 +12,9 @@ use rw_base::NoMemory;
 use rw_model::Basin;
 use std::alloc::Global;
 
-// The code of a ruleset that was accepted for the basin.
-fn code_of(alloc: Global, typed: &Typed, basin: &Basin) -> Result<Code, NoMemory>
+/// The code of a ruleset that was accepted for the basin: a block for each declaration, in order, as `docs/LANGUAGE.md` says
+/// under "What rules become". Whoever lets it run takes it verified, from `compile`. Want of memory is the one other answer.
+pub fn code_of(alloc: Global, typed: &Typed, basin: &Basin) -> Result<Code, NoMemory>
     requires { IsOk (rules_judged basin.now (rules_of typed.now.rules)) }
     ensures { IfOk result (λ code. code ≡ translate (rules_of typed.now.rules)) }
 {
@@ -23,9 +24,7 @@ fn code_of(alloc: Global, typed: &Typed, basin: &Basin) -> Result<Code, NoMemory
     Ok(Code::of(blocks))
 }
 
-/// The code of a ruleset that was accepted for the basin: a block for each declaration, in order, as `docs/LANGUAGE.md` says
-/// under "What rules become". It is verified, and that of an accepted ruleset is never refused: want of memory is the one
-/// other answer.
+/// The same code, verified. That of an accepted ruleset is never refused: want of memory is the one other answer.
 pub fn compile(alloc: Global, typed: &Typed, basin: &Basin) -> Result<Verified, NoMemory>
     requires { IsOk (rules_judged basin.now (rules_of typed.now.rules)) }
     ensures code { IfOk result (λ code. code.blocks ≡ translate (rules_of typed.now.rules)) }

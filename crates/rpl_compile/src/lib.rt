@@ -1,8 +1,8 @@
-//! The code of a ruleset. `specs/Translate.antt` says what it is: a block of each declaration, in order. `compile` answers it,
-//! verified, for a ruleset that was accepted. It goes over each tree once, line by line, and writes the places of jumps once
-//! they are known (`specs/Written.antt`). The laws are worked rules, line by line (`law`), that the code of an accepted
-//! ruleset is accepted (`accepted`), and that the code of each rule does what the rule means (`meaning`; worked rules in
-//! `firings`).
+//! The code of a ruleset. `specs/Translate.antt` says what it is: a block of each declaration, in order. `code_of`
+//! answers it for a ruleset that was accepted, and `compile` answers it verified. It goes over each tree once, line by
+//! line, and writes the places of jumps once they are known (`specs/Written.antt`). The laws are worked rules, line by
+//! line (`law`), that the code of an accepted ruleset is accepted (`accepted`), and that the code of each rule does what
+//! the rule means (`meaning`; worked rules in `firings`).
 #![tactic(auto)]
 
 pub mod accepted;
@@ -19,4 +19,4 @@ mod ruleset;
 mod statement;
 mod writing;
 
-pub use compiling::compile;
+pub use compiling::{code_of, compile};

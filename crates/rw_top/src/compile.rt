@@ -9,7 +9,7 @@ ghost use Rattle.rw_top.specs.Seen.{policy_of};
 
 use crate::policy::Policy;
 use rpl_code::write_code;
-use rpl_compile::compile;
+use rpl_compile::code_of;
 use rpl_types::Typed;
 use rw_base::NoMemory;
 use rw_model::Basin;
@@ -20,8 +20,8 @@ fn ruleset_text(alloc: Global, typed: &Typed, basin: &Basin) -> Result<Vec<u8>, 
     requires { IsOk (rules_judged basin.now (rules_of typed.now.rules)) }
     ensures { IfOk result (λ text. text.items ≡ spelt (translate (rules_of typed.now.rules))) }
 {
-    let code = compile(alloc, typed, basin)?;
-    write_code(alloc, code.code())
+    let code = code_of(alloc, typed, basin)?;
+    write_code(alloc, &code)
 }
 
 /// The text of the code of a policy that is accepted for the basin.
