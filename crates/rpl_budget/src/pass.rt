@@ -1,7 +1,7 @@
 // One pass over an expression, from the leaves on.
 ghost use Rattle.std.specs.Prelude.{◌≡◌, ◌∷◌, [], IfOk, OnOk, drop};
 ghost use Rattle.rpl_tree.specs.Seen.{tree_of, trees_in};
-ghost use Rattle.rpl_tree.specs.Tree.{call, list};
+ghost use Rattle.rpl_tree.specs.Tree.{at, bind, call, choice, convert, each, list, mapped, one, two};
 ghost use Rattle.rpl_budget.specs.Pass as Pass;
 ghost use Rattle.rpl_budget.specs.Seen.{functions_of, tree_kind_seen, tree_kinds_seen, measured_seen, named_seen, names_of};
 
@@ -13,7 +13,7 @@ use crate::work::{
     Work, bound, chosen, element, leaf, listed, made, mapped, one_load, turned, two_load,
 };
 use rpl_scope::Scope;
-use rpl_tree::Expr;
+use rpl_tree::{ConvertWord, Expr, OneWord, TwoWord};
 use rw_base::NoMemory;
 
 /// What an expression comes to, where these functions and names can be used. The names stay as they are.
@@ -37,78 +37,198 @@ pub(crate) fn pass<'a>(
         Expr::Call { name, args } => call(known, names, name, args),
         Expr::Brackets(inner) => pass(known, names, inner),
         Expr::List(items) => list(known, names, items),
-        Expr::If { condition, yes, no } => {
-            let test = pass(known, names, condition)?;
-            let first = pass(known, names, yes)?;
-            let second = pass(known, names, no)?;
-            Ok(chosen(test, first, second))
-        }
-        Expr::Let { name, value, body } => {
-            let value = pass(known, names, value)?;
-            let body = inside(known, names, name, value.kind, body)?;
-            Ok(Work {
-                kind: body.kind,
-                load: bound(value, body.load),
-            })
-        }
+        Expr::If { condition, yes, no } => choice(known, names, condition, yes, no),
+        Expr::Let { name, value, body } => bind(known, names, name, value, body),
         Expr::For {
             name,
             list,
             total,
             first,
             body,
-        } => {
-            let all = pass(known, names, list)?;
-            let first = pass(known, names, first)?;
-            let item = Named {
-                name,
-                kind: element_of(all.kind),
-            };
-            let body = inside_turn(known, names, item, total, first.kind, body)?;
-            Ok(Work {
-                kind: first.kind,
-                load: turned(all, first, body),
-            })
-        }
-        Expr::Map { name, list, body } => {
-            let all = pass(known, names, list)?;
-            let body = inside(known, names, name, element_of(all.kind), body)?;
-            Ok(Work {
-                kind: TreeKind::Numbers(room_of(all.kind)),
-                load: mapped(all, body),
-            })
-        }
-        Expr::One { word, arg } => {
-            let part = pass(known, names, arg)?;
-            Ok(Work {
-                kind: one_kind(*word),
-                load: one_load(*word, arg, part.load),
-            })
-        }
-        Expr::Two { word, left, right } => {
-            let left = pass(known, names, left)?;
-            let right = pass(known, names, right)?;
-            Ok(Work {
-                kind: two_kind(*word, left.kind, right.kind)?,
-                load: two_load(*word, left, right.load),
-            })
-        }
-        Expr::Convert { arg, .. } => {
-            let part = pass(known, names, arg)?;
-            Ok(Work {
-                kind: TreeKind::Number,
-                load: both(part.load, steps(1)),
-            })
-        }
-        Expr::At { slot, step } => {
-            let place = pass(known, names, slot)?;
-            let date = pass(known, names, step)?;
-            Ok(Work {
-                kind: TreeKind::Number,
-                load: looked(place.load, date.load),
-            })
-        }
+        } => each(known, names, name, list, total, first, body),
+        Expr::Map { name, list, body } => mapping(known, names, name, list, body),
+        Expr::One { word, arg } => one(known, names, *word, arg),
+        Expr::Two { word, left, right } => two(known, names, *word, left, right),
+        Expr::Convert { word, object, arg } => convert(known, names, *word, object, arg),
+        Expr::At { slot, step } => look(known, names, slot, step),
     }
+}
+
+// One of two values.
+#[cycle(pass)]
+fn choice<'a>(
+    known: &[Known],
+    names: &mut Scope<'a, TreeKind>,
+    condition: &'a Expr,
+    yes: &'a Expr,
+    no: &'a Expr,
+) -> Result<Work, NoMemory>
+    ensures found { IfOk result (λ work. measured_seen work
+        ≡ Pass.pass (functions_of known.now) (names_of names.old)
+        (choice (tree_of condition.now) (tree_of yes.now) (tree_of no.now))) }
+    ensures names { OnOk result (names.new ≡ names.old) }
+{
+    let test = pass(known, names, condition)?;
+    let first = pass(known, names, yes)?;
+    let second = pass(known, names, no)?;
+    Ok(chosen(test, first, second))
+}
+
+// A value under a name, and what is done with it.
+#[cycle(pass)]
+fn bind<'a>(
+    known: &[Known],
+    names: &mut Scope<'a, TreeKind>,
+    name: &'a [u8],
+    value: &'a Expr,
+    body: &'a Expr,
+) -> Result<Work, NoMemory>
+    ensures found { IfOk result (λ work. measured_seen work
+        ≡ Pass.pass (functions_of known.now) (names_of names.old)
+        (bind name.now (tree_of value.now) (tree_of body.now))) }
+    ensures names { OnOk result (names.new ≡ names.old) }
+{
+    let value = pass(known, names, value)?;
+    let body = inside(known, names, name, value.kind, body)?;
+    Ok(Work {
+        kind: body.kind,
+        load: bound(value, body.load),
+    })
+}
+
+// A loop over a list.
+#[cycle(pass)]
+fn each<'a>(
+    known: &[Known],
+    names: &mut Scope<'a, TreeKind>,
+    name: &'a [u8],
+    list: &'a Expr,
+    total: &'a [u8],
+    first: &'a Expr,
+    body: &'a Expr,
+) -> Result<Work, NoMemory>
+    ensures found { IfOk result (λ work. measured_seen work
+        ≡ Pass.pass (functions_of known.now) (names_of names.old)
+        (each name.now (tree_of list.now) total.now (tree_of first.now) (tree_of body.now))) }
+    ensures names { OnOk result (names.new ≡ names.old) }
+{
+    let all = pass(known, names, list)?;
+    let first = pass(known, names, first)?;
+    let item = Named {
+        name,
+        kind: element_of(all.kind),
+    };
+    let body = inside_turn(known, names, item, total, first.kind, body)?;
+    Ok(Work {
+        kind: first.kind,
+        load: turned(all, first, body),
+    })
+}
+
+// A list of what comes of each element of another.
+#[cycle(pass)]
+fn mapping<'a>(
+    known: &[Known],
+    names: &mut Scope<'a, TreeKind>,
+    name: &'a [u8],
+    list: &'a Expr,
+    body: &'a Expr,
+) -> Result<Work, NoMemory>
+    ensures found { IfOk result (λ work. measured_seen work
+        ≡ Pass.pass (functions_of known.now) (names_of names.old)
+        (mapped name.now (tree_of list.now) (tree_of body.now))) }
+    ensures names { OnOk result (names.new ≡ names.old) }
+{
+    let all = pass(known, names, list)?;
+    let body = inside(known, names, name, element_of(all.kind), body)?;
+    Ok(Work {
+        kind: TreeKind::Numbers(room_of(all.kind)),
+        load: mapped(all, body),
+    })
+}
+
+// A word and one expression.
+#[cycle(pass)]
+fn one<'a>(
+    known: &[Known],
+    names: &mut Scope<'a, TreeKind>,
+    word: OneWord,
+    arg: &'a Expr,
+) -> Result<Work, NoMemory>
+    ensures found { IfOk result (λ work. measured_seen work
+        ≡ Pass.pass (functions_of known.now) (names_of names.old)
+        (one word (tree_of arg.now))) }
+    ensures names { OnOk result (names.new ≡ names.old) }
+{
+    let part = pass(known, names, arg)?;
+    Ok(Work {
+        kind: one_kind(word),
+        load: one_load(word, arg, part.load),
+    })
+}
+
+// A word and two expressions.
+#[cycle(pass)]
+fn two<'a>(
+    known: &[Known],
+    names: &mut Scope<'a, TreeKind>,
+    word: TwoWord,
+    left: &'a Expr,
+    right: &'a Expr,
+) -> Result<Work, NoMemory>
+    ensures found { IfOk result (λ work. measured_seen work
+        ≡ Pass.pass (functions_of known.now) (names_of names.old)
+        (two word (tree_of left.now) (tree_of right.now))) }
+    ensures names { OnOk result (names.new ≡ names.old) }
+{
+    let left = pass(known, names, left)?;
+    let right = pass(known, names, right)?;
+    Ok(Work {
+        kind: two_kind(word, left.kind, right.kind)?,
+        load: two_load(word, left, right.load),
+    })
+}
+
+// A word, an object and an expression.
+#[cycle(pass)]
+fn convert<'a>(
+    known: &[Known],
+    names: &mut Scope<'a, TreeKind>,
+    _word: ConvertWord,
+    _object: &[u8],
+    arg: &'a Expr,
+) -> Result<Work, NoMemory>
+    ensures found { IfOk result (λ work. measured_seen work
+        ≡ Pass.pass (functions_of known.now) (names_of names.old)
+        (convert _word _object.now (tree_of arg.now))) }
+    ensures names { OnOk result (names.new ≡ names.old) }
+{
+    let part = pass(known, names, arg)?;
+    Ok(Work {
+        kind: TreeKind::Number,
+        load: both(part.load, steps(1)),
+    })
+}
+
+// `slot[step]`.
+#[cycle(pass)]
+fn look<'a>(
+    known: &[Known],
+    names: &mut Scope<'a, TreeKind>,
+    slot: &'a Expr,
+    step: &'a Expr,
+) -> Result<Work, NoMemory>
+    ensures found { IfOk result (λ work. measured_seen work
+        ≡ Pass.pass (functions_of known.now) (names_of names.old)
+        (at (tree_of slot.now) (tree_of step.now))) }
+    ensures names { OnOk result (names.new ≡ names.old) }
+{
+    let place = pass(known, names, slot)?;
+    let date = pass(known, names, step)?;
+    Ok(Work {
+        kind: TreeKind::Number,
+        load: looked(place.load, date.load),
+    })
 }
 
 // What is done with a name.

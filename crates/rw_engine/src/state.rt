@@ -26,7 +26,7 @@ use crate::replaying::{retell, write_again};
 use crate::setup::RunSetup;
 use crate::step_end::StepEnd;
 use crate::trace_lines::{
-    note_firing_lines, note_lines, tell, tell_firing, tell_line, trace_where,
+    fault_by, note_firing_lines, note_lines, tell_firing, tell_line, trace_where,
 };
 use crate::turn::next_turn;
 use rpl_verify::Verified;
@@ -205,12 +205,12 @@ impl State {
         )?;
         let writes = self.work.writes.as_slice();
         note_lines(&mut self.lines, object, step, &end, writes)?;
-        let fault = tell(&mut self.run.trace, object, step, &end, writes)?;
+        note_lines(&mut self.run.trace, object, step, &end, writes)?;
         make(setup.basin, &mut self.run.series, writes);
         self.queue
             .wake_written(setup.basin, step, writes, Some(object));
         self.rules.touched(setup.basin, writes);
-        Ok(self.end_by(fault))
+        Ok(self.end_by(fault_by(object, step, &end)))
     }
 
     // Dispatches the object that was taken out of the queue, unless its limit is reached.

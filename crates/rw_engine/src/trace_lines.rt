@@ -76,7 +76,7 @@ fn tell_done(
 
 /// Writes the lines of a dispatch that ended so and writes these, and answers the fault that it is, if it is one.
 #[inline(always)]
-pub(crate) fn tell(
+fn tell(
     trace: &mut Trace,
     object: ObjectNo,
     step: StepNo,
@@ -146,6 +146,29 @@ pub(crate) fn tell_firing(
     }
 }
 
+/// The fault that a dispatch is which ended so, if it is one.
+#[inline(always)]
+pub(crate) fn fault_by(object: ObjectNo, step: StepNo, end: &DispatchEnd) -> Option<RunFault>
+    ensures { result ≡ fault_by object.0 step.0 end.now }
+{
+    match end {
+        DispatchEnd::Idle | DispatchEnd::Solved => None,
+        DispatchEnd::Conflict { slot, held, solved } => Some(RunFault::Conflict {
+            object,
+            slot: *slot,
+            step,
+            held: *held,
+            solved: *solved,
+        }),
+        DispatchEnd::OutOfRange { slot, value } => Some(RunFault::ObjectOutOfRange {
+            object,
+            slot: *slot,
+            step,
+            value: *value,
+        }),
+    }
+}
+
 // Notes the lines of a dispatch.
 #[inline(never)]
 fn note_dispatched(
@@ -164,7 +187,7 @@ fn note_dispatched(
     Ok(())
 }
 
-/// The same, where lines are noted.
+/// The same, where lines are kept.
 #[inline(always)]
 pub(crate) fn note_lines(
     lines: &mut Trace,
@@ -203,7 +226,7 @@ fn note_fired(
     Ok(())
 }
 
-/// The same, where lines are noted.
+/// The same, where lines are kept.
 #[inline(always)]
 pub(crate) fn note_firing_lines(
     lines: &mut Trace,

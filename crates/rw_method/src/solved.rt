@@ -1,3 +1,6 @@
+ghost use Rattle.std.specs.Prelude.{◌≡◌, []};
+ghost use Rattle.rw_method.specs.declared.solved.Solved.TheVariants as Solved;
+
 use crate::PutList;
 
 /// What a dispatch of an object answers.
@@ -23,4 +26,17 @@ pub enum Solved {
         /// The value, in the base units of the slot's dimension.
         value: i128,
     },
+}
+
+impl Solved {
+    /// Puts nothing, whatever it was. The puts are taken out where they stand: a list of them is large.
+    #[inline(always)]
+    pub fn clear(&mut self)
+        ensures { self.new ≡ Solved.Puts [] }
+    {
+        match self {
+            Solved::Puts(puts) => puts.clear(),
+            _ => *self = Solved::Puts(PutList::none()),
+        }
+    }
 }

@@ -1,4 +1,4 @@
-ghost use Rattle.std.specs.Prelude.{◌≡◌, option_map, ◌<◌, ◌+◌, ◌≤◌, ◌++◌, length, OnOk, IfErr};
+ghost use Rattle.std.specs.Prelude.{◌≡◌, option_map, ◌<◌, ◌+◌, ◌≤◌, ◌++◌, [], length, OnOk, IfErr};
 ghost use Rattle.rw_method.specs.declared.places.TheConstants.{OUTFLOW, POOL_ELEVATION, STORAGE};
 ghost use Rattle.rw_method.specs.View.{given};
 ghost use Rattle.rw_method.specs.Puts.{solved_put, level_puts, evaporation_put, release_puts, known_after, is_bounded};
@@ -60,6 +60,39 @@ fn ask_derived(
     }
 }
 
+// Puts all of it, one after the other.
+fn ask_all(
+    view: &View,
+    table: Option<&Rating>,
+    puts: &mut PutList,
+    evaporation: bool,
+    evaporated: Option<i128>,
+    max_release: Option<i64>,
+    balanced: Balanced,
+) -> Result<(), Solved>
+    requires { length puts.old < 4 }
+    ensures asks { Asks (can_get (option_map (λ rating. rating.now) table.entry) view.entry.now)
+        (solved_put balanced
+        ++ level_puts (option_map (λ rating. rating.now) table.entry) (given view.entry.now STORAGE)
+        (given view.entry.now POOL_ELEVATION) balanced
+        ++ evaporation_put evaporation evaporated ++ release_puts max_release
+        (known_after view.entry.now balanced OUTFLOW))
+        puts.old puts.new result }
+{
+    match ask_contents(view, table, puts, balanced) {
+        Ok(()) => ask_derived(
+            view,
+            table,
+            puts,
+            evaporation,
+            evaporated,
+            max_release,
+            known_after(view, balanced, OUTFLOW),
+        ),
+        Err(answer) => Err(answer),
+    }
+}
+
 /// What is answered once the balance is solved: all that is put, or the first put that its slot can't get.
 pub(crate) fn put_all(
     view: &View,
@@ -68,8 +101,9 @@ pub(crate) fn put_all(
     evaporated: Option<i128>,
     max_release: Option<i64>,
     balanced: Balanced,
-) -> Solved
-    ensures { result
+    solved: &mut Solved,
+)
+    ensures { solved.new
         ≡ answer_of_puts (can_get (option_map (λ rating. rating.now) table.entry) view.entry.now)
         (solved_put balanced
         ++ level_puts (option_map (λ rating. rating.now) table.entry) (given view.entry.now STORAGE)
@@ -77,22 +111,20 @@ pub(crate) fn put_all(
         ++ evaporation_put evaporation evaporated ++ release_puts max_release
         (known_after view.entry.now balanced OUTFLOW)) }
 {
-    let mut puts = PutList::none();
-    match ask_contents(view, table, &mut puts, balanced) {
-        Ok(()) => {}
-        Err(answer) => return answer,
-    }
-    let outflow = known_after(view, balanced, OUTFLOW);
-    match ask_derived(
-        view,
-        table,
-        &mut puts,
-        evaporation,
-        evaporated,
-        max_release,
-        outflow,
-    ) {
-        Ok(()) => Solved::Puts(puts),
-        Err(answer) => answer,
+    solved.clear();
+    let asked = match solved {
+        Solved::Puts(puts) => ask_all(
+            view,
+            table,
+            puts,
+            evaporation,
+            evaporated,
+            max_release,
+            balanced,
+        ),
+        _ => Ok(()),
+    };
+    if let Err(answer) = asked {
+        *solved = answer;
     }
 }

@@ -43,8 +43,9 @@ fn answer_by(
     evaporated: Option<i128>,
     max_release: Option<i64>,
     balanced: Balanced,
-) -> Solved
-    ensures { result
+    solved: &mut Solved,
+)
+    ensures { solved.new
         ≡ answer (can_get (option_map (λ rating. rating.now) table.entry) view.entry.now)
         (solved_put balanced
         ++ level_puts (option_map (λ rating. rating.now) table.entry) (given view.entry.now STORAGE)
@@ -58,14 +59,24 @@ fn answer_by(
         (fault_of_level (option_map (λ rating. rating.now) table.entry) view.entry.now)) }
 {
     if let Some(fault) = fault_of_past(evaporation, table, view.past) {
-        return faulty(balanced, fault);
+        *solved = faulty(balanced, fault);
+        return;
     }
     if let Some(fault) = fault_of_level(view, table) {
-        return faulty(balanced, fault);
+        *solved = faulty(balanced, fault);
+        return;
     }
     match ended(balanced, None) {
-        Some(answer) => answer,
-        None => put_all(view, table, evaporation, evaporated, max_release, balanced),
+        Some(answer) => *solved = answer,
+        None => put_all(
+            view,
+            table,
+            evaporation,
+            evaporated,
+            max_release,
+            balanced,
+            solved,
+        ),
     }
 }
 
@@ -76,11 +87,12 @@ pub(crate) fn solve_reservoir(
     side: Option<i128>,
     evaporation: bool,
     max_release: Option<i64>,
-) -> Solved
+    solved: &mut Solved,
+)
     requires { ForSome side (IsWithin 3) }
     ensures { (initial_storage : ℤ) (local_inflow diversion return_flow : Bool)
         → side ≡ side_flows view.entry.now RESERVOIR_SIDE local_inflow diversion return_flow
-        → result
+        → solved.new
         ≡ solve_of
         (Kind.Reservoir initial_storage (option_map (λ rating. rating.now) table.entry) local_inflow
         diversion return_flow evaporation
@@ -88,11 +100,20 @@ pub(crate) fn solve_reservoir(
 {
     let contents = stores(view, table);
     if is_short(view, &contents, side) {
-        return Solved::Idle;
+        *solved = Solved::Idle;
+        return;
     }
     let evaporated = evaporation_of(evaporation, table, view);
     let balanced = balance(view, &contents, side, evaporated);
-    answer_by(view, table, evaporation, evaporated, max_release, balanced)
+    answer_by(
+        view,
+        table,
+        evaporation,
+        evaporated,
+        max_release,
+        balanced,
+        solved,
+    );
 }
 
 impl Method for ReservoirMethod {
@@ -121,7 +142,7 @@ impl Method for ReservoirMethod {
                     *return_flow,
                 );
                 let rating = table.as_ref();
-                *solved = solve_reservoir(view, rating, side, *evaporation, *max_release);
+                solve_reservoir(view, rating, side, *evaporation, *max_release, solved);
             }
             _ => unreachable!(),
         }

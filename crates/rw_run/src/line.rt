@@ -86,6 +86,7 @@ pub(crate) fn copy_of(alloc: Global, line: &Line) -> Result<Line, NoMemory>
 }
 
 /// The event that a line tells.
+#[inline(always)]
 pub(crate) fn event_of(line: &Line) -> TraceEvent
     ensures { result ≡ line_event line.now }
 {

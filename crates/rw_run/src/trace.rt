@@ -132,6 +132,7 @@ impl Trace {
     }
 
     /// The line in a place, counted from 0. `None` exactly where there is none.
+    #[inline(always)]
     pub fn line(&self, place: usize) -> Option<TraceEvent>
         ensures { result ≡ slice_get (lines_in self.now) place }
     {
@@ -220,6 +221,7 @@ fn from_place(lines: &[Line], place: usize) -> &[Line]
 }
 
 // What the line in a place tells.
+#[inline(always)]
 fn line_at(lines: &[Line], place: usize) -> Option<TraceEvent>
     ensures { result ≡ slice_get (map line_event lines.now) place }
 {

@@ -1,40 +1,21 @@
-use Rattle.rw_base.proofs.Common.{option_map, sym}
-use Rattle.rw_method.specs.declared.places.TheConstants.{OUTFLOW, POOL_ELEVATION, STORAGE}
-use Rattle.rw_method.specs.View.{given}
-use Rattle.rw_method.specs.Puts.{solved_put, level_puts, evaporation_put, release_puts, known_after}
-use Rattle.rw_method.specs.Asking.{can_get}
-use Rattle.rw_method.proofs.Misfits.{refused_in_front, refused_behind, four_fit}
+use Rattle.rw_base.proofs.Common.{◌≡◌, sym, ◌∙◌, Bool, List, Result, Ok, Err}
+use Rattle.rw_method.specs.declared.put.Put.{Put}
+use Rattle.rw_method.specs.declared.solved.Solved.{Solved}
+use Rattle.rw_method.specs.Solve.{answer_of_puts}
+use Rattle.rw_method.specs.Asking.{Asks}
+use Rattle.rw_method.proofs.Misfits.{judged_refused}
 use Rattle.rw_reservoir.proofs.puts.put_all.Goals as goal
+use Rattle.rw_reservoir.proofs.puts.put_all.Goals.{in-Puts, in_default}
+
+refused_so : {X : Type 0} (fit : Put → Bool) (puts old new : List Put) (result : Result X Solved) (answer : Solved)
+    → Asks fit puts old new result → result ≡ Err answer → answer ≡ answer_of_puts fit puts
+refused_so fit puts old new result answer asks is = sym (judged_refused fit puts answer (rw is at asks.refused))
+
+never : {X : Type 0} (done : X) (answer other : Solved) → Ok done ≡ Err answer → answer ≡ other
+never done answer other is = cc
 
 pub returns-in-Err : goal.returns-in-Err
-returns-in-Err c =
-    let table = (option_map (λ rating. rating.now) c.args.table) in
-    let view = c.args.view.now in
-    let balanced = c.args.balanced in
-    sym (refused_in_front (can_get table view) (solved_put balanced) (level_puts table (given view STORAGE) (given view POOL_ELEVATION) balanced)
-    (evaporation_put c.args.evaporation c.args.evaporated) (release_puts c.args.max_release (known_after view balanced OUTFLOW))
-    c.in-Err.answer c.in-Err.ensures.asks.refused)
-
-pub returns-in-Ok-ask_derived : goal.returns-in-Ok-ask_derived
-returns-in-Ok-ask_derived c =
-    let table = (option_map (λ rating. rating.now) c.args.table) in
-    let view = c.args.view.now in
-    let balanced = c.args.balanced in
-    let outflow = c.known_after-outflow.ensures in
-    let derived = c.in-Ok-ask_derived.ensures.asks in
-    let all = rw (c.in-Ok.ensures.asks.added, c.none-puts.ensures) at derived.added in
-    rw (← outflow) (sym (four_fit (can_get table view) (solved_put balanced)
-    (level_puts table (given view STORAGE) (given view POOL_ELEVATION) balanced)
-    (evaporation_put c.args.evaporation c.args.evaporated) (release_puts c.args.max_release c.known_after-outflow.result)
-    c.ask_derived.new.puts c.in-Ok.ensures.asks.fits derived.fits all))
-
-pub returns-in-Err-ask_derived : goal.returns-in-Err-ask_derived
-returns-in-Err-ask_derived c =
-    let table = (option_map (λ rating. rating.now) c.args.table) in
-    let view = c.args.view.now in
-    let balanced = c.args.balanced in
-    let outflow = c.known_after-outflow.ensures in
-    rw (← outflow) (sym (refused_behind (can_get table view) (solved_put balanced)
-    (level_puts table (given view STORAGE) (given view POOL_ELEVATION) balanced)
-    (evaporation_put c.args.evaporation c.args.evaporated) (release_puts c.args.max_release c.known_after-outflow.result)
-    c.in-Err-ask_derived.answer c.in-Ok.ensures.asks.fits c.in-Err-ask_derived.ensures.asks.refused))
+returns-in-Err c = elim c.match-solved.branch [
+  | in-Puts w ↦ refused_so _ _ _ _ _ _ w.ask_all-asked.ensures.asks (sym w.asked-is ∙ c.in-Err.is)
+  | in_default w ↦ never _ _ _ (sym w.asked-is ∙ c.in-Err.is)
+]

@@ -44,18 +44,18 @@ returns-in_err-note_lines g c = λ place waits taken.
     (looked_cells basin c.args.object.0 c.args.step.0 ++ cells_reached basin c.as_slice-asked.result.now, c.in_ok-note_dispatch.ensures))
     (record { closed_steps = refl; end = refl }) (sym c.requires.within.made.engine.notes.same ∙ c.in_err-note_lines.ensures.wants)
 
-pub returns-in_err-fault : goal.returns-in_err-fault
-returns-in_err-fault g c = λ place waits taken.
+pub returns-in_err-note_lines-2 : goal.returns-in_err-note_lines-2
+returns-in_err-note_lines-2 g c = λ place waits taken.
     let basin = c.args.setup.now.basin.now in
     let policy = c.args.setup.now.policy.now in
     let old = c.args.self.now in
-    wanted basin policy (Some c.args.object.0) c.args.step.0 old _ _ c.from_residual-in_err-fault.result _ c.from_residual-in_err-fault.ensures.1
+    wanted basin policy (Some c.args.object.0) c.args.step.0 old _ _ c.from_residual-in_err-note_lines-2.result _ c.from_residual-in_err-note_lines-2.ensures.1
     (keeps_noted basin policy old _ c.requires.within
     (stays_counted basin policy old _ c.args.object.0 c.raise.ensures refl c.requires.within.made.engine.rules refl
     c.judge_dispatch-end.ensures.work.keeps)
-    c.requires.within.indexed refl refl c.tell.ensures.grows c.note_lines.ensures.grows
+    c.requires.within.indexed refl refl c.note_lines-2.ensures.grows c.note_lines.ensures.grows
     (looked_cells basin c.args.object.0 c.args.step.0 ++ cells_reached basin c.as_slice-asked.result.now, c.in_ok-note_dispatch.ensures))
-    (record { closed_steps = refl; end = refl }) (c.requires.within.made.engine.notes.traced c.in_err-fault.ensures.wants)
+    (record { closed_steps = refl; end = refl }) (c.requires.within.made.engine.notes.traced c.in_err-note_lines-2.ensures.wants)
 
 leaves : (g : _) (c : goal.After-end_by g)
     → Leaves c.args.setup.now.basin.now (dispatched c.args.setup.now.basin.now (held c.args.self.now.run.series) c.args.object.0 c.args.step.0)
@@ -89,17 +89,17 @@ returns g c = λ place waits taken.
     let on = c.touched.ensures cells (held c.make.new.series) c.make.ensures.cells in
     let made = leaves g c in
     rw (c.end_by.ensures.state, c.end_by.ensures.end) (record {
-      keeps = keeps_ended basin policy old _ c.in_ok-fault.fault
+      keeps = keeps_ended basin policy old _ c.fault_by.result
           (keeps_done basin policy old _ within
           (stays_counted basin policy old _ object c.raise.ensures refl
           (rules_on basin policy cells (held c.make.new.series) old.rules c.touched.new.self on within.made.engine.rules) refl work.keeps)
           event reached (on.indexed within.indexed)
-          (record { series = c.make.ensures.made; queue = c.wake_written.ensures.made }) made c.tell.ensures.grows c.note_lines.ensures.grows
+          (record { series = c.make.ensures.made; queue = c.wake_written.ensures.made }) made c.note_lines-2.ensures.grows c.note_lines.ensures.grows
           c.in_ok-note_dispatch.ensures
           (λ kept. written_reached basin event reached
           (dispatch_reached basin cells object step asked (λ calm. c.as_slice-asked.ensures ∙ work.asked (within.made.keeps ∙ kept) calm)) asks));
       on_the_way =
-          on_the_way_object basin step old _ c.in_ok-fault.fault object (counted basin policy old object within known) c.requires.below
+          on_the_way_object basin step old _ c.fault_by.result object (counted basin policy old object within known) c.requires.below
           c.raise.ensures refl refl refl;
       goes = λ log holds. record {
         event = event;
@@ -111,7 +111,7 @@ returns g c = λ place waits taken.
               told = record {
                 is = c.judge_dispatch-end.ensures.ends;
                 cells = made.cells;
-                trace = c.in_ok-fault.ensures.told
+                trace = c.in_ok-note_lines-2.ensures.told
                     ∙ ap (λ writes. told old.run.trace (lines_by object step c.judge_dispatch-end.result writes))
                     (c.as_slice-writes.ensures ∙ work.writes);
                 closed_steps = refl;
@@ -121,23 +121,23 @@ returns g c = λ place waits taken.
               queue = made.queue;
               rules = on.rules;
               firings = refl;
-            }) refl c.in_ok-fault.fault (sym c.in_ok-fault.ensures.fault);
+            }) refl c.fault_by.result (sym c.fault_by.ensures);
         notes =
-            λ calm. ended_noted c.in_ok-fault.fault _ ∙ notes_same cells reached (reached_by basin event) old.noted _ c.in_ok-note_dispatch.ensures
+            λ calm. ended_noted c.fault_by.result _ ∙ notes_same cells reached (reached_by basin event) old.noted _ c.in_ok-note_dispatch.ensures
             (λ kept. dispatch_reached basin cells object step asked
             (λ calm. c.as_slice-asked.ensures ∙ work.asked (within.made.keeps ∙ kept) calm) calm);
-        lines_are = ended_lines c.in_ok-fault.fault _ ∙ c.in_ok-note_lines.ensures.told
+        lines_are = ended_lines c.fault_by.result _ ∙ c.in_ok-note_lines.ensures.told
             ∙ ap (λ writes. told old.lines (lines_by object step c.judge_dispatch-end.result writes)) (c.as_slice-writes.ensures ∙ work.writes)
             ∙ ap (told old.lines) (dispatch_lines basin (looks_of basin cells object step) step object event c.judge_dispatch-end.result
             c.judge_dispatch-end.ensures.ends);
         asks = asks;
         can = subst (AreWrites basin) work.writes work.can;
-        turned = counts_ended old.turns _ event c.in_ok-fault.fault
+        turned = counts_ended old.turns _ event c.fault_by.result
             (counts_dispatch basin (looks_of basin cells object step) object step old.turns _ event c.judge_dispatch-end.result
             c.judge_dispatch-end.ensures.ends
             c.next_turn-self.ensures.is c.next_turn-self.ensures.rises);
       };
-      few = few_ended basin old _ c.in_ok-fault.fault
+      few = few_ended basin old _ c.fault_by.result
           (few_object basin old c.raise.new.self c.next_turn-self.result object (counted basin policy old object within known) c.requires.below
           c.raise.ensures c.next_turn-self.ensures.few);
       wants = tt;
