@@ -26,9 +26,13 @@ AreTexts words texts = (place : ℕ) (text : String Global) → slice_get texts 
 abbrev pub object_line : Draft → (word : List ℕ) → ℕ → List ℕ
 object_line basin word object = (word ++ object_words basin object) ++ codes "\n"
 
+-- a slot behind some text, and a space behind it
+abbrev pub slot_behind : Draft → (front : List ℕ) → ℕ → List ℕ
+slot_behind basin front slot = front ++ (slot_words basin slot ++ codes " ")
+
 -- how the line of a put to a slot begins
 abbrev pub slot_front : Draft → ℕ → List ℕ
-slot_front basin slot = codes "  " ++ (slot_words basin slot ++ codes " ")
+slot_front basin slot = slot_behind basin (codes "  ") slot
 
 -- texts that are kept for the lines of a trace
 pub record AreLineTexts (basin : Draft) (texts : LineTexts) : Type 0 where

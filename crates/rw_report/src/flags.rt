@@ -49,8 +49,12 @@ pub(crate) fn write_content(buffer: &mut [u8; ROOM], content: Content, end: usiz
     write_number(buffer, value, between)
 }
 
-// Appends them, by an array that is lent.
-fn push_by(text: &mut String, buffer: &mut [u8; ROOM], content: Content) -> Result<(), NoMemory>
+/// Appends the value and the flag of a content, by an array that is lent.
+pub fn push_content_by(
+    text: &mut String,
+    buffer: &mut [u8; ROOM],
+    content: Content,
+) -> Result<(), NoMemory>
     ensures { OnOk result (string_bytes text.new ≡ string_bytes text.old ++ content_words content) }
 {
     let start = write_content(buffer, content, ROOM);
@@ -63,7 +67,7 @@ pub fn push_content(text: &mut String, content: Content) -> Result<(), NoMemory>
     ensures { OnOk result (string_bytes text.new ≡ string_bytes text.old ++ content_words content) }
 {
     let mut buffer = [0; ROOM];
-    push_by(text, &mut buffer, content)
+    push_content_by(text, &mut buffer, content)
 }
 
 // Writes the flag of what a cell holds, which is nothing where it is unknown.

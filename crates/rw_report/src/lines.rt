@@ -5,14 +5,14 @@ ghost use Rattle.rw_run.specs.Trace.{lines_in};
 ghost use Rattle.rw_report.specs.Section.{object_words, slot_words};
 ghost use Rattle.rw_report.specs.Flags.{content_words};
 ghost use Rattle.rw_report.specs.Lines.{ending_words, line_words, lines_words, trace_words, written_words};
-ghost use Rattle.rw_report.specs.Pieces.{AreLineTexts, AreTexts, object_line, slot_front};
+ghost use Rattle.rw_report.specs.Pieces.{AreLineTexts, AreTexts, object_line, slot_behind, slot_front};
 
 use crate::flags::{push_content, write_content};
 use crate::heading::push_fault;
 use crate::names::{push_object, push_slot};
 use crate::numbers::push_count;
 use crate::pieces::{ROOM, push_piece, write_byte, write_count};
-use crate::told::{LineTexts, line_texts, push_object_line, push_slot_front, text_of};
+use crate::told::{LineTexts, line_texts, push_object_line, push_slot_behind, text_of};
 use rw_base::{NoMemory, ObjectNo, RuleNo, SlotNo, StepNo};
 use rw_model::{Basin, Content};
 use rw_run::{RunFault, Trace, TraceEvent, Write};
@@ -146,23 +146,25 @@ fn push_listed(
     }
 }
 
-// Appends how the line of a put to a slot begins, of which there may be a text.
-fn push_front(
+/// Appends a slot between a text and a space, of which there may be a text.
+#[inline(always)]
+pub(crate) fn push_front(
     text: &mut String,
     basin: &Basin,
     texts: &[String],
+    front: &str,
     slot: SlotNo,
 ) -> Result<(), NoMemory>
-    requires { AreTexts (slot_front basin.now) texts.now }
+    requires { AreTexts (slot_behind basin.now front.now) texts.now }
     ensures { OnOk result (string_bytes text.new
-        ≡ string_bytes text.old ++ slot_front basin.now slot.0) }
+        ≡ string_bytes text.old ++ slot_behind basin.now front.now slot.0) }
 {
     match text_of(texts, slot.0) {
-        Some(front) => {
-            text.push_str(front)?;
+        Some(slot_text) => {
+            text.push_str(slot_text)?;
             Ok(())
         }
-        None => push_slot_front(text, basin, slot),
+        None => push_slot_behind(text, basin, front, slot),
     }
 }
 
@@ -180,8 +182,8 @@ fn write_put(buffer: &mut [u8; ROOM], step: StepNo, content: Content) -> usize
     write_count(buffer, step.0, between)
 }
 
-// Appends how the line of a put ends.
-fn push_put(
+/// Appends how the line of a put ends, by an array that is lent.
+pub fn push_put(
     text: &mut String,
     buffer: &mut [u8; ROOM],
     step: StepNo,
@@ -195,9 +197,9 @@ fn push_put(
     Ok(())
 }
 
-// Appends the line of a put.
+/// Appends the line of a put.
 #[inline(always)]
-fn push_write(
+pub(crate) fn push_write(
     text: &mut String,
     buffer: &mut [u8; ROOM],
     basin: &Basin,
@@ -209,13 +211,25 @@ fn push_write(
         ++ (written_words basin.now write.cell.slot.0 write.cell.step.0 write.content
         ++ codes "\n")) }
 {
-    push_front(text, basin, texts, write.cell.slot)?;
+    push_front(text, basin, texts, "  ", write.cell.slot)?;
     push_put(text, buffer, write.cell.step, write.content)?;
     Ok(())
 }
 
-// Appends a line of a trace, by its text where there is one.
-fn push_told(
+// Appends the line of a firing.
+fn push_firing_line(text: &mut String, rule: RuleNo, done: bool, count: u64) -> Result<(), NoMemory>
+    ensures { OnOk result (string_bytes text.new ≡ string_bytes text.old
+        ++ (((codes "fire " ++ decimal rule.0) ++ (ending_words done ++ decimal count))
+        ++ codes "\n")) }
+{
+    push_firing(text, rule, done, count)?;
+    text.push_str("\n")?;
+    Ok(())
+}
+
+/// Appends a line of a trace, by its text where there is one.
+#[inline(always)]
+pub(crate) fn push_told(
     text: &mut String,
     basin: &Basin,
     texts: &LineTexts,
@@ -236,6 +250,7 @@ fn push_told(
         TraceEvent::Solve(object) => {
             push_listed(text, basin, texts.solve.as_slice(), "solve ", object)
         }
+        TraceEvent::Fire { rule, done, count } => push_firing_line(text, rule, done, count),
         _ => push_ended(text, basin, line),
     }
 }

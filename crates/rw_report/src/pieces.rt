@@ -7,7 +7,7 @@ use rw_base::NoMemory;
 use std::str::from_utf8_unchecked;
 
 /// The bytes of such an array.
-pub(crate) const ROOM: usize = 672;
+pub const ROOM: usize = 672;
 
 /// Writes a byte so that it ends where it is said, and answers where it begins.
 #[inline(always)]

@@ -1,4 +1,4 @@
-ghost use Rattle.std.specs.Prelude.{◌≡◌, ◌≤◌, ◌<◌, ◌+◌, ℕ, IfErr, IfOk, option_map, []};
+ghost use Rattle.std.specs.Prelude.{◌≡◌, ◌≤◌, ◌<◌, ◌+◌, ℕ, IfErr, IfOk, option_map, string_bytes, []};
 ghost use Rattle.rw_series.specs.Series.{held};
 ghost use Rattle.rw_report.specs.Outcome.{outcome_of};
 ghost use Rattle.rw_report.specs.Sheet.{AreToldBefore, AreToldOf};
@@ -128,10 +128,11 @@ impl<'a> Sheet<'a> {
     {
         self.text.as_bytes()
     }
+
     /// What was told last, and no sheet any more. It takes no memory.
-    pub(crate) fn into_text(self) -> Vec<u8>
-        ensures { result.items ≡ self.entry.text }
+    pub(crate) fn into_text(self) -> String
+        ensures { string_bytes result ≡ self.entry.text }
     {
-        self.text.into_bytes()
+        self.text
     }
 }

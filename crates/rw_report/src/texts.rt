@@ -1,4 +1,4 @@
-ghost use Rattle.std.specs.Prelude.{◌≡◌, ◌≤◌, IfOk, option_map};
+ghost use Rattle.std.specs.Prelude.{◌≡◌, ◌≤◌, IfOk, option_map, string_bytes};
 ghost use Rattle.rw_report.specs.Outcome.{outcome_of};
 ghost use Rattle.rw_report.specs.Whole.{trace_of_run, whole_of};
 
@@ -29,6 +29,25 @@ pub fn section(
 ) -> Result<Vec<u8>, NoMemory>
     requires closed { run.now.closed ≤ basin.now.control.stamps.count }
     ensures text { IfOk result (λ text. text.items
+        ≡ whole_of basin.now batch (outcome_of run.now)
+        (option_map (λ steps. steps.now) reran.entry) flags trace) }
+{
+    let text = section_text(alloc, basin, batch, run, reran, flags, trace)?;
+    Ok(text.into_bytes())
+}
+
+/// The same, as a text to which more can be appended.
+pub fn section_text(
+    alloc: Global,
+    basin: &Basin,
+    batch: u32,
+    run: &Run,
+    reran: Option<&[StepNo]>,
+    flags: bool,
+    trace: bool,
+) -> Result<String, NoMemory>
+    requires closed { run.now.closed ≤ basin.now.control.stamps.count }
+    ensures text { IfOk result (λ text. string_bytes text
         ≡ whole_of basin.now batch (outcome_of run.now)
         (option_map (λ steps. steps.now) reran.entry) flags trace) }
 {

@@ -1,6 +1,6 @@
 // Texts that many lines of a trace have in common, each made once.
 ghost use Rattle.std.specs.Prelude.{◌≡◌, ◌+◌, ◌++◌, ℕ, List, IfOk, IfSome, OnOk, string_bytes, codes};
-ghost use Rattle.rw_report.specs.Pieces.{AreLineTexts, AreTexts, object_line, slot_front};
+ghost use Rattle.rw_report.specs.Pieces.{AreLineTexts, AreTexts, object_line, slot_behind};
 
 use crate::names::{push_object, push_slot};
 use rw_base::{NoMemory, ObjectNo, SlotNo};
@@ -33,16 +33,17 @@ pub(crate) fn push_object_line(
     Ok(())
 }
 
-/// Appends how the line of a put to a slot begins.
-pub(crate) fn push_slot_front(
+/// Appends a slot between a text and a space.
+pub(crate) fn push_slot_behind(
     text: &mut String,
     basin: &Basin,
+    front: &str,
     slot: SlotNo,
 ) -> Result<(), NoMemory>
     ensures { OnOk result (string_bytes text.new
-        ≡ string_bytes text.old ++ slot_front basin.now slot.0) }
+        ≡ string_bytes text.old ++ slot_behind basin.now front.now slot.0) }
 {
-    text.push_str("  ")?;
+    text.push_str(front)?;
     push_slot(text, basin, slot)?;
     text.push_str(" ")?;
     Ok(())
@@ -61,11 +62,11 @@ fn object_text(
     Ok(text)
 }
 
-fn slot_text(alloc: Global, basin: &Basin, slot: SlotNo) -> Result<String, NoMemory>
-    ensures { IfOk result (λ text. string_bytes text ≡ slot_front basin.now slot.0) }
+fn slot_text(alloc: Global, basin: &Basin, front: &str, slot: SlotNo) -> Result<String, NoMemory>
+    ensures { IfOk result (λ text. string_bytes text ≡ slot_behind basin.now front.now slot.0) }
 {
     let mut text = String::new(alloc);
-    push_slot_front(&mut text, basin, slot)?;
+    push_slot_behind(&mut text, basin, front, slot)?;
     Ok(text)
 }
 
@@ -80,13 +81,13 @@ fn object_texts(alloc: Global, basin: &Basin, word: &str) -> Result<Vec<String>,
     Ok(texts)
 }
 
-// How the lines of puts to all slots begin.
-fn slot_texts(alloc: Global, basin: &Basin) -> Result<Vec<String>, NoMemory>
-    ensures { IfOk result (λ texts. AreTexts (slot_front basin.now) texts.items) }
+/// All slots, each between a text and a space.
+pub(crate) fn slot_texts(alloc: Global, basin: &Basin, front: &str) -> Result<Vec<String>, NoMemory>
+    ensures { IfOk result (λ texts. AreTexts (slot_behind basin.now front.now) texts.items) }
 {
     let mut texts = Vec::new(alloc);
     for before in 0..basin.slot_count() {
-        texts.push(slot_text(alloc, basin, SlotNo(before + 1))?)?;
+        texts.push(slot_text(alloc, basin, front, SlotNo(before + 1))?)?;
     }
     Ok(texts)
 }
@@ -98,7 +99,7 @@ pub(crate) fn line_texts(alloc: Global, basin: &Basin) -> Result<LineTexts, NoMe
     Ok(LineTexts {
         idle: object_texts(alloc, basin, "idle ")?,
         solve: object_texts(alloc, basin, "solve ")?,
-        written: slot_texts(alloc, basin)?,
+        written: slot_texts(alloc, basin, "  ")?,
     })
 }
 

@@ -2,7 +2,7 @@ use Rattle.std.proofs.Common.{◌≡◌, ◌++◌, ◌∙◌, [], ap, append-nil
 use Rattle.std.specs.Str.{IsAscii}
 use Rattle.std.proofs.lemmas.List.{drop_all}
 use Rattle.rw_report.specs.Flags.{content_words}
-use Rattle.rw_report.proofs.flags.push_by.Goals as goal
+use Rattle.rw_report.proofs.flags.push_content_by.Goals as goal
 
 pub push_piece-requires-clause-ascii : goal.push_piece-requires-clause-ascii
 push_piece-requires-clause-ascii c =

@@ -3,7 +3,7 @@ use Rattle.rw_base.specs.declared.number.StepNo.{StepNo}
 use Rattle.rw_report.specs.Outcome.{outcome_of}
 use Rattle.rw_report.specs.Sheet.{Sheet}
 use Rattle.rw_report.specs.Whole.{whole_of}
-use Rattle.rw_report.proofs.texts.section.Goals as goal
+use Rattle.rw_report.proofs.texts.section_text.Goals as goal
 
 pub returns : goal.returns
 returns c = record {
