@@ -25,7 +25,7 @@ use rw_engine::{Run, RunEnd, RunSetup, run_all_of};
 use rw_inputs::Inputs;
 use rw_order::{Newest, run_any};
 use rw_report::law::texts_of_runs;
-use rw_report::section;
+use rw_report::section_text;
 use rw_retold::push_asked_trace;
 use rw_run::law::{choices, same_runs};
 use std::alloc::Global;
@@ -61,11 +61,9 @@ fn text_of_run(
         ++ asked_trace_words setup.now.basin.now (asked_trace setup.now.basin.now
         (policy_in setup.now.basin.now setup.now.policy.now) log)) }
 {
-    let mut text = section(alloc, setup.basin, number, run, None, extras.flags, false)?;
-    let mut asks = String::new(alloc);
-    push_asked_trace(alloc, &mut asks, setup, inputs, &run.trace)?;
-    text.extend_from_slice(asks.as_bytes())?;
-    Ok(text)
+    let mut text = section_text(alloc, setup.basin, number, run, None, extras.flags, false)?;
+    push_asked_trace(alloc, &mut text, setup, inputs, &run.trace)?;
+    Ok(text.into_bytes())
 }
 
 /// The section of the run by code that is verified for the basin, from inputs, and how the run ended.

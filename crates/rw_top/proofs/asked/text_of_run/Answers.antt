@@ -1,5 +1,4 @@
-use Rattle.rw_top.proofs.Common.{[], ap, rules, string_bytes, ◌++◌, ◌∙◌, ◌≡◌}
-use Rattle.rw_base.proofs.Common.{ap₂}
+use Rattle.rw_top.proofs.Common.{ap, rules, string_bytes, ◌++◌, ◌∙◌, ◌≡◌}
 use Rattle.rw_rules.specs.Rules.{policy_in}
 use Rattle.rw_asked.specs.Asked.{asked_trace}
 use Rattle.rw_asked.specs.Words.{asked_trace_words}
@@ -12,8 +11,5 @@ pub returns : goal.returns
 returns g c = λ log events leads are.
     let basin = c.args.setup.now.basin.now in
     let words = asked_trace_words basin (asked_trace basin (policy_in basin c.args.setup.now.policy.now) log) in
-    let bytes : c.as_bytes.result.now ≡ string_bytes c.push_asked_trace.new.text = search rules in
-    let none : string_bytes c.new-asks.result ≡ [] = search rules in
-    c.in_ok-extend_from_slice.ensures.items
-    ∙ ap₂ (λ front rest. front ++ rest) c.in_ok-text.ensures.text
-    (bytes ∙ c.in_ok-push_asked_trace.ensures log events leads are ∙ ap (λ t. t ++ words) none)
+    let bytes : c.into_bytes.result.items ≡ string_bytes c.push_asked_trace.new.text = search rules in
+    bytes ∙ c.in_ok-push_asked_trace.ensures log events leads are ∙ ap (λ t. t ++ words) c.in_ok-text.ensures.text
