@@ -1,5 +1,6 @@
 -- The text of lines, one after another.
-use Rattle.rw_base.proofs.Common.{◌≡◌, ◌<◌, ◌+◌, ℕ, codes, drop, drop-cons, length, slice_index_or, suc, suc-eq-add-one, List, [], ◌∷◌, ◌++◌, refl, sym, ap, ◌∙◌, append_assoc}
+use Rattle.rw_base.proofs.Common.{◌≡◌, ◌<◌, ◌+◌, ℕ, codes, drop, drop-cons, length, slice_index_or, suc, suc-eq-add-one, List, [], ◌∷◌, ◌++◌, refl}
+use Rattle.rw_base.proofs.Common.{sym, ap, ◌∙◌, append_assoc}
 use Rattle.rw_model.specs.Draft.{Draft}
 use Rattle.rw_report.proofs.Growing.{written}
 use Rattle.rw_run.specs.Log.{Asked}
@@ -34,3 +35,29 @@ from_place items place item near is =
     drop-cons items place item near
     ∙ ap (λ x. x ∷ drop (suc place) items) (sym is)
     ∙ ap (λ n. item ∷ drop n items) (suc-eq-add-one place)
+
+-- the line of a word, of what it begins with and what follows
+pub word_told : (text front indent word gap slot step value end new : List ℕ) → front ≡ text ++ (indent ++ (word ++ (gap ++ (slot ++ gap))))
+    → new ≡ front ++ (step ++ (gap ++ (value ++ end)))
+    → new ≡ text ++ ((indent ++ (word ++ ((gap ++ (slot ++ (gap ++ step))) ++ (gap ++ value)))) ++ end)
+word_told text front indent word gap slot step value end new begun is =
+    is ∙ ap (λ t. t ++ (step ++ (gap ++ (value ++ end)))) begun ∙ joined text indent word gap slot step value end
+  where
+    joined : (text indent word gap slot step value end : List ℕ)
+        → (text ++ (indent ++ (word ++ (gap ++ (slot ++ gap))))) ++ (step ++ (gap ++ (value ++ end)))
+        ≡ text ++ ((indent ++ (word ++ ((gap ++ (slot ++ (gap ++ step))) ++ (gap ++ value)))) ++ end)
+    joined text indent word gap slot step value end = simp append_assoc refl
+
+-- with what was held behind it
+pub held_told : (text front asked indent word gap slot step value between held end new : List ℕ)
+    → front ≡ text ++ (indent ++ (word ++ (gap ++ (slot ++ gap))))
+    → asked ≡ front ++ (step ++ (gap ++ value)) → new ≡ asked ++ (between ++ (held ++ end))
+    → new ≡ text ++ (((indent ++ (word ++ ((gap ++ (slot ++ (gap ++ step))) ++ (gap ++ value)))) ++ (between ++ held)) ++ end)
+held_told text front asked indent word gap slot step value between held end new begun put is =
+    is ∙ ap (λ t. t ++ (between ++ (held ++ end))) (put ∙ ap (λ t. t ++ (step ++ (gap ++ value))) begun)
+    ∙ joined text indent word gap slot step value between held end
+  where
+    joined : (text indent word gap slot step value between held end : List ℕ)
+        → ((text ++ (indent ++ (word ++ (gap ++ (slot ++ gap))))) ++ (step ++ (gap ++ value))) ++ (between ++ (held ++ end))
+        ≡ text ++ (((indent ++ (word ++ ((gap ++ (slot ++ (gap ++ step))) ++ (gap ++ value)))) ++ (between ++ held)) ++ end)
+    joined text indent word gap slot step value between held end = simp append_assoc refl

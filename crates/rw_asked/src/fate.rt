@@ -1,9 +1,10 @@
-ghost use Rattle.std.specs.Prelude.{◌≡◌};
+ghost use Rattle.std.specs.Prelude.{◌≡◌, Some};
 ghost use Rattle.rw_model.specs.declared.put.PutEnd.TheVariants as End;
 ghost use Rattle.rw_model.specs.Draft.{IsSlot};
+ghost use Rattle.rw_model.specs.Put.{end_of_put};
 ghost use Rattle.rw_series.specs.Series.{held};
 ghost use Rattle.rw_run.specs.Next.{is_put_again};
-ghost use Rattle.rw_asked.specs.Asked.{by_end, by_found, fate_of, fate_over};
+ghost use Rattle.rw_asked.specs.Asked.{by_end, fate_of, fate_over};
 
 use rw_model::{Basin, Content, PutEnd, put_end};
 use rw_run::Write;
@@ -27,46 +28,46 @@ pub enum Fate {
 }
 
 // What became of a put that is written to a cell that holds this.
-fn written_over(held: Content, new: Content) -> Fate
-    ensures { result ≡ by_end held new End.Written }
+fn written_over(held: &Content, put: &Write) -> Fate
+    ensures { result ≡ by_end held.now put.now.content End.Written }
 {
-    if held.value == new.value {
+    if held.value == put.content.value {
         Fate::Written
     } else {
-        Fate::Over(held)
+        Fate::Over(*held)
     }
 }
 
-// What became of a put to a cell that holds this, by its end.
-fn by_end(held: Content, new: Content, end: PutEnd) -> Fate
-    ensures { result ≡ by_end held new end }
+// How a put to a cell that holds this ends.
+#[inline(always)]
+fn end_over(held: &Content, put: &Write) -> PutEnd
+    ensures { result ≡ end_of_put (Some held.now) put.now.content }
 {
-    match end {
-        PutEnd::Written => written_over(held, new),
-        PutEnd::Kept => Fate::Kept(held),
+    put_end(Some(*held), put.content)
+}
+
+// What became of a put to a cell that holds this.
+#[inline(always)]
+fn fate_by(held: &Content, put: &Write) -> Fate
+    ensures { result ≡ by_end held.now put.now.content
+        (end_of_put (Some held.now) put.now.content) }
+{
+    match end_over(held, put) {
+        PutEnd::Written => written_over(held, put),
+        PutEnd::Kept => Fate::Kept(*held),
         PutEnd::Denied(shown) => Fate::Denied(shown),
     }
 }
 
-// The same, where it may hold nothing.
-fn by_found(found: Option<Content>, new: Content, end: PutEnd) -> Fate
-    ensures { result ≡ by_found found new end }
-{
-    match found {
-        None => Fate::Written,
-        Some(held) => by_end(held, new, end),
-    }
-}
-
 /// What becomes of a put of a dispatch by what its cell holds. It takes no memory.
+#[inline(always)]
 pub fn fate_alone(series: &Series, put: &Write) -> Fate
     ensures { result ≡ fate_over (held series.now put.now.cell) put.now.content }
 {
-    by_found(
-        series.get(put.cell),
-        put.content,
-        put_end(series.get(put.cell), put.content),
-    )
+    match series.get(put.cell) {
+        None => Fate::Written,
+        Some(held) => fate_by(&held, put),
+    }
 }
 
 // Whether a later one is to a cell that shares its value with that of this one.

@@ -1,150 +1,153 @@
 //! The text of what became of puts.
 ghost use Rattle.std.specs.Prelude.{◌≡◌, ◌<◌, ◌+◌, ◌++◌, OnOk, codes, drop, length, string_bytes};
+ghost use Rattle.std.specs.Fmt.{decimal};
+ghost use Rattle.rw_model.specs.Draft.{IsSlot};
 ghost use Rattle.rw_series.specs.Series.{held};
-ghost use Rattle.rw_asked.specs.Asked.{AreToSlots, fates_alone, fates_of, left_line, put_lines, lines_of_asks};
-ghost use Rattle.rw_asked.specs.Words.{asked_line_words, asked_lines_words, fate_words, held_words, cell_place, word_line};
+ghost use Rattle.rw_asked.specs.Asked.{AreToSlots, fate_of, fates_alone, fates_of, lines_of_asks, put_lines};
+ghost use Rattle.rw_asked.specs.Words.{asked_lines_words, word_line};
 ghost use Rattle.rw_run.specs.RunOf.{line_of};
 ghost use Rattle.rw_report.specs.Flags.{content_words};
 ghost use Rattle.rw_report.specs.Lines.{line_words};
+ghost use Rattle.rw_report.specs.Section.{slot_words};
 
 use crate::fate::{Fate, fate_alone, fate_of};
-use rw_base::{Cell, NoMemory};
-use rw_model::{Basin, Content};
-use rw_report::{push_content, push_count, push_line, push_slot};
-use rw_run::{TraceEvent, Write};
+use rw_base::{Cell, NoMemory, SlotNo, StepNo};
+use rw_model::Content;
+use rw_report::{ROOM, Teller, push_content_by, push_count, push_put};
+use rw_run::Write;
 use rw_series::Series;
 
-fn word_of(fate: &Fate) -> &'static str
-    ensures { result.now ≡ fate_words fate.now }
+// Appends a word, as a line begins with it, and a slot, with a space behind each.
+fn push_front(
+    text: &mut String,
+    teller: &Teller<'_>,
+    word: &str,
+    slot: SlotNo,
+) -> Result<(), NoMemory>
+    ensures { OnOk result (string_bytes text.new ≡ string_bytes text.old
+        ++ (codes "  " ++ (word.now
+        ++ (codes " " ++ (slot_words teller.now slot.0 ++ codes " "))))) }
 {
-    match fate {
-        Fate::Written => "written",
-        Fate::Over(_) => "written",
-        Fate::Kept(_) => "kept",
-        Fate::Denied(_) => "denied",
-        Fate::Again => "again",
-        Fate::Late => "late",
-    }
+    text.push_str("  ")?;
+    text.push_str(word)?;
+    teller.push_slot(text, slot)
 }
 
-// Appends a slot and a timestep, each behind a space.
-fn push_cell(text: &mut String, basin: &Basin, cell: Cell) -> Result<(), NoMemory>
-    ensures { OnOk result
-        (string_bytes text.new ≡ string_bytes text.old ++ cell_place basin.now cell) }
-{
-    text.push_str(" ")?;
-    push_slot(text, basin, cell.slot)?;
-    text.push_str(" ")?;
-    push_count(text, u64::from(cell.step.0))
-}
-
-// Appends a word, a cell and a content.
+// Appends the line of a word, a cell and a content.
 fn push_word_line(
     text: &mut String,
-    basin: &Basin,
+    buffer: &mut [u8; ROOM],
+    teller: &Teller<'_>,
     word: &str,
     cell: Cell,
     content: Content,
 ) -> Result<(), NoMemory>
     ensures { OnOk result (string_bytes text.new ≡ string_bytes text.old
-        ++ word_line basin.now word.now cell content) }
+        ++ (word_line teller.now word.now cell content ++ codes "\n")) }
 {
-    text.push_str("  ")?;
-    text.push_str(word)?;
-    push_cell(text, basin, cell)?;
-    text.push_str(" ")?;
-    push_content(text, content)
+    push_front(text, teller, word, cell.slot)?;
+    push_put(text, buffer, cell.step, content)?;
+    Ok(())
 }
 
-fn push_held(text: &mut String, held: Content) -> Result<(), NoMemory>
+// Appends a timestep and a content.
+fn push_asked(
+    text: &mut String,
+    buffer: &mut [u8; ROOM],
+    step: StepNo,
+    content: Content,
+) -> Result<(), NoMemory>
+    ensures { OnOk result (string_bytes text.new ≡ string_bytes text.old
+        ++ (decimal step.0 ++ (codes " " ++ content_words content))) }
+{
+    push_count(text, u64::from(step.0))?;
+    text.push_str(" ")?;
+    push_content_by(text, buffer, content)
+}
+
+// Appends what a cell held.
+fn push_held(text: &mut String, buffer: &mut [u8; ROOM], held: Content) -> Result<(), NoMemory>
     ensures { OnOk result (string_bytes text.new
-        ≡ string_bytes text.old ++ (codes " held " ++ content_words held)) }
+        ≡ string_bytes text.old ++ (codes " held " ++ (content_words held ++ codes "\n"))) }
 {
     text.push_str(" held ")?;
-    push_content(text, held)
-}
-
-// Appends what was held in the place of a put.
-fn push_held_by(text: &mut String, fate: &Fate) -> Result<(), NoMemory>
-    ensures { OnOk result (string_bytes text.new ≡ string_bytes text.old ++ held_words fate.now) }
-{
-    match fate {
-        Fate::Kept(held) => push_held(text, *held),
-        Fate::Denied(held) => push_held(text, *held),
-        Fate::Written => Ok(()),
-        Fate::Over(_) => Ok(()),
-        Fate::Again => Ok(()),
-        Fate::Late => Ok(()),
-    }
-}
-
-// Appends the line of a put that wasn't written.
-fn push_left(text: &mut String, basin: &Basin, put: &Write, fate: &Fate) -> Result<(), NoMemory>
-    ensures { OnOk result (string_bytes text.new ≡ string_bytes text.old
-        ++ (asked_line_words basin.now (left_line put.now fate.now) ++ codes "\n")) }
-{
-    push_word_line(text, basin, word_of(fate), put.cell, put.content)?;
-    push_held_by(text, fate)?;
+    push_content_by(text, buffer, held)?;
     text.push_str("\n")?;
     Ok(())
 }
 
-// Appends the line of a put that was.
-fn push_written(text: &mut String, basin: &Basin, put: &Write) -> Result<(), NoMemory>
+// Appends the line of a put in whose place this was held.
+fn push_stopped(
+    text: &mut String,
+    buffer: &mut [u8; ROOM],
+    teller: &Teller<'_>,
+    word: &str,
+    put: &Write,
+    held: Content,
+) -> Result<(), NoMemory>
     ensures { OnOk result (string_bytes text.new ≡ string_bytes text.old
-        ++ (line_words basin.now (line_of put.now) ++ codes "\n")) }
+        ++ ((word_line teller.now word.now put.now.cell put.now.content
+        ++ (codes " held " ++ content_words held)) ++ codes "\n")) }
 {
-    let line = TraceEvent::Written {
-        slot: put.cell.slot,
-        step: put.cell.step,
-        content: put.content,
-    };
-    push_line(text, basin, line)?;
-    text.push_str("\n")?;
+    push_front(text, teller, word, put.cell.slot)?;
+    push_asked(text, buffer, put.cell.step, put.content)?;
+    push_held(text, buffer, held)?;
     Ok(())
 }
 
-// Appends the lines of a put that was written over another value.
-fn push_over(text: &mut String, basin: &Basin, put: &Write, held: Content) -> Result<(), NoMemory>
+// Appends the line of a put that was written over another value, and what it took the place of.
+fn push_over(
+    text: &mut String,
+    buffer: &mut [u8; ROOM],
+    teller: &Teller<'_>,
+    put: &Write,
+    held: Content,
+) -> Result<(), NoMemory>
     ensures { OnOk result (string_bytes text.new ≡ string_bytes text.old
-        ++ ((line_words basin.now (line_of put.now) ++ codes "\n")
-        ++ (word_line basin.now (codes "over") put.now.cell held ++ codes "\n"))) }
+        ++ ((line_words teller.now (line_of put.now) ++ codes "\n")
+        ++ (word_line teller.now (codes "over") put.now.cell held ++ codes "\n"))) }
 {
-    push_written(text, basin, put)?;
-    push_word_line(text, basin, "over", put.cell, held)?;
-    text.push_str("\n")?;
-    Ok(())
+    teller.push_write(text, buffer, *put)?;
+    push_word_line(text, buffer, teller, "over", put.cell, held)
 }
 
 // Appends the lines of a put of which this became.
-fn push_put(text: &mut String, basin: &Basin, put: &Write, fate: &Fate) -> Result<(), NoMemory>
+#[inline(always)]
+fn push_put_lines(
+    text: &mut String,
+    buffer: &mut [u8; ROOM],
+    teller: &Teller<'_>,
+    put: &Write,
+    fate: &Fate,
+) -> Result<(), NoMemory>
     ensures { OnOk result (string_bytes text.new ≡ string_bytes text.old
-        ++ asked_lines_words basin.now (put_lines put.now fate.now)) }
+        ++ asked_lines_words teller.now (put_lines put.now fate.now)) }
 {
     match fate {
-        Fate::Written => push_written(text, basin, put),
-        Fate::Over(held) => push_over(text, basin, put, *held),
-        Fate::Kept(_) => push_left(text, basin, put, fate),
-        Fate::Denied(_) => push_left(text, basin, put, fate),
-        Fate::Again => push_left(text, basin, put, fate),
-        Fate::Late => push_left(text, basin, put, fate),
+        Fate::Written => teller.push_write(text, buffer, *put),
+        Fate::Over(held) => push_over(text, buffer, teller, put, *held),
+        Fate::Kept(held) => push_stopped(text, buffer, teller, "kept", put, *held),
+        Fate::Denied(held) => push_stopped(text, buffer, teller, "denied", put, *held),
+        Fate::Again => push_word_line(text, buffer, teller, "again", put.cell, put.content),
+        Fate::Late => push_word_line(text, buffer, teller, "late", put.cell, put.content),
     }
 }
 
-/// Appends the lines of the puts of a dispatch, by what the cells hold before it.
+/// Appends the lines of the puts of a dispatch, by what the cells hold before it, and by an array that is lent.
 pub fn push_dispatched(
     text: &mut String,
-    basin: &Basin,
+    buffer: &mut [u8; ROOM],
+    teller: &Teller<'_>,
     series: &Series,
     puts: &[Write],
 ) -> Result<(), NoMemory>
     ensures { OnOk result (string_bytes text.new ≡ string_bytes text.old
-        ++ asked_lines_words basin.now (lines_of_asks (fates_alone (held series.now) puts.now))) }
+        ++ asked_lines_words teller.now (lines_of_asks (fates_alone (held series.now) puts.now))) }
 {
     for place in 0..puts.len() {
         let put = &puts[place];
         let fate = fate_alone(series, put);
-        push_put(text, basin, put, &fate)?;
+        push_put_lines(text, buffer, teller, put, &fate)?;
     }
     Ok(())
 }
@@ -157,22 +160,33 @@ fn behind(puts: &[Write], place: usize) -> &[Write]
     &puts[place + 1..]
 }
 
-/// Appends the lines of the puts of a firing, by what the cells hold before it. They are to slots of the basin.
+// What becomes of a put of a firing, in the basin of the lines.
+#[inline(always)]
+fn fate_told(teller: &Teller<'_>, series: &Series, put: &Write, later: &[Write]) -> Fate
+    requires { IsSlot teller.now.objects put.now.cell.slot.0 }
+    ensures { result ≡ fate_of teller.now (held series.now) put.now later.now }
+{
+    fate_of(teller.basin(), series, put, later)
+}
+
+/// Appends the lines of the puts of a firing, by what the cells hold before it, and by an array that is lent. They are to slots
+/// of the basin.
 pub fn push_fired(
     text: &mut String,
-    basin: &Basin,
+    buffer: &mut [u8; ROOM],
+    teller: &Teller<'_>,
     series: &Series,
     puts: &[Write],
 ) -> Result<(), NoMemory>
-    requires { AreToSlots basin.now puts.now }
+    requires { AreToSlots teller.now puts.now }
     ensures { OnOk result (string_bytes text.new ≡ string_bytes text.old
-        ++ asked_lines_words basin.now
-        (lines_of_asks (fates_of basin.now (held series.now) puts.now))) }
+        ++ asked_lines_words teller.now
+        (lines_of_asks (fates_of teller.now (held series.now) puts.now))) }
 {
     for place in 0..puts.len() {
         let put = &puts[place];
-        let fate = fate_of(basin, series, put, behind(puts, place));
-        push_put(text, basin, put, &fate)?;
+        let fate = fate_told(teller, series, put, behind(puts, place));
+        push_put_lines(text, buffer, teller, put, &fate)?;
     }
     Ok(())
 }

@@ -1,4 +1,4 @@
-ghost use Rattle.std.specs.Prelude.{◌≡◌, [], ◌∷◌, ◌++◌, ℕ, List, OnOk, Ok, map, string_bytes};
+ghost use Rattle.std.specs.Prelude.{◌≡◌, ◌<◌, ◌+◌, [], ◌∷◌, ◌++◌, ℕ, List, OnOk, Ok, drop, length, map, string_bytes};
 ghost use Rattle.rw_method.specs.Catalogue.{AreInOrder};
 ghost use Rattle.rw_inputs.specs.Placings.{placings};
 ghost use Rattle.rw_run.specs.declared.trace.TraceEvent.{TraceEvent as Told};
@@ -18,7 +18,7 @@ use crate::walk::{Walk, push_plain};
 use rw_base::{Cell, NoMemory};
 use rw_engine::RunSetup;
 use rw_inputs::Inputs;
-use rw_report::line_at;
+use rw_report::{Teller, line_at};
 use rw_run::{Trace, TraceEvent, Write};
 use std::alloc::Global;
 
@@ -27,8 +27,10 @@ fn tell_line(
     walk: &mut Walk,
     text: &mut String,
     setup: &RunSetup<'_>,
+    teller: &Teller<'_>,
     line: TraceEvent,
 ) -> Result<(), NoMemory>
+    requires teller { teller.now ≡ setup.now.basin.now }
     requires walk { IsWalkOf setup.now.basin.now walk.old }
     requires fits { verified setup.now.basin.now setup.now.policy.now.blocks
         ≡ Ok setup.now.policy.now }
@@ -54,27 +56,61 @@ fn tell_line(
         }
         TraceEvent::Opened(step) => {
             walk.step = step;
-            push_plain(text, setup.basin, line)
+            push_plain(text, teller, setup.basin, line)
         }
         TraceEvent::Solve(object) => {
-            push_plain(text, setup.basin, line)?;
-            walk.tell_dispatch(text, setup, object)
+            push_plain(text, teller, setup.basin, line)?;
+            walk.tell_dispatch(text, setup, teller, object)
         }
         TraceEvent::Fire {
             rule,
             done,
             count: _,
         } => {
-            push_plain(text, setup.basin, line)?;
+            push_plain(text, teller, setup.basin, line)?;
             if done {
-                walk.tell_firing(text, setup, rule)
+                walk.tell_firing(text, setup, teller, rule)
             } else {
                 Ok(())
             }
         }
-        TraceEvent::Idle(_) => push_plain(text, setup.basin, line),
-        TraceEvent::Closed(_) => push_plain(text, setup.basin, line),
-        TraceEvent::Fault(_) => push_plain(text, setup.basin, line),
+        TraceEvent::Idle(_) => push_plain(text, teller, setup.basin, line),
+        TraceEvent::Closed(_) => push_plain(text, teller, setup.basin, line),
+        TraceEvent::Fault(_) => push_plain(text, teller, setup.basin, line),
+    }
+}
+
+// Tells the line in a place. Most lines are of puts, and of such a line no more than the put is read.
+#[inline(always)]
+fn tell_at(
+    walk: &mut Walk,
+    text: &mut String,
+    setup: &RunSetup<'_>,
+    teller: &Teller<'_>,
+    trace: &Trace,
+    place: usize,
+) -> Result<(), NoMemory>
+    requires within { place < length (lines_in trace.now) }
+    requires teller { teller.now ≡ setup.now.basin.now }
+    requires walk { IsWalkOf setup.now.basin.now walk.old }
+    requires fits { verified setup.now.basin.now setup.now.policy.now.blocks
+        ≡ Ok setup.now.policy.now }
+    requires order { AreInOrder
+        (map (λ b. code (b.vtable, b.value)) setup.now.methods.now.methods.items) }
+    ensures walk { IsWalkOf setup.now.basin.now walk.new }
+    ensures goes { (log : Log) (whole : List ℕ)
+        → IsWalkedTo setup.now.basin.now (policy_in setup.now.basin.now setup.now.policy.now)
+        (drop place (lines_in trace.now)) log whole walk.old (string_bytes text.old)
+        → OnOk result (IsWalkedTo setup.now.basin.now
+        (policy_in setup.now.basin.now setup.now.policy.now)
+        (drop (place + 1) (lines_in trace.now)) log whole walk.new (string_bytes text.new)) }
+{
+    match trace.written(place) {
+        Some(write) => {
+            walk.write(setup.basin, &write);
+            Ok(())
+        }
+        None => tell_line(walk, text, setup, teller, line_at(trace, place)),
     }
 }
 
@@ -83,8 +119,10 @@ fn tell_all(
     walk: &mut Walk,
     text: &mut String,
     setup: &RunSetup<'_>,
+    teller: &Teller<'_>,
     trace: &Trace,
 ) -> Result<(), NoMemory>
+    requires teller { teller.now ≡ setup.now.basin.now }
     requires walk { IsWalkOf setup.now.basin.now walk.old }
     requires fits { verified setup.now.basin.now setup.now.policy.now.blocks
         ≡ Ok setup.now.policy.now }
@@ -96,7 +134,7 @@ fn tell_all(
         → OnOk result (string_bytes text.new ≡ whole) }
 {
     for place in 0..trace.len() {
-        tell_line(walk, text, setup, line_at(trace, place))?;
+        tell_at(walk, text, setup, teller, trace, place)?;
     }
     Ok(())
 }
@@ -122,6 +160,7 @@ pub fn push_asked_trace(
         (policy_in setup.now.basin.now setup.now.policy.now) log)) }
 {
     let mut walk = Walk::begin(alloc, setup, inputs)?;
+    let teller = Teller::new(alloc, setup.basin)?;
     text.push_str("# trace\n")?;
-    tell_all(&mut walk, text, setup, trace)
+    tell_all(&mut walk, text, setup, &teller, trace)
 }

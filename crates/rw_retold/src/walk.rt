@@ -18,7 +18,7 @@ ghost use Rattle.rpl_verify.specs.Machine.{fire_of_code};
 ghost use Rattle.rpl_verify.specs.Verified.{verified};
 ghost use Rattle.rw_rules.specs.Rules.{policy_in};
 ghost use Rattle.rw_engine.specs.Passing.{CanRun};
-ghost use Rattle.rw_asked.specs.Asked.{fates_alone, fates_of, lines_of_asks, wanted_of};
+ghost use Rattle.rw_asked.specs.Asked.{AreToSlots, fates_alone, fates_of, lines_of_asks, wanted_of};
 ghost use Rattle.rw_asked.specs.Words.{asked_lines_words};
 ghost use Rattle.rw_retold.specs.Walk.{IsWalkOf, IsWalkedTo};
 
@@ -31,8 +31,8 @@ use rw_engine::{Engine, RunSetup};
 use rw_firing::RulePut;
 use rw_inputs::Inputs;
 use rw_model::{Basin, Content, Writer};
-use rw_report::{line_at, push_line};
-use rw_run::{Trace, TraceEvent, Write};
+use rw_report::{ROOM, Teller};
+use rw_run::{TraceEvent, Write};
 use rw_series::Series;
 use std::alloc::Global;
 
@@ -44,16 +44,56 @@ pub(crate) struct Walk {
     pub(crate) work: Workspace,
     pub(crate) wanted: Vec<Write>,
     pub(crate) step: StepNo,
+    pub(crate) buffer: [u8; ROOM],
 }
 
 /// Appends a line of the trace as it is.
-pub(crate) fn push_plain(text: &mut String, basin: &Basin, line: TraceEvent) -> Result<(), NoMemory>
+#[inline(always)]
+pub(crate) fn push_plain(
+    text: &mut String,
+    teller: &Teller<'_>,
+    basin: &Basin,
+    line: TraceEvent,
+) -> Result<(), NoMemory>
+    requires { teller.now ≡ basin.now }
     ensures { OnOk result (string_bytes text.new
         ≡ string_bytes text.old ++ (line_words basin.now line ++ codes "\n")) }
 {
-    push_line(text, basin, line)?;
-    text.push_str("\n")?;
-    Ok(())
+    teller.push_line(text, line)
+}
+
+// Appends the lines of what a dispatch asked for.
+fn push_alone(
+    text: &mut String,
+    buffer: &mut [u8; ROOM],
+    teller: &Teller<'_>,
+    basin: &Basin,
+    series: &Series,
+    puts: &[Write],
+) -> Result<(), NoMemory>
+    requires { teller.now ≡ basin.now }
+    ensures { OnOk result (string_bytes text.new ≡ string_bytes text.old
+        ++ asked_lines_words basin.now (lines_of_asks (fates_alone (held series.now) puts.now))) }
+{
+    push_dispatched(text, buffer, teller, series, puts)
+}
+
+// Appends the lines of what a firing asked for.
+fn push_wanted(
+    text: &mut String,
+    buffer: &mut [u8; ROOM],
+    teller: &Teller<'_>,
+    basin: &Basin,
+    series: &Series,
+    puts: &[Write],
+) -> Result<(), NoMemory>
+    requires teller { teller.now ≡ basin.now }
+    requires slots { AreToSlots basin.now puts.now }
+    ensures { OnOk result (string_bytes text.new ≡ string_bytes text.old
+        ++ asked_lines_words basin.now
+        (lines_of_asks (fates_of basin.now (held series.now) puts.now))) }
+{
+    push_fired(text, buffer, teller, series, puts)
 }
 
 // What a put asks for.
@@ -113,6 +153,7 @@ impl Walk {
             work: Workspace::new(true),
             wanted: Vec::new(alloc),
             step: StepNo(0),
+            buffer: [0; ROOM],
         })
     }
 
@@ -134,8 +175,10 @@ impl Walk {
         &mut self,
         text: &mut String,
         setup: &RunSetup<'_>,
+        teller: &Teller<'_>,
         object: ObjectNo,
     ) -> Result<(), NoMemory>
+        requires teller { teller.now ≡ setup.now.basin.now }
         requires walk { IsWalkOf setup.now.basin.now self.old }
         requires order { AreInOrder
             (map (λ b. code (b.vtable, b.value)) setup.now.methods.now.methods.items) }
@@ -160,7 +203,14 @@ impl Walk {
             self.step,
             &mut self.work,
         );
-        push_dispatched(text, setup.basin, &self.series, self.work.asked.as_slice())
+        push_alone(
+            text,
+            &mut self.buffer,
+            teller,
+            setup.basin,
+            &self.series,
+            self.work.asked.as_slice(),
+        )
     }
 
     /// Tells what a rule asked for that fires.
@@ -168,8 +218,10 @@ impl Walk {
         &mut self,
         text: &mut String,
         setup: &RunSetup<'_>,
+        teller: &Teller<'_>,
         rule: RuleNo,
     ) -> Result<(), NoMemory>
+        requires teller { teller.now ≡ setup.now.basin.now }
         requires walk { IsWalkOf setup.now.basin.now self.old }
         requires fits { verified setup.now.basin.now setup.now.policy.now.blocks
             ≡ Ok setup.now.policy.now }
@@ -198,6 +250,13 @@ impl Walk {
             self.step,
         );
         want_all(&mut self.wanted, rule, self.step, fired.puts)?;
-        push_fired(text, setup.basin, &self.series, self.wanted.as_slice())
+        push_wanted(
+            text,
+            &mut self.buffer,
+            teller,
+            setup.basin,
+            &self.series,
+            self.wanted.as_slice(),
+        )
     }
 }

@@ -12,8 +12,8 @@ loop-place-preserved c =
     let put = c.index-puts-place.result in
     let place = c.loop-place.place in
     let those = from_place puts place put c.loop-place-test.true c.index-puts-place.is in
-    one_more_put c.args.basin.now put c.fate_alone-fate.result (fates_alone cells (drop (place + 1) puts)) (fates_alone cells (drop place puts))
-    (string_bytes c.loop-place.text) (string_bytes c.push_put.new.text) _
+    one_more_put c.args.teller.now put c.fate_alone-fate.result (fates_alone cells (drop (place + 1) puts)) (fates_alone cells (drop place puts))
+    (string_bytes c.loop-place.text) (string_bytes c.push_put_lines.new.text) _
     (ap (fates_alone cells) those ∙ ap (λ (fate : Fate). record { put = put; fate = fate } ∷ fates_alone cells (drop (place + 1) puts))
     (sym c.fate_alone-fate.ensures)) c.loop-place.invariant
-    c.in_ok-push_put.ensures
+    c.in_ok-push_put_lines.ensures

@@ -7,5 +7,5 @@ use Rattle.rw_asked.proofs.tells.push_dispatched.Given as goal
 -- what is there and the lines of the puts that are left are the whole
 abbrev pub invariant-loop-place : goal.invariant-loop-place
 invariant-loop-place l =
-    string_bytes l.text ++ asked_lines_words l.basin (lines_of_asks (fates_alone (held l.series) (drop l.place l.puts)))
-    ≡ string_bytes l.fn.text ++ asked_lines_words l.basin (lines_of_asks (fates_alone (held l.series) l.puts))
+    string_bytes l.text ++ asked_lines_words l.teller (lines_of_asks (fates_alone (held l.series) (drop l.place l.puts)))
+    ≡ string_bytes l.fn.text ++ asked_lines_words l.teller (lines_of_asks (fates_alone (held l.series) l.puts))

@@ -12,10 +12,10 @@ loop-place-preserved c =
     let put = c.index-puts-place.result in
     let place = c.loop-place.place in
     let those = from_place puts place put c.loop-place-test.true c.index-puts-place.is in
-    one_more_put c.args.basin.now put c.fate_of-fate.result (fates_of c.args.basin.now cells (drop (place + 1) puts))
-    (fates_of c.args.basin.now cells (drop place puts))
-    (string_bytes c.loop-place.text) (string_bytes c.push_put.new.text) _
-    (ap (fates_of c.args.basin.now cells) those ∙ ap
-    (λ (fate : Fate). record { put = put; fate = fate } ∷ fates_of c.args.basin.now cells (drop (place + 1) puts))
-    (sym (c.fate_of-fate.ensures ∙ ap (fate_of c.args.basin.now cells put) c.behind.ensures))) c.loop-place.invariant
-    c.in_ok-push_put.ensures
+    one_more_put c.args.teller.now put c.fate_told-fate.result (fates_of c.args.teller.now cells (drop (place + 1) puts))
+    (fates_of c.args.teller.now cells (drop place puts))
+    (string_bytes c.loop-place.text) (string_bytes c.push_put_lines.new.text) _
+    (ap (fates_of c.args.teller.now cells) those ∙ ap
+    (λ (fate : Fate). record { put = put; fate = fate } ∷ fates_of c.args.teller.now cells (drop (place + 1) puts))
+    (sym (c.fate_told-fate.ensures ∙ ap (fate_of c.args.teller.now cells put) c.behind.ensures))) c.loop-place.invariant
+    c.in_ok-push_put_lines.ensures

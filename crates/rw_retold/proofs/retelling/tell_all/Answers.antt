@@ -1,5 +1,4 @@
-use Rattle.rw_base.proofs.Common.{◌+◌, ◌≤◌, ◌∷◌, arith, drop, drop_all, length, string_bytes, subst}
-use Rattle.rw_report.proofs.Growing.{here}
+use Rattle.rw_base.proofs.Common.{◌≤◌, arith, drop_all, length, string_bytes, subst}
 use Rattle.rw_run.specs.Trace.{lines_in}
 use Rattle.rw_rules.specs.Rules.{policy_in}
 use Rattle.rw_retold.specs.Walk.{IsWalkedTo}
@@ -9,21 +8,14 @@ use Rattle.rw_retold.proofs.retelling.tell_all.Goals as goal
 pub loop-place-init : goal.loop-place-init
 loop-place-init g c = (c.requires.walk, λ log whole stands. stands)
 
-pub tell_line-requires-clause-walk : goal.tell_line-requires-clause-walk
-tell_line-requires-clause-walk g c = c.loop-place.invariant.0
+pub tell_at-requires-clause-walk : goal.tell_at-requires-clause-walk
+tell_at-requires-clause-walk g c = c.loop-place.invariant.0
 
 pub loop-place-preserved : goal.loop-place-preserved
-loop-place-preserved g c =
-    let lines = lines_in c.args.trace.now in
-    let basin = c.args.setup.now.basin.now in
-    let policy = policy_in basin c.args.setup.now.policy.now in
-    let place = c.loop-place.place in (
-      c.tell_line.ensures.walk,
-      λ log whole stands.
-          c.in_ok-tell_line.ensures.goes (drop (place + 1) lines) log whole
-          (subst (λ these. IsWalkedTo basin policy these log whole c.loop-place.walk (string_bytes c.loop-place.text))
-          (here lines place c.line_at.result c.line_at.ensures) (c.loop-place.invariant.1 log whole stands)),
-    )
+loop-place-preserved g c = (
+  c.tell_at.ensures.walk,
+  λ log whole stands. c.in_ok-tell_at.ensures.goes log whole (c.loop-place.invariant.1 log whole stands),
+)
 
 pub returns : goal.returns
 returns g c = λ log whole stands.

@@ -18,8 +18,8 @@ returns-then-not-is_rule-clause-told g c = λ fire at fires.
 pub want_all-requires : goal.want_all-requires
 want_all-requires g c = c.is_step.ensures.few c.if-not-is_step.false
 
-pub push_fired-requires : goal.push_fired-requires
-push_fired-requires g c =
+pub push_wanted-requires-clause-slots : goal.push_wanted-requires-clause-slots
+push_wanted-requires-clause-slots g c =
     let basin = c.args.setup.now.basin.now in
     subst (AreToSlots basin) (sym (c.as_slice.ensures.value ∙ c.in_ok-want_all.ensures))
     (to_slots basin c.args.rule.0 c.args.self.now.step.0 c.fire-fired.result.puts.now
