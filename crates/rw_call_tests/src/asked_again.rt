@@ -1,15 +1,16 @@
 //! A dam over two days, and a session of batches of edits, in which a batch that is refused for want of memory is applied once more.
 //! Here none is refused. `tests/memory/session` lets each request of this test for memory fail, in turn.
-ghost use Rattle.std.specs.Prelude.{◌≡◌, ◌<◌, All, Ok, map};
+ghost use Rattle.std.specs.Prelude.{◌≡◌, ◌<◌, ◌≤◌, All, Ok, length, map};
 ghost use Rattle.rpl_verify.specs.Verified.{verified};
 ghost use Rattle.rw_inputs.specs.Edits.{IsBatch};
 ghost use Rattle.rw_method.specs.Catalogue.{AreInOrder};
 ghost use Rattle.rw_rerun.specs.Session.{IsSessionOf};
 
-use crate::runs::{CAP_AND_BASE, accepted, all_methods, predefs};
-use crate::shared::{basin, has_bytes};
+use crate::methods::{all_methods, predefs};
+use crate::shared::{basin, has_bytes, lasting};
+use rpl_code::read_code;
 use rpl_predef::Predefs;
-use rpl_verify::Verified;
+use rpl_verify::{Verified, verify};
 use rw_base::{Blank, Ledger, NoMemory, Steps};
 use rw_inputs::{Batch, read_edits, read_inputs};
 use rw_method::Catalogue;
@@ -32,6 +33,10 @@ name = "Dam"
 kind = "reservoir"
 initial_storage = 1000
 "#;
+
+// Rule 1 holds the dam at 1020, and rule 2 lets 50 out of it.
+const CAP_AND_BASE: &str =
+    "CODE 1\nRULE\nLOCALS -\nslot Dam.Storage\nnow\nread\nnum 1020\ncall Min\nput Dam.Storage 0\nEND\nRULE\nLOCALS -\nnum 50\nput Dam.Outflow 0\nEND\n";
 
 const INFLOWS: &str = "slot,step,value\nDam.Inflow,1-2,100\n";
 
@@ -171,6 +176,20 @@ close 1
 open 2
 fault out of range object Dam slot Dam.Storage step 2 value -3900
 ";
+
+// The code that a text is read as, which is accepted.
+fn accepted<'a>(rt: &impl Abort, alloc: Global, basin: &Basin, text: &str) -> &'a Verified
+    requires { length text.now ≤ 16_777_216 }
+    ensures { verified basin.now result.now.blocks ≡ Ok result.now }
+{
+    let Ok(code) = read_code(alloc, text.as_bytes()) else {
+        panic!(rt; "no code")
+    };
+    match verify(alloc, code, basin) {
+        Ok(policy) => lasting(rt, alloc, policy),
+        Err(_) => panic!(rt; "refused"),
+    }
+}
 
 // Applies a batch, once more where it is refused, for which there is memory then.
 fn apply<L: Ledger>(

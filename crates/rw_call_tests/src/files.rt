@@ -1,14 +1,15 @@
 //! What no clause says of files and streams: that calls succeed, which calls fail, how much is asked for at a time, and real files.
-ghost use Rattle.std.specs.Prelude.{None, string_bytes};
+ghost use Rattle.std.specs.Prelude.{◌≡◌, None, OnOk, string_bytes};
 ghost use Rattle.std.specs.Option.{option_map};
 
 use rw_base::NoMemory;
 use rw_io::{
-    FILE_MAX, FileShelf, MemShelf, MemSink, PIECE_MAX, ReadEnd, Shelf, ShelfFault, Sink, StdSink,
-    SureShelf, SureSink, read_all, write_all,
+    FILE_MAX, FileShelf, MemShelf, MemSink, PIECE_MAX, ReadEnd, Shelf, ShelfFault, Sink, SinkFault,
+    StdSink, SureShelf, SureSink, read_all, write_all,
 };
 use std::alloc::Global;
 use std::fs;
+use std::io::Write;
 use std::test::Fail;
 
 fn numbers(alloc: Global, given: &[u64]) -> Result<Vec<u64>, NoMemory> {
@@ -170,8 +171,16 @@ fn an_endless_file_is_read_in_pieces_until_it_is_too_long(rt: HostRuntime) {
 
 const TEXT: &[u8] = b"Dam.Inflow,1,100\n";
 
-fn is_written(sink: &mut impl Sink) -> bool {
-    sink.write(b"") == Ok(0) && write_all(sink, TEXT).is_ok()
+// Writes a piece. Where that succeeds, no fault is counted.
+fn write<W: Write + Drop>(sink: &mut StdSink<W>, piece: &[u8]) -> Result<usize, SinkFault>
+    ensures { let seen = ⟦<StdSink<W> as Sink>⟧.seen in
+        OnOk result ((seen sink.new).faults ≡ (seen sink.old).faults) }
+{
+    sink.write(piece)
+}
+
+fn is_written<W: Write + Drop>(sink: &mut StdSink<W>) -> bool {
+    write(sink, b"") == Ok(0) && write_all(sink, TEXT).is_ok()
 }
 
 fn only_what_is_written_is_read(alloc: Global, shelf: &mut impl Shelf) -> bool {

@@ -1,7 +1,6 @@
 //! Worked examples of calls below the top one, lowest first: quantities, rating tables, stamps, files, a basin that is built,
-//! a series, edits of inputs, the queue of objects that wait, runs, records of their timesteps, sections, sessions, those in which
-//! memory is wanting, books, tallies of many runs, and models that are migrated. There is nothing here but tests: what they compare
-//! with was worked out by hand.
+//! a series, puts, the queue of objects that wait, a run in which a rule picks who is dispatched, the record of a timestep, sections, and
+//! a session in which memory may be wanting. There is nothing here but tests: what they compare with was worked out by hand.
 #![tactic(auto)]
 
 #[cfg(test)]
@@ -9,15 +8,13 @@ mod arithmetic;
 #[cfg(test)]
 mod asked_again;
 #[cfg(test)]
-mod books;
-#[cfg(test)]
 mod building;
-#[cfg(test)]
-mod edits;
 #[cfg(test)]
 mod files;
 #[cfg(test)]
-mod migrated;
+mod methods;
+#[cfg(test)]
+mod puts;
 #[cfg(test)]
 mod queue;
 #[cfg(test)]
@@ -31,10 +28,6 @@ mod sections;
 #[cfg(test)]
 mod series;
 #[cfg(test)]
-mod sessions;
-#[cfg(test)]
 mod shared;
 #[cfg(test)]
 mod stamps;
-#[cfg(test)]
-mod tallies;

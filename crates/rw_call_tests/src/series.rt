@@ -33,6 +33,7 @@ fn check(rt: &impl Abort, alloc: Global, basin: &Basin, series: &mut Series)
     assert!(rt; series.put(basin, leaves, ruled) == PutEnd::Written);
     let copy = series.copy(alloc).expect(rt, "memory");
     assert!(rt; is_denied(series.put(basin, comes, solved), ruled));
+    assert!(rt; is_held(series, comes, ruled));
     series.restore(basin, leaves, None);
     assert!(rt; series.get(comes).is_none() && is_held(&copy, comes, ruled));
 }

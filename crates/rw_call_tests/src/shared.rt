@@ -41,17 +41,12 @@ pub(crate) fn lasting<'a, T: Drop + 'a>(rt: &impl Abort, alloc: Global, value: T
     }
 }
 
-/// The basin that the bytes of a model say.
-pub(crate) fn basin_of<'a>(rt: &impl Abort, alloc: Global, model: &[u8]) -> &'a Basin {
-    match read_model(alloc, model) {
+/// The basin of a model.
+pub(crate) fn basin<'a>(rt: &impl Abort, alloc: Global, model: &str) -> &'a Basin {
+    match read_model(alloc, model.as_bytes()) {
         Ok(basin) => lasting(rt, alloc, basin),
         Err(_) => panic!(rt; "no model"),
     }
-}
-
-/// The basin of a model.
-pub(crate) fn basin<'a>(rt: &impl Abort, alloc: Global, model: &str) -> &'a Basin {
-    basin_of(rt, alloc, model.as_bytes())
 }
 
 /// The cell of an object's slot.

@@ -1,0 +1,4 @@
+mod Decimals
+mod TextRows
+mod Values
+pub mod Accepted

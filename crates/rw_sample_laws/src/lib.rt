@@ -1,0 +1,4 @@
+//! Laws alone: the sample's inputs are read, whatever their seed.
+#![tactic(auto)]
+
+pub mod law;
