@@ -2,3 +2,7 @@ mod Decimals
 mod TextRows
 mod Values
 pub mod Accepted
+mod Strings
+mod Lines
+mod Defined
+pub mod TableRead

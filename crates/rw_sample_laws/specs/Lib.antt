@@ -1,1 +1,2 @@
 pub mod Inflows
+pub mod ModelTable

@@ -1,10 +1,12 @@
 //! What the sample's texts are read as. Each law is the `ensures` of a function that does nothing.
-ghost use Rattle.std.specs.Prelude.{◌≡◌, ℕ, Ok};
+ghost use Rattle.std.specs.Prelude.{◌≡◌, ℕ, Ok, Some};
+ghost use Rattle.toml.specs.Parse.{parse_document};
 ghost use Rattle.rw_model.specs.Draft.{Draft};
 ghost use Rattle.rw_inputs.specs.Inputs.{kept_slot};
 ghost use Rattle.rw_inputs.specs.Reading.{inputs_of};
-ghost use Rattle.rw_sample.specs.Texts.{sample_inputs};
+ghost use Rattle.rw_sample.specs.Texts.{sample_inputs, sample_model};
 ghost use Rattle.rw_sample_laws.specs.Inflows.{TakesInflows, inflow_at};
+ghost use Rattle.rw_sample_laws.specs.ModelTable.{sample_table};
 
 /// Whatever the seed, the sample's inputs are accepted with a basin that can take them. They give the first reservoir's inflow,
 /// as the seed has it, at each of 365 timesteps, and nothing else.
@@ -12,4 +14,10 @@ ghost use Rattle.rw_sample_laws.specs.Inflows.{TakesInflows, inflow_at};
 pub fn inputs_are_accepted()
     ensures { (basin : Draft) (slot seed : ℕ) → TakesInflows basin slot
         → inputs_of basin (sample_inputs seed) ≡ Ok (inflow_at (kept_slot basin slot) seed 365) }
+{}
+
+/// The sample's model is TOML, and this table: twenty reservoirs, nineteen reaches, and two links for each reach.
+#[tactic(auto, using(crate::proofs::TableRead::model_read))]
+pub fn model_is_a_table()
+    ensures { parse_document sample_model ≡ Some sample_table }
 {}
