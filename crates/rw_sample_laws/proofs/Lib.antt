@@ -5,4 +5,6 @@ pub mod Accepted
 mod Strings
 mod Lines
 mod Defined
+mod Ascii
+pub mod Judged
 pub mod TableRead

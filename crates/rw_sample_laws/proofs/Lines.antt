@@ -8,7 +8,7 @@ use Rattle.toml_writer.specs.Text.{key_text}
 use Rattle.toml.specs.Data.{Data, string, integer, array, no_items, item}
 use Rattle.toml.specs.Tables.{Expression, key_value, std_table, array_table}
 use Rattle.toml.specs.Text.{IsValueText, IsLineText, IsLinesText}
-use Rattle.toml.proofs.ReadLines.{AllPrinted, run}
+use Rattle.toml.proofs.ReadLines.{AllPrinted}
 use Rattle.rw_report.specs.Section.{for_each}
 use Rattle.rw_sample.specs.Texts.{run_words, reservoir_words, reach_words, link_words}
 use Rattle.rw_sample_laws.proofs.Strings.{is_plain, numbered_plain, plain_text, spelt}

@@ -1,2 +1,3 @@
 pub mod Inflows
 pub mod ModelTable
+pub mod Cascade

@@ -1,11 +1,12 @@
 //! What the sample's texts are read as. Each law is the `ensures` of a function that does nothing.
 ghost use Rattle.std.specs.Prelude.{◌≡◌, ℕ, Ok, Some};
-ghost use Rattle.toml.specs.Parse.{parse_document};
 ghost use Rattle.rw_model.specs.Draft.{Draft};
+ghost use Rattle.rw_model_toml.specs.Model.{model_of, toml_of};
 ghost use Rattle.rw_inputs.specs.Inputs.{kept_slot};
 ghost use Rattle.rw_inputs.specs.Reading.{inputs_of};
 ghost use Rattle.rw_sample.specs.Texts.{sample_inputs, sample_model};
 ghost use Rattle.rw_sample_laws.specs.Inflows.{TakesInflows, inflow_at};
+ghost use Rattle.rw_sample_laws.specs.Cascade.{sample_basin};
 ghost use Rattle.rw_sample_laws.specs.ModelTable.{sample_table};
 
 /// Whatever the seed, the sample's inputs are accepted with a basin that can take them. They give the first reservoir's inflow,
@@ -17,7 +18,16 @@ pub fn inputs_are_accepted()
 {}
 
 /// The sample's model is TOML, and this table: twenty reservoirs, nineteen reaches, and two links for each reach.
-#[tactic(auto, using(crate::proofs::TableRead::model_read))]
+#[tactic(auto, using(crate::proofs::TableRead::toml_read))]
 pub fn model_is_a_table()
-    ensures { parse_document sample_model ≡ Some sample_table }
+    ensures { toml_of sample_model ≡ Some sample_table }
+{}
+
+/// The sample's model is accepted, and with its basin the sample's inputs, whatever the seed. Slot 1 is the first reservoir's
+/// inflow.
+#[tactic(auto, using(crate::proofs::Judged::model_accepted, crate::proofs::Judged::inputs_taken))]
+pub fn sample_is_read()
+    ensures model { model_of sample_model ≡ Ok sample_basin }
+    ensures inputs { (seed : ℕ)
+        → inputs_of sample_basin (sample_inputs seed) ≡ Ok (inflow_at 1 seed 365) }
 {}

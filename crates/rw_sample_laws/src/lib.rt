@@ -1,4 +1,4 @@
-//! Laws alone: the sample's model is a table of TOML, and its inputs are accepted, whatever their seed.
+//! Laws alone: the sample's model is accepted, and with its basin the inputs of each seed.
 #![tactic(auto)]
 
 pub mod law;
