@@ -28,10 +28,10 @@ use Rattle.rw_sample_laws.proofs.TableRead.{toml_read}
 
 -- ---- with digits in place of decimals
 
-abbrev digits_of : ℕ → List ℕ
+abbrev pub digits_of : ℕ → List ℕ
 digits_of n = if nat_lt n 10 then (48 + n) ∷ [] else (48 + n / 10) ∷ (48 + n % 10) ∷ []
 
-in_digits : (n : ℕ) → n < 100 → decimal n ≡ digits_of n
+pub in_digits : (n : ℕ) → n < 100 → decimal n ≡ digits_of n
 in_digits n small = elim (cases_lt n 10) [
   | inl less ↦ let one : nat_lt n 10 ≡ true = grind (arith, nat_tests, less) in rw one (decimal_digit n less)
   | inr most ↦
@@ -97,7 +97,7 @@ abbrev reaches_in_digits : List Object → ℕ → List Object
 reaches_in_digits objects zero = objects
 reaches_in_digits objects (suc before) = reaches_in_digits objects before ++ one_reach (digits_of (suc before)) ∷ []
 
-abbrev drafted : RunControl → ℕ → ℕ → ℕ → Draft
+abbrev pub drafted : RunControl → ℕ → ℕ → ℕ → Draft
 drafted control reservoirs reaches links =
     record { control = control; objects = reaches_in_digits (reservoirs_in_digits reservoirs) reaches; links = cascade_links links; bounds = [] }
 
@@ -111,7 +111,7 @@ same_reaches objects zero few = refl
 same_reaches objects (suc before) few =
     ap₂ (λ front digits. front ++ one_reach digits ∷ []) (same_reaches objects before (omega (arith, few))) (in_digits (suc before) few)
 
-same_basin : sample_basin ≡ drafted year_of_days 20 19 19
+pub same_basin : sample_basin ≡ drafted year_of_days 20 19 19
 unfolding sample_basin
 same_basin = ap (λ (objects : List Object). record { control = year_of_days; objects = objects; links = cascade_links 19; bounds = [] })
     (ap (λ objects. with_reaches objects 19) (same_reservoirs 20 (omega arith)) ∙ same_reaches (reservoirs_in_digits 20) 19 (omega arith))

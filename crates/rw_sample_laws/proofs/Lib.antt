@@ -7,4 +7,5 @@ mod Lines
 mod Defined
 mod Ascii
 pub mod Judged
+pub mod Ruled
 pub mod TableRead

@@ -1,3 +1,4 @@
 pub mod Inflows
 pub mod ModelTable
 pub mod Cascade
+pub mod Ruleset

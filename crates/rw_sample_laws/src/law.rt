@@ -1,11 +1,14 @@
 //! What the sample's texts are read as. Each law is the `ensures` of a function that does nothing.
-ghost use Rattle.std.specs.Prelude.{◌≡◌, ℕ, Ok, Some};
+ghost use Rattle.std.specs.Prelude.{◌≡◌, ℕ, is_ok, IsTrue, Ok, Some};
 ghost use Rattle.rw_model.specs.Draft.{Draft};
 ghost use Rattle.rw_model_toml.specs.Model.{model_of, toml_of};
 ghost use Rattle.rw_inputs.specs.Inputs.{kept_slot};
 ghost use Rattle.rw_inputs.specs.Reading.{inputs_of};
-ghost use Rattle.rw_sample.specs.Texts.{sample_inputs, sample_model};
+ghost use Rattle.rw_sample.specs.Texts.{sample_inputs, sample_model, sample_rules};
 ghost use Rattle.rw_sample_laws.specs.Inflows.{TakesInflows, inflow_at};
+ghost use Rattle.rpl_parse.specs.Declarations.{IsReading};
+ghost use Rattle.rpl_types.specs.Checked.{checked};
+ghost use Rattle.rw_sample_laws.specs.Ruleset.{sample_ruleset};
 ghost use Rattle.rw_sample_laws.specs.Cascade.{sample_basin};
 ghost use Rattle.rw_sample_laws.specs.ModelTable.{sample_table};
 
@@ -30,4 +33,11 @@ pub fn sample_is_read()
     ensures model { model_of sample_model ≡ Ok sample_basin }
     ensures inputs { (seed : ℕ)
         → inputs_of sample_basin (sample_inputs seed) ≡ Ok (inflow_at 1 seed 365) }
+{}
+
+/// The sample's rules are read as a ruleset, a rule for each reservoir, and that is accepted with the sample's basin.
+#[tactic(auto, using(crate::proofs::Ruled::rules_read, crate::proofs::Ruled::rules_accepted))]
+pub fn rules_are_accepted()
+    ensures read { IsReading sample_rules (Ok sample_ruleset) }
+    ensures types { IsTrue (is_ok (checked sample_basin sample_ruleset)) }
 {}

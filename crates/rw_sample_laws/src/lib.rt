@@ -1,4 +1,4 @@
-//! Laws alone: the sample's model is accepted, and with its basin the inputs of each seed.
+//! Laws alone: the sample's model is accepted, and with its basin its ruleset and the inputs of each seed.
 #![tactic(auto)]
 
 pub mod law;
