@@ -1,4 +1,4 @@
-ghost use Rattle.std.specs.Prelude.{◌≡◌, ◌≤◌, ℕ, List, [], length, map, option_map, unwrap_or, IfErr, IfOk, IsTrue, MatchResult, Ok};
+ghost use Rattle.std.specs.Prelude.{◌≡◌, ◌≢◌, ◌≤◌, ℕ, List, [], length, map, option_map, unwrap_or, IfErr, IfOk, IsTrue, MatchResult, Ok};
 ghost use Rattle.std.specs.List.{All};
 ghost use Rattle.rw_inputs.specs.Edits.{IsBatch};
 ghost use Rattle.rw_inputs.specs.Inputs.{IsInputsOf};
@@ -371,6 +371,35 @@ fn many<K: Sink, L: Ledger>(
     write_many(alloc, &setup, &inputs, batches_of(&scenarios), steps, out)
 }
 
+// The one text of a job that lends its files, and the status with which it is written.
+fn text_of_job<L: Ledger>(
+    alloc: Global,
+    job: Job,
+    files: &Files,
+    methods: &Catalogue,
+    predefs: &Predefs,
+    extras: Extras,
+    steps: &mut Steps<L>,
+) -> Result<(Vec<u8>, u8), NoMemory>
+    requires order { AreInOrder (map (λ b. code (b.vtable, b.value)) methods.now.methods.items) }
+    requires ready { AreReady job files.now }
+    requires one { job ≢ J.Mrm }
+    requires lent { job ≢ J.Run }
+    ensures { IfOk result (λ pair. IsOne job extras (files_seen files.now) pair.1 pair.0.items) }
+{
+    match job {
+        Job::Simulate => simulate(alloc, files, methods, predefs, extras, steps),
+        Job::Check => check(alloc, files),
+        Job::Compile => compile(alloc, files),
+        Job::Why => tell_why(alloc, files, methods, predefs, steps),
+        Job::Sample(seed) => sample(alloc, files, seed, methods, predefs, steps),
+        Job::Balance => balance(alloc, files, methods, predefs, steps),
+        Job::Migrate => migrate(alloc, files),
+        Job::Mrm => unreachable!(),
+        Job::Run => unreachable!(),
+    }
+}
+
 // Writes the text of a job by what its files say, and answers the status of that.
 fn write_job<K: Sink, L: Ledger>(
     alloc: Global,
@@ -391,27 +420,12 @@ fn write_job<K: Sink, L: Ledger>(
         (λ status. CountsOfFiles (files_seen files) (change steps.old steps.new)) }
 {
     match job {
-        Job::Simulate => {
-            let made = simulate(alloc, &files, methods, predefs, extras, steps);
-            write_made(job, extras, &files, made, out)
-        }
-        Job::Check => write_made(job, extras, &files, check(alloc, &files), out),
-        Job::Compile => write_made(job, extras, &files, compile(alloc, &files), out),
-        Job::Why => {
-            let made = tell_why(alloc, &files, methods, predefs, steps);
-            write_made(job, extras, &files, made, out)
-        }
-        Job::Sample(seed) => {
-            let made = sample(alloc, &files, seed, methods, predefs, steps);
-            write_made(job, extras, &files, made, out)
-        }
-        Job::Balance => {
-            let made = balance(alloc, &files, methods, predefs, steps);
-            write_made(job, extras, &files, made, out)
-        }
-        Job::Migrate => write_made(job, extras, &files, migrate(alloc, &files), out),
         Job::Mrm => many(alloc, files, methods, predefs, steps, out),
         Job::Run => run(alloc, files, methods, predefs, extras, steps, out),
+        _ => {
+            let made = text_of_job(alloc, job, &files, methods, predefs, extras, steps);
+            write_made(job, extras, &files, made, out)
+        }
     }
 }
 

@@ -1,6 +1,25 @@
-use Rattle.std.proofs.Common.{arith, ◌<◌, ◌≤◌, ◌^◌, ◌+◌, ◌*◌}
-use Rattle.rw_inputs.proofs.Digits.{next_power, power_bound, number_digit, number_length}
+use Rattle.rw_base.proofs.Common.{◌≡◌, ℕ, zero, suc, ◌+◌, ◌*◌, ◌<◌, ◌≤◌, ◌^◌, ◌&&◌, true, List, [], ◌∷◌, length, arith}
+use Rattle.rw_base.proofs.Common.{slice_index_or, nat_le, list_all, and_parts, nat_tests}
+use Rattle.rw_base.specs.Byte.{is_digit}
+use Rattle.rw_inputs.specs.Number.{is_number_text}
+use Rattle.rw_inputs.proofs.Digits.{digit_bounds, next_power, power_bound}
 use Rattle.rw_top.proofs.cell.number_of.Goals as goal
+
+digit_at : (text : List ℕ) (i d : ℕ) → list_all is_digit text ≡ true → i < length text
+    → (48 ≤ slice_index_or text i d) × (slice_index_or text i d ≤ 57)
+digit_at [] i d all near = absurd (omega (arith, near))
+digit_at (byte ∷ text) zero d all near = digit_bounds byte (and_parts _ _ all).0
+digit_at (byte ∷ text) (suc i) d all near = let later : i < length text = omega (arith, near) in digit_at text i d (and_parts _ _ all).1 later
+
+number_digit : (text : List ℕ) (i d : ℕ) → is_number_text text ≡ true → i < length text
+    → (48 ≤ slice_index_or text i d) × (slice_index_or text i d ≤ 57)
+number_digit text i d number near = digit_at text i d (and_parts _ _ number).1 near
+
+number_length : (text : List ℕ) → is_number_text text ≡ true → (1 ≤ length text) × (length text ≤ 18)
+number_length text number =
+    let short = and_parts (nat_le 1 (length text) && nat_le (length text) 18) (list_all is_digit text) number in
+    let lengths = and_parts (nat_le 1 (length text)) (nat_le (length text) 18) short.0 in
+    (grind (arith, nat_tests, lengths.0), grind (arith, nat_tests, lengths.1))
 
 pub overflow_mul-number : goal.overflow_mul-number
 overflow_mul-number c =
