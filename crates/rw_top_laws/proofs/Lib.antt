@@ -6,4 +6,5 @@ mod OneOutput
 mod FirstCall
 mod Dues
 mod StatusLemmas
+mod SampleStatus
 mod CheckedPolicies

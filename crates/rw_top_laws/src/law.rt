@@ -69,6 +69,7 @@ use rw_model_toml::law::files_are_basins;
 use rw_plain_reservoir::law::first_text;
 use rw_report::law::texts_of_runs;
 use rw_run::law::one_run;
+use rw_sample_laws::law::{rules_are_accepted, sample_is_read};
 
 /// A text is read as inputs in one way, and isn't refused where it is read.
 pub fn one_inputs()
@@ -355,6 +356,17 @@ pub fn statuses()
     ensures untouched { (call : Call) (status : ℕ) → Promise call status → 2 ≤ status
         → status ≢ 4 → status ≢ 5 → call.out.after.contents ≡ call.out.before.contents }
 {}
+
+/// A call whose words ask for the sample of a seed answers 0, 4 or 5: the sample's model, rules and inputs are accepted, no file is
+/// read, and its line is written with 0, whatever its run comes to.
+pub fn sample_statuses()
+    ensures { (call : Call) (status seed : ℕ) → Promise call status
+        → AskForCommand call.words (plain_command (J.Sample seed) [])
+        → (status ≡ 0) ⊎ (status ≡ 4) ⊎ (status ≡ 5) }
+{
+    rules_are_accepted();
+    sample_is_read();
+}
 
 /// Over a shelf and an output that never fail no call answers that a file can't be read or the output not be written.
 pub fn sure_calls()
