@@ -28,4 +28,6 @@ returns-in-Migrate g c =
     (c.migrate.ensures c.args.extras)
 
 pub returns-in-Sample : goal.returns-in-Sample
-returns-in-Sample g c = c.sample.ensures c.args.extras
+returns-in-Sample g c =
+    subst (λ job. IfOk c.sample.result (λ pair. IsOne job c.args.extras (files_seen c.args.files.now) pair.1 pair.0.items)) (sym c.in-Sample.is)
+    (c.sample.ensures c.args.extras)
