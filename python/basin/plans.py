@@ -117,8 +117,9 @@ def plan(
 
 def judge(folder: Path, program: str) -> None:
     """`Refused` where the program refuses a file of the runs, by the run without any trace."""
-    with process.at_work(["run", *(str(folder / name) for name in NAMES)], program) as at_work:
-        while process.output_of(at_work).read(process.PIPE):
+    room = memoryview(bytearray(process.PIPE))
+    with process.at_work(["run", *(str(folder / name) for name in NAMES)], program) as running:
+        while running.readinto(room):
             pass
 
 
