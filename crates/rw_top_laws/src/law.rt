@@ -61,6 +61,7 @@ ghost use Rattle.rw_top.specs.declared.extras.Extras.{Extras};
 ghost use Rattle.rw_top.specs.declared.refusal.File.{File};
 ghost use Rattle.rw_top.specs.declared.refusal.Refusal.{Refusal};
 
+use crate::sample::{rules_are_accepted, sample_is_read};
 use rpl_compile::accepted::compiled_budgets;
 use rpl_policy::law::code_keeps_promises;
 use rpl_rulesets::law::rulesets_have_runs;
@@ -69,7 +70,6 @@ use rw_model_toml::law::files_are_basins;
 use rw_plain_reservoir::law::first_text;
 use rw_report::law::texts_of_runs;
 use rw_run::law::one_run;
-use rw_sample_laws::law::{rules_are_accepted, sample_is_read};
 
 /// A text is read as inputs in one way, and isn't refused where it is read.
 pub fn one_inputs()

@@ -11,7 +11,7 @@ use Rattle.toml.specs.Text.{IsValueText, IsLineText, IsLinesText}
 use Rattle.toml.proofs.ReadLines.{AllPrinted}
 use Rattle.rw_report.specs.Section.{for_each}
 use Rattle.rw_sample.specs.Texts.{run_words, reservoir_words, reach_words, link_words}
-use Rattle.rw_sample_laws.proofs.Strings.{is_plain, numbered_plain, plain_text, spelt}
+use Rattle.rw_top_laws.proofs.Strings.{is_plain, numbered_plain, plain_text, spelt}
 
 abbrev pub pair : List ℕ → Data → Expression
 pair key value = (([], key), key_value value)

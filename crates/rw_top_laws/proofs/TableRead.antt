@@ -4,11 +4,11 @@ use Rattle.toml.specs.Tables.{no_nodes, close}
 use Rattle.toml.specs.Parse.{lines, parse_document, skip_bom}
 use Rattle.toml.proofs.ReadLines.{read_lines}
 use Rattle.rw_sample.specs.Texts.{run_words, sample_model}
-use Rattle.rw_sample_laws.specs.ModelTable.{cascade_table, sample_table}
-use Rattle.rw_sample_laws.proofs.Lines.{model_lines, model_printed, model_text, words_of}
+use Rattle.rw_top_laws.specs.ModelTable.{cascade_table, sample_table}
+use Rattle.rw_top_laws.proofs.Lines.{model_lines, model_printed, model_text, words_of}
 use Rattle.rw_model_toml.specs.Model.{toml_of}
-use Rattle.rw_sample_laws.proofs.Ascii.{model_utf8}
-use Rattle.rw_sample_laws.proofs.Defined.{model_defines}
+use Rattle.rw_top_laws.proofs.Ascii.{model_utf8}
+use Rattle.rw_top_laws.proofs.Defined.{model_defines}
 
 from_start : (rest : List ℕ) → parse_document (run_words ++ rest)
     ≡ option_map (λ doc. close doc.0) (lines (suc (length (run_words ++ rest))) (no_nodes, []) (run_words ++ rest))

@@ -2,8 +2,8 @@ use Rattle.rw_base.proofs.Common.{IfOk, subst}
 use Rattle.rw_model.specs.Basin.{IsBasin}
 use Rattle.rw_inputs.specs.Placings.{placings}
 use Rattle.rw_ahead.specs.Ahead.{ahead_to}
-use Rattle.rw_migration_laws.proofs.Accepting.{Laws, policy_stays, run_stays, within_30}
-use Rattle.rw_migration_laws.proofs.law.migrated_models_run_alike.Goals as goal
+use Rattle.rw_top_laws.proofs.Accepting.{Laws, policy_stays, run_stays, within_30}
+use Rattle.rw_top_laws.proofs.migration.migrated_models_run_alike.Goals as goal
 
 pub returns : goal.returns
 returns c = λ old new policy_text inputs_text as_code basin policy inputs migrated read is reads.

@@ -6,8 +6,8 @@ use Rattle.toml.specs.Data.{Data, Items, Members, member, no_members, array, int
 use Rattle.toml.specs.Tables.{Document, Expression, Nodes, value, open_table, open_array, no_nodes, node, close, header, define, at_key}
 use Rattle.toml.specs.Tables.{along_dots, along_header}
 use Rattle.toml.proofs.ReadLines.{run}
-use Rattle.rw_sample_laws.specs.ModelTable.{cascade_table, link_sections, reach_section, reservoir_section, run_section, with_each}
-use Rattle.rw_sample_laws.proofs.Lines.{link_lines, name, reach_lines, reservoir_lines, run_lines, all_lines, both_links, model_lines}
+use Rattle.rw_top_laws.specs.ModelTable.{cascade_table, link_sections, reach_section, reservoir_section, run_section, with_each}
+use Rattle.rw_top_laws.proofs.Lines.{link_lines, name, reach_lines, reservoir_lines, run_lines, all_lines, both_links, model_lines}
 
 run_append : (doc : Document) (es fs : List Expression) → run doc (es ++ fs) ≡ option_and_then (λ next. run next fs) (run doc es)
 run_append doc [] fs = refl

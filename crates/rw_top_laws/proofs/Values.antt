@@ -7,8 +7,8 @@ use Rattle.std.proofs.lemmas.Bool.{and_right, or_from, or_parts}
 use Rattle.rw_model.specs.Draft.{Draft}
 use Rattle.rw_inputs.specs.Inputs.{kept_slot, row_gives, row_value_at}
 use Rattle.rw_inputs.specs.Reading.{good, shares_cell}
-use Rattle.rw_sample_laws.specs.Inflows.{inflow_at}
-use Rattle.rw_sample_laws.proofs.TextRows.{inflow}
+use Rattle.rw_top_laws.specs.Inflows.{inflow_at}
+use Rattle.rw_top_laws.proofs.TextRows.{inflow}
 
 -- what a row gives, and what is wrong with one: their types are not exported
 abbrev pub given_by : {A E B : Type 0} → (Result A E → List B) → Type 0

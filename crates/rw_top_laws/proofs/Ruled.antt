@@ -12,9 +12,9 @@ use Rattle.rpl_parse.proofs.Both.{declared_sound}
 use Rattle.rpl_types.specs.Checked.{checked}
 use Rattle.rw_report.specs.Section.{for_each}
 use Rattle.rw_sample.specs.Texts.{rule_words, sample_rules}
-use Rattle.rw_sample_laws.specs.Cascade.{sample_basin, year_of_days}
-use Rattle.rw_sample_laws.specs.Ruleset.{release_rule, release_rules, sample_ruleset}
-use Rattle.rw_sample_laws.proofs.Judged.{digits_of, drafted, in_digits, same_basin}
+use Rattle.rw_top_laws.specs.Cascade.{sample_basin, year_of_days}
+use Rattle.rw_top_laws.specs.Ruleset.{release_rule, release_rules, sample_ruleset}
+use Rattle.rw_top_laws.proofs.Judged.{digits_of, drafted, in_digits, same_basin}
 
 abbrev reservoir_name : ℕ → List ℕ
 reservoir_name number = codes "D" ++ digits_of number

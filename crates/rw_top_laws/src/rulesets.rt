@@ -1,4 +1,4 @@
-//! The laws. Each is the `ensures` of a function that does nothing.
+//! What every run by an accepted ruleset keeps, by what its rules mean. The law is the `ensures` of a function that does nothing.
 ghost use Rattle.std.specs.Prelude.{◌≤◌, ℤ, List};
 ghost use Rattle.rw_base.specs.declared.number.Cell.{Cell};
 ghost use Rattle.rw_model.specs.Basin.{IsBasin};
@@ -8,9 +8,9 @@ ghost use Rattle.rw_run.specs.RunOf.{IsRunOf};
 ghost use Rattle.rw_run.specs.Runs.{IsRun};
 ghost use Rattle.rw_run.specs.declared.run.Run.{Run};
 ghost use Rattle.rpl_tree.specs.Bounds.{function_count, rule_count};
-ghost use Rattle.rpl_rulesets.specs.RulesPolicy.{policy_of_rules};
 ghost use Rattle.rpl_tree.specs.Tree.{Declared};
 ghost use Rattle.rpl_types.specs.HasType.{IsTyped};
+ghost use Rattle.rpl_rulesets.specs.RulesPolicy.{policy_of_rules};
 ghost use Rattle.rw_laws.specs.Laws.{KeepsLaws};
 
 use rpl_rulesets::law::{rules_keep_promises, rulesets_have_runs};

@@ -1,8 +1,8 @@
 use Rattle.rpl_compile.specs.Translate.{translate}
 use Rattle.rpl_policy.specs.Policy.{policy_of_code}
 use Rattle.rpl_rulesets.specs.RulesPolicy.{policy_of_rules}
-use Rattle.rpl_laws.proofs.Rulesets.{keep_alike}
-use Rattle.rpl_laws.proofs.law.every_run_of_rules.Goals as goal
+use Rattle.rw_top_laws.proofs.AlikePolicies.{keep_alike}
+use Rattle.rw_top_laws.proofs.rulesets.every_run_of_rules.Goals as goal
 
 pub returns : goal.returns
 returns c = λ basin rules inputs log run valid typed few fewer whole comes.

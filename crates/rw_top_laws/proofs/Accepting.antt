@@ -19,7 +19,7 @@ use Rattle.rpl_rulesets.specs.RulesPolicy.{policy_of_rules}
 use Rattle.rw_top.specs.Policy.{Code, IsPolicyFileOf, PolicyFile, Ruleset}
 use Rattle.rw_top.specs.RunText.{policy_in_run}
 use Rattle.rw_ahead.specs.Ahead.{ahead_to}
-use Rattle.rw_migration_laws.proofs.Counted.{few_declared}
+use Rattle.rw_top_laws.proofs.Counted.{few_declared}
 
 -- a valid basin lets rules put at most 30 timesteps ahead
 pub within_30 : (basin : Draft) → IsBasin basin → basin.control.ahead ≤ 30

@@ -2,15 +2,15 @@
 ghost use Rattle.std.specs.Prelude.{◌≡◌, ℕ, is_ok, IsTrue, Ok, Some};
 ghost use Rattle.rw_model.specs.Draft.{Draft};
 ghost use Rattle.rw_model_toml.specs.Model.{model_of, toml_of};
+ghost use Rattle.rpl_parse.specs.Declarations.{IsReading};
+ghost use Rattle.rpl_types.specs.Checked.{checked};
 ghost use Rattle.rw_inputs.specs.Inputs.{kept_slot};
 ghost use Rattle.rw_inputs.specs.Reading.{inputs_of};
 ghost use Rattle.rw_sample.specs.Texts.{sample_inputs, sample_model, sample_rules};
-ghost use Rattle.rw_sample_laws.specs.Inflows.{TakesInflows, inflow_at};
-ghost use Rattle.rpl_parse.specs.Declarations.{IsReading};
-ghost use Rattle.rpl_types.specs.Checked.{checked};
-ghost use Rattle.rw_sample_laws.specs.Ruleset.{sample_ruleset};
-ghost use Rattle.rw_sample_laws.specs.Cascade.{sample_basin};
-ghost use Rattle.rw_sample_laws.specs.ModelTable.{sample_table};
+ghost use Rattle.rw_top_laws.specs.Cascade.{sample_basin};
+ghost use Rattle.rw_top_laws.specs.Inflows.{TakesInflows, inflow_at};
+ghost use Rattle.rw_top_laws.specs.ModelTable.{sample_table};
+ghost use Rattle.rw_top_laws.specs.Ruleset.{sample_ruleset};
 
 /// Whatever the seed, the sample's inputs are accepted with a basin that can take them. They give the first reservoir's inflow,
 /// as the seed has it, at each of 365 timesteps, and nothing else.

@@ -9,7 +9,7 @@ use Rattle.rw_base.specs.Byte.{is_digit}
 use Rattle.rw_inputs.specs.Records.{Fields, records_of}
 use Rattle.rw_inputs.proofs.Digits.{digit_bounds}
 use Rattle.rw_sample.specs.Texts.{inflow_rows, inflow_words, sample_inputs, seeded_inflow, seeded_number}
-use Rattle.rw_sample_laws.proofs.Decimals.{spelt}
+use Rattle.rw_top_laws.proofs.Decimals.{spelt}
 
 -- what the seed gives at a timestep, which is below 1000
 abbrev pub inflow : (seed step : ℕ) → ℕ

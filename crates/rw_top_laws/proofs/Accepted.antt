@@ -15,10 +15,10 @@ use Rattle.rw_inputs.specs.Records.{Fields}
 use Rattle.rw_inputs.specs.Refusal.{InputRefusal}
 use Rattle.rw_inputs.specs.Row.{◌>>=◌, can_be_set, read_row, read_slot, read_span, read_value, set_slot, within_bounds, within_run}
 use Rattle.rw_sample.specs.Texts.{sample_inputs}
-use Rattle.rw_sample_laws.specs.Inflows.{TakesInflows, inflow_at}
-use Rattle.rw_sample_laws.proofs.Decimals.{signed_back, span_back}
-use Rattle.rw_sample_laws.proofs.TextRows.{fields_in, inflow, inflow_small, records_read, row_fields}
-use Rattle.rw_sample_laws.proofs.Values.{RowValue, Wrong, held, none_shared, row_value, values_in}
+use Rattle.rw_top_laws.specs.Inflows.{TakesInflows, inflow_at}
+use Rattle.rw_top_laws.proofs.Decimals.{signed_back, span_back}
+use Rattle.rw_top_laws.proofs.TextRows.{fields_in, inflow, inflow_small, records_read, row_fields}
+use Rattle.rw_top_laws.proofs.Values.{RowValue, Wrong, held, none_shared, row_value, values_in}
 
 -- ---- rows one after another
 

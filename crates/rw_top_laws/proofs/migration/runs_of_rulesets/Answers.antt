@@ -1,7 +1,7 @@
 use Rattle.rpl_compile.specs.Budgets.{accepted_code}
 use Rattle.rpl_compile.specs.Translate.{translate}
 use Rattle.rw_ahead.specs.Ahead.{ahead_to}
-use Rattle.rpl_migrated.proofs.law.runs_of_rulesets.Goals as goal
+use Rattle.rw_top_laws.proofs.migration.runs_of_rulesets.Goals as goal
 
 pub returns : goal.returns
 returns c = λ basin most rules types inputs log more judged few fewer run.

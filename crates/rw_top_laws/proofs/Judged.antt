@@ -19,12 +19,12 @@ use Rattle.rw_base.specs.Answers.{unless_refused}
 use Rattle.rw_inputs.specs.Inputs.{kept_slot}
 use Rattle.rw_inputs.specs.Reading.{inputs_of}
 use Rattle.rw_sample.specs.Texts.{sample_inputs, sample_model}
-use Rattle.rw_sample_laws.specs.Cascade.{cascade_links, cascade_reservoirs, sample_basin, with_reaches, year_of_days}
-use Rattle.rw_sample_laws.specs.Inflows.{TakesInflows, inflow_at}
-use Rattle.rw_sample_laws.specs.ModelTable.{link_sections, object_sections, reach_section, sample_table, with_each}
-use Rattle.rw_sample_laws.proofs.Accepted.{inputs_accepted}
-use Rattle.rw_sample_laws.proofs.Ascii.{text_utf8}
-use Rattle.rw_sample_laws.proofs.TableRead.{toml_read}
+use Rattle.rw_top_laws.specs.Cascade.{cascade_links, cascade_reservoirs, sample_basin, with_reaches, year_of_days}
+use Rattle.rw_top_laws.specs.Inflows.{TakesInflows, inflow_at}
+use Rattle.rw_top_laws.specs.ModelTable.{link_sections, object_sections, reach_section, sample_table, with_each}
+use Rattle.rw_top_laws.proofs.Accepted.{inputs_accepted}
+use Rattle.rw_top_laws.proofs.Ascii.{text_utf8}
+use Rattle.rw_top_laws.proofs.TableRead.{toml_read}
 
 -- ---- with digits in place of decimals
 
