@@ -1,11 +1,10 @@
 -- The table of the sample's model makes a basin. Names are computed with their digits in place of decimals.
 use Rattle.rw_base.proofs.Common.{◌≡◌, ℕ, zero, suc, ◌+◌, ◌/◌, ◌%◌, ◌<◌, nat_lt, if◌then◌else◌, false, true, Bool, ◌&&◌, List, [], ◌∷◌, ◌++◌}
-use Rattle.rw_base.proofs.Common.{pos, codes, Ok, Some, None, Result, refl, sym, subst, ap, ap₂, ◌∙◌, arith, ints, decimal}
+use Rattle.rw_base.proofs.Common.{codes, Ok, Some, None, Result, refl, sym, subst, ap, ap₂, ◌∙◌, arith, ints, decimal}
 use Rattle.rw_base.proofs.Common.{cases_lt, inl, inr, nat_tests, decimal_digit, decimal_step}
-use Rattle.toml.specs.Data.{Data, string, integer, array, table, Items, no_items, item, no_members, member, push_item}
+use Rattle.toml.specs.Data.{Data, Items, no_items, push_item}
 use Rattle.rw_calendar.specs.Moment.{hours_later, months_later}
 use Rattle.rw_model.specs.declared.control.RunControl.{RunControl}
-use Rattle.rw_model.specs.declared.kind.Kind.TheVariants.{Reach, Reservoir}
 use Rattle.rw_model.specs.Objects.{Object}
 use Rattle.rw_model.specs.Draft.{Draft}
 use Rattle.rw_model.specs.Basin.{finish_refusal}
@@ -19,9 +18,10 @@ use Rattle.rw_base.specs.Answers.{unless_refused}
 use Rattle.rw_inputs.specs.Inputs.{kept_slot}
 use Rattle.rw_inputs.specs.Reading.{inputs_of}
 use Rattle.rw_sample.specs.Texts.{sample_inputs, sample_model}
-use Rattle.rw_top_laws.specs.Cascade.{cascade_links, cascade_reservoirs, sample_basin, with_reaches, year_of_days}
+use Rattle.rw_top_laws.specs.Cascade.{cascade_links, cascade_reservoirs, sample_basin, sample_reach, sample_reservoir, with_reaches, year_of_days}
 use Rattle.rw_top_laws.specs.Inflows.{TakesInflows, inflow_at}
-use Rattle.rw_top_laws.specs.ModelTable.{link_sections, object_sections, reach_section, sample_table, with_each}
+use Rattle.rw_top_laws.specs.ModelTable.{link_sections, object_sections, reach_named, reach_section, reservoir_named, sample_table, with_each}
+use Rattle.rw_top_laws.specs.ModelTable.{with_links}
 use Rattle.rw_top_laws.proofs.Accepted.{inputs_accepted}
 use Rattle.rw_top_laws.proofs.Ascii.{text_utf8}
 use Rattle.rw_top_laws.proofs.TableRead.{toml_read}
@@ -40,25 +40,14 @@ in_digits n small = elim (cases_lt n 10) [
 ]
 
 abbrev reservoir_by : List ℕ → Data
-reservoir_by digits = table (member (codes "initial_storage") (integer (pos 100000)) (member (codes "kind") (string (codes "reservoir"))
-    (member (codes "name") (string (codes "D" ++ digits)) no_members)))
+reservoir_by digits = reservoir_named (codes "D" ++ digits)
 
 abbrev reach_by : List ℕ → Data
-reach_by digits = table (member (codes "history") (array (item (integer (pos 100)) no_items)) (member (codes "kind") (string (codes "reach"))
-    (member (codes "lag") (integer (pos 1)) (member (codes "name") (string (codes "R" ++ digits)) no_members))))
-
-abbrev link_by : (upper upper_digits lower lower_digits : List ℕ) → Data
-link_by upper upper_digits lower lower_digits =
-    table (member (codes "slots") (array (item (string (upper ++ (upper_digits ++ codes ".Outflow")))
-    (item (string (lower ++ (lower_digits ++ codes ".Inflow"))) no_items))) no_members)
-
-abbrev both_by : Items → (digits next_digits : List ℕ) → Items
-both_by items digits next_digits =
-    push_item (push_item items (link_by (codes "D") digits (codes "R") digits)) (link_by (codes "R") digits (codes "D") next_digits)
+reach_by digits = reach_named (codes "R" ++ digits)
 
 abbrev links_in_digits : ℕ → Items
 links_in_digits zero = no_items
-links_in_digits (suc before) = both_by (links_in_digits before) (digits_of (suc before)) (digits_of (suc before + 1))
+links_in_digits (suc before) = with_links (links_in_digits before) (digits_of (suc before)) (digits_of (suc before + 1))
 
 abbrev objects_in_digits : (reservoirs reaches : ℕ) → Items
 objects_in_digits reservoirs reaches =
@@ -73,8 +62,8 @@ same_each items by (suc before) few =
 same_links : (count : ℕ) → count < 99 → link_sections count ≡ links_in_digits count
 same_links zero few = refl
 same_links (suc before) few =
-    ap (λ front. both_by front (decimal (suc before)) (decimal (suc before + 1))) (same_links before (omega (arith, few)))
-    ∙ ap₂ (λ digits next. both_by (links_in_digits before) digits next) (in_digits (suc before) (omega (arith, few)))
+    ap (λ front. with_links front (decimal (suc before)) (decimal (suc before + 1))) (same_links before (omega (arith, few)))
+    ∙ ap₂ (λ digits next. with_links (links_in_digits before) digits next) (in_digits (suc before) (omega (arith, few)))
     (in_digits (suc before + 1) (omega (arith, few)))
 
 same_objects : object_sections 20 19 ≡ objects_in_digits 20 19
@@ -83,19 +72,13 @@ same_objects = ap (λ items. with_each items reach_section 19) (same_each no_ite
 
 -- ---- the basin
 
-abbrev one_reservoir : List ℕ → Object
-one_reservoir digits = record { name = codes "D" ++ digits; kind = Reservoir (pos 100000) None false false false false None }
-
-abbrev one_reach : List ℕ → Object
-one_reach digits = record { name = codes "R" ++ digits; kind = Reach 1 (pos 100 ∷ []) false false false }
-
 abbrev reservoirs_in_digits : ℕ → List Object
 reservoirs_in_digits zero = []
-reservoirs_in_digits (suc before) = reservoirs_in_digits before ++ one_reservoir (digits_of (suc before)) ∷ []
+reservoirs_in_digits (suc before) = reservoirs_in_digits before ++ sample_reservoir (codes "D" ++ digits_of (suc before)) ∷ []
 
 abbrev reaches_in_digits : List Object → ℕ → List Object
 reaches_in_digits objects zero = objects
-reaches_in_digits objects (suc before) = reaches_in_digits objects before ++ one_reach (digits_of (suc before)) ∷ []
+reaches_in_digits objects (suc before) = reaches_in_digits objects before ++ sample_reach (codes "R" ++ digits_of (suc before)) ∷ []
 
 abbrev pub drafted : RunControl → ℕ → ℕ → ℕ → Draft
 drafted control reservoirs reaches links =
@@ -104,12 +87,14 @@ drafted control reservoirs reaches links =
 same_reservoirs : (count : ℕ) → count < 100 → cascade_reservoirs count ≡ reservoirs_in_digits count
 same_reservoirs zero few = refl
 same_reservoirs (suc before) few =
-    ap₂ (λ front digits. front ++ one_reservoir digits ∷ []) (same_reservoirs before (omega (arith, few))) (in_digits (suc before) few)
+    ap₂ (λ front digits. front ++ sample_reservoir (codes "D" ++ digits) ∷ [])
+    (same_reservoirs before (omega (arith, few))) (in_digits (suc before) few)
 
 same_reaches : (objects : List Object) (count : ℕ) → count < 100 → with_reaches objects count ≡ reaches_in_digits objects count
 same_reaches objects zero few = refl
 same_reaches objects (suc before) few =
-    ap₂ (λ front digits. front ++ one_reach digits ∷ []) (same_reaches objects before (omega (arith, few))) (in_digits (suc before) few)
+    ap₂ (λ front digits. front ++ sample_reach (codes "R" ++ digits) ∷ [])
+    (same_reaches objects before (omega (arith, few))) (in_digits (suc before) few)
 
 pub same_basin : sample_basin ≡ drafted year_of_days 20 19 19
 unfolding sample_basin

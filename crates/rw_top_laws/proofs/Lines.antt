@@ -31,9 +31,6 @@ reservoir_lines number = header (codes "object")
     ∷ pair (codes "name") (string (codes "D" ++ decimal number)) ∷ pair (codes "kind") (string (codes "reservoir"))
     ∷ pair (codes "initial_storage") (integer (pos 100000)) ∷ []
 
-pub record Lines (es : List Expression) (text : List ℕ) : Type 0 where
-  pub lines : IsLinesText false true es text
-
 abbrev pub reach_lines : ℕ → List Expression
 reach_lines number = header (codes "object")
     ∷ pair (codes "name") (string (codes "R" ++ decimal number)) ∷ pair (codes "kind") (string (codes "reach"))
@@ -42,6 +39,10 @@ reach_lines number = header (codes "object")
 abbrev pub link_lines : List ℕ → ℕ → List ℕ → ℕ → List Expression
 link_lines from m to n = header (codes "link")
     ∷ pair (codes "slots") (array (item (string (name from m (codes ".Outflow"))) (item (string (name to n (codes ".Inflow"))) no_items))) ∷ []
+
+-- the text of lines that stand behind others
+pub record Lines (es : List Expression) (text : List ℕ) : Type 0 where
+  pub lines : IsLinesText false true es text
 
 abbrev Value : Data → List ℕ → Type 0
 Value what text = IsValueText false what text
@@ -217,11 +218,12 @@ abbrev pub model_lines : ℕ → ℕ → ℕ → List Expression
 model_lines reservoirs reaches links =
     run_lines ++ (all_lines reservoir_lines reservoirs ++ (all_lines reach_lines reaches ++ all_lines both_links links))
 
-abbrev pub words_of : ℕ → ℕ → ℕ → List ℕ
-words_of reservoirs reaches links = run_words ++ (for_each reservoir_words reservoirs ++ (for_each reach_words reaches ++ for_each link_words links))
+abbrev pub model_words : ℕ → ℕ → ℕ → List ℕ
+model_words reservoirs reaches links =
+    run_words ++ (for_each reservoir_words reservoirs ++ (for_each reach_words reaches ++ for_each link_words links))
 
 pub model_text : (reservoirs reaches links : ℕ) → reservoirs < 999 → reaches < 999 → links < 999
-    → IsLinesText false false (model_lines reservoirs reaches links) (words_of reservoirs reaches links)
+    → IsLinesText false false (model_lines reservoirs reaches links) (model_words reservoirs reaches links)
 model_text reservoirs reaches links few_reservoirs few_reaches few_links =
     run_text _ _ (lines_append (all_lines reservoir_lines reservoirs) _ (for_each reservoir_words reservoirs) _
     (all_text reservoir_lines reservoir_words (λ n small. reservoir_text n (omega (arith, small))) reservoirs few_reservoirs)

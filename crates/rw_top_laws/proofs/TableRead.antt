@@ -5,7 +5,7 @@ use Rattle.toml.specs.Parse.{lines, parse_document, skip_bom}
 use Rattle.toml.proofs.ReadLines.{read_lines}
 use Rattle.rw_sample.specs.Texts.{run_words, sample_model}
 use Rattle.rw_top_laws.specs.ModelTable.{cascade_table, sample_table}
-use Rattle.rw_top_laws.proofs.Lines.{model_lines, model_printed, model_text, words_of}
+use Rattle.rw_top_laws.proofs.Lines.{model_lines, model_printed, model_text, model_words}
 use Rattle.rw_model_toml.specs.Model.{toml_of}
 use Rattle.rw_top_laws.proofs.Ascii.{model_utf8}
 use Rattle.rw_top_laws.proofs.Defined.{model_defines}
@@ -16,9 +16,9 @@ unfolding parse_document skip_bom
 from_start rest = refl
 
 table_read : (reservoirs reaches links : ℕ) → suc reservoirs < 999 → reaches < 999 → suc links < 999
-    → parse_document (words_of (suc reservoirs) reaches (suc links)) ≡ Some (cascade_table (suc reservoirs) reaches (suc links))
+    → parse_document (model_words (suc reservoirs) reaches (suc links)) ≡ Some (cascade_table (suc reservoirs) reaches (suc links))
 table_read reservoirs reaches links few_reservoirs few_reaches few_links =
-    let text = words_of (suc reservoirs) reaches (suc links) in
+    let text = model_words (suc reservoirs) reaches (suc links) in
     let es = model_lines (suc reservoirs) reaches (suc links) in
     let defines = model_defines reservoirs reaches links in
     from_start _ ∙ ap (option_map (λ doc. close doc.0)) (read_lines false false es text text (no_nodes, []) (suc (length text))

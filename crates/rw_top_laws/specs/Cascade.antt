@@ -19,18 +19,23 @@ year_of_days = record {
   ahead = 0;
 }
 
--- so many reservoirs of 100000 m3, which have an inflow, an outflow and a storage each
+-- a reservoir of 100000 m3, which has an inflow, an outflow and a storage
+abbrev pub sample_reservoir : (name : List ℕ) → Object
+sample_reservoir name = record { name = name; kind = Reservoir (pos 100000) None false false false false None }
+
+-- so many of them
 abbrev pub cascade_reservoirs : ℕ → List Object
 cascade_reservoirs zero = []
-cascade_reservoirs (suc before) =
-    cascade_reservoirs before
-    ++ record { name = codes "D" ++ decimal (suc before); kind = Reservoir (pos 100000) None false false false false None } ∷ []
+cascade_reservoirs (suc before) = cascade_reservoirs before ++ sample_reservoir (codes "D" ++ decimal (suc before)) ∷ []
 
--- the objects, and so many reaches of a day behind them, which have an inflow and an outflow each
+-- a reach of a day, which has an inflow and an outflow
+abbrev pub sample_reach : (name : List ℕ) → Object
+sample_reach name = record { name = name; kind = Reach 1 (pos 100 ∷ []) false false false }
+
+-- the objects, and so many of them behind these
 abbrev pub with_reaches : List Object → ℕ → List Object
 with_reaches objects zero = objects
-with_reaches objects (suc before) =
-    with_reaches objects before ++ record { name = codes "R" ++ decimal (suc before); kind = Reach 1 (pos 100 ∷ []) false false false } ∷ []
+with_reaches objects (suc before) = with_reaches objects before ++ sample_reach (codes "R" ++ decimal (suc before)) ∷ []
 
 -- a reservoir's outflow with the inflow of the reach below it, and the outflow of that with the next reservoir's inflow. The slots
 -- of twenty reservoirs are those up to 60

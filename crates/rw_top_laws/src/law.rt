@@ -1,4 +1,5 @@
-//! What the definitions of this crate speak of is one thing. Each law is the `ensures` of a function that does nothing.
+//! What the promise of the top call comes to: what it speaks of is one thing, and what each status says. Each law is the `ensures`
+//! of a function that does nothing.
 ghost use Rattle.std.specs.Prelude.{◌≡◌, ◌≢◌, ◌≤◌, ◌<◌, ◌-◌, ◌^◌, ◌↔◌, ◌⊎◌, ℕ, ℤ, Bool, false, List, [], ◌∷◌, ◌++◌, Option, None, Some, IfSome, IsSome, IsSomeAnd, codes, length, slice_get, take};
 ghost use Rattle.rw_plain_reservoir.specs.FirstForm.{FirstModel, IsFirstForm, IsFirstFlows};
 ghost use Rattle.rw_plain_reservoir.specs.Table.{IsFirstText};
@@ -375,8 +376,8 @@ pub fn sure_calls()
 {}
 
 /// What has to be refused of a command is, with its status, unless memory was wanting: where the shelf tells the files up to the one
-/// that is refused, and had no fault of them. Where each file is accepted, a cell that is sought is there, and the output had no fault either, only memory can be
-/// wanting.
+/// that is refused, and had no fault of them. Where each file is accepted, a cell that is sought is there, and the output had no fault
+/// either, only memory can be wanting.
 pub fn dues()
     ensures model { (call : Call) (status : ℕ) (command : Command) (why : ModelRefusal)
         → Promise call status → AskForCommand call.words command
