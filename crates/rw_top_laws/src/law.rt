@@ -71,6 +71,7 @@ use rw_model_toml::law::files_are_basins;
 use rw_plain_reservoir::law::first_text;
 use rw_report::law::texts_of_runs;
 use rw_run::law::one_run;
+use rw_words::sample_words;
 
 /// A text is read as inputs in one way, and isn't refused where it is read.
 pub fn one_inputs()
@@ -358,15 +359,16 @@ pub fn statuses()
         → status ≢ 4 → status ≢ 5 → call.out.after.contents ≡ call.out.before.contents }
 {}
 
-/// A call whose words ask for the sample of a seed answers 0, 4 or 5: the sample's model, rules and inputs are accepted, no file is
-/// read, and its line is written with 0, whatever its run comes to.
+/// A call whose words ask for the sample of a seed answers 0, 4 or 5, whatever else stands among them: they ask for nothing more. The
+/// sample's model, rules and inputs are accepted, no file is read, and its line is written with 0, whatever its run comes to.
 pub fn sample_statuses()
-    ensures { (call : Call) (status seed : ℕ) → Promise call status
-        → AskForCommand call.words (plain_command (J.Sample seed) [])
+    ensures { (call : Call) (status seed : ℕ) (command : Command) → Promise call status
+        → AskForCommand call.words command → command.job ≡ J.Sample seed
         → (status ≡ 0) ⊎ (status ≡ 4) ⊎ (status ≡ 5) }
 {
     rules_are_accepted();
     sample_is_read();
+    sample_words();
 }
 
 /// Over a shelf and an output that never fail no call answers that a file can't be read or the output not be written.

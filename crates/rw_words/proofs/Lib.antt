@@ -2,4 +2,5 @@ pub mod Simple
 pub mod Digits
 pub mod Paths
 pub mod Plain
+pub mod Sample
 pub mod Worked
