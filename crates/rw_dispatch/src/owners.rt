@@ -20,11 +20,12 @@ pub(crate) fn is_data(basin: &Basin, object: ObjectNo) -> bool
 }
 
 /// Objects that are reached: a bit for each, that of object 1 first, how many objects stand before all of them, and the last one.
+/// Both have 32 bits: one of 16 would be read together with the other, and wait until both are written.
 #[derive(Drop)]
 pub(crate) struct Reached {
     pub(crate) marks: [u64; 8],
-    pub(crate) before: u16,
-    pub(crate) last: u16,
+    pub(crate) before: u32,
+    pub(crate) last: u32,
 }
 
 impl Reached {
@@ -34,7 +35,7 @@ impl Reached {
     {
         Reached {
             marks: [0; 8],
-            before: u16::MAX,
+            before: u32::MAX,
             last: 0,
         }
     }
@@ -62,7 +63,7 @@ fn set_bit(marks: &mut [u64; 8], number: u16)
 }
 
 /// The lesser of two numbers.
-pub(crate) fn lesser(one: u16, other: u16) -> u16
+pub(crate) fn lesser(one: u32, other: u32) -> u32
     ensures one { result ≤ one }
     ensures other { result ≤ other }
     ensures least { (bound : ℕ) → bound ≤ one → bound ≤ other → bound ≤ result }
@@ -70,7 +71,7 @@ pub(crate) fn lesser(one: u16, other: u16) -> u16
     if one < other { one } else { other }
 }
 
-fn greater(one: u16, other: u16) -> u16
+fn greater(one: u32, other: u32) -> u32
     ensures one { one ≤ result }
     ensures other { other ≤ result }
 {
@@ -100,8 +101,8 @@ fn reach(reached: &mut Reached, but: Option<ObjectNo>, object: u16)
         return;
     }
     set_bit(&mut reached.marks, object - 1);
-    reached.before = lesser(reached.before, object - 1);
-    reached.last = greater(reached.last, object);
+    reached.before = lesser(reached.before, u32::from(object - 1));
+    reached.last = greater(reached.last, u32::from(object));
 }
 
 // The number of the object that owns a slot.
