@@ -24,7 +24,7 @@ mod value;
 mod whole;
 
 pub use cell::why;
-pub use flags::{push_content, push_content_by};
+pub use flags::push_content_by;
 pub use heading::push_heading;
 pub use lines::{line_at, push_line, push_put};
 pub use names::{object_words, push_slot};
