@@ -21,10 +21,11 @@ rest_of_each words first zero all e =
 rest_of_each words first (suc more) all e =
     let before = more + first in
     let next : all ≡ suc before = omega (arith, e) in
-    let less = rest_of_each words first more before (search rules) in
-    (less.0 ++ words (suc before),
-     ap (for_each words) next ∙ ap (λ t. t ++ words (suc before)) less.1
-     ∙ append_assoc (for_each words first) less.0 (words (suc before)))
+    let less = rest_of_each words first more before (search rules) in (
+      less.0 ++ words (suc before),
+      ap (for_each words) next ∙ ap (λ t. t ++ words (suc before)) less.1
+          ∙ append_assoc (for_each words first) less.0 (words (suc before)),
+    )
 
 -- what broke off within that of the first numbers did so within that of all
 pub broke_each : (before now : SinkView) (words : ℕ → List ℕ) (first all : ℕ) (front : List ℕ) → first ≤ all
@@ -53,10 +54,10 @@ pub arrives : {A E : Type 0} → (before now : SinkView) (has text : List ℕ) (
     → MatchResult result (λ _. Grew before now text) (λ _. BrokeOff before now text)
 arrives before now has text (Ok done) none way = record {
   by_all =
-    let same : way.sent ≡ text =
-        sym (append-nil way.sent) ∙ ap (λ t. way.sent ++ t) (sym none) ∙ sym way.whole ∙ append-nil text in
-    subst (GrowsBy before.contents now.contents) same way.grew;
-  later = way.later
+      let same : way.sent ≡ text =
+      sym (append-nil way.sent) ∙ ap (λ t. way.sent ++ t) (sym none) ∙ sym way.whole ∙ append-nil text in
+      subst (GrowsBy before.contents now.contents) same way.grew;
+  later = way.later;
 }
 arrives before now has text (Err fault) none broke = subst (BrokeOff before now) (append-nil text) broke
 

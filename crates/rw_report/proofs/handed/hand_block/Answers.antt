@@ -11,9 +11,9 @@ returns g c = λ before front way.
     let w = c.write_block-at in
     let piece = drop w.result w.new.buffer in
     let all : take (672 - w.result) piece ≡ piece =
-        take_all (672 - w.result) piece (omega (arith, length-drop w.result w.new.buffer, w.array_long)) in
+    take_all (672 - w.result) piece (omega (arith, length-drop w.result w.new.buffer, w.array_long)) in
     subst (λ (t : List ℕ). MatchResult c.put.result (λ _. IsUnderWay before (g.K.Sink.seen c.put.new.out) c.put.new.self t)
-      (λ _. BrokeOff before (g.K.Sink.seen c.put.new.out) t))
+    (λ _. BrokeOff before (g.K.Sink.seen c.put.new.out) t))
     (ap (λ t. (front ++ for_each words c.args.first) ++ t) all
-      ∙ append_assoc front (for_each words c.args.first) piece ∙ ap (λ t. front ++ t) w.ensures.written)
+    ∙ append_assoc front (for_each words c.args.first) piece ∙ ap (λ t. front ++ t) w.ensures.written)
     (c.put.ensures before (front ++ for_each words c.args.first) way)

@@ -16,7 +16,7 @@ returns-in-Err g c = λ top tail made.
     let start : IsUnderWay out out c.args.prepared.now.gathered [] = subst (λ (g : List ℕ). IsUnderWay out out g []) (sym made.none) (begins out) in
     subst (BrokeOff out (g.K.Sink.seen c.put.new.out)) (together top names lines tail)
     (broke_before out _ ((top ++ names) ++ lines) tail (broke_before out _ (top ++ names) lines
-      (subst (BrokeOff out (g.K.Sink.seen c.put.new.out)) head (c.in-Err.ensures out [] start))))
+    (subst (BrokeOff out (g.K.Sink.seen c.put.new.out)) head (c.in-Err.ensures out [] start))))
 
 pub returns-in-Err-hand_rows : goal.returns-in-Err-hand_rows
 returns-in-Err-hand_rows g c = λ top tail made.
@@ -52,7 +52,7 @@ returns-in-Ok-put g c = λ top tail made.
     let first = subst (IsUnderWay out (g.K.Sink.seen c.put.new.out) c.put.new.self) head (c.in-Ok.ensures out [] start) in
     let last : c.as_bytes-2.result.now ≡ tail = c.as_bytes-2.ensures.value ∙ made.tail_is in
     let third = subst (IsUnderWay out (g.K.Sink.seen c.put-2.new.out) c.put-2.new.self) (ap (λ t. ((top ++ names) ++ lines) ++ t) last)
-        (c.in-Ok-put.ensures out ((top ++ names) ++ lines) (c.in-Ok-hand_rows.ensures out (top ++ names) first)) in
+    (c.in-Ok-put.ensures out ((top ++ names) ++ lines) (c.in-Ok-hand_rows.ensures out (top ++ names) first)) in
     subst (λ (t : List ℕ). MatchResult c.hand_over.result (λ _. Grew out (g.K.Sink.seen c.hand_over.new.out) t) (λ _. BrokeOff out (g.K.Sink.seen c.hand_over.new.out) t))
     (together top names lines tail)
     (arrives out _ c.hand_over.new.self whole c.hand_over.result c.hand_over.ensures.none (c.hand_over.ensures.hands out whole third))
