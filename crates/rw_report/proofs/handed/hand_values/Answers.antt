@@ -1,5 +1,5 @@
 use Rattle.std.proofs.Common.{◌≡◌, ◌∷◌, ◌++◌, ◌∙◌, [], List, ℕ, ap, codes, subst}
-use Rattle.rw_io.specs.Handed.{BrokeOff, IsUnderWay}
+use Rattle.rw_io.specs.Handed.{BrokeOff, IsOnItsWay}
 use Rattle.rw_series.specs.Series.{held}
 use Rattle.rw_report.specs.Pieces.{words_at}
 use Rattle.rw_report.specs.Section.{for_each, for_slots, value_words, values_in}
@@ -15,7 +15,7 @@ returns-in-Ok g c = λ before text way.
     ap (λ w. for_each w c.slot_count.result) all ∙ ap (for_each words) c.slot_count.ensures.count in
     on_after before _ _ text (for_slots c.args.basin.now words) (10 ∷ []) c.put.result
     (c.put.ensures before (text ++ for_slots c.args.basin.now words)
-    (subst (λ (t : List ℕ). IsUnderWay before (g.K.Sink.seen c.hand_cells.new.out) c.hand_cells.new.gathered (text ++ t)) same (c.in-Ok.ensures before text way)))
+    (subst (λ (t : List ℕ). IsOnItsWay before (g.K.Sink.seen c.hand_cells.new.out) c.hand_cells.new.gathered (text ++ t)) same (c.in-Ok.ensures before text way)))
 
 pub returns-in-Err : goal.returns-in-Err
 returns-in-Err g c = λ before text way.
