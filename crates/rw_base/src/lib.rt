@@ -4,6 +4,8 @@
 //! factor. No call takes memory.
 #![tactic(auto)]
 
+mod bit;
+mod digit;
 mod dimension;
 pub mod law;
 pub mod limits;
@@ -13,9 +15,11 @@ mod quantity;
 mod steps;
 mod unit;
 
+pub use bit::{clear_bit, has_bit, set_bit};
+pub use digit::{is_digit, read_digits};
 pub use dimension::Dim;
 pub use memory::NoMemory;
-pub use number::{Cell, ObjectNo, RuleNo, SlotNo, StepNo};
+pub use number::{Cell, ObjectNo, RuleNo, SlotNo, StepNo, greater, lesser};
 pub use quantity::{ArithFault, QUANTITY_MAX, Qty};
 pub use steps::{Blank, Ledger, Steps};
 pub use unit::unit_of;

@@ -8,9 +8,9 @@ ghost use Rattle.rw_dispatch.specs.Queue.{IsQueueOf, IsTaken, objects_of};
 ghost use Rattle.rw_dispatch.specs.Owners.{HasReached};
 ghost use Rattle.rw_dispatch.specs.Writes.{AreWrites};
 
-use crate::owners::{Reached, has_mark, is_but, is_data, lesser, reach_slots, reach_writes};
+use crate::owners::{Reached, has_mark, is_but, is_data, reach_slots, reach_writes};
 use crate::pick::Pick;
-use rw_base::{NoMemory, ObjectNo, SlotNo, StepNo};
+use rw_base::{NoMemory, ObjectNo, SlotNo, StepNo, lesser};
 use rw_model::Basin;
 use rw_run::Write;
 use std::alloc::Global;
