@@ -1,5 +1,3 @@
-ghost use Rattle.std.specs.Prelude.{◌≤◌, ℕ};
-
 /// Which object of the basin, counted from 1.
 #[derive(Clone, Copy, Debug, PartialEq, Eq, PartialOrd, Ord, Drop)]
 pub struct ObjectNo(pub u16);
@@ -23,23 +21,4 @@ pub struct Cell {
     pub slot: SlotNo,
     /// When it holds.
     pub step: StepNo,
-}
-
-/// The lesser of two numbers.
-#[inline(always)]
-pub fn lesser(one: u16, other: u16) -> u16
-    ensures one { result ≤ one }
-    ensures other { result ≤ other }
-    ensures least { (bound : ℕ) → bound ≤ one → bound ≤ other → bound ≤ result }
-{
-    if one < other { one } else { other }
-}
-
-/// The greater of two numbers.
-#[inline(always)]
-pub fn greater(one: u16, other: u16) -> u16
-    ensures one { one ≤ result }
-    ensures other { other ≤ result }
-{
-    if one < other { other } else { one }
 }

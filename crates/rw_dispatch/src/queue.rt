@@ -8,9 +8,9 @@ ghost use Rattle.rw_dispatch.specs.Queue.{IsQueueOf, IsTaken, objects_of};
 ghost use Rattle.rw_dispatch.specs.Owners.{HasReached};
 ghost use Rattle.rw_dispatch.specs.Writes.{AreWrites};
 
-use crate::owners::{Reached, has_mark, is_but, is_data, reach_slots, reach_writes};
+use crate::owners::{Reached, has_mark, is_but, is_data, lesser, reach_slots, reach_writes};
 use crate::pick::Pick;
-use rw_base::{NoMemory, ObjectNo, SlotNo, StepNo, lesser};
+use rw_base::{NoMemory, ObjectNo, SlotNo, StepNo};
 use rw_model::Basin;
 use rw_run::Write;
 use std::alloc::Global;
@@ -165,10 +165,11 @@ impl Queue {
             → self.new.waiting ≡ self.old.waiting ++ woken basin.now
             (option_map (λ object. object.0) but) self.old.waiting slots }
     {
-        let last = lesser(reached.last, basin.object_count());
+        let last = lesser(reached.last, u32::from(basin.object_count()));
         for place in lesser(reached.before, last)..last {
-            let woken = self.is_woken(basin, reached, but, place + 1);
-            self.append_if(woken, place + 1);
+            let object = object_in(place);
+            let woken = self.is_woken(basin, reached, but, object);
+            self.append_if(woken, object);
         }
     }
 
@@ -242,6 +243,14 @@ impl Queue {
     {
         self.waits[(object - 1) as usize]
     }
+}
+
+// The number of the object in a place, counted from 0.
+fn object_in(place: u32) -> u16
+    requires { place < 500 }
+    ensures { result ≡ place + 1 }
+{
+    place as u16 + 1
 }
 
 // Adds an object behind all others, for which there is room.
