@@ -21,7 +21,7 @@ def bands(told: Plan, slot: str, ax: Axes | None = None, colour: str = "C0") -> 
 
     Each value is drawn over its timestep, from its begin to its end.
     """
-    cells = statistics(told)[f"{slot}.percentile"]
+    cells = statistics(told)[f"{slot}.percentile"].sortby("percentile")
     ends = told.model.ends()
     time = cells["time"].values
     edges = np.append(time, ends[-1].to_datetime64())

@@ -16,6 +16,7 @@ from basin_files.sections import SLOT
 from .files import Model
 from .tables import EXACT, UNKNOWN, Whole
 
+MOST: int = np.iinfo(np.int64).max
 STEPS = re.compile(r"[0-9]+(?:-[0-9]+)?")
 Batches = dict[str, "list[Row]"]  # by the name of a batch or trace
 
@@ -77,12 +78,23 @@ def whole(value: Any, where: str) -> int:
     return number
 
 
+def whole_of_64(value: Any, where: str) -> int:
+    """The same, of at most 64 bits."""
+    number = whole(value, where)
+    if not -MOST <= number <= MOST:
+        raise ValueError(f"{where}: {number} is beyond 64 bits")
+    return number
+
+
 def whole_series(column: pd.Series, where: str, steps: npt.NDArray[np.int64]) -> Whole:
     """A column's values as whole numbers, `UNKNOWN` where there is none."""
     known = column.notna().to_numpy()
     found = np.full(len(column), UNKNOWN)
-    if pd.api.types.is_signed_integer_dtype(column.dtype):
-        found[known] = column[known].to_numpy(np.int64)
+    if pd.api.types.is_integer_dtype(column.dtype):
+        held = column[known]
+        for place in np.flatnonzero(held > MOST)[:1]:
+            whole_of_64(held.iloc[place], f"{where} at timestep {steps[known][place]}")
+        found[known] = held.to_numpy(np.int64)
     elif pd.api.types.is_float_dtype(column.dtype):
         floats = column.to_numpy(np.float64, na_value=np.nan)
         wrong = known & ((floats != np.floor(floats)) | (np.abs(floats) > EXACT))
@@ -91,11 +103,7 @@ def whole_series(column: pd.Series, where: str, steps: npt.NDArray[np.int64]) ->
         found[known] = floats[known].astype(np.int64)
     else:
         for place in np.flatnonzero(known):
-            at = f"{where} at timestep {steps[place]}"
-            number = whole(column.iloc[place], at)
-            if not UNKNOWN <= number < -UNKNOWN:
-                raise ValueError(f"{at}: {number} is beyond 64 bits")
-            found[place] = number
+            found[place] = whole_of_64(column.iloc[place], f"{where} at timestep {steps[place]}")
     return found
 
 

@@ -123,6 +123,9 @@ def test_a_fault_has_fields_and_the_table_up_to_it() -> None:
     assert (fault.kind, fault.rule, fault.rule_name, fault.step) == ("division by zero", 1, "halves\x1b", 2)
     assert fault.time == pd.Timestamp("2020-01-02") and str(fault).isprintable()
     assert fault.answer is not None and len(fault.answer.table) == 1
+    at_once = policy('RULE "none": Dam.Outflow[t] := Dam.Inflow[t] / (1 - DAY(t)); ENDRULE\n')
+    empty = basin.run(model(), at_once, inputs(), flags=True, errors="keep")
+    assert empty.flags is not None and empty.flags.shape == empty.table.shape == (0, len(model().slots))
     kept = basin.run(model(), rules, inputs(), errors="keep").fault
     assert kept is not None and kept.words == "division by zero rule 1 step 2"
 

@@ -17,7 +17,7 @@ def test_bands_exceedance_and_a_trace(tmp_path: Path) -> None:
     inflow = inflows(20)
     told = planned(tmp_path / "a", inflow)
     ensemble.execute(told, workers=0)
-    ensemble.merge(told, [10, 25, 50, 75, 90])
+    ensemble.merge(told, [50, 10, 90, 25, 75])
     figure, (left, middle, right) = plt.subplots(1, 3)
     plot.bands(told, "Dam.Storage", left)
     plot.exceedance(ensemble.values(told)["Dam.Storage"], middle)

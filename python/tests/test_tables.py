@@ -143,7 +143,13 @@ def test_neighbours_with_one_value_are_one_row() -> None:
 
 @pytest.mark.parametrize(
     "column",
-    [[1, 2, 2], [1.0, 2.0, 2.0], pd.array([1, 2, 2], dtype="Int64"), pd.Series([1, 2, 2], dtype=object)],
+    [
+        [1, 2, 2],
+        [1.0, 2.0, 2.0],
+        np.array([1, 2, 2], np.uint8),
+        pd.array([1, 2, 2], dtype="Int64"),
+        pd.Series([1, 2, 2], dtype=object),
+    ],
 )
 def test_columns_of_any_sort(column: object) -> None:
     frame = pd.DataFrame({"Dam.Inflow": column})
