@@ -98,7 +98,7 @@ def read_behind(held: bytearray, end: int, stream: Readable) -> int:
 
 
 def end_of_chapter(held: bytearray, begin: int, seen: int, end: int, last: bytes) -> int:
-    """Where the chapter ends that begins there, or 0, of which so much was seen before. No line has a # but in front."""
+    """Where the chapter ends that begins there, or 0; so far it was seen before. No line has a # but in front."""
     stop = held.find(b"#", max(begin + 1, seen), end)
     if stop > 0:
         return stop
@@ -144,7 +144,7 @@ def numbers(rows: Text, picks: Sequence[int]) -> Whole:
     begins = np.append(0, ends[:-1] + 1)
     longest = int((ends - begins).max()) + 1
     first = np.flatnonzero(rows[: ends[0] + 1] < BEHIND_COMMA)[: wanted.max() + 1]
-    width = int(first[-1]) * 3 // 2
+    width = int(first[-1]) * 3 // 2 + AT_ONCE
     while True:
         width = min(width, longest)
         cells = cells_of(rows, begins, ends, width, wanted)
@@ -161,7 +161,8 @@ def cells_of(
     """A text, and where in it the wanted cells begin and end, by column and row: of each row the front, of so many
     bytes. `None` where one is too short."""
     starts = np.minimum(begins, len(rows) - width)
-    fronts = np.lib.stride_tricks.sliding_window_view(rows, width)[starts]
+    windows: Text = np.ndarray((len(rows) - width + 1, width), np.uint8, rows, strides=(1, 1))  # one from each byte on
+    fronts = windows[starts]
     moved = np.arange(0, fronts.size, width) - starts  # from a place in the rows to that in the fronts
     commas = np.flatnonzero(fronts < BEHIND_COMMA)
     places = np.searchsorted(commas, begins + moved) + wanted[:, None]
@@ -178,7 +179,7 @@ def whole_numbers(text: Text, begins: Places, ends: Places) -> Whole:
     """The numbers that stand between places of a text, `UNKNOWN` where nothing does. None is near its begin."""
     minus = text[begins] == MINUS
     size = ends - begins - minus
-    words: Words = np.ndarray(len(text) - AT_ONCE + 1, "<u8", text, strides=(1,))  # one from each byte on
+    words: Words = np.ndarray(len(text) - AT_ONCE + 1, "<u8", text, strides=(1,))  # likewise
     found = last_digits(words[ends - AT_ONCE], size)
     for behind in range(AT_ONCE, int(size.max(initial=0)), AT_ONCE):
         more = size > behind

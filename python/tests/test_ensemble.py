@@ -69,7 +69,8 @@ def written(*traces: tuple[int, str]) -> str:
     table = basin.run(model(), policy(), inputs(), numbers="Int64").table
     rows = table.astype(str).agg(",".join, axis=1)
     text = "".join(f"{step},2020-01-01T00:00,{row}\n" for step, row in enumerate(rows, 1))
-    return "".join(f"# trace {number} {ending}\n{header}{text if ending == 'settled' else ''}" for number, ending in traces)
+    tables = [(f"# trace {number} {ending}\n{header}", text if ending == "settled" else "") for number, ending in traces]
+    return "".join(f"{begin}{table}" for begin, table in tables)
 
 
 def telling(folder: Path, text: str, ending: str) -> str:

@@ -114,11 +114,13 @@ def test_numbers_of_each_length_in_rows_of_unlike_lengths() -> None:
 
 
 def test_rows_that_are_cut_are_not_read() -> None:
-    for last in (b"2,2020-01-03T00:00,4\n", b"2,\n"):
+    for last in (b"2,2020-01-03T00:00,4\n", b"2,\n", b"\n"):
         with pytest.raises(ValueError, match="fewer columns"):
             numbers(rows_of(b"1,2020-01-02T00:00,5,6\n", last, b"3,2020-01-04T00:00,5,6\n"), [1, 0])
         with pytest.raises(ValueError, match="fewer columns"):
             numbers(rows_of(b"1,2020-01-02T00:00,5,6\n", last), [1, 0])
+        with pytest.raises(ValueError, match="fewer columns"):
+            numbers(rows_of(last), [1, 0])
     with pytest.raises(ValueError, match="cut"):
         numbers(rows_of(b"1,2020-01-02T00:00,5,6\n", b"2,2020-01-03T00:00,5,6"), [1, 0])
 
