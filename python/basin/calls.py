@@ -5,9 +5,8 @@ from __future__ import annotations
 import os
 import tempfile
 from pathlib import Path
-from typing import Any, Iterable, Literal, Union, overload
+from typing import Any, Literal, Union, overload
 
-import numpy as np
 import pandas as pd
 
 from basin_files.firing import blocks_of
@@ -19,13 +18,13 @@ from basin_rules.policy import read_policy
 
 from . import process
 from .answers import Answer, Book, Cell, Effects, Numbers, Traces
-from .answers import answer_of, asked_of, book_of, cell_of, rule_name
+from .answers import answer_of, asked_of, book_of, cell_of, rule_name, whole_array
 from .errors import Error, Refused
 from .files import Model, Policy
 from .inputs import Inputs, inputs_of
 from .process import PathLike
 from .rows import batches_of, batches_text, step_number
-from .tables import chapters, section_of, sections
+from .tables import chapters, numbers, section_of, sections, table_in
 
 Errors = Literal["raise", "keep"]
 ModelGiven = Union[Model, PathLike]
@@ -287,26 +286,17 @@ def mrm(
                     name = names[section.number - 1] if names else str(section.number)
                     found.answers.append(answer_of(files.model, files.policy, section, numbers, name))
                 else:
-                    found.summary = _summary(files.model, chapter)
+                    found.summary = _summary(files.model, found.answers[0].table.columns, chapter)
     return found
 
 
-def _summary(model: Model, chapter: bytearray) -> pd.DataFrame:
-    """The summary behind the sections of `mrm`."""
-    rows = [line.split(",") for line in chapter.decode().splitlines()[2:]]
-    index = model.index()
-    columns = ("min", "median", "max")
-    frame = pd.DataFrame(
-        {
-            "slot": [row[0] for row in rows],
-            "time": index[np.array([int(row[1]) for row in rows], dtype=np.int64) - 1],
-            "known": [int(row[2]) for row in rows],
-            **{name: _whole([row[3 + k] for row in rows]) for k, name in enumerate(columns)},
-        }
-    )
-    return frame.set_index(["slot", "time"])
-
-
-def _whole(words: list[str]) -> pd.arrays.IntegerArray:
-    """Whole numbers, of which each may be missing."""
-    return pd.array([int(word) if word else pd.NA for word in words], dtype="Int64")
+def _summary(model: Model, slots: pd.Index, chapter: bytearray) -> pd.DataFrame:
+    """The summary behind the sections of `mrm`: slot by slot as a table has them, and of each its timesteps."""
+    values = numbers(table_in(chapter)[1], range(4))
+    index = pd.MultiIndex.from_product([slots, model.index()], names=["slot", "time"])
+    if len(values) != len(index):
+        raise Error("the program's summary isn't that of all slots and timesteps")
+    frame = pd.DataFrame({"known": values[:, 0]}, index=index)
+    for place, name in enumerate(("min", "median", "max"), 1):
+        frame[name] = whole_array(values[:, place])
+    return frame

@@ -65,9 +65,15 @@ class Section:
         else:
             if heading.startswith(b"# reran"):
                 self.reran = [int(word) for word in heading.split()[2:] if word != b"none"]
-            end = chapter.find(b"\n", begin)
-            if end >= 0:
-                self.header, self.rows = bytes(chapter[begin:end]), np.frombuffer(chapter, np.uint8)[end + 1 :]
+            if begin < len(chapter):
+                self.header, self.rows = table_in(chapter)
+
+
+def table_in(chapter: bytearray) -> tuple[bytes, Text]:
+    """The header and the rows of a chapter's table."""
+    begin = chapter.index(b"\n") + 1
+    end = chapter.index(b"\n", begin)
+    return bytes(chapter[begin:end]), np.frombuffer(chapter, np.uint8)[end + 1 :]
 
 
 def chapters(stream: Readable, last: bytes = b"") -> Iterator[bytearray]:
@@ -176,14 +182,15 @@ def cells_of(
 
 
 def whole_numbers(text: Text, begins: Places, ends: Places) -> Whole:
-    """The numbers that stand between places of a text, `UNKNOWN` where nothing does. None is near its begin."""
+    """The numbers that stand between places of a text, `UNKNOWN` where nothing does."""
     minus = text[begins] == MINUS
     size = ends - begins - minus
-    words: Words = np.ndarray(len(text) - AT_ONCE + 1, "<u8", text, strides=(1,))  # likewise
-    found = last_digits(words[ends - AT_ONCE], size)
+    padded = np.concatenate([np.zeros(AT_ONCE, np.uint8), text])
+    words: Words = np.ndarray(len(text) + 1, "<u8", padded, strides=(1,))  # the bytes before each place
+    found = last_digits(words[ends], size)
     for behind in range(AT_ONCE, int(size.max(initial=0)), AT_ONCE):
         more = size > behind
-        found[more] += last_digits(words[ends[more] - AT_ONCE - behind], size[more] - behind) * 10**behind
+        found[more] += last_digits(words[ends[more] - behind], size[more] - behind) * 10**behind
     np.negative(found, where=minus, out=found)
     found[size == 0] = UNKNOWN
     return found

@@ -246,6 +246,10 @@ def test_mrm_with_a_fault() -> None:
     assert [answer.fault is None for answer in many.answers[:3]] == [True] * 3
     assert fault is not None and (fault.kind, fault.value) == ("out of range", -80)
     assert list(many.summary.loc["Dam.Storage"].iloc[0]) == [3, 1010, 1020, 1030]
+    assert list(many.summary.columns) == ["known", "min", "median", "max"]
+    assert list(many.summary.index) == [(slot, time) for slot in one_day.slots for time in one_day.index()]
+    unknown = basin.mrm(one_day, policy(""), inputs(NOTHING), {"dry": frames["30"]}).summary
+    assert unknown.loc["Dam.Storage", "known"].tolist() == [0] and unknown.loc["Dam.Storage"].isna().sum().sum() == 3
     with pytest.raises(basin.Refused) as told:
         basin.mrm(one_day, policy(""), given, pd.DataFrame([("a", "Dam.Inflow", 2, 1)]))
     assert (told.value.file, told.value.row, told.value.reason) == ("traces", 2, "step outside")

@@ -93,6 +93,7 @@ def test_numbers_of_all_and_of_picked_columns() -> None:
     whole = numbers(rows, range(3))
     assert whole.tolist() == [[-5, UNKNOWN, 10**17], [UNKNOWN, 0, -(10**17)]]
     assert numbers(rows, [2, 0]).tolist() == [[10**17, -5], [-(10**17), UNKNOWN]]
+    assert numbers(rows_of(b"a,1,7\n", b"a,2,-123456789012345678\n"), [0]).tolist() == [[7], [-123456789012345678]]
     assert numbers(rows_of(), range(3)).shape == (0, 3) and numbers(rows, []).shape == (2, 0)
 
 
