@@ -5,9 +5,9 @@ ghost use Rattle.rw_model.specs.Kept.{numbers_of};
 ghost use Rattle.rw_model.specs.Turn.{is_data};
 ghost use Rattle.rw_run.specs.Waiting.{is_at, is_but, is_owner, slots_at};
 ghost use Rattle.rw_dispatch.specs.Writes.{AreWrites, CanWrite};
-ghost use Rattle.rw_dispatch.specs.Owners.{HasReached, has_bit, has_object_mark};
+ghost use Rattle.rw_dispatch.specs.Owners.{HasReached, has_object_mark};
 
-use rw_base::{ObjectNo, SlotNo, StepNo};
+use rw_base::{ObjectNo, SlotNo, StepNo, has_bit, set_bit};
 use rw_model::Basin;
 use rw_run::Write;
 
@@ -47,19 +47,7 @@ pub(crate) fn has_mark(reached: &Reached, object: u16) -> bool
     requires last { object ≤ 500 }
     ensures { result ≡ has_object_mark reached.now.marks object }
 {
-    let place = object - 1;
-    (reached.marks[usize::from(place / 64)] >> (place % 64)) % 2 == 1
-}
-
-// One bit more is set.
-fn set_bit(marks: &mut [u64; 8], number: u16)
-    requires { number < 500 }
-    ensures many { length marks.new ≡ length marks.old }
-    ensures added { (other : ℕ) → has_bit marks.new other
-        ≡ (other == number || has_bit marks.old other) }
-{
-    let place = usize::from(number / 64);
-    marks[place] = marks[place] | 1 << (number % 64);
+    has_bit(&reached.marks, object - 1)
 }
 
 /// The lesser of two numbers.

@@ -5,7 +5,7 @@ use Rattle.rw_io.specs.Known.{GrowsBy, PrefixGrew}
 use Rattle.rw_io.specs.Outside.{SinkView}
 
 -- of a text all but what is gathered was handed over since a sink was seen so
-pub record IsUnderWay (before now : SinkView) (gathered text : List ℕ) : Type 0 where
+pub record IsOnItsWay (before now : SinkView) (gathered text : List ℕ) : Type 0 where
   pub sent : List ℕ
   pub whole : text ≡ sent ++ gathered
   pub grew : GrowsBy before.contents now.contents sent
@@ -19,5 +19,5 @@ pub record BrokeOff (before now : SinkView) (text : List ℕ) : Type 0 where
 -- a text that is under way before a call is so afterwards, with these words behind it, or it broke off
 abbrev pub HandsOn : {A E : Type 0} → (old new : SinkView) → (had has words : List ℕ) → Result A E → Type 0
 HandsOn old new had has words result =
-    (before : SinkView) (text : List ℕ) → IsUnderWay before old had text
-    → MatchResult result (λ _. IsUnderWay before new has (text ++ words)) (λ _. BrokeOff before new (text ++ words))
+    (before : SinkView) (text : List ℕ) → IsOnItsWay before old had text
+    → MatchResult result (λ _. IsOnItsWay before new has (text ++ words)) (λ _. BrokeOff before new (text ++ words))

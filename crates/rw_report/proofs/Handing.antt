@@ -3,7 +3,7 @@ use Rattle.rw_base.proofs.Common.{◌≡◌, ◌≤◌, ◌+◌, ◌-◌, ◌∙
 use Rattle.rw_base.proofs.Common.{Result, Ok, Err, MatchResult, OnOk, codes, option_map}
 use Rattle.rw_io.specs.Outside.{SinkView}
 use Rattle.rw_io.specs.Known.{GrowsBy}
-use Rattle.rw_io.specs.Handed.{BrokeOff, IsUnderWay}
+use Rattle.rw_io.specs.Handed.{BrokeOff, IsOnItsWay}
 use Rattle.rw_io.proofs.Handing.{broke_before}
 use Rattle.rw_model.specs.declared.content.Content.{Content}
 use Rattle.rw_run.specs.Dispatch.{cell_at}
@@ -21,10 +21,11 @@ rest_of_each words first zero all e =
 rest_of_each words first (suc more) all e =
     let before = more + first in
     let next : all ≡ suc before = omega (arith, e) in
-    let less = rest_of_each words first more before (search rules) in
-    (less.0 ++ words (suc before),
-     ap (for_each words) next ∙ ap (λ t. t ++ words (suc before)) less.1
-     ∙ append_assoc (for_each words first) less.0 (words (suc before)))
+    let less = rest_of_each words first more before (search rules) in (
+      less.0 ++ words (suc before),
+      ap (for_each words) next ∙ ap (λ t. t ++ words (suc before)) less.1
+          ∙ append_assoc (for_each words first) less.0 (words (suc before)),
+    )
 
 -- what broke off within that of the first numbers did so within that of all
 pub broke_each : (before now : SinkView) (words : ℕ → List ℕ) (first all : ℕ) (front : List ℕ) → first ≤ all
@@ -42,21 +43,21 @@ broke_within before now text first second broke =
 
 -- the next part behind one that was handed on
 pub on_after : {A E : Type 0} → (before new : SinkView) (has text first second : List ℕ) (result : Result A E)
-    → MatchResult result (λ _. IsUnderWay before new has ((text ++ first) ++ second)) (λ _. BrokeOff before new ((text ++ first) ++ second))
-    → MatchResult result (λ _. IsUnderWay before new has (text ++ (first ++ second))) (λ _. BrokeOff before new (text ++ (first ++ second)))
+    → MatchResult result (λ _. IsOnItsWay before new has ((text ++ first) ++ second)) (λ _. BrokeOff before new ((text ++ first) ++ second))
+    → MatchResult result (λ _. IsOnItsWay before new has (text ++ (first ++ second))) (λ _. BrokeOff before new (text ++ (first ++ second)))
 on_after before new has text first second result there =
-    subst (λ t. MatchResult result (λ _. IsUnderWay before new has t) (λ _. BrokeOff before new t)) (append_assoc text first second) there
+    subst (λ t. MatchResult result (λ _. IsOnItsWay before new has t) (λ _. BrokeOff before new t)) (append_assoc text first second) there
 
 -- a text of which nothing is gathered any more has arrived
 pub arrives : {A E : Type 0} → (before now : SinkView) (has text : List ℕ) (result : Result A E) → OnOk result (has ≡ [])
-    → MatchResult result (λ _. IsUnderWay before now has (text ++ [])) (λ _. BrokeOff before now (text ++ []))
+    → MatchResult result (λ _. IsOnItsWay before now has (text ++ [])) (λ _. BrokeOff before now (text ++ []))
     → MatchResult result (λ _. Grew before now text) (λ _. BrokeOff before now text)
 arrives before now has text (Ok done) none way = record {
   by_all =
-    let same : way.sent ≡ text =
-        sym (append-nil way.sent) ∙ ap (λ t. way.sent ++ t) (sym none) ∙ sym way.whole ∙ append-nil text in
-    subst (GrowsBy before.contents now.contents) same way.grew;
-  later = way.later
+      let same : way.sent ≡ text =
+      sym (append-nil way.sent) ∙ ap (λ t. way.sent ++ t) (sym none) ∙ sym way.whole ∙ append-nil text in
+      subst (GrowsBy before.contents now.contents) same way.grew;
+  later = way.later;
 }
 arrives before now has text (Err fault) none broke = subst (BrokeOff before now) (append-nil text) broke
 

@@ -16,10 +16,10 @@ pub record Grew (before now : SinkView) (text : List ℕ) : Type 0 where
   pub later : before.faults ≤ now.faults
 
 -- what came of a text that was to be written: all of it, a front of it, or nothing
-abbrev pub Writes : {A : Type 0} → (before now : SinkView) → (text : List ℕ) → Result A Unwritten → Type 0
-Writes before now text (Ok _) = Grew before now text
-Writes before now text (Err CannotWrite) = BrokeOff before now text
-Writes before now text (Err NoMemory) = now ≡ before
+abbrev pub WritesText : {A : Type 0} → (before now : SinkView) → (text : List ℕ) → Result A Unwritten → Type 0
+WritesText before now text (Ok _) = Grew before now text
+WritesText before now text (Err CannotWrite) = BrokeOff before now text
+WritesText before now text (Err NoMemory) = now ≡ before
 
 -- within the crate: what of a section wants memory is made
 pub record IsPrepared (basin : Draft) (closed : ℕ) (top tail : List ℕ) (prepared : Prepared) : Type 0 where

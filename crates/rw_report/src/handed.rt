@@ -1,10 +1,10 @@
 // A section that is handed over to a sink in pieces, so that no text holds its table. What wants memory is made before the first
 // piece: where there is none, nothing was written.
 ghost use Rattle.std.specs.Prelude.{◌≡◌, ◌≤◌, ◌+◌, ◌++◌, ℕ, List, [], IfOk, codes, drop, length, MatchResult, option_map, string_bytes};
-ghost use Rattle.rw_io.specs.Handed.{BrokeOff, HandsOn, IsUnderWay};
+ghost use Rattle.rw_io.specs.Handed.{BrokeOff, HandsOn, IsOnItsWay};
 ghost use Rattle.rw_io.specs.Outside.{SinkView};
 ghost use Rattle.rw_series.specs.Series.{held};
-ghost use Rattle.rw_report.specs.Handed.{Grew, IsPrepared, Writes};
+ghost use Rattle.rw_report.specs.Handed.{Grew, IsPrepared, WritesText};
 ghost use Rattle.rw_report.specs.Outcome.{outcome_of};
 ghost use Rattle.rw_report.specs.Pieces.{AreTexts, words_at};
 ghost use Rattle.rw_report.specs.Section.{columns, for_each, for_slots, row, row_front, rows, value_words, values_in};
@@ -78,10 +78,10 @@ fn hand_block<K: Sink>(
     requires order { first ≤ last }
     requires few { last ≤ first + 32 }
     ensures { (before : SinkView) (front : List ℕ)
-        → IsUnderWay before (K.seen out.old) gathered.old
+        → IsOnItsWay before (K.seen out.old) gathered.old
         (front ++ for_each (words_at (held cells.now)) first)
         → MatchResult result
-        (λ _. IsUnderWay before (K.seen out.new) gathered.new
+        (λ _. IsOnItsWay before (K.seen out.new) gathered.new
         (front ++ for_each (words_at (held cells.now)) last))
         (λ _. BrokeOff before (K.seen out.new)
         (front ++ for_each (words_at (held cells.now)) last)) }
@@ -235,7 +235,7 @@ fn hand_section<K: Sink>(
     }
 }
 
-/// Writes the text of `section` to a sink, in pieces of up to 65,536 bytes and what is told besides the table in one of its
+/// WritesText the text of `section` to a sink, in pieces of up to 65,536 bytes and what is told besides the table in one of its
 /// own. What wants memory is made before the first piece.
 pub fn write_section<K: Sink>(
     alloc: Global,
@@ -245,7 +245,7 @@ pub fn write_section<K: Sink>(
     out: &mut K,
 ) -> Result<(), Unwritten>
     requires closed { run.now.closed ≤ basin.now.control.stamps.count }
-    ensures { Writes (K.seen out.old) (K.seen out.new)
+    ensures { WritesText (K.seen out.old) (K.seen out.new)
         (whole_of basin.now telling.now.batch (outcome_of run.now)
         (option_map (λ steps. steps.now) telling.now.reran) telling.now.flags telling.now.trace)
         result }

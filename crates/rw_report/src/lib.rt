@@ -25,7 +25,7 @@ mod value;
 mod whole;
 
 pub use cell::why;
-pub use flags::{push_content, push_content_by};
+pub use flags::push_content_by;
 pub use handed::{Unwritten, write_section};
 pub use heading::push_heading;
 pub use lines::{line_at, push_line, push_put};

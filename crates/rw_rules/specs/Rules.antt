@@ -22,8 +22,8 @@ pub record Rules : Type 0 where
   pub written : List Asked
 
 -- those of an agenda, and of the writes of the last firing
-abbrev pub rules_in : Agenda → Writes → Rules
-rules_in agenda writes = record { agenda = agenda; asked = writes.asked; written = writes.written }
+abbrev pub rules_kept : Agenda → Writes → Rules
+rules_kept agenda writes = record { agenda = agenda; asked = writes.asked; written = writes.written }
 
 -- made for the rules of a policy for a basin, with room for what each may look at
 pub record IsRulesOf (basin : Draft) (policy : Accepted) (rules : Rules) : Type 0 where

@@ -12,7 +12,7 @@ ghost use Rattle.rpl_code.specs.declared.block.BlockHead.TheVariants.{Rule as Ru
 ghost use Rattle.rpl_verify.specs.Fits.{count_alike};
 ghost use Rattle.rpl_verify.specs.Verified.{Accepted, verified};
 ghost use Rattle.rw_rules.specs.Firing.{IsRuleTurn};
-ghost use Rattle.rw_rules.specs.Rules.{FiredOn, IsRulesOf, WrittenOn, ShowsLooks, Told, policy_in, rules_in};
+ghost use Rattle.rw_rules.specs.Rules.{FiredOn, IsRulesOf, WrittenOn, ShowsLooks, Told, policy_in, rules_kept};
 
 use crate::RuleFired;
 use crate::firing::fire;
@@ -49,7 +49,7 @@ impl Model for Rules {
     ghost Value = { specs.Rules };
 
     ghost view = { λ rules.
-        specs.rules_in rules.agenda rules.writes };
+        specs.rules_kept rules.agenda rules.writes };
 
     ghost invariant = { λ rules. 1 ≤ length rules.agenda.rules → IsSome rules.machine };
 }
@@ -79,13 +79,13 @@ fn fire_by(
     step: StepNo,
 ) -> RuleFired
     requires turn { IsRuleTurn basin.now policy.now rule.0 step.0 }
-    requires made { IsRulesOf basin.now policy.now (rules_in agenda.old writes.old) }
-    ensures made { IsRulesOf basin.now policy.now (rules_in agenda.new writes.new) }
+    requires made { IsRulesOf basin.now policy.now (rules_kept agenda.old writes.old) }
+    ensures made { IsRulesOf basin.now policy.now (rules_kept agenda.new writes.new) }
     ensures told { Told basin.now policy.now (held series.now) rule.0 step.0 result
-        (rules_in agenda.new writes.new) }
+        (rules_kept agenda.new writes.new) }
     ensures can { AreWrites basin.now writes.new.written }
-    ensures keeps { FiredOn policy.now (held series.now) rule.0 (rules_in agenda.old writes.old)
-        (rules_in agenda.new writes.new) }
+    ensures keeps { FiredOn policy.now (held series.now) rule.0 (rules_kept agenda.old writes.old)
+        (rules_kept agenda.new writes.new) }
 {
     index_stays();
     let fired = fire(machine, writes, policy, predefs, basin, series, rule, step);

@@ -4,9 +4,11 @@ use Rattle.rw_base.proofs.Common.{true, false, List, [], Some, None, ℕ, ◌+�
 use Rattle.rw_base.proofs.Common.{if◌then◌else◌}
 use Rattle.std.proofs.lemmas.Fmt.{decimal_nonempty, length-decimal-le}
 use Rattle.rw_base.specs.Byte.{is_digit}
-use Rattle.rw_inputs.specs.Number.{byte_position, number_after, is_number_text, read_number, read_signed}
+use Rattle.rw_base.specs.Digit.{are_digits, number_after}
+use Rattle.rw_base.proofs.Digits.{digit_bounds}
+use Rattle.rw_inputs.specs.Number.{byte_position, read_number, read_signed}
 use Rattle.rw_inputs.specs.Row.{span_in}
-use Rattle.rw_inputs.proofs.Digits.{digit_bounds, one_number}
+use Rattle.rw_inputs.proofs.Digits.{one_number}
 
 -- digits that spell a number
 pub record Spells (number : ℕ) (text : List ℕ) : Type 0 where
@@ -47,7 +49,7 @@ read_back n small =
     let least : nat_le 1 (length (decimal n)) ≡ true = grind (arith, nat_tests, some) in
     let most : nat_le (length (decimal n)) 18 ≡ true = grind (arith, nat_tests, few) in
     let text = spelt n small in
-    let is : is_number_text (decimal n) ≡ true = rw (least, most, text.digits) refl in
+    let is : are_digits 18 (decimal n) ≡ true = rw (least, most, text.digits) refl in
     ap (λ t. if t then Some (number_after 0 (decimal n)) else None) is ∙ ap Some text.value
 
 signed : (text : List ℕ) (n : ℕ) → list_all is_digit text ≡ true → read_number text ≡ Some n → read_signed text ≡ Some (pos n)

@@ -7,7 +7,7 @@ use Rattle.csv.specs.Reading.{default_config, records_from, records_next, strip_
 use Rattle.csv.specs.declared.parser.State.TheVariants as st
 use Rattle.rw_base.specs.Byte.{is_digit}
 use Rattle.rw_inputs.specs.Records.{Fields, records_of}
-use Rattle.rw_inputs.proofs.Digits.{digit_bounds}
+use Rattle.rw_base.proofs.Digits.{digit_bounds}
 use Rattle.rw_sample.specs.Texts.{inflow_rows, inflow_words, sample_inputs, seeded_inflow, seeded_number}
 use Rattle.rw_top_laws.proofs.Decimals.{spelt}
 

@@ -1,5 +1,4 @@
 pub mod Simple
-pub mod Digits
 pub mod Paths
 pub mod Plain
 pub mod Sample

@@ -2,7 +2,7 @@ use Rattle.rw_base.proofs.Common.{Some, ap, false, refl, rules, subst, sym, ◌�
 use Rattle.rw_series.specs.Series.{held}
 use Rattle.rw_run.specs.Next.{is_changed}
 use Rattle.rpl_machine.specs.Fired.{look_cells, fire_seen}
-use Rattle.rw_rules.specs.Rules.{rules_in}
+use Rattle.rw_rules.specs.Rules.{rules_kept}
 use Rattle.rw_rules.proofs.Kept.{just_seen, shows_more}
 use Rattle.rw_rules.proofs.Made.{looked_after}
 use Rattle.rw_rules.proofs.rules.fire_by.Goals as goal
@@ -30,7 +30,7 @@ returns-clause-keeps g c = record {
       (just_seen (held c.args.series.now) (look_cells c.fire-fired.result.looked.now)))
       c.fired.ensures.rules c.fired.ensures.marked;
   shows =
-      λ log firing same looked shows. shows_more c.args.policy.now (rules_in c.args.agenda.now c.args.writes.now)
-      (rules_in c.fired.new.self c.fire-fired.new.writes) c.args.rule.0
+      λ log firing same looked shows. shows_more c.args.policy.now (rules_kept c.args.agenda.now c.args.writes.now)
+      (rules_kept c.fired.new.self c.fire-fired.new.writes) c.args.rule.0
       c.fire-fired.result.looked.now log firing c.requires.turn.first (search rules) same looked shows;
 }

@@ -1,15 +1,18 @@
 -- The slot that an object has in a place is the object's, and is in no other place.
-use Rattle.rw_laws.proofs.Common.{Bool, List, Object, Placed, Some, [], all_slots, ap, arith, false, first_from, if◌then◌else◌, is_in_place}
-use Rattle.rw_laws.proofs.Common.{nat_tests, numbered-known, option_map, owner_of, refl, slice_get, slot_at, slot_in_place, suc, sym, true, unwrap_or}
-use Rattle.rw_laws.proofs.Common.{ℕ, ◌&&◌, ◌+◌, ◌-◌, ◌==◌, ◌∙◌, ◌∷◌, ◌≡◌, ◌≤◌}
+use Rattle.rw_base.proofs.Common.{Bool, List, Some, [], ap, arith, false, if◌then◌else◌, nat_tests, option_map, refl, slice_get, suc, sym, true}
+use Rattle.rw_base.proofs.Common.{unwrap_or, ℕ, ◌&&◌, ◌+◌, ◌-◌, ◌==◌, ◌∙◌, ◌∷◌, ◌≡◌, ◌≤◌}
+use Rattle.rw_model.specs.Objects.{Object, Placed, all_slots, first_from, is_in_place, slot_at, slot_in_place}
+use Rattle.rw_model.specs.Links.{owner_of}
+use Rattle.rw_model.proofs.Numbered.{numbered-known}
 
-record IsFound (n k : ℕ) (test : Placed → Bool) (slots : List Placed) : Type 0 where
-  placed : Placed
-  after : n ≤ k
-  found : slice_get slots (k - n) ≡ Some placed
-  passes : test placed ≡ true
+-- the first that passes, from the number of the first on
+pub record IsFound (n k : ℕ) (test : Placed → Bool) (slots : List Placed) : Type 0 where
+  pub placed : Placed
+  pub after : n ≤ k
+  pub found : slice_get slots (k - n) ≡ Some placed
+  pub passes : test placed ≡ true
 
-found_at : (n k : ℕ) (test : Placed → Bool) (slots : List Placed) → first_from n test slots ≡ Some k → IsFound n k test slots
+pub found_at : (n k : ℕ) (test : Placed → Bool) (slots : List Placed) → first_from n test slots ≡ Some k → IsFound n k test slots
 found_at n k test [] found = absurd (cc)
 found_at n k test (first ∷ rest) found = by (test first) refl found (found_at (n + 1) k test rest)
   where
@@ -27,6 +30,7 @@ found_at n k test (first ∷ rest) found = by (test first) refl found (found_at 
 both_same : (a b c d : ℕ) → (a == b && c == d) ≡ true → (a ≡ b) × (c ≡ d)
 both_same a b c d same = (grind (arith, nat_tests), grind (arith, nat_tests))
 
+-- the slot of this number is the object's, in this place
 pub record IsPlaced (objects : List Object) (owner place number : ℕ) : Type 0 where
   pub placed : Placed
   pub at : slot_at objects number ≡ Some placed
