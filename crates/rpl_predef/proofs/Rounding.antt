@@ -1,13 +1,9 @@
 -- Rounding down by the remainder.
-use Rattle.rw_base.proofs.Common.{◌≡◌, ◌≢◌, zero, suc, ℤ, pos, negsuc, ◌-ℤ◌, ◌*ℤ◌, ◌≤ℤ◌, refl, ◌∙◌, ap, subst, arith, rules, FitsSigned, to_z, of_z}
-use Rattle.rw_base.proofs.Common.{w64, int_div, int_rem, Option, Some, None, SomeIff, ints, quot-rem, to_z-of_z}
+use Rattle.rw_base.proofs.Common.{◌≡◌, ◌≢◌, ℤ, pos, ◌-ℤ◌, ◌≤ℤ◌, ◌∙◌, ap, subst, arith, rules, FitsSigned, to_z, of_z}
+use Rattle.rw_base.proofs.Common.{w64, int_rem, Option, Some, None, SomeIff, ints, quot-rem, to_z-of_z}
 use Rattle.rw_base.specs.Quantity.{IsQuantity}
 use Rattle.rw_base.specs.Predefined.{rounded_down}
-
-rounded_down_is : (a b : ℤ) → b ≢ pos 0 → rounded_down a b ≡ int_div a b *ℤ b
-rounded_down_is a (pos zero) h = absurd (h refl)
-rounded_down_is a (pos (suc b)) h = refl
-rounded_down_is a (negsuc b) h = refl
+use Rattle.rw_base.proofs.Rounding.{rounded_down_is}
 
 -- a number without what is left of it over b
 rounded_by_rest : (a b : ℤ) → b ≢ pos 0 → (a -ℤ int_rem a b) ≡ rounded_down a b

@@ -5,7 +5,7 @@ use Rattle.rw_base.proofs.Common.{get_or-set_other, get_or-set_same, get_or_past
 use Rattle.rw_base.proofs.Common.{nat_eq, nat_lt, nat_tests, none-some, refl, replicate, set, slice_index_or, subst, sym}
 use Rattle.std.proofs.Math.ListN.{get_or-map}
 use Rattle.std.proofs.Math.Bool.{or-false}
-use Rattle.std.proofs.lemmas.Bool.{cases_lt}
+use Rattle.std.proofs.lemmas.Bool.{cases_lt, or_parts}
 use Rattle.std.proofs.lemmas.Bool.{and_parts}
 use Rattle.std.proofs.lemmas.List.Elements.{All-head, All-tail}
 use Rattle.std.proofs.lemmas.List.Folds.{list_any_none}
@@ -32,7 +32,8 @@ use Rattle.rw_agenda.specs.declared.watch.Watch.{Watch}
 use Rattle.rw_agenda.specs.declared.limits.TheConstants.{RULES_MAX}
 use Rattle.rw_agenda.proofs.Watches.{met_last, met_next, or_right}
 use Rattle.rw_agenda.proofs.Order.{high_turn, in_no_turn, low_turn, not_in_turn}
-use Rattle.rw_agenda.specs.Marks.{AreTurns, IsFirst, IsFirstMarked, IsFirstOf, Marks, MarksMore, has_turn, is_flagged, is_marked_in, agenda_turn}
+use Rattle.rw_base.specs.Bit.{has_bit}
+use Rattle.rw_agenda.specs.Marks.{AreTurns, IsFirst, IsFirstMarked, IsFirstOf, Marks, MarksMore, is_flagged, is_marked_in, agenda_turn}
 
 -- ---- turns
 
@@ -48,9 +49,9 @@ turn_back LowFirst rules place near = omega (arith, near)
 
 -- what the words have at a turn is whether its rule is marked
 turn_tells : (order : AgendaOrder) (flags : List Bool) (words : List ℕ) (turn : ℕ) → AreTurns order flags words → turn < length flags
-    → is_marked_in (record { order = order; flags = flags }) turn ≡ has_turn words turn
+    → is_marked_in (record { order = order; flags = flags }) turn ≡ has_bit words turn
 turn_tells order flags words turn kept near =
-    sym (ap (has_turn words) (sym (turn_back order (length flags) turn near))
+    sym (ap (has_bit words) (sym (turn_back order (length flags) turn near))
     ∙ kept.each (agenda_turn order (length flags) turn) (turn_below order (length flags) turn near))
 
 pub none_marked : (order : AgendaOrder) (flags : List Bool) (words : List ℕ) (from : ℕ) → AreTurns order flags words → IsFirstOf words from None
@@ -58,10 +59,6 @@ pub none_marked : (order : AgendaOrder) (flags : List Bool) (words : List ℕ) (
 none_marked order flags words from kept none turn after near = turn_tells order flags words turn kept near ∙ none turn after
 
 -- ---- who looked at a cell is marked
-
-either : (x y : Bool) → x || y ≡ false → (x ≡ false) × (y ≡ false)
-either false y is = (refl, is)
-either true y is = absurd (false≢true (sym is))
 
 among_any : (test : ℕ → Bool) (slot : ℕ) (group : List ℕ) → is_among slot group ≡ true → test slot ≡ true → list_any test group ≡ true
 among_any test slot [] is passes = absurd (false≢true is)
@@ -115,7 +112,7 @@ marks_those basin c index rules old new watching many marked content place looks
     by : (place < length old) ⊎ (length old ≤ place)
         → (slice_index_or old place true ≡ false) × (is_touched basin (record { cell = c; content = content } ∷ []) looks ≡ false)
     by (inl near) =
-        let both = either _ _ (sym (marked place near) ∙ unmarked) in
+        let both = or_parts _ _ (sym (marked place near) ∙ unmarked) in
         (both.0, not_touched basin c index place content looks (watching place looks is) both.1)
     by (inr past) = absurd (false≢true (sym unmarked ∙ get_or_past new place true (omega (arith, many, past))))
 
@@ -172,12 +169,12 @@ turns_all order rules few = record {
   few = let many = length-replicate rules true in omega (arith, many, few);
   each = λ place near.
       let there : place < rules = let many = length-replicate rules true in omega (arith, many, near) in
-      ap (λ n. has_turn (replicate 4 (2 ^ 64 - 1)) (agenda_turn order n place)) (length-replicate rules true)
+      ap (λ n. has_bit (replicate 4 (2 ^ 64 - 1)) (agenda_turn order n place)) (length-replicate rules true)
       ∙ has_any (agenda_turn order rules place) (let below = turn_below order rules place there in omega (arith, below, few))
       ∙ sym (get_or-replicate rules place true true there);
 }
   where
-    has_any : (turn : ℕ) → turn < RULES_MAX → has_turn (replicate 4 (2 ^ 64 - 1)) turn ≡ true
+    has_any : (turn : ℕ) → turn < RULES_MAX → has_bit (replicate 4 (2 ^ 64 - 1)) turn ≡ true
     has_any turn near =
         ap (λ word. bit_at word (turn % 64) == 1) (get_or-replicate 4 (turn / 64) (2 ^ 64 - 1) 0 (omega (arith, near)))
         ∙ ap (λ bit. bit == 1) (bit_at_ones 64 (turn % 64) (omega arith))

@@ -1,6 +1,7 @@
 -- Which rules are marked, and at which turn each is taken.
-use Rattle.std.specs.Prelude.{ℕ, ◌-◌, ◌/◌, ◌%◌, ◌≡◌, ◌≤◌, ◌<◌, ◌==◌, Bool, true, false, List, length, replicate, set, Option, Some, None, slice_index_or, ◌||◌}
+use Rattle.std.specs.Prelude.{ℕ, ◌-◌, ◌≡◌, ◌≤◌, ◌<◌, Bool, true, false, List, length, replicate, set, Option, Some, None, slice_index_or, ◌||◌}
 use Rattle.std.specs.Int.{bit_at}
+use Rattle.rw_base.specs.Bit.{has_bit}
 use Rattle.rw_model.specs.declared.control.AgendaOrder.{AgendaOrder}
 use Rattle.rw_model.specs.declared.control.AgendaOrder.TheVariants.{HighFirst, LowFirst}
 use Rattle.rw_agenda.specs.declared.limits.TheConstants.{RULES_MAX, TURN_WORDS}
@@ -51,24 +52,20 @@ IsFirstMarked marks from (Some turn) = IsFirst marks from turn
 
 -- ---- turns as bits of words
 
--- the bit of a turn is set
-abbrev pub has_turn : List ℕ → ℕ → Bool
-has_turn words turn = bit_at (slice_index_or words (turn / 64) 0) (turn % 64) == 1
-
 -- the words have the turns of the marked rules
 pub record AreTurns (order : AgendaOrder) (flags : List Bool) (words : List ℕ) : Type 0 where
   pub many : length words ≡ TURN_WORDS
   pub few : length flags ≤ RULES_MAX
-  pub each : (place : ℕ) → place < length flags → has_turn words (agenda_turn order (length flags) place) ≡ slice_index_or flags place true
+  pub each : (place : ℕ) → place < length flags → has_bit words (agenda_turn order (length flags) place) ≡ slice_index_or flags place true
 
 -- this is the first turn from one on that is in the words
 pub record IsFirstTurn (words : List ℕ) (from turn : ℕ) : Type 0 where
   pub from_there : from ≤ turn
-  pub there : has_turn words turn ≡ true
-  pub none_before : (other : ℕ) → from ≤ other → other < turn → has_turn words other ≡ false
+  pub there : has_bit words turn ≡ true
+  pub none_before : (other : ℕ) → from ≤ other → other < turn → has_bit words other ≡ false
 
 abbrev pub IsFirstOf : List ℕ → ℕ → Option ℕ → Type 0
-IsFirstOf words from None = (turn : ℕ) → from ≤ turn → has_turn words turn ≡ false
+IsFirstOf words from None = (turn : ℕ) → from ≤ turn → has_bit words turn ≡ false
 IsFirstOf words from (Some turn) = IsFirstTurn words from turn
 
 -- this is the first bit of a word from one on that is set

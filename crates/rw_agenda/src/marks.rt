@@ -1,9 +1,9 @@
-ghost use Rattle.std.specs.Prelude.{◌≡◌, ◌≤◌, ◌<◌, ◌*◌, ◌/◌, ◌%◌, ◌==◌, ◌||◌, ◌&&◌, ℕ, IfOk, None, Some, if◌then◌else◌, nat_lt, not, true, false, length, replicate, set, vec_len};
-ghost use Rattle.rw_agenda.specs.Marks.{IsFirstBit, IsFirstMarked, IsFirstOf, all_marked, has_turn, with_mark};
+ghost use Rattle.std.specs.Prelude.{◌≡◌, ◌≤◌, ◌<◌, ◌/◌, ◌%◌, ◌==◌, IfOk, None, Some, if◌then◌else◌, nat_lt, true, false, length, replicate, set, vec_len};
+ghost use Rattle.rw_agenda.specs.Marks.{IsFirstBit, IsFirstMarked, IsFirstOf, all_marked, with_mark};
 
 use crate::limits::{RULES_MAX, TURN_WORDS};
 use crate::turns::turn_of;
-use rw_base::NoMemory;
+use rw_base::{NoMemory, clear_bit, set_bit};
 use rw_model::AgendaOrder;
 use std::alloc::Global;
 use std::marker::Model;
@@ -64,7 +64,7 @@ impl Marks {
         if usize::from(place) < self.flags.len() {
             let turn = turn_of(self.order, self.flags.len() as u16, place);
             self.flags[usize::from(place)] = true;
-            add_turn(&mut self.turns, turn);
+            set_bit(self.turns.as_mut_slice(), turn);
         }
     }
 
@@ -75,7 +75,7 @@ impl Marks {
     {
         let turn = turn_of(self.order, self.flags.len() as u16, place);
         self.flags[usize::from(place)] = false;
-        take_turn(&mut self.turns, turn);
+        clear_bit(self.turns.as_mut_slice(), turn);
     }
 
     /// The first turn of a marked rule from this one on.
@@ -87,28 +87,6 @@ impl Marks {
             None => None,
         }
     }
-}
-
-// Adds a turn.
-fn add_turn(words: &mut Vec<u64>, turn: u16)
-    requires { turn < 64 * vec_len words.old }
-    ensures many { vec_len words.new ≡ vec_len words.old }
-    ensures added { (other : ℕ) → has_turn words.new.items other
-        ≡ (other == turn || has_turn words.old.items other) }
-{
-    let place = usize::from(turn / 64);
-    words[place] = words[place] | 1 << (turn % 64);
-}
-
-// Takes a turn out.
-fn take_turn(words: &mut Vec<u64>, turn: u16)
-    requires { turn < 64 * vec_len words.old }
-    ensures many { vec_len words.new ≡ vec_len words.old }
-    ensures taken { (other : ℕ) → has_turn words.new.items other
-        ≡ (not (other == turn) && has_turn words.old.items other) }
-{
-    let place = usize::from(turn / 64);
-    words[place] = words[place] & !(1 << (turn % 64));
 }
 
 // The first turn from this one on.

@@ -12,7 +12,7 @@ use Rattle.rw_firing.specs.declared.look.Look.{Look}
 use Rattle.rw_run.specs.declared.fault.RunFault.TheVariants.{ObjectLimit, RuleLimit}
 use Rattle.rw_run.specs.Log.{Asked, Cells, Dispatch, Event, Firing, Log, placed, opened, closed, idle, solved, fired, fault, cells_of, value_in}
 use Rattle.rw_run.specs.Choice.{MayFollow}
-use Rattle.rw_run.specs.Dispatch.{answered, asked_for, denied_by, dispatch_of, dispatched, end_in, judged, looks_at, looks_of, or_fault, puts_written, solved_by}
+use Rattle.rw_run.specs.Dispatch.{answered, asked_for, denied_by, dispatch_of, dispatched, end_in, judged, looks_of, or_fault, puts_written, solved_by}
 use Rattle.rw_run.specs.Frame.{cells_looked}
 use Rattle.rw_run.specs.Next.{Policy, after_objects, asked_by_rule, asked_next, dispatches, ended, first_due, firing_of, firings, last_ones, next_of}
 use Rattle.rw_run.specs.RunOf.{line_of, lines, trace_of}
@@ -23,6 +23,7 @@ use Rattle.rw_model.specs.declared.put.PutEnd.{PutEnd}
 use Rattle.rw_model.specs.declared.put.PutEnd.TheVariants.{Written, Kept, Denied}
 use Rattle.rw_model.specs.Put.{end_of_put}
 use Rattle.rw_base.proofs.Common.{int_eq}
+use Rattle.rw_run.proofs.Frames.{cells_of_looks}
 use Rattle.rw_asked.specs.declared.fate.Fate.TheVariants as Became
 use Rattle.rw_asked.specs.Asked.{AllGranted, IsGranted, by_end, fate_over, fates_alone, asked_lines, asked_trace, asks_of, line_of_event, is_in_run, lines_of_asks, plain_of, wanted_by, wanted_of}
 use Rattle.rw_asked.proofs.Plain.{alone_plain, fates_plain, plain_joined, plain_told}
@@ -32,10 +33,6 @@ pub record IsFiredBy (policy : Policy) (cells : Cells) (firing : Firing) : Type 
   pub fire : Fire
   pub is : policy.fire firing.rule firing.step (value_in cells) ≡ Some fire
   pub looked : cells_looked firing.looked ≡ fire.looked
-
-looked_back : (cells : Cells) (at : List Cell) → cells_looked (looks_at cells at) ≡ at
-looked_back cells [] = refl
-looked_back cells (cell ∷ at) = ap (λ zs. cell ∷ zs) (looked_back cells at)
 
 -- what is written of the puts of an event
 abbrev pub IsOwn : Draft → Policy → Cells → Event → Type 0
@@ -87,12 +84,12 @@ ended_own : (basin : Draft) (policy : Policy) (cells : Cells) (rule step : ℕ) 
 ended_own basin policy cells rule step fire DividesByZero e = tt
 ended_own basin policy cells rule step fire (EndsOutside value) e = tt
 ended_own basin policy cells rule step fire Unknown e =
-    (refl, (refl, record { fire = fire; is = e; looked = looked_back cells fire.looked }))
+    (refl, (refl, record { fire = fire; is = e; looked = cells_of_looks cells fire.looked }))
 ended_own basin policy cells rule step fire Done e = (
   ap (λ found. puts_written cells (last_ones basin (filter (is_in_run basin) (wanted_of rule step found)))) (sym e),
   (
     ap (λ found. filter (is_in_run basin) (wanted_of rule step found)) (sym e),
-    record { fire = fire; is = e; looked = looked_back cells fire.looked },
+    record { fire = fire; is = e; looked = cells_of_looks cells fire.looked },
   ),
 )
 

@@ -1,7 +1,8 @@
 -- The lines of an event without those of puts that weren't written are its lines in the trace.
-use Rattle.rw_base.proofs.Common.{◌≡◌, ◌==◌, ℕ, Bool, true, false, ◌&&◌, ◌||◌, cond, List, [], ◌∷◌, ◌++◌, map, Option, Some, None}
+use Rattle.rw_base.proofs.Common.{◌≡◌, ◌==◌, ℕ, Bool, true, false, ◌||◌, cond, List, [], ◌∷◌, ◌++◌, map, Option, Some, None}
 use Rattle.rw_base.proofs.Common.{nat_le, refl, sym, ap, ap₂, subst, ◌∙◌, arith, if◌then◌else◌, cons_option, filter, filter_map}
 use Rattle.rw_base.proofs.Common.{int_eq}
+use Rattle.rw_base.proofs.Lists.{and_second_fails}
 use Rattle.rw_model.specs.declared.content.Content.{Content}
 use Rattle.rw_model.specs.declared.put.PutEnd.{PutEnd}
 use Rattle.rw_model.specs.declared.put.PutEnd.TheVariants as End
@@ -37,13 +38,9 @@ plain_told (line ∷ told) rest = ap (λ zs. line ∷ zs) (plain_told told rest)
 differs : (a b n : ℕ) → nat_le a n ≡ true → nat_le b n ≡ false → (b == a) ≡ false
 differs a b n x y = grind (arith, x, y)
 
-and_false : (a b : Bool) → b ≡ false → (a && b) ≡ false
-and_false true b e = e
-and_false false b e = refl
-
 apart : (basin : Draft) (put later : Asked) → is_in_run basin put ≡ true → is_in_run basin later ≡ false
     → is_shared basin put.cell later.cell ≡ false
-apart basin put later x y = and_false _ _ (differs put.cell.step.0 later.cell.step.0 basin.control.stamps.count x y)
+apart basin put later x y = and_second_fails _ _ (differs put.cell.step.0 later.cell.step.0 basin.control.stamps.count x y)
 
 pub again_same : (basin : Draft) (put : Asked) (puts : List Asked) → is_in_run basin put ≡ true
     → is_put_again basin put (filter (is_in_run basin) puts) ≡ is_put_again basin put puts

@@ -1,51 +1,16 @@
 -- The lines of a timestep with all puts are alike where the cells are alike at which it looked or which it asked for.
-use Rattle.rw_base.proofs.Common.{◌≡◌, ℕ, Bool, true, false, cond, List, [], ◌∷◌, ◌++◌, map, Option, Some, None}
-use Rattle.rw_base.proofs.Common.{refl, sym, ap, ap₂, subst, ◌∙◌, if◌then◌else◌, option_map, option_or, filter, append_assoc}
-use Rattle.rw_base.specs.declared.number.Cell.{Cell}
-use Rattle.rw_model.specs.declared.content.Content.{Content}
+use Rattle.rw_base.proofs.Common.{◌≡◌, ℕ, Bool, true, false, cond, List, [], ◌∷◌, ◌++◌, map}
+use Rattle.rw_base.proofs.Common.{refl, sym, ap, ap₂, subst, ◌∙◌, if◌then◌else◌, filter, append_assoc}
+use Rattle.rw_run.proofs.Frames.{alike_left, alike_over, alike_right, alike_values}
 use Rattle.rw_model.specs.Draft.{Draft}
 use Rattle.rw_firing.specs.Fire.{Fire}
-use Rattle.rw_run.specs.Log.{Asked, Cells, Dispatch, Event, Firing, Log, placed, opened, closed, idle, solved, fired, fault, cells_of, last_put, value_in, written_by}
+use Rattle.rw_run.specs.Log.{Asked, Cells, Dispatch, Event, Firing, Log, placed, opened, closed, idle, solved, fired, fault, cells_of, value_in}
 use Rattle.rw_run.specs.Frame.{AreAlike, IsFramed, cells_asked, cells_looked, cells_of_event, log_after, looked_in}
 use Rattle.rw_run.specs.Next.{Policy, is_put_again}
 use Rattle.rw_run.specs.Runs.{Leads}
 use Rattle.rw_asked.specs.declared.fate.Fate.TheVariants.{Again, Late}
 use Rattle.rw_asked.specs.Asked.{Ask, plain_line, asked_after, asked_lines, asked_trace, fate_over, fates_alone, fates_of, line_of_event, is_in_run, lines_of_asks, wanted_by, wanted_of}
 use Rattle.rw_asked.proofs.Follow.{IsFiredBy, IsOwn, own}
-
--- ---- cells that are alike before the timestep are alike in it
-
-or_joined : {A : Type 0} (x y z : Option A) → option_or (option_or x y) z ≡ option_or x (option_or y z)
-or_joined None y z = refl
-or_joined (Some x) y z = refl
-
-held_behind : (basin : Draft) (events x : Log) (cell : Cell)
-    → cells_of basin (events ++ x) cell ≡ option_or (cells_of basin events cell) (cells_of basin x cell)
-held_behind basin [] x cell = refl
-held_behind basin (event ∷ events) x cell =
-    ap (λ z. option_or (last_put basin (written_by event) cell) z) (held_behind basin events x cell)
-    ∙ sym (or_joined (last_put basin (written_by event) cell) _ _)
-
-alike_behind : (basin : Draft) (events : Log) (step : ℕ) (x y : Log) (cells : List Cell) → AreAlike (cells_of basin x) (cells_of basin y) cells
-    → AreAlike (cells_of basin (events ++ opened step ∷ x)) (cells_of basin (events ++ opened step ∷ y)) cells
-alike_behind basin events step x y [] a = tt
-alike_behind basin events step x y (cell ∷ cells) a = (
-  held_behind basin events (opened step ∷ x) cell ∙ ap (option_or (cells_of basin events cell)) a.0
-      ∙ sym (held_behind basin events (opened step ∷ y) cell),
-  alike_behind basin events step x y cells a.1,
-)
-
-first_alike : {A : Type 0} (f g : Cell → A) (xs ys : List Cell) → AreAlike f g (xs ++ ys) → AreAlike f g xs
-first_alike f g [] ys a = tt
-first_alike f g (x ∷ xs) ys a = (a.0, first_alike f g xs ys a.1)
-
-rest_alike : {A : Type 0} (f g : Cell → A) (xs ys : List Cell) → AreAlike f g (xs ++ ys) → AreAlike f g ys
-rest_alike f g [] ys a = a
-rest_alike f g (x ∷ xs) ys a = rest_alike f g xs ys a.1
-
-values_alike : (f g : Cells) (cells : List Cell) → AreAlike f g cells → AreAlike (value_in f) (value_in g) cells
-values_alike f g [] a = tt
-values_alike f g (cell ∷ cells) a = (ap (option_map (λ (content : Content). content.value)) a.0, values_alike f g cells a.1)
 
 -- ---- the fates of puts
 
@@ -79,7 +44,7 @@ wanted_alike : (policy : Policy) (f g : Cells) (firing : Firing) → IsFramed po
     → AreAlike f g (cells_looked firing.looked) → wanted_by policy f firing ≡ wanted_by policy g firing
 wanted_alike policy f g firing framed by a =
     let there = framed firing.rule firing.step (value_in f) (value_in g) by.fire by.is
-    (values_alike f g by.fire.looked (subst (AreAlike f g) by.looked a)) in
+    (alike_values f g by.fire.looked (subst (AreAlike f g) by.looked a)) in
     ap (λ found. if firing.is_done then wanted_of firing.rule firing.step found else []) (by.is ∙ sym there)
 
 lines_alike : (basin : Draft) (policy : Policy) (f g : Cells) (event : Event) → IsFramed policy → IsOwn basin policy f event
@@ -91,10 +56,10 @@ lines_alike basin policy f g (idle object step looked) framed o a = refl
 lines_alike basin policy f g (fault why) framed o a = refl
 lines_alike basin policy f g (solved dispatch) framed o a =
     ap (λ asks. map plain_line (line_of_event (solved dispatch)) ++ lines_of_asks asks)
-    (alone_alike f g dispatch.asked (rest_alike f g (cells_looked dispatch.looked) (cells_asked dispatch.asked) a))
+    (alone_alike f g dispatch.asked (alike_right f g (cells_looked dispatch.looked) (cells_asked dispatch.asked) a))
 lines_alike basin policy f g (fired firing) framed o a =
-    let looked = first_alike f g (cells_looked firing.looked) (cells_asked firing.asked) a in
-    let asked = rest_alike f g (cells_looked firing.looked) (cells_asked firing.asked) a in
+    let looked = alike_left f g (cells_looked firing.looked) (cells_asked firing.asked) a in
+    let asked = alike_right f g (cells_looked firing.looked) (cells_asked firing.asked) a in
     ap (λ asks. map plain_line (line_of_event (fired firing)) ++ lines_of_asks asks)
     (fates_alike basin f g (wanted_by policy f firing) (subst (λ puts. AreAlike f g (cells_asked puts)) o.1.0 asked)
     ∙ ap (fates_of basin g) (wanted_alike policy f g firing framed o.1.1 looked))
@@ -108,11 +73,11 @@ step_alike basin policy step x y end framed done [] leads a = refl
 step_alike basin policy step x y end framed done (event ∷ events) leads a =
     let u : Log = done ++ opened step ∷ x in
     let v : Log = done ++ opened step ∷ y in
-    let here = first_alike (cells_of basin x) (cells_of basin y) (cells_of_event event) (looked_in events) a in
-    let later = rest_alike (cells_of basin x) (cells_of basin y) (cells_of_event event) (looked_in events) a in
+    let here = alike_left (cells_of basin x) (cells_of basin y) (cells_of_event event) (looked_in events) a in
+    let later = alike_right (cells_of basin x) (cells_of basin y) (cells_of_event event) (looked_in events) a in
     ap₂ (λ xs ys. xs ++ ys)
     (lines_alike basin policy (cells_of basin u) (cells_of basin v) event framed (own basin policy u event leads.0)
-    (alike_behind basin done step x y (cells_of_event event) here))
+    (alike_over basin done step x y (cells_of_event event) here))
     (step_alike basin policy step x y end framed (event ∷ done) events leads.1 later)
 
 pub taken_over : (basin : Draft) (policy : Policy) (step : ℕ) (old other end : Log) (events : List Event) → IsFramed policy

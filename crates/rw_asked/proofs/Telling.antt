@@ -36,7 +36,7 @@ from_place items place item near is =
     ∙ ap (λ x. x ∷ drop (suc place) items) (sym is)
     ∙ ap (λ n. item ∷ drop n items) (suc-eq-add-one place)
 
--- the line of a word, of what it begins with and what follows
+-- a line is what it begins with, up to its slot, and the timestep and the content behind that
 pub word_told : (text front indent word gap slot step value end new : List ℕ) → front ≡ text ++ (indent ++ (word ++ (gap ++ (slot ++ gap))))
     → new ≡ front ++ (step ++ (gap ++ (value ++ end)))
     → new ≡ text ++ ((indent ++ (word ++ ((gap ++ (slot ++ (gap ++ step))) ++ (gap ++ value)))) ++ end)
@@ -48,7 +48,7 @@ word_told text front indent word gap slot step value end new begun is =
         ≡ text ++ ((indent ++ (word ++ ((gap ++ (slot ++ (gap ++ step))) ++ (gap ++ value)))) ++ end)
     joined text indent word gap slot step value end = simp append_assoc refl
 
--- with what was held behind it
+-- the same, with what was held behind it
 pub held_told : (text front asked indent word gap slot step value between held end new : List ℕ)
     → front ≡ text ++ (indent ++ (word ++ (gap ++ (slot ++ gap))))
     → asked ≡ front ++ (step ++ (gap ++ value)) → new ≡ asked ++ (between ++ (held ++ end))

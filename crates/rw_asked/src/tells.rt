@@ -17,7 +17,7 @@ use rw_report::{ROOM, Teller, push_content_by, push_count, push_put};
 use rw_run::Write;
 use rw_series::Series;
 
-// Appends a word, as a line begins with it, and a slot, with a space behind each.
+// Appends how a line begins: a word, and a slot between two spaces.
 fn push_front(
     text: &mut String,
     teller: &Teller<'_>,
@@ -65,7 +65,7 @@ fn push_asked(
     push_content_by(text, buffer, content)
 }
 
-// Appends what a cell held.
+// Appends what a cell held, and ends the line.
 fn push_held(text: &mut String, buffer: &mut [u8; ROOM], held: Content) -> Result<(), NoMemory>
     ensures { OnOk result (string_bytes text.new
         ≡ string_bytes text.old ++ (codes " held " ++ (content_words held ++ codes "\n"))) }
@@ -133,7 +133,8 @@ fn push_put_lines(
     }
 }
 
-/// Appends the lines of the puts of a dispatch, by what the cells hold before it, and by an array that is lent.
+/// Appends the lines of the puts of a dispatch, by what the cells hold before it. The end of each is written in the buffer first.
+/// The one error is want of memory.
 pub fn push_dispatched(
     text: &mut String,
     buffer: &mut [u8; ROOM],
@@ -169,8 +170,8 @@ fn fate_told(teller: &Teller<'_>, series: &Series, put: &Write, later: &[Write])
     fate_of(teller.basin(), series, put, later)
 }
 
-/// Appends the lines of the puts of a firing, by what the cells hold before it, and by an array that is lent. They are to slots
-/// of the basin.
+/// Appends the lines of the puts of a firing, which are to slots of the basin, by what the cells hold before it. The end of each is
+/// written in the buffer first. The one error is want of memory.
 pub fn push_fired(
     text: &mut String,
     buffer: &mut [u8; ROOM],

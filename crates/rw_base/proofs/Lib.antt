@@ -7,4 +7,7 @@ pub mod Rounding
 pub mod Predefined
 pub mod Tests
 pub mod Answering
+pub mod Digits
+pub mod Bits
+pub mod Lists
 pub mod Common

@@ -6,3 +6,5 @@ pub mod Unit
 pub mod Answers
 pub mod Range
 pub mod Byte
+pub mod Digit
+pub mod Bit

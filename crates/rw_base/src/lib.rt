@@ -1,9 +1,11 @@
 //! The arithmetic that every table rests on. Quantities are whole numbers within stated bounds, and no sum, difference
 //! or product leaves them unseen: each call answers the exact result, or names the exact result that has no place.
 //! Quotients are rounded down. Dimensions say what a quantity measures, and unit words stand for a dimension and a
-//! factor. No call takes memory.
+//! factor. Digits of a text spell a number, and numbers are kept as bits of words. No call takes memory.
 #![tactic(auto)]
 
+mod bit;
+mod digit;
 mod dimension;
 pub mod law;
 pub mod limits;
@@ -13,6 +15,8 @@ mod quantity;
 mod steps;
 mod unit;
 
+pub use bit::{clear_bit, has_bit, set_bit};
+pub use digit::{is_digit, read_digits};
 pub use dimension::Dim;
 pub use memory::NoMemory;
 pub use number::{Cell, ObjectNo, RuleNo, SlotNo, StepNo};

@@ -3,7 +3,7 @@ use Rattle.rw_base.proofs.Common.{None, Option, Some, ap, option_and_then, optio
 use Rattle.rw_model.proofs.Common.{Object, Placed, object_at, slot_in_place}
 use Rattle.rw_model.specs.Before.{before_of, initial_of_kind}
 use Rattle.rw_model.specs.declared.kind.Kind.{Kind}
-use Rattle.rw_laws.proofs.Owned.{placed_in}
+use Rattle.rw_model.proofs.Owned.{placed_in}
 
 -- what is so of an object's kind
 pub of_kind : {A : Type 0} (f : Kind → Option A) (found : Option Object) (kind : Kind)

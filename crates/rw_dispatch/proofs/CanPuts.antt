@@ -4,6 +4,7 @@ use Rattle.rw_dispatch.proofs.Common.{int_le, ints, is_between, known, option_ma
 use Rattle.rw_dispatch.proofs.Common.{◌≡◌}
 use Rattle.rw_model.proofs.Common.{IsKind, Bounds, all_quantities, slot_in, slot_in_place, Object, object_at, Draft, IsObject, IsBetween}
 use Rattle.rw_base.proofs.Common.{All-nil}
+use Rattle.rw_base.proofs.Lists.{some_there}
 use Rattle.rw_dispatch.specs.Answer.{asked_by_solution}
 use Rattle.rw_method.specs.declared.solved.Solved.{Solved}
 use Rattle.rw_method.specs.declared.solved.Solved.TheVariants.{Idle, Puts}
@@ -19,10 +20,6 @@ pub record IsFitting (kind : Kind) (view : View) (put : Put) : Type 0 where
   pub slot : IsSome (slot_in kind put.place)
   pub bounded : is_bounded view put ≡ true
 
-pub there : {X : Type 0} (found : Option X) → IsSome found → (x : X) × (found ≡ Some x)
-there None some = absurd (cc)
-there (Some x) some = (x, refl)
-
 between : (seen bounds : Bounds) (value : ℤ) → seen ≡ bounds → (is_between seen value && is_between all_quantities value) ≡ true
     → IsBetween bounds value
 between seen bounds value same inside =
@@ -36,7 +33,7 @@ pub CanPut-fitting : (basin : Draft) (cells : Cells) (object step : ℕ) (kind :
     → option_map (λ (found : Object). found.kind) (object_at basin.objects object) ≡ Some kind → IsFitting kind (view_of basin cells object step) put
     → CanPut basin object put
 CanPut-fitting basin cells object step kind put own is fitting =
-    let slot = there (slot_in kind put.place) fitting.slot in
+    let slot = some_there (slot_in kind put.place) fitting.slot in
     let at = has_slot basin.objects object put.place kind slot.0 own.first is slot.1 in
     record {
       few = fitting.near;
@@ -90,7 +87,7 @@ pub held_in_view : (basin : Draft) (cells : Cells) (object step : ℕ) (view : V
     → CanPut basin object put
     → cells (asked_by basin object step put).cell ≡ known view put.place
 held_in_view basin cells object step view put seen can =
-    let slot = there (slot_in_place basin.objects object put.place) can.slot in
+    let slot = some_there (slot_in_place basin.objects object put.place) can.slot in
     ap (λ s. cells (cell_at (unwrap_or s 0) step)) slot.1
     ∙ sym (ap (λ (v : View). known v put.place) seen ∙ known-view basin cells object step put.place can.few
     ∙ content-slot basin cells object step put.place (Some slot.0) slot.1)

@@ -1,5 +1,4 @@
 mod Common
-mod Bits
 pub mod Queues
 pub mod Filling
 pub mod Viewed

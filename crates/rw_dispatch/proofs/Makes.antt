@@ -10,7 +10,7 @@ use Rattle.rw_model.proofs.Common.{known_in_place}
 use Rattle.rw_run.proofs.Common.{Asked, Cells, last_put, asked_by, asked_for, slot_or_none}
 use Rattle.rw_model.specs.Turn.{IsTurn}
 use Rattle.rw_dispatch.specs.Writes.{AreWrites, CanWrite}
-use Rattle.rw_dispatch.proofs.CanPuts.{there}
+use Rattle.rw_base.proofs.Lists.{some_there}
 
 chosen : (test : Bool) (new : Content) (held : Option Content) → (if test then Some new else held) ≡ option_or (if test then Some new else None) held
 chosen true new held = refl
@@ -57,7 +57,7 @@ put_between basin object step put slot at can =
 pub can_write : (basin : Draft) (object step : ℕ) (put : Put) → IsTurn basin object step → CanPut basin object put
     → CanWrite basin (asked_by basin object step put)
 can_write basin object step put turn can =
-    let slot = there (slot_in_place basin.objects object put.place) can.slot in
+    let slot = some_there (slot_in_place basin.objects object put.place) can.slot in
     let at : slot_or_none basin object put.place ≡ slot.0 = ap (λ s. unwrap_or s 0) slot.1 in
     rw at (record {
       cell = record { slot = known_in_place basin.objects object put.place slot.0 slot.1; first = turn.at.first; last = turn.at.last };

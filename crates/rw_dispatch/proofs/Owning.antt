@@ -8,9 +8,10 @@ use Rattle.rw_base.proofs.Common.{nat_tests, list_any-append, ◌++◌, if◌the
 use Rattle.std.proofs.Math.ListN.{length-replicate, replicate}
 use Rattle.std.proofs.Math.Bool.{or_assoc, or_comm}
 use Rattle.std.proofs.lemmas.List.{take_more}
-use Rattle.rw_dispatch.specs.Owners.{HasReached, has_bit, is_object_reached}
+use Rattle.rw_base.specs.Bit.{has_bit}
+use Rattle.rw_dispatch.specs.Owners.{HasReached, is_object_reached}
 use Rattle.rw_dispatch.specs.declared.owners.Reached.{Reached}
-use Rattle.rw_dispatch.proofs.Bits.{no_bit}
+use Rattle.rw_base.proofs.Bits.{no_bit}
 
 -- tests that answer alike for all but the one that is left out reach the same
 alike_but : (but : Option ℕ) (p q : ℕ → Bool) (reached : Reached) → ((object : ℕ) → is_object_reached but p object ≡ is_object_reached but q object)

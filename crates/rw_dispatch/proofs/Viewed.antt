@@ -1,36 +1,15 @@
 -- What an object sees is a view of its kind.
-use Rattle.rw_dispatch.proofs.Common.{AreBounded, Bool, Content, IsBounded, IsViewOf, Kind, List, None, Option, Some, View, [], and_parts, ap, arith}
-use Rattle.rw_dispatch.proofs.Common.{bounds_in_view, eqb-true, false, get_or-map-range_with_len, if◌then◌else◌, known, known_value, length, map}
-use Rattle.rw_dispatch.proofs.Common.{nat_tests, option_and_then, option_map, pos, refl, slice_get, slice_index_or, subst, suc, sym, take, true}
+use Rattle.rw_dispatch.proofs.Common.{AreBounded, Content, IsBounded, IsViewOf, Kind, List, None, Option, Some, View, [], and_parts, ap, arith}
+use Rattle.rw_dispatch.proofs.Common.{bounds_in_view, eqb-true, false, get_or-map-range_with_len, known, known_value, length, map}
+use Rattle.rw_dispatch.proofs.Common.{nat_tests, option_and_then, option_map, pos, refl, slice_index_or, subst, suc, sym, take, true}
 use Rattle.rw_dispatch.proofs.Common.{unwrap_or, zero, ℕ, ℤ, ◌&&◌, ◌+◌, ◌-◌, ◌<◌, ◌==◌, ◌∙◌, ◌∷◌, ◌≡◌, ◌≤ℤ◌, ◌≤◌}
 use Rattle.rw_model.proofs.Common.{place_of, IsKind, Slot, Bounds, IsInside, slots_of, slot_in, Object, Placed, placed_from, slots_from, all_slots}
 use Rattle.rw_model.proofs.Common.{object_at, slot_at, slot_in_place, first_from, is_in_place, Draft, IsObject, IsBetween, bounds_in, IsBasin}
 use Rattle.rw_model.proofs.Common.{numbered-known, StandsAt-stored, first_from-all_slots, IsOfOwner-is_in_place, known_in_place, bounds_in-within}
 use Rattle.rw_run.proofs.Common.{Cells, cell_at, content_in, bounds_in_place, past_value, places, view_of}
+use Rattle.rw_model.proofs.Owned.{found_at}
 
 -- ---- an object's slot in a place is its kind's
-
-record IsFound (n k : ℕ) (test : Placed → Bool) (slots : List Placed) : Type 0 where
-  placed : Placed
-  after : n ≤ k
-  found : slice_get slots (k - n) ≡ Some placed
-  passes : test placed ≡ true
-
-found_here : (n k : ℕ) (test : Placed → Bool) (first : Placed) (rest : List Placed)
-    → (first_from (n + 1) test rest ≡ Some k → IsFound (n + 1) k test rest)
-    → (here : Bool) → test first ≡ here → (if here then Some n else first_from (n + 1) test rest) ≡ Some k → IsFound n k test (first ∷ rest)
-found_here n k test first rest later true here found =
-    let at : n ≡ k = cc in
-    let start : k - n ≡ 0 = omega (arith, at) in
-    record { placed = first; after = omega (arith, at); found = ap (slice_get (first ∷ rest)) start; passes = here }
-found_here n k test first rest later false here found =
-    let is = later found in
-    let start : k - n ≡ suc (k - (n + 1)) = omega (arith, is.after) in
-    record { placed = is.placed; after = omega (arith, is.after); found = ap (slice_get (first ∷ rest)) start ∙ is.found; passes = is.passes }
-
-found_at : (n k : ℕ) (test : Placed → Bool) (slots : List Placed) → first_from n test slots ≡ Some k → IsFound n k test slots
-found_at n k test [] found = absurd (cc)
-found_at n k test (first ∷ rest) found = found_here n k test first rest (found_at (n + 1) k test rest) (test first) refl found
 
 of_kind : (found : Option Object) (kind : Kind) (place : ℕ) → option_map (λ (object : Object). object.kind) found ≡ Some kind
     → option_and_then (λ (object : Object). slot_in object.kind place) found ≡ slot_in kind place

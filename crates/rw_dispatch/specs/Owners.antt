@@ -1,12 +1,8 @@
 -- Within the crate: the objects that slots reach.
-use Rattle.std.specs.Prelude.{◌≡◌, ◌≤◌, ◌<◌, ◌-◌, ◌/◌, ◌%◌, ◌==◌, ◌&&◌, ℕ, Bool, false, not, List, Option, length, slice_index_or}
-use Rattle.std.specs.Int.{bit_at}
+use Rattle.std.specs.Prelude.{◌≡◌, ◌≤◌, ◌<◌, ◌-◌, ◌&&◌, ℕ, Bool, false, not, List, Option, length}
+use Rattle.rw_base.specs.Bit.{has_bit}
 use Rattle.rw_run.specs.Waiting.{is_but}
 use Rattle.rw_dispatch.specs.declared.owners.Reached.{Reached}
-
--- the bit of a number is set: 64 in each word, that of 0 first
-abbrev pub has_bit : List ℕ → ℕ → Bool
-has_bit words number = bit_at (slice_index_or words (number / 64) 0) (number % 64) == 1
 
 -- an object is marked: the first bit is that of object 1
 abbrev pub has_object_mark : List ℕ → ℕ → Bool

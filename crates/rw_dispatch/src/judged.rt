@@ -8,7 +8,7 @@ ghost use Rattle.rw_model.specs.Turn.{IsTurn};
 use crate::write_list::WriteList;
 use crate::written::asked_by;
 use rw_base::{ObjectNo, SlotNo, StepNo};
-use rw_method::{PutList, View};
+use rw_method::{Put, PutList, View};
 use rw_model::{Basin, Content, PutEnd, put_end};
 use rw_run::Write;
 
@@ -41,6 +41,18 @@ fn judge_one(held: Option<Content>, asked: &Write) -> Result<bool, Clash>
     }
 }
 
+// The same put. Its fields were written one by one just before, and are read so too: one load of all of them would wait.
+#[inline(always)]
+fn same_put(put: &Put) -> Put
+    ensures { result ≡ put.now }
+{
+    Put {
+        value: put.value,
+        number: put.number,
+        place: put.place,
+    }
+}
+
 /// Adds those of the puts that are written, and what they write, by what the object sees: that is what the cells hold before
 /// the first of them. The first that is denied is the answer.
 pub(crate) fn judge(
@@ -67,7 +79,7 @@ pub(crate) fn judge(
     for put in asked.as_slice() {
         let write = asked_by(basin, object, step, put);
         if judge_one(view.known(put.place), &write)? {
-            written.push(*put);
+            written.push(same_put(put));
             writes.push(write);
         }
     }

@@ -5,9 +5,9 @@ ghost use Rattle.rw_model.specs.Kept.{numbers_of};
 ghost use Rattle.rw_model.specs.Turn.{is_data};
 ghost use Rattle.rw_run.specs.Waiting.{is_at, is_but, is_owner, slots_at};
 ghost use Rattle.rw_dispatch.specs.Writes.{AreWrites, CanWrite};
-ghost use Rattle.rw_dispatch.specs.Owners.{HasReached, has_bit, has_object_mark};
+ghost use Rattle.rw_dispatch.specs.Owners.{HasReached, has_object_mark};
 
-use rw_base::{ObjectNo, SlotNo, StepNo};
+use rw_base::{ObjectNo, SlotNo, StepNo, has_bit, set_bit};
 use rw_model::Basin;
 use rw_run::Write;
 
@@ -20,11 +20,12 @@ pub(crate) fn is_data(basin: &Basin, object: ObjectNo) -> bool
 }
 
 /// Objects that are reached: a bit for each, that of object 1 first, how many objects stand before all of them, and the last one.
+/// Both have 32 bits: one of 16 would be read together with the other, and wait until both are written.
 #[derive(Drop)]
 pub(crate) struct Reached {
     pub(crate) marks: [u64; 8],
-    pub(crate) before: u16,
-    pub(crate) last: u16,
+    pub(crate) before: u32,
+    pub(crate) last: u32,
 }
 
 impl Reached {
@@ -34,7 +35,7 @@ impl Reached {
     {
         Reached {
             marks: [0; 8],
-            before: u16::MAX,
+            before: u32::MAX,
             last: 0,
         }
     }
@@ -46,23 +47,11 @@ pub(crate) fn has_mark(reached: &Reached, object: u16) -> bool
     requires last { object ≤ 500 }
     ensures { result ≡ has_object_mark reached.now.marks object }
 {
-    let place = object - 1;
-    (reached.marks[usize::from(place / 64)] >> (place % 64)) % 2 == 1
-}
-
-// One bit more is set.
-fn set_bit(marks: &mut [u64; 8], number: u16)
-    requires { number < 500 }
-    ensures many { length marks.new ≡ length marks.old }
-    ensures added { (other : ℕ) → has_bit marks.new other
-        ≡ (other == number || has_bit marks.old other) }
-{
-    let place = usize::from(number / 64);
-    marks[place] = marks[place] | 1 << (number % 64);
+    has_bit(&reached.marks, object - 1)
 }
 
 /// The lesser of two numbers.
-pub(crate) fn lesser(one: u16, other: u16) -> u16
+pub(crate) fn lesser(one: u32, other: u32) -> u32
     ensures one { result ≤ one }
     ensures other { result ≤ other }
     ensures least { (bound : ℕ) → bound ≤ one → bound ≤ other → bound ≤ result }
@@ -70,7 +59,7 @@ pub(crate) fn lesser(one: u16, other: u16) -> u16
     if one < other { one } else { other }
 }
 
-fn greater(one: u16, other: u16) -> u16
+fn greater(one: u32, other: u32) -> u32
     ensures one { one ≤ result }
     ensures other { other ≤ result }
 {
@@ -100,8 +89,8 @@ fn reach(reached: &mut Reached, but: Option<ObjectNo>, object: u16)
         return;
     }
     set_bit(&mut reached.marks, object - 1);
-    reached.before = lesser(reached.before, object - 1);
-    reached.last = greater(reached.last, object);
+    reached.before = lesser(reached.before, u32::from(object - 1));
+    reached.last = greater(reached.last, u32::from(object));
 }
 
 // The number of the object that owns a slot.

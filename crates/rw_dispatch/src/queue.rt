@@ -165,10 +165,11 @@ impl Queue {
             → self.new.waiting ≡ self.old.waiting ++ woken basin.now
             (option_map (λ object. object.0) but) self.old.waiting slots }
     {
-        let last = lesser(reached.last, basin.object_count());
+        let last = lesser(reached.last, u32::from(basin.object_count()));
         for place in lesser(reached.before, last)..last {
-            let woken = self.is_woken(basin, reached, but, place + 1);
-            self.append_if(woken, place + 1);
+            let object = object_in(place);
+            let woken = self.is_woken(basin, reached, but, object);
+            self.append_if(woken, object);
         }
     }
 
@@ -242,6 +243,14 @@ impl Queue {
     {
         self.waits[(object - 1) as usize]
     }
+}
+
+// The number of the object in a place, counted from 0.
+fn object_in(place: u32) -> u16
+    requires { place < 500 }
+    ensures { result ≡ place + 1 }
+{
+    place as u16 + 1
 }
 
 // Adds an object behind all others, for which there is room.

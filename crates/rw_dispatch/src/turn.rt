@@ -200,8 +200,8 @@ fn answer_of(end: DispatchEnd, solved: Solved, written: PutList) -> Dispatched
 
 /// Dispatches an object at a timestep, and makes nothing yet: its method solves what it can from what its slots hold. What it
 /// asks for is judged by the put rules, all by what the cells hold before. If one put is denied, that is a conflict; otherwise
-/// those that aren't there already are to be written. The workspace has them afterwards, whatever it had before, and where it keeps
-/// that, all that was asked for. It takes no memory.
+/// those that aren't there already are to be written. The workspace has them afterwards, whatever it had before, and how the
+/// dispatch ended, and where it keeps that, all that was asked for. It takes no memory.
 pub fn judge_dispatch(
     basin: &Basin,
     methods: &Catalogue,
@@ -209,19 +209,19 @@ pub fn judge_dispatch(
     object: ObjectNo,
     step: StepNo,
     work: &mut Workspace,
-) -> DispatchEnd
+)
     requires order { AreInOrder (map (λ b. code (b.vtable, b.value)) methods.now.methods.items) }
     requires turn { IsTurn basin.now object.0 step.0 }
     requires bounded { AreBounded basin.now (held series.now) }
     ensures ends { Ends basin.now (looks_of basin.now (held series.now) object.0 step.0)
-        object.0 step.0 (dispatched basin.now (held series.now) object.0 step.0) result }
+        object.0 step.0 (dispatched basin.now (held series.now) object.0 step.0) work.new.end }
     ensures work { HasJudged basin.now
         (dispatched basin.now (held series.now) object.0 step.0) work.old work.new }
 {
     let kind = see(&mut work.view, basin, series, object, step);
     let method = methods.method(kind);
     method.solve(kind, &work.view, &mut work.solved);
-    let end = answer(
+    work.end = answer(
         &work.view,
         basin,
         object,
@@ -238,7 +238,6 @@ pub fn judge_dispatch(
         step,
         &work.solved,
     );
-    end
 }
 
 /// Dispatches an object at a timestep: its method solves what it can from what its slots hold. What it asks for is judged by

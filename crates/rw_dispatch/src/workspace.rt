@@ -1,5 +1,6 @@
 ghost use Rattle.std.specs.Prelude.{◌≡◌};
 
+use crate::dispatch_end::DispatchEnd;
 use crate::view::blank_view;
 use crate::write_list::WriteList;
 use rw_method::{PutList, Solved, View};
@@ -11,6 +12,8 @@ pub struct Workspace {
     pub view: View,
     /// What its method answers.
     pub solved: Solved,
+    /// How it ended.
+    pub end: DispatchEnd,
     /// Its puts that are to be written.
     pub written: PutList,
     /// What they write.
@@ -29,6 +32,7 @@ impl Workspace {
         Workspace {
             view: blank_view(),
             solved: Solved::Idle,
+            end: DispatchEnd::Idle,
             written: PutList::none(),
             writes: WriteList::none(),
             keeps,

@@ -7,6 +7,7 @@ use Rattle.std.specs.List.{filter}
 use Rattle.std.proofs.lemmas.List.Elements.{Contains-append_cases, Contains-append_right}
 use Rattle.rw_base.proofs.Common.{inl, inr}
 use Rattle.rw_base.specs.declared.memory.NoMemory.{NoMemory}
+use Rattle.rw_run.proofs.Frames.{cells_of_looks}
 use Rattle.rw_dispatch.proofs.Asking.{looks_told}
 use Rattle.rw_method.specs.declared.solved.Solved.{Solved}
 use Rattle.rw_method.specs.declared.solved.Solved.TheVariants.{Idle, Puts, Conflict, OutOfRange}
@@ -25,17 +26,12 @@ use Rattle.rw_run.specs.declared.held.Held.{Held}
 use Rattle.rw_record.specs.Noted.{AddsNotes, noted_after, noted_in, with_noted}
 use Rattle.rw_record.specs.Notes.{CanTakeBack, Notes}
 use Rattle.rw_record.proofs.Cells.{first_of, first_or, reached_at}
-use Rattle.rw_record.proofs.Noting.{among, joined}
+use Rattle.rw_record.proofs.Noting.{among, joined_notes}
 use Rattle.rw_record.proofs.Taking.{all_put, fresh, more_noted, one_more, opened}
 use Rattle.rw_engine.specs.Noting.{NotesAll, NotesSome}
 use Rattle.rw_engine.specs.State.{WritesAsked, cleared}
 
 -- ---- cells that are noted one after another
-
-pub with_more : (cells : Cells) (first next : List Cell) (old : Option (List Held))
-    → with_noted cells next (with_noted cells first old) ≡ with_noted cells (first ++ next) old
-with_more cells first next None = refl
-with_more cells first next (Some noted) = ap Some (joined cells noted first next)
 
 pub with_none : (cells : Cells) (old : Option (List Held)) → with_noted cells [] old ≡ old
 with_none cells None = refl
@@ -57,10 +53,10 @@ adds_all cells all old new (Err want) adds = (adds.0, (adds.1.first, adds.1.note
 pub notes_on : (cells : Cells) (first next : List Cell) (old mid new : Option (List Held)) (result : Result (Unit {0}) NoMemory)
     → mid ≡ with_noted cells first old
     → NotesAll cells next mid new result → NotesAll cells (first ++ next) old new result
-notes_on cells first next old mid new (Ok done) is all = all ∙ ap (with_noted cells next) is ∙ with_more cells first next old
+notes_on cells first next old mid new (Ok done) is all = all ∙ ap (with_noted cells next) is ∙ joined_notes cells first next old
 notes_on cells first next old mid new (Err want) is all = (
   sym (kept_noted cells first old) ∙ ap is_some (sym is) ∙ all.0,
-  (first ++ all.1.0, all.1.1 ∙ ap (with_noted cells all.1.0) is ∙ with_more cells first all.1.0 old),
+  (first ++ all.1.0, all.1.1 ∙ ap (with_noted cells all.1.0) is ∙ joined_notes cells first all.1.0 old),
 )
 
 -- memory wants for some of them
@@ -92,11 +88,6 @@ ended_noted (Some why) state = refl
 pub ended_lines : (why : Option RunFault) (state : State) → (ended_by why state).lines ≡ state.lines
 ended_lines None state = refl
 ended_lines (Some why) state = refl
-
--- the cells of looks at cells are those
-pub looked_at_cells : (cells : Cells) (at : List Cell) → cells_looked (looks_at cells at) ≡ at
-looked_at_cells cells [] = refl
-looked_at_cells cells (cell ∷ at) = ap (λ rest. cell ∷ rest) (looked_at_cells cells at)
 
 -- ---- what is written was asked for
 
@@ -265,7 +256,7 @@ pub dispatch_reached : (basin : Draft) (cells : Cells) (object step : ℕ) (aske
     → looked_cells basin object step ++ cells_reached basin asked ≡ reached_by basin (dispatched basin cells object step)
 dispatch_reached basin cells object step asked is calm =
     ap (λ at. at ++ cells_reached basin asked)
-    (sym (looked_at_cells cells (looked_cells basin object step))
+    (sym (cells_of_looks cells (looked_cells basin object step))
     ∙ ap cells_looked (sym (looks_told basin cells (looks_of basin cells object step) object step (solved_by basin cells object step) calm)))
     ∙ ap (λ puts. cells_looked (looks_in (dispatched basin cells object step)) ++ cells_reached basin puts) (is calm)
 

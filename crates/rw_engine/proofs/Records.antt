@@ -6,6 +6,7 @@ use Rattle.std.specs.Prelude.{Err, IfErr, IfOk, IfSome, MatchOption, Ok, Result,
 use Rattle.std.specs.List.{cons_option, flat_map}
 use Rattle.std.proofs.lemmas.Grind.{flat_map-append}
 use Rattle.rw_base.proofs.Common.{All-append, All-cons, All-head, All-nil, All-tail, inl, inr}
+use Rattle.rw_base.proofs.Lists.{option_or_joined}
 use Rattle.rw_dispatch.specs.Writes.{AreWrites, CanWrite}
 use Rattle.rw_run.specs.Frame.{IsStepFrom, log_after}
 use Rattle.rw_run.specs.Log.{fired, idle, solved}
@@ -40,23 +41,19 @@ nothing_else : {A : Type 0} (x : Option A) → x ≡ option_or x None
 nothing_else None = refl
 nothing_else (Some y) = refl
 
-both : {A : Type 0} (x y z : Option A) → option_or (option_or x y) z ≡ option_or x (option_or y z)
-both None y z = refl
-both (Some x) y z = refl
-
 pub put_after : (basin : Draft) (puts more : List Asked) (cell : Cell)
     → last_put basin (puts ++ more) cell ≡ option_or (last_put basin more cell) (last_put basin puts cell)
 put_after basin [] more cell = nothing_else (last_put basin more cell)
 put_after basin (put ∷ puts) more cell =
     ap (λ z. option_or z (last_put basin (put ∷ []) cell)) (put_after basin puts more cell)
-    ∙ both (last_put basin more cell) (last_put basin puts cell) (last_put basin (put ∷ []) cell)
+    ∙ option_or_joined (last_put basin more cell) (last_put basin puts cell) (last_put basin (put ∷ []) cell)
 
 -- puts and then more, made one after the other
 pub puts_on : (basin : Draft) (puts more : List Asked) (cell : Cell) (before : Cells)
     → option_or (last_put basin more cell) (option_or (last_put basin puts cell) (before cell))
     ≡ option_or (last_put basin (puts ++ more) cell) (before cell)
 puts_on basin puts more cell before =
-    sym (both (last_put basin more cell) (last_put basin puts cell) (before cell))
+    sym (option_or_joined (last_put basin more cell) (last_put basin puts cell) (before cell))
     ∙ ap (λ z. option_or z (before cell)) (sym (put_after basin puts more cell))
 
 -- what a line says to be written, if there is one that does

@@ -190,7 +190,7 @@ impl State {
     {
         self.counts.raise(object.0);
         self.turns = next_turn(self.turns);
-        let end = judge_dispatch(
+        judge_dispatch(
             setup.basin,
             setup.methods,
             &self.run.series,
@@ -208,13 +208,14 @@ impl State {
             asked,
         )?;
         let writes = self.work.writes.as_slice();
-        note_lines(&mut self.lines, object, step, &end, writes)?;
-        note_lines(&mut self.run.trace, object, step, &end, writes)?;
+        note_lines(&mut self.lines, object, step, &self.work.end, writes)?;
+        note_lines(&mut self.run.trace, object, step, &self.work.end, writes)?;
         make(setup.basin, &mut self.run.series, writes);
         self.queue
             .wake_written(setup.basin, step, writes, Some(object));
         self.rules.touched(setup.basin, writes);
-        Ok(self.end_by(fault_by(object, step, &end)))
+        let fault = fault_by(object, step, &self.work.end);
+        Ok(self.end_by(fault))
     }
 
     // Dispatches the object that was taken out of the queue, unless its limit is reached.

@@ -7,7 +7,7 @@ use Rattle.rw_inputs.specs.Inputs.{kept_slot}
 
 -- ---- together, from either side
 
-together_first : (links : List (List ℕ)) (one other slot : ℕ) → is_together links one other ≡ true
+pub together_first : (links : List (List ℕ)) (one other slot : ℕ) → is_together links one other ≡ true
     → is_together links one slot ≡ is_together links other slot
 together_first links one other slot together =
     together_turned links one slot ∙ together_alike links slot one other (one == other) refl together ∙ together_turned links slot other

@@ -1,7 +1,8 @@
 -- What is kept where a row gives values to cells that none has.
 use Rattle.rw_base.proofs.Common.{◌≡◌, ◌≢◌, ℕ, ◌≤◌, ◌<◌, Bool, true, false, if◌then◌else◌, List, [], ◌∷◌, ◌++◌, length, Option, Some, None, refl, sym}
-use Rattle.rw_base.proofs.Common.{ap, subst, ◌∙◌, arith, ℤ, max, min, ◌||◌, slice_index_or, slice_set, list_any, nat_tests, get_or_default}
+use Rattle.rw_base.proofs.Common.{ap, subst, ◌∙◌, arith, ℤ, max, min, slice_index_or, slice_set, list_any, nat_tests, get_or_default}
 use Rattle.rw_base.proofs.Common.{set-get_or}
+use Rattle.rw_base.proofs.Lists.{or_second}
 use Rattle.std.proofs.lemmas.List.{length-set}
 use Rattle.rw_model.proofs.Common.{Draft, IsSlot, IsBetween}
 use Rattle.rw_series.proofs.Bounds.{bounds-alike}
@@ -42,10 +43,6 @@ module _ (basin : Draft) (row_value : RowValue) (slot step : ℕ) where
 
 -- ---- where rows share a cell
 
-either_true : (a b : Bool) → b ≡ true → (a || b) ≡ true
-either_true true b passes = refl
-either_true false b passes = passes
-
 not_here : {A : Type 0} (here : Bool) (x : A) (later : Option A) → (if here then Some x else later) ≡ None → later ≡ None
 not_here true x later none = absurd (cc)
 not_here false x later none = none
@@ -71,7 +68,7 @@ module _ (basin : Draft) (row_value : RowValue) where
       → list_any (shares_cell basin row_value) (row ∷ rows) ≡ true
   taken_at row rows step from to more true here taken = rw (shares-from row step here from to) refl
   taken_at row rows step from to more false here taken =
-      either_true (shares_cell basin row_value row) (list_any (shares_cell basin row_value) rows) (more taken)
+      or_second (shares_cell basin row_value row) (list_any (shares_cell basin row_value) rows) (more taken)
 
   taken_shares : (rows : List RowValue) (step : ℕ) → row_value.first ≤ step → step ≤ row_value.last
       → row_value_at basin rows (kept_slot basin row_value.slot) step ≢ None → list_any (shares_cell basin row_value) rows ≡ true

@@ -32,4 +32,6 @@ pub use edit::Edit;
 pub use edits::{read_edits, read_traces};
 pub use fault::{InputFault, InputKind};
 pub use inputs::Inputs;
+pub use number::read_number;
 pub use reading::read_inputs;
+pub use row::slot_of_text;

@@ -1,52 +1,16 @@
-ghost use Rattle.std.specs.Prelude.{◌≡◌, ◌≤◌, ◌<◌, ◌^◌, ◌&&◌, None, Some, if◌then◌else◌, length, nat_le};
+ghost use Rattle.std.specs.Prelude.{◌≡◌, ◌<◌, ◌^◌, length};
 ghost use Rattle.std.specs.Option.{ForSome};
-ghost use Rattle.std.specs.List.{list_all};
-ghost use Rattle.rw_base.specs.Byte.{is_digit};
-ghost use Rattle.rw_inputs.specs.Number.{number_after, read_number, read_signed, byte_position};
+ghost use Rattle.rw_inputs.specs.Number.{read_number, read_signed, byte_position};
 
-// The greatest number of digits of a number.
-const DIGITS_MAX: usize = 18;
+use crate::limits::DIGITS_MAX;
+use rw_base::read_digits;
 
-fn is_digit(byte: u8) -> bool
-    ensures { result ≡ is_digit byte }
-{
-    48 <= byte && byte <= 57
-}
-
-// Whether so many digits are a number's.
-fn is_length(length: usize) -> bool
-    ensures { result ≡ (nat_le 1 length && nat_le length 18) }
-{
-    1 <= length && length <= DIGITS_MAX
-}
-
-// The number that the digits spell, where there are digits alone.
-fn number_of(text: &[u8]) -> Option<u64>
-    requires { length text.now ≤ 18 }
-    ensures number { result ≡ (if list_all is_digit text.now
-        then Some (number_after 0 text.now) else None) }
-    ensures small { ForSome result (λ number. number < 10 ^ 18) }
-{
-    let mut number = 0u64;
-    for byte in text {
-        if !is_digit(*byte) {
-            return None;
-        }
-        number = number * 10 + u64::from(*byte - b'0');
-    }
-    Some(number)
-}
-
-/// The number that a text of 1 to 18 digits spells.
-pub(crate) fn read_number(text: &[u8]) -> Option<u64>
+/// The number that a text of 1 to 18 digits spells. `None` exactly where it is no such text.
+pub fn read_number(text: &[u8]) -> Option<u64>
     ensures number { result ≡ read_number text.now }
     ensures small { ForSome result (λ number. number < 10 ^ 18) }
 {
-    if is_length(text.len()) {
-        number_of(text)
-    } else {
-        None
-    }
+    read_digits(text, DIGITS_MAX)
 }
 
 /// The same, and behind a `-` the number below 0.

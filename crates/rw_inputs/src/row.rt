@@ -49,8 +49,8 @@ fn slot_of_names(basin: &Basin, object: &[u8], slot: &[u8]) -> Option<SlotNo>
     basin.find_slot(object, slot)
 }
 
-// The slot that the text names, as `Object.Slot`.
-fn slot_of_text(basin: &Basin, text: &[u8]) -> Option<SlotNo>
+/// The slot that a text names, as `Object.Slot`. `None` exactly where it names none.
+pub fn slot_of_text(basin: &Basin, text: &[u8]) -> Option<SlotNo>
     ensures number { option_map (λ number. number.0) result ≡ slot_of_text basin.now text.now }
     ensures known { ForSome result (λ number. IsSlot basin.now.objects number.0) }
 {

@@ -1,4 +1,5 @@
 pub mod FilesLemmas
 pub mod KnownLemmas
+pub mod Handing
 pub mod ListLemmas
 pub mod Reading

@@ -2,6 +2,7 @@ pub mod Outside
 pub mod Causes
 pub mod Known
 pub mod Calls
+pub mod Handed
 pub mod Files
 pub mod MemShelf
 pub mod MemSink

@@ -4,6 +4,7 @@
 
 mod again;
 mod file_shelf;
+mod gathered;
 mod mem_shelf;
 mod mem_sink;
 mod plan;
@@ -16,6 +17,7 @@ mod whole_file;
 mod whole_text;
 
 pub use file_shelf::FileShelf;
+pub use gathered::Gathered;
 pub use mem_shelf::MemShelf;
 pub use mem_sink::MemSink;
 pub use shelf::{Shelf, ShelfFault};

@@ -1,5 +1,5 @@
 -- What holds where a timestep of a run is closed.
-use Rattle.rw_laws.proofs.Common.{AllByRecursion, Bool, Cell, Cells, DividesByZero, Done, Draft, EndsOutside, Event, Fire, FireEnd, Firing, IsBasin}
+use Rattle.rw_laws.proofs.Common.{AllByRecursion, Bool, Cell, DividesByZero, Done, Draft, EndsOutside, Event, Fire, FireEnd, Firing, IsBasin}
 use Rattle.rw_laws.proofs.Common.{IsFault, IsLed, IsPolicyOf, List, Log, Policy, Some, Standing, Unknown, [], ap, arith, asked_for, asked_of_rule}
 use Rattle.rw_laws.proofs.Common.{before_closing, cells_looked, cells_of, due_is_rule, ended, false, fault, fired, idle, if◌then◌else◌, inside}
 use Rattle.rw_laws.proofs.Common.{last_firing, last_ones, looks_at, looks_of, nat_tests, none-some, over, with_inputs, puts_written, refl, rests}
@@ -13,6 +13,7 @@ use Rattle.rw_laws.proofs.Steps.{Holds, LeftIn, ToldIn, begin_holds, dispatch_do
 use Rattle.rw_laws.proofs.Told.{AreTold}
 use Rattle.rw_laws.proofs.Writings.{IsObjectWriting, IsRulePut, IsRuleWriting, asked_rule_all, fired_writings}
 use Rattle.rw_laws.proofs.Along.{all_closed}
+use Rattle.rw_run.proofs.Frames.{cells_of_looks}
 
 abbrev FiredAt : Draft → Policy → Log → Standing → Type 0
 FiredAt basin policy log (rests step) = Unit {0}
@@ -28,10 +29,6 @@ end_number Unknown = 0
 end_number Done = 1
 end_number DividesByZero = 2
 end_number (EndsOutside value) = 3
-
-cells_of_looks : (f : Cells) (cells : List Cell) → cells_looked (looks_at f cells) ≡ cells
-cells_of_looks f [] = refl
-cells_of_looks f (cell ∷ cells) = ap (λ z. cell ∷ z) (cells_of_looks f cells)
 
 module _ (basin : Draft) (valid : IsBasin basin) (policy : Policy) (promise : IsPolicyOf basin policy) where
   over_fired : (log : Log) (event : Event) → IsFault event → FiredAt basin policy (event ∷ log) (standing (event ∷ log))

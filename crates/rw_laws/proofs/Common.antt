@@ -22,7 +22,8 @@ pub use Rattle.rw_model.specs.declared.put.PutEnd.{PutEnd}
 pub use Rattle.rw_model.specs.declared.put.PutEnd.TheVariants.{Denied, Kept, Written}
 pub use Rattle.rw_model.specs.declared.writer.Writer.{Writer}
 pub use Rattle.rw_model.specs.declared.writer.Writer.TheVariants.{Input, Object as ByObject, Rule}
-pub use Rattle.rw_method.proofs.Among.{Among, all_among, all_at, all_mapped, among, both_all, contains, mapped_all, some_there, weaker_all}
+pub use Rattle.rw_base.proofs.Lists.{weaker_all, both_all, mapped_all, some_there}
+pub use Rattle.rw_method.proofs.Among.{Among, all_among, all_at, all_mapped, among, contains}
 pub use Rattle.rw_method.proofs.Earlier.{some_ago}
 pub use Rattle.rw_method.proofs.Idling.{idle_balanced}
 pub use Rattle.rw_method.proofs.Leaving.{left_begins, left_by_others}

@@ -2,10 +2,11 @@
 use Rattle.rw_laws.proofs.Common.{AllByRecursion, Among, Asked, Bool, Cell, Cells, Content, Draft, IsSlot, List, None, PutEnd, Some, Written, []}
 use Rattle.rw_laws.proofs.Common.{all_at, among_group, ap, ap₂, cond, end_in, false, if◌then◌else◌, inl, inr, is_put_again, is_shared, is_written}
 use Rattle.rw_laws.proofs.Common.{known_number, last_ones, last_put, option_or, puts_written, refl, same_turned, subst, sym, together_turned, true}
-use Rattle.rw_laws.proofs.Common.{weaker_all, ◌&&◌, ◌||◌, ◌∙◌, ◌∷◌, ◌≡◌, ◌≢◌}
+use Rattle.rw_laws.proofs.Common.{weaker_all, ◌&&◌, ◌∙◌, ◌∷◌, ◌≡◌, ◌≢◌}
 use Rattle.rw_laws.proofs.Writings.{last_all}
 use Rattle.rw_laws.proofs.Linked.{self_shared}
 use Rattle.rw_laws.proofs.Dispatches.{written_all}
+use Rattle.std.proofs.lemmas.Bool.{or_parts}
 
 abbrev pub IsAt : Draft → Asked → Type 0
 IsAt basin put = IsSlot basin.objects put.cell.slot.0
@@ -27,15 +28,11 @@ IsApart basin cell put = IsAt basin put × (is_shared basin cell put.cell ≡ fa
 abbrev NoneShares : Draft → Cell → List Asked → Type 0
 NoneShares basin cell puts = AllByRecursion (IsApart basin cell) puts
 
-either_false : (a b : Bool) → (a || b) ≡ false → (a ≡ false) × (b ≡ false)
-either_false true b e = absurd (cc)
-either_false false b e = (refl, e)
-
 none_again : (basin : Draft) (put : Asked) (puts : List Asked) → AllByRecursion (IsAt basin) puts → is_put_again basin put puts ≡ false
     → NoneShares basin put.cell puts
 none_again basin put [] all e = tt
 none_again basin put (first ∷ puts) all e =
-    let parts = either_false (is_shared basin put.cell first.cell) (is_put_again basin put puts) e in
+    let parts = or_parts (is_shared basin put.cell first.cell) (is_put_again basin put puts) e in
     ((all.0, parts.0), none_again basin put puts all.1 parts.1)
 
 no_last : (basin : Draft) (cell : Cell) (puts : List Asked) → IsSlot basin.objects cell.slot.0 → NoneShares basin cell puts

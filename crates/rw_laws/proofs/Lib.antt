@@ -5,7 +5,6 @@ pub mod Along
 pub mod PutRules
 pub mod Dispatches
 pub mod Apart
-pub mod Owned
 pub mod Told
 pub mod Writings
 pub mod Viewing

@@ -8,7 +8,7 @@ use Rattle.rw_laws.proofs.Common.{weaker_all, ℕ, ◌∙◌, ◌∷◌, ◌≡�
 use Rattle.rw_laws.proofs.Apart.{one_slot}
 use Rattle.rw_laws.proofs.Dispatches.{AreFine, IsFine, written_all}
 use Rattle.rw_laws.proofs.Linked.{Found, last_found, self_shared}
-use Rattle.rw_laws.proofs.Owned.{owner_in, same_place}
+use Rattle.rw_model.proofs.Owned.{owner_in, same_place}
 use Rattle.rw_laws.proofs.PutRules.{end_code, kept_known, was_written}
 use Rattle.rw_laws.proofs.Viewing.{HasSlot, has_or_bare}
 use Rattle.rw_laws.proofs.Writings.{IsObjectPut, sees_at}

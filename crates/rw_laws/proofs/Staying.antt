@@ -5,7 +5,8 @@ use Rattle.rw_laws.proofs.Common.{if◌then◌else◌, is_among, is_at, is_put_a
 use Rattle.rw_laws.proofs.Common.{object_at, option_and_then, option_map, option_or, owner_of, past_at, past_in, past_of, past_value, places, pos}
 use Rattle.rw_laws.proofs.Common.{refl, same_Some, slot_in_place, some_ago, sym, true, value_in, value_of_past, view_of, written_by, ℕ, ◌&&◌, ◌-ℤ◌}
 use Rattle.rw_laws.proofs.Common.{◌-◌, ◌<◌, ◌==◌, ◌||◌, ◌∙◌, ◌∷◌, ◌≡◌, ◌≤◌}
-use Rattle.rw_laws.proofs.Owned.{owner_in}
+use Rattle.rw_model.proofs.Owned.{owner_in}
+use Rattle.std.proofs.lemmas.Bool.{or_parts}
 
 -- ---- which puts reach an object
 
@@ -41,16 +42,12 @@ reaches basin object place number step put slot shared =
     any_at (λ other. owner_of basin.objects other == object) number (group_of basin.objects basin.links put.cell.slot.0) parts.0 owns in
     ap₂ (λ a b. a && b) here at
 
-either_false : (a b : Bool) → (a || b) ≡ false → (a ≡ false) × (b ≡ false)
-either_false true b e = absurd (cc)
-either_false false b e = (refl, e)
-
 unreached : (basin : Draft) (object place number step : ℕ) (puts : List Asked) → slot_in_place basin.objects object place ≡ Some number
     → is_put_at basin object step puts ≡ false
     → last_put basin puts (cell_at number step) ≡ None
 unreached basin object place number step [] slot none = refl
 unreached basin object place number step (put ∷ puts) slot none =
-    let parts = either_false (put.cell.step.0 == step && is_at basin object put.cell.slot.0) (is_put_at basin object step puts) none in
+    let parts = or_parts (put.cell.step.0 == step && is_at basin object put.cell.slot.0) (is_put_at basin object step puts) none in
     ap₂ (λ rest test. option_or rest (if test then Some put.content else None)) (unreached basin object place number step puts slot parts.1)
     (by (is_shared basin put.cell (cell_at number step)) refl parts.0)
   where

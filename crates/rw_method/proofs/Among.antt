@@ -1,5 +1,5 @@
 -- One of a list, and what is so of each of a list, by recursion.
-use Rattle.rw_method.proofs.Common.{AllByRecursion, Contains, IsSome, List, None, Option, Some, [], arith, get_or, inl, inr, length, map, refl, subst}
+use Rattle.rw_method.proofs.Common.{AllByRecursion, Contains, List, [], arith, get_or, inl, inr, length, map, refl, subst}
 use Rattle.rw_method.proofs.Common.{suc, zero, ℕ, ◌++◌, ◌<◌, ◌∷◌, ◌≡◌, ◌⊎◌}
 
 -- it is one of these
@@ -42,27 +42,6 @@ pub all_among : {A : Type 0} (P : A → Type 0) (xs : List A) → ((x : A) → A
 all_among P [] f = tt
 all_among P (x ∷ xs) f = (f x (inl refl), all_among P xs (λ y has. f y (inr has)))
 
-pub weaker_all : {A : Type 0} (P Q : A → Type 0) (xs : List A) → ((x : A) → P x → Q x) → AllByRecursion P xs → AllByRecursion Q xs
-weaker_all P Q [] f all = tt
-weaker_all P Q (x ∷ xs) f all = (f x all.0, weaker_all P Q xs f all.1)
-
-pub both_all : {A : Type 0} (P Q : A → Type 0) (xs : List A) → AllByRecursion P xs → AllByRecursion Q xs → AllByRecursion (λ x. P x × Q x) xs
-both_all P Q [] p q = tt
-both_all P Q (x ∷ xs) p q = ((p.0, q.0), both_all P Q xs p.1 q.1)
-
-pub all_append : {A : Type 0} (P : A → Type 0) (xs ys : List A) → AllByRecursion P xs → AllByRecursion P ys → AllByRecursion P (xs ++ ys)
-all_append P [] ys p q = q
-all_append P (x ∷ xs) ys p q = (p.0, all_append P xs ys p.1 q)
-
-pub mapped_all : {A B : Type 0} (P : B → Type 0) (f : A → B) (xs : List A) → AllByRecursion (λ x. P (f x)) xs → AllByRecursion P (map f xs)
-mapped_all P f [] all = tt
-mapped_all P f (x ∷ xs) all = (all.0, mapped_all P f xs all.1)
-
 pub all_mapped : {A B : Type 0} (P : B → Type 0) (f : A → B) (xs : List A) → AllByRecursion P (map f xs) → AllByRecursion (λ x. P (f x)) xs
 all_mapped P f [] all = tt
 all_mapped P f (x ∷ xs) all = (all.0, all_mapped P f xs all.1)
-
--- what is there
-pub some_there : {A : Type 0} (found : Option A) → IsSome found → (thing : A) × (found ≡ Some thing)
-some_there None some = absurd (cc)
-some_there (Some thing) some = (thing, refl)

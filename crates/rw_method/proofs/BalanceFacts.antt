@@ -7,7 +7,7 @@ use Rattle.rw_method.proofs.Common.{refl, rules, solved_balance, solved_at, solv
 use Rattle.rw_method.proofs.Common.{◌∙◌}
 use Rattle.rw_method.proofs.Common.{◌∷◌, ◌≡◌, ◌≢◌, ◌≤◌, ◌⊎◌}
 use Rattle.rw_method.proofs.GivingWay.{gives_way}
-use Rattle.rw_method.proofs.SolvedTerm.{number_of_solved, solved_term}
+use Rattle.rw_method.proofs.SolvedTerm.{no_lower_given, number_of_solved, solved_term}
 use Rattle.rw_method.specs.Left.{IsGivenUpTo}
 use Rattle.rw_method.proofs.Among.{among, contains}
 
@@ -93,10 +93,6 @@ pub record HoldsFacts (steady : ℤ) (terms : List Term) : Type 0 where
   pub given : (other : Term) → Contains terms other → IsSome other.given
   pub balances : steady +ℤ net_of terms ≡ pos 0
 
-some_given : (given : Option Given) (held : Given) → HasNoLowerPriority given (Some held) → IsSome given
-some_given None held is = absurd is
-some_given (Some other) held is = search rules
-
 some_higher : (given : Option Given) (held : Given) → HasHigherPriority given (Some held) → IsSome given
 some_higher None held is = absurd is
 some_higher (Some other) held is = search rules
@@ -135,7 +131,7 @@ holds_facts steady first rest is =
       given =
           λ other has. elim (Contains-append_cases way.before (weakest first rest ∷ way.after) other
           (subst (λ ts. Contains ts other) way.among has)) [
-            | inl earlier ↦ some_given other.given holds.0
+            | inl earlier ↦ no_lower_given other.given holds.0
                 (subst (λ g. HasNoLowerPriority other.given g) holds.1.0
                 (All-contains (λ (o : Term). HasNoLowerPriority o.given (weakest first rest).given) way.before other way.earlier earlier))
             | inr later ↦ elim (among (weakest first rest ∷ way.after) other later) [

@@ -12,10 +12,11 @@ use Rattle.rw_method.proofs.Answering.{Answered}
 use Rattle.rw_method.proofs.LeftKept.{AreUpTo, low_solving, solved_up_to}
 use Rattle.rw_method.proofs.Leaving.{DispatchFacts, IsBase, Solving, place_in}
 use Rattle.rw_method.proofs.Netting.{IsAgreed, net_zero, put_value, rest_value}
-use Rattle.rw_method.proofs.Among.{Among, all_append, all_at, among, among_right, contains}
+use Rattle.rw_method.proofs.Among.{Among, all_at, among, among_right, contains}
 use Rattle.rw_method.proofs.PlainKinds.{base_in, one_sort, solved_at}
 use Rattle.rw_method.proofs.BalanceFacts.{balanced_code}
 use Rattle.rw_method.proofs.Terms.{Sort, given_as, given_in, routed, shape_of, slot, some_value, sort}
+use Rattle.rw_base.proofs.Lists.{all_append}
 
 -- ---- what isn't put stays
 

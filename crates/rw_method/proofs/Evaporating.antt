@@ -1,23 +1,9 @@
 -- A table gives what evaporates of a storage that has an elevation, at a rate that isn't below 0.
-use Rattle.rw_method.proofs.Common.{Bool, IsElevationInside, IsTable, IsVolumeInside, List, None, Row, Some, and_parts, ap, ap₂, arith, cond_both}
-use Rattle.rw_method.proofs.Common.{difference, elev_held, elev_of, evaporated, false, first_row, greatest_up_to, has_volume_inside, if◌then◌else◌}
-use Rattle.rw_method.proofs.Common.{int_le, int_lt, int_max, ints, last_row, none-some, option_and_then, pos, refl, same_Some, sym, true}
-use Rattle.rw_method.proofs.Common.{unsigned_abs, vol_of, ℤ, ◌&&◌, ◌-ℤ◌, ◌∙◌, ◌≡◌, ◌≤ℤ◌}
-
--- a volume that has an elevation is inside the table
-inside_by : (rows : List Row) (s e : ℤ) (test : Bool) → (int_le (first_row rows).1 s && int_le s (last_row rows).1) ≡ test
-    → (if test then greatest_up_to rows s (unsigned_abs (last_row rows).0) else None) ≡ Some e → IsVolumeInside rows s
-inside_by rows s e true is found =
-    let parts = and_parts (int_le (first_row rows).1 s) (int_le s (last_row rows).1) is in
-    record { from_first = grind (arith, ints, parts.0); to_last = grind (arith, ints, parts.1) }
-inside_by rows s e false is found = absurd (none-some e found)
-
-elevation_inside : (rows : List Row) (s e : ℤ) → IsTable rows → elev_of rows s ≡ Some e → IsElevationInside rows e
-elevation_inside rows s e table found =
-    let has = elev_held rows s table (inside_by rows s e (int_le (first_row rows).1 s && int_le s (last_row rows).1) refl found) in
-    let same : has.elevation ≡ e = same_Some _ _ (sym has.is ∙ found) in
-    let low = has.greatest.inside.from_first in let high = has.greatest.inside.to_last in
-    record { from_first = omega (arith, ints, same, low); to_last = omega (arith, ints, same, high) }
+use Rattle.rw_method.proofs.Common.{IsElevationInside, IsTable, List, Row, Some, ap, ap₂, arith, cond_both}
+use Rattle.rw_method.proofs.Common.{difference, elev_of, evaporated, first_row, has_volume_inside}
+use Rattle.rw_method.proofs.Common.{int_lt, int_max, ints, option_and_then, pos}
+use Rattle.rw_method.proofs.Common.{vol_of, ℤ, ◌-ℤ◌, ◌∙◌, ◌≡◌, ◌≤ℤ◌}
+use Rattle.rw_table.proofs.Laws.{elevation_inside}
 
 sunk_inside : (rows : List Row) (e rate : ℤ) → IsElevationInside rows e → pos 0 ≤ℤ rate
     → IsElevationInside rows (int_max (e -ℤ rate) (first_row rows).0)

@@ -4,6 +4,7 @@ use Rattle.rw_base.proofs.Common.{inr, ints, negsuc, option_map, pos, refl, subs
 use Rattle.rw_base.proofs.Common.{◌∙◌, ◌≡◌, ◌≤ℤ◌, ◌≤◌}
 use Rattle.rw_base.specs.Quotient.{floor_div}
 use Rattle.rw_base.proofs.Quotients.{IsFloor-floor_div}
+use Rattle.rw_table.proofs.Line.{natural}
 use Rattle.rw_table.proofs.Comparison.{below_or_not, same_or_not, le_passes, le_fails, eq_passes, eq_fails}
 use Rattle.rw_method.proofs.LeastInflow.{times_rises}
 use Rattle.rw_method.specs.Power.{HasNoRelease, IsLeastRelease, energy_of, first_enough, is_enough, least_release, quotient_release, release_quotient}
@@ -123,10 +124,6 @@ little_from m energy release less =
 -- no release and no fall give nothing
 nothing : (z : ℤ) → z ≡ pos 0 → floor_div z (pos 1000000000) ≡ pos 0
 nothing z none = rw none refl
-
-natural : (z : ℤ) → pos 0 ≤ℤ z → (k : ℕ) × (z ≡ pos k)
-natural (pos k) low = (k, refl)
-natural (negsuc k) low = absurd (omega (arith, ints, low))
 
 -- just enough: one more than the quotient, and it is above 0
 record IsJustEnough (m : ℕ) (energy q : ℤ) : Type 0 where

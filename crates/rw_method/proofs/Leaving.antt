@@ -5,11 +5,12 @@ use Rattle.rw_method.proofs.Common.{if◌then◌else◌, inl, inr, is_same_objec
 use Rattle.rw_method.proofs.Common.{same_Some, solved_balance, subst, sym, true, ℕ, ℤ, ◌==◌, ◌∙◌, ◌∷◌, ◌≡◌, ◌≢◌, ◌≤◌, ◌⊎◌}
 use Rattle.rw_method.specs.Left.{AreOthersUpTo, IsGivenUpTo, IsOutflowLeft, IsUpTo, Left, Rest, is_own, rest, rests_of}
 use Rattle.rw_method.specs.Passing.{IsAfterOwn, IsAfterOthers, put_content}
-use Rattle.rw_method.proofs.Among.{Among, all_at, among, contains, weaker_all}
+use Rattle.rw_method.proofs.Among.{Among, all_at, among, contains}
 use Rattle.rw_method.proofs.BalanceFacts.{SolvedFacts, balanced_code, given_up_to, holds_facts, solved_facts}
 use Rattle.rw_method.proofs.Terms.{IsSorted, IsTermOf, Sort, all_sorted, among_terms, given_in, other_in, own_in, shape_of, slot, term_in, term_of}
 use Rattle.rw_method.proofs.Terms.{terms_are, up_to_passes}
 use Rattle.rw_method.specs.Passing.{IsOwnFall}
+use Rattle.rw_base.proofs.Lists.{weaker_all}
 
 -- ---- the condition, by the sorts of a kind's terms
 

@@ -11,12 +11,13 @@ use Rattle.rw_method.specs.Left.{IsOutflowLeft, Left}
 use Rattle.rw_method.specs.Passing.{IsAfterOwn, IsOwnFall}
 use Rattle.rw_method.proofs.Answering.{Answered, answered}
 use Rattle.rw_method.proofs.Leaving.{DispatchFacts, LeftBy, Solving, from_left, own_falls, own_left, to_left}
-use Rattle.rw_method.proofs.Among.{Among, all_append, all_at, among, weaker_all}
+use Rattle.rw_method.proofs.Among.{Among, all_at, among}
 use Rattle.rw_method.proofs.PlainKinds.{bifurcation_facts, canal_facts, confluence_facts, data_facts, gage_facts, lagged_facts, reach_facts}
 use Rattle.rw_method.proofs.PlainKinds.{routed_facts, solved_at, user_facts}
 use Rattle.rw_method.proofs.ReservoirFacts.{reservoir_facts}
 use Rattle.rw_method.proofs.Terms.{Sort, shape_of}
 use Rattle.rw_method.proofs.PowerFacts.{IsFlow, flows_are, outflow_left, power_facts}
+use Rattle.rw_base.proofs.Lists.{all_append, weaker_all}
 
 pub dispatch_facts : (kind : Kind) (view : View) (puts : List Put) → IsKind kind → Answered kind view puts → DispatchFacts kind view puts
 dispatch_facts (DataObject slots) view puts sound is = data_facts view puts slots is

@@ -7,9 +7,10 @@ use Rattle.rw_method.proofs.SolvedTerm.{solved_term}
 use Rattle.rw_method.specs.Passing.{IsAfterOwn}
 use Rattle.rw_method.proofs.Answering.{Answered}
 use Rattle.rw_method.proofs.Leaving.{DispatchFacts, Solving, holds_given, one_solving}
-use Rattle.rw_method.proofs.Among.{Among, all_among, all_mapped, both_all, weaker_all}
+use Rattle.rw_method.proofs.Among.{Among, all_among, all_mapped}
 use Rattle.rw_method.proofs.BalanceFacts.{balanced_code, holds_facts}
 use Rattle.rw_method.proofs.Terms.{Sort, given_in, shape_of, term_in}
+use Rattle.rw_base.proofs.Lists.{both_all, weaker_all}
 
 -- the slots of these sorts hold these values
 abbrev pub HeldIn : View → List Sort → List ℤ → Type 0

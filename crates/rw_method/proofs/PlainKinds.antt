@@ -7,10 +7,11 @@ use Rattle.rw_method.proofs.Common.{user_puts, zero, ℕ, ℤ, ◌++◌, ◌==�
 use Rattle.rw_method.specs.Left.{IsGivenUpTo, Rest, rest, rests_of}
 use Rattle.rw_method.proofs.Answering.{Answered}
 use Rattle.rw_method.proofs.Leaving.{DispatchFacts, IsBase, PutIs, Solving, falls_from, holds_given, rests, solved}
-use Rattle.rw_method.proofs.Among.{Among, all_append, all_at, among, contains, some_there, weaker_all}
+use Rattle.rw_method.proofs.Among.{Among, all_at, among, contains}
 use Rattle.rw_method.proofs.BalanceFacts.{SolvedFacts, solved_facts}
 use Rattle.rw_method.proofs.Terms.{Sort, among_terms, given_as, given_in, given_number, routed, same_given, shape_of, slot, some_value, sort, term_in}
 use Rattle.rw_method.proofs.Terms.{term_of}
+use Rattle.rw_base.proofs.Lists.{all_append, some_there, weaker_all}
 
 -- ---- the solved term, by the sorts
 

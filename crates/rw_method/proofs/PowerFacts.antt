@@ -12,7 +12,7 @@ use Rattle.rw_method.proofs.Answering.{Answered}
 use Rattle.rw_method.proofs.Counting.{AsksUpTo, counts, from_asked, to_asked}
 use Rattle.rw_method.proofs.Leaving.{DispatchFacts, IsFalling, LeftBy, PutIs, Solving, alone, beside, falls_from, holds_given, one_solving}
 use Rattle.rw_method.proofs.Leaving.{others_pass, place_in, put_or_none, rests, same_own, solved, solving_is}
-use Rattle.rw_method.proofs.Among.{Among, all_among, all_append, all_at, among, among_left, among_right, contains, some_there, weaker_all}
+use Rattle.rw_method.proofs.Among.{Among, all_among, all_at, among, among_left, among_right, contains}
 use Rattle.rw_method.proofs.GreatestBeside.{is_greatest_beside}
 use Rattle.rw_method.proofs.Netting.{put_value, rest_value}
 use Rattle.rw_method.proofs.PlainKinds.{of_solving, shares_three}
@@ -21,6 +21,7 @@ use Rattle.rw_method.proofs.Storing.{IsLevelPut, IsStoring, contents_below, cont
 use Rattle.rw_method.proofs.Storing.{none_first, not_solved, solved_level}
 use Rattle.rw_method.proofs.Terms.{Sort, Source, asked, contents, given_as, given_in, given_number, given_of, given_other, let_out, same_given}
 use Rattle.rw_method.proofs.Terms.{shape_of, slot, sort, stored, term_in, term_of}
+use Rattle.rw_base.proofs.Lists.{all_append, some_there, weaker_all}
 
 -- ---- flows
 

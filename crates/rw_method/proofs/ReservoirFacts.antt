@@ -8,11 +8,12 @@ use Rattle.rw_method.specs.Left.{IsGivenUpTo, Rest, rest, rests_of}
 use Rattle.rw_method.specs.Passing.{IsAfterOwn}
 use Rattle.rw_method.proofs.Answering.{Answered}
 use Rattle.rw_method.proofs.Leaving.{DispatchFacts, IsFalling, PutIs, Solving, alone, falls_from, rests, solved}
-use Rattle.rw_method.proofs.Among.{Among, all_among, all_append, all_at, among, among_left, among_right, contains, weaker_all}
+use Rattle.rw_method.proofs.Among.{Among, all_among, all_at, among, among_left, among_right, contains}
 use Rattle.rw_method.proofs.PlainKinds.{base_in, of_solving, shares_three}
 use Rattle.rw_method.proofs.Terms.{Sort, Source, asked, contents, given_in, given_number, same_given, shape_of, slot, sort, stored, term_in}
 use Rattle.rw_method.proofs.Storing.{IsLevelPut, IsStoring, contents_below, contents_held, contents_stay, given_held, level_good, low_place}
 use Rattle.rw_method.proofs.Storing.{none_first, past_held, solved_level}
+use Rattle.rw_base.proofs.Lists.{all_append, weaker_all}
 
 module _ (initial_storage : ℤ) (table : Option (List Row)) (local_inflow diversion return_flow evaporation : Bool) (max_release : Option ℤ) where
   abbrev kind : Kind

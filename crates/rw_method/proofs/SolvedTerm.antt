@@ -36,7 +36,7 @@ higher_given : (a b : Option Given) → HasHigherPriority a b → IsSome a
 higher_given None b h = absurd h
 higher_given (Some held) b h = search rules
 
-no_lower_given : (a : Option Given) (held : Given) → HasNoLowerPriority a (Some held) → IsSome a
+pub no_lower_given : (a : Option Given) (held : Given) → HasNoLowerPriority a (Some held) → IsSome a
 no_lower_given None held h = absurd h
 no_lower_given (Some other) held h = search rules
 

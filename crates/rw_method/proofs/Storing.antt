@@ -11,13 +11,14 @@ use Rattle.rw_method.specs.Left.{IsGivenUpTo, is_own, rest, rests_of}
 use Rattle.rw_method.specs.Passing.{IsAfterOwn}
 use Rattle.rw_method.proofs.Answering.{Answered}
 use Rattle.rw_method.proofs.Leaving.{IsBase, LeftBy, PutIs, Solving, holds_given, place_in, rests}
-use Rattle.rw_method.proofs.Among.{Among, all_at, among, contains, some_there}
+use Rattle.rw_method.proofs.Among.{Among, all_at, among, contains}
 use Rattle.rw_method.proofs.Netting.{put_value}
 use Rattle.rw_method.proofs.PutFacts.{first_fits}
 use Rattle.rw_method.proofs.PlainKinds.{of_solving, solved_at, solving_facts}
 use Rattle.rw_method.proofs.BalanceFacts.{balanced_code}
 use Rattle.rw_method.proofs.Terms.{Sort, among_terms, given_as, given_number, given_of, given_other, same_given, shape_of, stored, term_in}
 use Rattle.rw_method.proofs.Terms.{to_contents}
+use Rattle.rw_base.proofs.Lists.{some_there}
 
 -- ---- the basis
 

@@ -1,5 +1,5 @@
 -- What bounds leave each slot, and that what the readers answer is in range.
-use Rattle.rw_base.proofs.Common.{◌≡◌, ℕ, zero, suc, ◌+◌, ◌*◌, ◌-◌, ◌<◌, ◌≤◌, ◌==◌, List, [], ◌∷◌, length, Bool, true, false, Option, Some, None}
+use Rattle.rw_base.proofs.Common.{◌≡◌, ℕ, suc, ◌+◌, ◌*◌, ◌-◌, ◌<◌, ◌≤◌, ◌==◌, List, [], ◌∷◌, length, Bool, true, false, Option, Some, None}
 use Rattle.rw_base.proofs.Common.{refl, sym, ap, subst, ◌∙◌, arith, is_some, ◌&&◌, option_and_then, slice_index_or, All, ℤ, ◌≤ℤ◌, slice_get}
 use Rattle.rw_base.proofs.Common.{option_map, unwrap_or, codes, if◌then◌else◌, list_any, range_with_len, ForSome, int_max, int_min, ints, by_lt_z}
 use Rattle.rw_base.proofs.Common.{fold-int_max_bounds, fold-int_min_bounds, get_or-map-range_with_len, length-map-range_with_len}
@@ -7,6 +7,7 @@ use Rattle.rw_base.proofs.Common.{get_or-range_with_len, length-range_with_len, 
 use Rattle.rw_base.proofs.Common.{All-append, slice_get_within, get_or_from_slice_get}
 use Rattle.rw_base.specs.Dimension.{Dimension}
 use Rattle.rw_base.specs.Unit.{volume, length as length-unit, energy}
+use Rattle.rw_base.proofs.Lists.{got_within}
 use Rattle.rw_model.specs.declared.data_slots.DataSlot.{DataSlot}
 use Rattle.rw_model.specs.declared.kind.Kind.{Kind}
 use Rattle.rw_model.specs.declared.kind.Kind.TheVariants.{DataObject, Gage, Confluence, Bifurcation, Reach, Reservoir, WaterUser, Canal}
@@ -294,15 +295,10 @@ bounds_in-within draft slot basin known placed found =
     (uncrossed (bounds_in draft.objects draft.links draft.bounds slot) open') within.0 within.1
     (own_bounds-within draft.objects draft.bounds slot placed basin.whole.bounds found)
 
-there_is : {X : Type 0} (xs : List X) (k : ℕ) → k < length xs → (x : X) × (slice_get xs k ≡ Some x)
-there_is [] k within = absurd (omega (arith, within))
-there_is (x ∷ xs) zero within = (x, refl)
-there_is (x ∷ xs) (suc k) within = let near : k < length xs = omega (arith, within) in there_is xs k near
-
 is_placed : (objects : List Object) (slot : ℕ) → IsSlot objects slot → (placed : Placed) × (slot_at objects slot ≡ Some placed)
 is_placed objects slot known =
     let near : slot - 1 < length (all_slots objects) = omega (arith, known.first, known.last) in
-    let there = there_is (all_slots objects) (slot - 1) near in
+    let there = got_within (all_slots objects) (slot - 1) near in
     (there.0, numbered-known (all_slots objects) slot known.first ∙ there.1)
 
 pub bounds_in-quantities : (draft : Draft) (slot : ℕ) → IsBasin draft → IsSlot draft.objects slot

@@ -19,6 +19,7 @@ use Rattle.rw_model.specs.Objects.{Object, Placed, object_named, all_slots, slot
 use Rattle.rw_model.specs.Draft.{Bound, IsSound, IsFresh, CanAdd, bound_of, IsSlot, CanBound}
 use Rattle.rw_model.specs.Links.{is_slot}
 use Rattle.rw_base.specs.Answers.{Finds}
+use Rattle.rw_base.proofs.Lists.{none_there}
 use Rattle.rw_model.specs.declared.fault.BuildFault.{BuildFault}
 use Rattle.rw_model.specs.Refusal.{build_refusal_of, bad_parameter, too_many}
 use Rattle.rw_model.specs.Build.{is_sound, is_fresh, size_refusal, object_refusal, is_allowed, bound_refusal}
@@ -174,10 +175,6 @@ pub size-is : (objects : List Object) (a b : Bool) → nat_lt 500 (length object
     → size_refusal objects ≡ (if a then Some (too_many 500) else (if b then Some (too_many 4000) else None))
 size-is objects a b e f = rw (e, f) refl
 
-none-there : {A : Type 0} (o : Option A) → is_some o ≡ false → o ≡ None
-none-there None e = refl
-none-there (Some x) e = absurd (both_ways true e refl)
-
 absent : {A : Type 0} (o : Option A) → o ≡ None → is_some o ≡ false
 absent o e = rw e refl
 
@@ -190,7 +187,7 @@ bound-iff objects own slot bounds = (
       let third = passed (is_allowed (slot_at objects slot) bounds) None bad_parameter second.1 in
       record {
         known = (Decides-slot objects slot).0 first.0;
-        free = none-there (bound_of own slot) second.0;
+        free = none_there (bound_of own slot) second.0;
         within = (Decides-allowed (slot_at objects slot) bounds).0 third.0;
       },
   λ can.

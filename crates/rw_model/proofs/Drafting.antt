@@ -1,5 +1,5 @@
 -- What a builder was told stays in order with each thing more that it takes.
-use Rattle.rw_base.proofs.Common.{◌≡◌, ℕ, zero, suc, ◌+◌, ◌-◌, ◌<◌, ◌≤◌, nat_le, ◌==◌, List, [], ◌∷◌, ◌++◌, length, Bool, true, false, ◌&&◌, ◌||◌}
+use Rattle.rw_base.proofs.Common.{◌≡◌, ℕ, ◌+◌, ◌-◌, ◌<◌, ◌≤◌, nat_le, ◌==◌, List, [], ◌∷◌, ◌++◌, length, Bool, true, false, ◌&&◌, ◌||◌}
 use Rattle.rw_base.proofs.Common.{Option, Some, None, refl, sym, ap, subst, ◌∙◌, append-nil, append_assoc, arith, map, All, Contains, slice_get}
 use Rattle.rw_base.proofs.Common.{bytes_eq, pos, IsTrue, Result, Ok, Err, OnOk, OnErr, cond, option_map, unwrap_or, if◌then◌else◌, list_any, filter}
 use Rattle.rw_base.proofs.Common.{option_or, ForSome, int_eq, Decides-int_eq, nat_eq_equiv, nat_list_eq_equiv, map-append, All-nil, All-cons}
@@ -7,6 +7,7 @@ use Rattle.rw_base.proofs.Common.{All-head, All-tail, All-push, All-weaker, All-
 use Rattle.std.specs.List.{IsDistinct}
 use Rattle.std.proofs.lemmas.List.{length-append}
 use Rattle.rw_base.specs.Dimension.{Dimension, dimension}
+use Rattle.rw_base.proofs.Lists.{got_in_front}
 use Rattle.rw_model.specs.Refusal.{BuildRefusal, bad_parameter}
 use Rattle.rw_model.specs.Slot.{Bounds, IsInside}
 use Rattle.rw_model.specs.Slots.{slots_of}
@@ -21,18 +22,13 @@ use Rattle.rw_model.proofs.Numbered.{numbered-known}
 
 -- ---- what is known of a slot stays with an object more
 
-slice_get_front : {X : Type 0} (xs ys : List X) (k : ℕ) → k < length xs → slice_get (xs ++ ys) k ≡ slice_get xs k
-slice_get_front [] ys k within = absurd (omega (arith, within))
-slice_get_front (x ∷ xs) ys zero within = refl
-slice_get_front (x ∷ xs) ys (suc k) within = let near : k < length xs = omega (arith, within) in slice_get_front xs ys k near
-
 slot_at-more : (objects : List Object) (object : Object) (slot : ℕ) → IsSlot objects slot
     → slot_at (objects ++ object ∷ []) slot ≡ slot_at objects slot
 slot_at-more objects object slot known =
     let near : slot - 1 < length (all_slots objects) = omega (arith, known.first, known.last) in
     numbered-known (all_slots (objects ++ object ∷ [])) slot known.first
     ∙ ap (λ slots. slice_get slots (slot - 1)) (slots_from-push 1 objects object)
-    ∙ slice_get_front (all_slots objects) (placed_from (1 + length objects) 0 (slots_of object.kind)) (slot - 1) near
+    ∙ got_in_front (all_slots objects) (placed_from (1 + length objects) 0 (slots_of object.kind)) (slot - 1) near
     ∙ sym (numbered-known (all_slots objects) slot known.first)
 
 IsSlot-more : (objects : List Object) (object : Object) (slot : ℕ) → IsSlot objects slot → IsSlot (objects ++ object ∷ []) slot

@@ -11,4 +11,5 @@ pub mod Grouping
 pub mod PlaceNumbers
 pub mod Bounding
 pub mod Linked
+pub mod Owned
 pub mod Common

@@ -5,6 +5,7 @@ use Rattle.rw_base.proofs.Common.{int_min, int_lt, cond_both, nat_eq_equiv, list
 use Rattle.rw_base.proofs.Common.{fold-int_min_bounds, All-nil, All-cons, All-head, All-tail, All-contains, filter_passes, length-range_with_len}
 use Rattle.rw_base.proofs.Common.{get_or-range_with_len, slice_get-get_or, nat_tests}
 use Rattle.rw_base.proofs.Tests.{passed, spared, unless, where-true}
+use Rattle.rw_base.proofs.Lists.{or_second}
 use Rattle.rw_model.specs.Refusal.{link_bounds}
 use Rattle.rw_model.specs.Slot.{Bounds}
 use Rattle.rw_model.specs.Objects.{Object, all_slots}
@@ -184,10 +185,6 @@ or_of : (a b : Bool) → a ≡ false → (a || b) ≡ true → b ≡ true
 or_of true b fails has = absurd (cc)
 or_of false b fails has = has
 
-or_right : (a b : Bool) → b ≡ true → (a || b) ≡ true
-or_right true b has = refl
-or_right false b has = has
-
 same_link : (i : ℕ) (a b : Option ℕ) → a ≡ Some i → is_same_link a b ≡ true → b ≡ Some i
 same_link i None b at linked = absurd (cc)
 same_link i (Some j) None at linked = absurd (cc)
@@ -226,6 +223,6 @@ group-is-link draft link slot other whole in_links in_link' =
           let same : is_same_link (link_of draft.links slot) (link_of draft.links other) ≡ true = rw (at, at_other) (nat_eq_equiv.refl i) in
           has_among other (group_of draft.objects draft.links slot)
           (kept (is_together draft.links slot) other (slot_numbers draft.objects)
-          (or_right (slot == other) (is_same_link (link_of draft.links slot) (link_of draft.links other)) same)
+          (or_second (slot == other) (is_same_link (link_of draft.links slot) (link_of draft.links other)) same)
           (numbered draft.objects other known)),
     )

@@ -4,6 +4,7 @@ use Rattle.rw_base.proofs.Common.{arith, inl, inr, Contains, bytes_eq, Decides, 
 use Rattle.rw_base.proofs.Common.{Decides-not, Decides-eqb, Decides-like, Decides-by_and, bytes_eq-Decides}
 use Rattle.rw_base.proofs.Tests.{Decides-le}
 use Rattle.rw_base.specs.Byte.{is_letter, is_digit}
+use Rattle.rw_base.proofs.Lists.{or_second}
 use Rattle.rw_model.specs.Name.{IsLetter, IsDigit, IsName, reserved_words, is_word, is_name}
 
 Decides-letter : (b : ℕ) → Decides (is_letter b) (IsLetter b)
@@ -17,14 +18,10 @@ Decides-digit b = Decides-and _ _ (Decides-le 48 b) (Decides-le b 57)
 or-left : (x y : Bool) → x ≡ true → (x || y) ≡ true
 or-left x y e = rw e refl
 
-or-right : (x y : Bool) → y ≡ true → (x || y) ≡ true
-or-right true y e = refl
-or-right false y e = e
-
 word-found : (key : List ℕ) (keys : List (List ℕ)) (k : ℕ) → k < length keys → slice_index_or keys k key ≡ key → is_word keys key ≡ true
 word-found key [] k within same = absurd (omega arith)
 word-found key (listed ∷ keys) zero within same = or-left (bytes_eq key listed) (is_word keys key) ((bytes_eq-Decides key listed).1 (sym same))
-word-found key (listed ∷ keys) (suc k) within same = or-right (bytes_eq key listed) (is_word keys key) (word-found key keys k (omega arith) same)
+word-found key (listed ∷ keys) (suc k) within same = or_second (bytes_eq key listed) (is_word keys key) (word-found key keys k (omega arith) same)
 
 one-later : (key listed : List ℕ) (keys : List (List ℕ)) → Contains keys key → Contains (listed ∷ keys) key
 one-later key listed keys (k, within, same) = (suc k, omega arith, same)

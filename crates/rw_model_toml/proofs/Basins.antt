@@ -1,6 +1,6 @@
 -- What a file is read as is a valid basin.
 use Rattle.rw_base.proofs.Common.{◌≡◌, ℕ, ◌+◌, ◌≤◌, ℤ, pos, ◌<ℤ◌, int_lt, unsigned_abs, Bool, true, false, ◌||◌, if◌then◌else◌, List, [], ◌∷◌, ◌++◌}
-use Rattle.rw_base.proofs.Common.{Option, None, Some, Result, Ok, Err, codes, refl, arith, IfOk, ints, both_ways, ◌⊎◌, inl, inr, ◌==◌}
+use Rattle.rw_base.proofs.Common.{Option, None, Some, Result, Ok, Err, codes, refl, arith, IfOk, ints, ◌⊎◌, inl, inr, ◌==◌}
 use Rattle.toml.specs.Data.{Data, string, integer, float, boolean, datetime, array, table, Items, no_items, item, Members, get_member}
 use Rattle.rw_model.proofs.Common.{link_refusal, Draft, IsControl, IsDraft, IsBasin, finish_refusal, object_refusal, bound_refusal, object-iff}
 use Rattle.rw_model.proofs.Common.{bound-iff, IsDraft-begin, IsDraft-object, IsDraft-link, IsDraft-bound, basin_iff}
@@ -20,6 +20,7 @@ use Rattle.rw_model_toml.specs.Model.{in_turn, control_in, empty_draft, objects_
 use Rattle.rw_model_toml.specs.Model.{toml_of, table_or, model_of}
 use Rattle.rw_base.specs.Answers.{unless_refused}
 use Rattle.rw_base.proofs.Tests.{denied, Decides-int_lt}
+use Rattle.std.proofs.lemmas.Bool.{or_parts}
 use Rattle.rw_calendar.specs.Stamps.{AreTimesteps, stamps_refusal, stamps_of, timesteps_of}
 use Rattle.rw_calendar.proofs.Refusals.{stamped-iff}
 use Rattle.rw_calendar.proofs.TimestepFacts.{are_stamped}
@@ -47,10 +48,6 @@ kept-by P tell (Some r) x h = tt
 abbrev IsFromTo : ℕ → ℕ → ℕ → Type 0
 IsFromTo low high n = (low ≤ n) × (n ≤ high)
 
-neither : (x y : Bool) → (x || y) ≡ false → (x ≡ false) × (y ≡ false)
-neither true y e = absurd (both_ways true e refl)
-neither false y e = (refl, e)
-
 by-test : (low high : ℕ) (refusal : ModelRefusal) (z : ℤ) (b : Bool) → (b ≡ false → IsFromTo low high (unsigned_abs z))
     → IfOk ((if b then Err refusal else Ok z) >>= λ y. Ok (unsigned_abs y)) (IsFromTo low high)
 by-test low high refusal z true h = tt
@@ -60,7 +57,7 @@ inside-is : (low high : ℕ) (path : List ℕ) (z : ℤ)
     → IfOk (within_or_refused (pos low) (pos high) path z >>= λ y. Ok (unsigned_abs y)) (IsFromTo low high)
 inside-is low high path z = by-test low high (out_of_range path) z (int_lt z (pos low) || int_lt (pos high) z)
     (λ e.
-    let parts = neither (int_lt z (pos low)) (int_lt (pos high) z) e in
+    let parts = or_parts (int_lt z (pos low)) (int_lt (pos high) z) e in
     let least : ¬ (z <ℤ pos low) = denied _ (Decides-int_lt z (pos low)) parts.0 in
     let most : ¬ (pos high <ℤ z) = denied _ (Decides-int_lt (pos high) z) parts.1 in
     (omega (arith, ints), omega (arith, ints)))

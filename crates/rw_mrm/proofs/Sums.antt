@@ -3,6 +3,7 @@ use Rattle.std.specs.List.{flat_map}
 use Rattle.rw_base.proofs.Common.{List, [], ◌∷◌, ◌++◌, ℕ, ℤ, Option, None, Some, Bool, true, false, if◌then◌else◌, ◌+◌, ◌-◌, ◌*◌, ◌<◌, ◌≡◌, ◌∙◌}
 use Rattle.rw_base.proofs.Common.{ap, ap₂, append-nil, append_assoc, arith, cons_option, length, length-append}
 use Rattle.rw_base.proofs.Common.{refl, slice_get, suc, suc-mul, sym, zero, cases_lt, ⊎_elim}
+use Rattle.rw_base.proofs.Lists.{got_in_front}
 use Rattle.rw_model.specs.Draft.{Draft}
 use Rattle.rw_model.specs.Objects.{all_slots}
 use Rattle.rw_run.specs.Log.{Cells}
@@ -15,11 +16,6 @@ use Rattle.rw_mrm.proofs.Tables.{length-joined, length-listed, length-slot_value
 
 -- ---- one list behind another
 
-get_left : {A : Type 0} (xs ys : List A) (i : ℕ) → i < length xs → slice_get (xs ++ ys) i ≡ slice_get xs i
-get_left [] ys i few = absurd (omega (arith, few))
-get_left (x ∷ xs) ys zero few = refl
-get_left (x ∷ xs) ys (suc i) few = get_left xs ys i (omega (arith, few))
-
 get_right : {A : Type 0} (xs ys : List A) (i n : ℕ) → n ≡ length xs + i → slice_get (xs ++ ys) n ≡ slice_get ys i
 get_right [] ys i n is = let same : n ≡ i = omega (arith, is) in ap (slice_get ys) same
 get_right (x ∷ xs) ys i zero is = absurd (omega (arith, is))
@@ -30,7 +26,7 @@ listed_at things zero k few = absurd (omega (arith, few))
 listed_at things (suc before) k few =
     let len = length-listed things before in
     ⊎_elim
-    (λ less. get_left (listed_up_to things before) (things (suc before) ∷ []) k (omega (arith, less, len)) ∙ listed_at things before k less)
+    (λ less. got_in_front (listed_up_to things before) (things (suc before) ∷ []) k (omega (arith, less, len)) ∙ listed_at things before k less)
     (λ more. let same : k ≡ before = omega (arith, few, more) in
     get_right (listed_up_to things before) (things (suc before) ∷ []) 0 k (omega (arith, same, len)) ∙ ap (λ n. Some (things (suc n))) (sym same))
     (cases_lt k before)
@@ -42,7 +38,7 @@ joined_at lists each (suc before) k j same few inside =
     let len = length-joined lists each before same in
     ⊎_elim
     (λ less. let room = one_more k before each less in
-    get_left (joined_up_to lists before) (lists (suc before)) (k * each + j) (omega (arith, room, inside, len))
+    got_in_front (joined_up_to lists before) (lists (suc before)) (k * each + j) (omega (arith, room, inside, len))
     ∙ joined_at lists each before k j same less inside)
     (λ more. let is : k ≡ before = omega (arith, few, more) in
     let here = ap (λ n. n * each) is in
@@ -75,7 +71,7 @@ first_table : (table rest : List (Option ℤ)) (size place count : ℕ) → leng
 first_table table rest size place zero len few =
     let at : zero * size + place ≡ place = omega arith in
     ap (λ k. known_one (slice_get (table ++ rest) k)) at
-    ∙ ap known_one (get_left table rest place (omega (arith, len, few)))
+    ∙ ap known_one (got_in_front table rest place (omega (arith, len, few)))
     ∙ sym (append-nil (known_one (slice_get table place)))
 first_table table rest size place (suc before) len few =
     let more = suc-mul before size in

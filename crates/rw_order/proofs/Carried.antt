@@ -7,10 +7,10 @@ use Rattle.rw_order.proofs.Common.{subst, sym, true, value_in, value_of_past, vi
 use Rattle.rw_order.proofs.Common.{◌≡◌, ◌≢◌, ◌≤◌, ◌⊎◌}
 use Rattle.rw_order.proofs.Held.{IsWhole}
 use Rattle.rw_order.proofs.AllKinds.{AreLevelledOf}
-use Rattle.rw_order.proofs.Places.{content_at}
 use Rattle.rw_order.proofs.Resting.{IsAtRest, IsSilent, spoken_grows}
 use Rattle.rw_order.proofs.Sounds.{IsLaidOut}
 use Rattle.rw_order.proofs.Leaving.{HasSaid, Leaves, WroteNothing}
+use Rattle.rw_dispatch.proofs.Viewed.{content-slot}
 
 -- ---- a view by what stands in its places
 
@@ -88,10 +88,10 @@ module _ (basin : Draft) (start : Cells) (step object : ℕ) (kind : Kind) (laid
     where
       by : (place : ℕ) (slot : Option ℕ) → slot_in_place basin.objects other place ≡ slot
           → content_in basin old other at place ≡ content_in basin (held_after basin event old) other at place
-      by place None is = content_at basin old other at place None is ∙ sym (content_at basin (held_after basin event old) other at place None is)
+      by place None is = content-slot basin old other at place None is ∙ sym (content-slot basin (held_after basin event old) other at place None is)
       by place (Some slot) is =
-          content_at basin old other at place (Some slot) is ∙ same place slot is
-          ∙ sym (content_at basin (held_after basin event old) other at place (Some slot) is)
+          content-slot basin old other at place (Some slot) is ∙ same place slot is
+          ∙ sym (content-slot basin (held_after basin event old) other at place (Some slot) is)
 
   -- so is one at an earlier timestep
   pub rest_earlier : (other at : ℕ) (of : Kind) → at < step → IsAtRest basin start old other at of
@@ -138,10 +138,10 @@ module _ (basin : Draft) (start : Cells) (step object : ℕ) (kind : Kind) (laid
       → WroteNothing basin old other at → content_in basin (held_after basin event old) other at place ≡ Some content
       → is_same_object content.writer (ByObject (record { 0 = other })) ≡ false
   nothing_carries other at place content None apart is nothing there =
-      absurd (none-some _ (sym (content_at basin (held_after basin event old) other at place None is) ∙ there))
+      absurd (none-some _ (sym (content-slot basin (held_after basin event old) other at place None is) ∙ there))
   nothing_carries other at place content (Some slot) apart is nothing there =
-      elim (leaves.fresh (cell_at slot at) content (sym (content_at basin (held_after basin event old) other at place (Some slot) is) ∙ there)) [
-        | inl stood ↦ nothing place content (content_at basin old other at place (Some slot) is ∙ stood)
+      elim (leaves.fresh (cell_at slot at) content (sym (content-slot basin (held_after basin event old) other at place (Some slot) is) ∙ there)) [
+        | inl stood ↦ nothing place content (content-slot basin old other at place (Some slot) is ∙ stood)
         | inr new_one ↦ elim apart [
           | inl later ↦ absurd (later new_one.2)
           | inr someone ↦

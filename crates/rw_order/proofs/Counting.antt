@@ -4,8 +4,8 @@ use Rattle.rw_order.proofs.Common.{cell_in, content_in, false, if◌then◌else�
 use Rattle.rw_order.proofs.Common.{length-range_with_len, nat_tests, none-some, option_and_then, option_or, places, put, range_with_len, refl}
 use Rattle.rw_order.proofs.Common.{slot_in_place, subst, suc, sym, true, zero, ℕ, ◌&&◌, ◌+◌, ◌<◌, ◌==◌, ◌||◌, ◌∙◌, ◌∷◌, ◌≡◌, ◌≤◌, ◌⊎◌}
 use Rattle.rw_order.proofs.Writing.{AllNew, AreShared, Grow}
-use Rattle.rw_order.proofs.Places.{content_at}
 use Rattle.rw_order.proofs.Sounds.{IsLaidOut}
+use Rattle.rw_dispatch.proofs.Viewed.{content-slot}
 
 abbrev pub one_if : Bool → ℕ
 one_if true = 1
@@ -95,7 +95,7 @@ module _ (basin : Draft) (old new : Cells) (object step : ℕ) (grow : Grow old 
   count_rises place slot near at none some =
       known_grows (content_in basin old object step) (content_in basin new object step) places place more_known
       (is_in_range 0 12 place (omega arith) (omega (arith, near)))
-      (content_at basin old object step place (Some slot) at ∙ none) (subst IsSome (sym (content_at basin new object step place (Some slot) at)) some)
+      (content-slot basin old object step place (Some slot) at ∙ none) (subst IsSome (sym (content-slot basin new object step place (Some slot) at)) some)
 
 -- ---- a put that reaches one of the object's slots
 

@@ -5,7 +5,7 @@ use Rattle.rw_order.proofs.Common.{is_number, is_since, length, nat_tests, none-
 use Rattle.rw_order.proofs.Common.{subst, suc, sym, true, waiting, waiting_below, zero, ℕ, ◌++◌, ◌-◌, ◌<◌, ◌∙◌, ◌∷◌, ◌≡◌, ◌≤◌, ◌⊎◌}
 use Rattle.rw_dispatch.specs.Pick.{newest, picked}
 use Rattle.rw_order.specs.AnyRun.{WaitsBefore}
-use Rattle.rw_order.proofs.Lists.{all_joined, all_weaker}
+use Rattle.rw_base.proofs.Lists.{all_append, weaker_all}
 
 module _ (basin : Draft) (log : Log) where
   -- each stands before all that come after it
@@ -16,7 +16,7 @@ module _ (basin : Draft) (log : Log) where
   rises_joined : (xs ys : List ℕ) → Rises xs → Rises ys → AllByRecursion (λ x. AllByRecursion (WaitsBefore basin log x) ys) xs → Rises (xs ++ ys)
   rises_joined [] ys first second across = second
   rises_joined (x ∷ xs) ys first second across =
-      (all_joined (WaitsBefore basin log x) xs ys first.0 across.0, rises_joined xs ys first.1 second across.1)
+      (all_append (WaitsBefore basin log x) xs ys first.0 across.0, rises_joined xs ys first.1 second across.1)
 
   -- ---- those of one event
 
@@ -30,7 +30,7 @@ module _ (basin : Draft) (log : Log) where
   later_all : (place object most : ℕ) (xs : List ℕ) → since basin log object ≡ Some place → most < object → AllByRecursion (IsOf place most) xs
       → AllByRecursion (λ x. AllByRecursion (WaitsBefore basin log x) (object ∷ [])) xs
   later_all place object most xs own less of =
-      all_weaker (IsOf place most) (λ x. AllByRecursion (WaitsBefore basin log x) (object ∷ [])) xs
+      weaker_all (IsOf place most) (λ x. AllByRecursion (WaitsBefore basin log x) (object ∷ [])) xs
       (λ x is. let near = is.1 in (
         record {
           first = place;
@@ -50,7 +50,7 @@ module _ (basin : Draft) (log : Log) where
       subst (λ xs. Rises xs × AllByRecursion (IsOf place (suc count)) xs)
       (sym (filter-append (is_since basin log place) (numbers count) (suc count ∷ [])))
       (by (is_since basin log place (suc count)) refl before.0
-      (all_weaker (IsOf place count) (IsOf place (suc count)) (filter (is_since basin log place) (numbers count))
+      (weaker_all (IsOf place count) (IsOf place (suc count)) (filter (is_since basin log place) (numbers count))
       (λ x is. let near = is.1 in (is.0, omega (arith, near))) before.1) before.1)
     where
       by : (test : Bool) → is_since basin log place (suc count) ≡ test → Rises (filter (is_since basin log place) (numbers count))
@@ -65,7 +65,7 @@ module _ (basin : Draft) (log : Log) where
           let own = since_is place (since basin log (suc count)) is in (
             rises_joined (filter (is_since basin log place) (numbers count)) (suc count ∷ []) rises (tt, tt)
                 (later_all place (suc count) count (filter (is_since basin log place) (numbers count)) own (omega arith) few),
-            all_joined (IsOf place (suc count)) (filter (is_since basin log place) (numbers count)) (suc count ∷ []) of ((own, omega arith), tt),
+            all_append (IsOf place (suc count)) (filter (is_since basin log place) (numbers count)) (suc count ∷ []) of ((own, omega arith), tt),
           )
 
   -- ---- all of them
@@ -82,14 +82,14 @@ module _ (basin : Draft) (log : Log) where
       let these = of_event place (length basin.objects) in
       let now = filter (is_since basin log place) (numbers (length basin.objects)) in (
         rises_joined (waiting_below basin log place) now older.0 these.0
-            (all_weaker (IsBelow place) (λ x. AllByRecursion (WaitsBefore basin log x) now) (waiting_below basin log place)
-            (λ x first. all_weaker (IsOf place (length basin.objects)) (WaitsBefore basin log x) now
+            (weaker_all (IsBelow place) (λ x. AllByRecursion (WaitsBefore basin log x) now) (waiting_below basin log place)
+            (λ x first. weaker_all (IsOf place (length basin.objects)) (WaitsBefore basin log x) now
             (λ y second. record { first = first.at; second = place; since_one = first.is; since_other = second.0; earlier = inl first.less }) these.1)
             older.1),
-        all_joined (IsBelow (suc place)) (waiting_below basin log place) now
-            (all_weaker (IsBelow place) (IsBelow (suc place)) (waiting_below basin log place)
+        all_append (IsBelow (suc place)) (waiting_below basin log place) now
+            (weaker_all (IsBelow place) (IsBelow (suc place)) (waiting_below basin log place)
             (λ x is. let less = is.less in record { at = is.at; is = is.is; less = omega (arith, less) }) older.1)
-            (all_weaker (IsOf place (length basin.objects)) (IsBelow (suc place)) now
+            (weaker_all (IsOf place (length basin.objects)) (IsBelow (suc place)) now
             (λ x is. record { at = place; is = is.0; less = omega arith }) these.1),
       )
 

@@ -1,5 +1,5 @@
 -- A basin of which the order of dispatches is free is laid out so.
-use Rattle.rw_order.proofs.Common.{All, AllByRecursion, Bool, Bounds, ByRule, Cells, DataObject, DataSlot, Draft, IsBasin, IsKind, IsPutOf, IsSome}
+use Rattle.rw_order.proofs.Common.{All, AllByRecursion, Bool, Bounds, ByRule, Cells, DataObject, DataSlot, Draft, IsBasin, IsKind, IsPutOf}
 use Rattle.rw_order.proofs.Common.{IsSoundObject, Kind, List, Neither, None, Object, Option, Past, Placed, Put, Puts, Request, Shared-of, Slot, Some}
 use Rattle.rw_order.proofs.Common.{View, WaterUser, [], all_quantities, and_parts, ap, ap₂, arith, both_ways, bounds-slot, bounds_at-view, cases_eq}
 use Rattle.rw_order.proofs.Common.{cases_lt, cell_at, code_of, dim_of, dimension, false, get_or_from_slice_get, get_or_past, group_of, has_slot, inl}
@@ -9,13 +9,13 @@ use Rattle.rw_order.proofs.Common.{owner_of, past_at, past_in, past_of, pos, put
 use Rattle.rw_order.proofs.Common.{slot_in, slot_in_place, slot_numbers, slots_of, solve-puts, solve_of, some_ago, stands_in, subst, suc, sym, true}
 use Rattle.rw_order.proofs.Common.{unwrap_or, view_of, zero, ℕ, ℤ, ◌&&◌, ◌-◌, ◌<◌, ◌==◌, ◌∙◌, ◌∷◌, ◌≡◌, ◌≢◌, ◌≤◌}
 use Rattle.rw_order.specs.Free.{has_level_in, has_other_level, is_level, joins_levels, is_free, order_free}
-use Rattle.rw_order.proofs.Lists.{all_weaker}
 use Rattle.rw_order.proofs.Places.{HaveSlots}
 use Rattle.rw_order.proofs.Sounds.{IsLaidOut, in_bounds}
 use Rattle.rw_order.proofs.Turns.{in_range, ready_object}
-use Rattle.rw_order.proofs.Slots.{owner_is, placed_in}
+use Rattle.rw_model.proofs.Owned.{owner_in, placed_in}
 use Rattle.rw_order.proofs.Links.{any_there, apart, contains_of, hits, owner, reached, same_bounds, same_group, same_or_linked, same_step}
 use Rattle.rw_order.proofs.Flat.{is_flat, level_flat, level_of}
+use Rattle.rw_base.proofs.Lists.{some_there, weaker_all}
 
 -- ---- an object's kind is sound, and has few places
 
@@ -34,10 +34,6 @@ kind_few (DataObject slots) is =
 kind_few (WaterUser depletion Request) is = omega arith
 kind_few (WaterUser depletion ByRule) is = omega arith
 kind_few kind is = omega arith
-
-some_there : {X : Type 0} (found : Option X) → IsSome found → (x : X) × (found ≡ Some x)
-some_there None some = absurd (both_ways false refl some)
-some_there (Some x) some = (x, refl)
 
 kind_at : (objects : List Object) (object : ℕ) (found : Object) → object_at objects object ≡ Some found
     → option_map (λ (o : Object). o.kind) (object_at objects object) ≡ Some found.kind
@@ -74,7 +70,7 @@ module _ (basin : Draft) (valid : IsBasin basin) where
   slots : (object : ℕ) (found : Object) (view : View) (puts : List Put) → object_at basin.objects object ≡ Some found
       → solve_of found.kind view ≡ Puts puts → HaveSlots basin object puts
   slots object found view puts is e =
-      all_weaker (IsPutOf found.kind view) (λ (put : Put). (slot : ℕ) × (slot_in_place basin.objects object put.place ≡ Some slot)) puts
+      weaker_all (IsPutOf found.kind view) (λ (put : Put). (slot : ℕ) × (slot_in_place basin.objects object put.place ≡ Some slot)) puts
       (λ put is_own.
       let slot = some_there (slot_in found.kind put.place) is_own.own.slot in
       has_slot basin.objects object put.place found.kind slot.0 (in_range basin object found is).0 (kind_at basin.objects object found is) slot.1)
@@ -84,7 +80,7 @@ module _ (basin : Draft) (valid : IsBasin basin) where
       → solve_of found.kind (view_of basin cells object step) ≡ Puts puts
       → AllByRecursion (λ (put : Put). is_bounded (view_of basin cells object step) put ≡ true) puts
   answers cells object step found puts is e =
-      all_weaker (IsPutOf found.kind (view_of basin cells object step)) (λ (put : Put). is_bounded (view_of basin cells object step) put ≡ true) puts
+      weaker_all (IsPutOf found.kind (view_of basin cells object step)) (λ (put : Put). is_bounded (view_of basin cells object step) put ≡ true) puts
       (λ put is_own. is_own.bounded) (own_puts object found (view_of basin cells object step) puts is e)
 
   -- ---- a past value
@@ -128,8 +124,8 @@ module _ (basin : Draft) (valid : IsBasin basin) where
   level_slot object place slot found is at level =
       let own = placed_in basin.objects object place slot at in
       ap (λ (p : Option Placed). unwrap_or (option_and_then
-      (λ (q : Placed). option_map (λ (o : Object). has_level_in q.place o.kind) (object_at basin.objects q.owner)) p) false) own.found
-      ∙ ap₂ (λ o p. unwrap_or (option_map (λ (f : Object). has_level_in p f.kind) (object_at basin.objects o)) false) own.owner own.place_is
+      (λ (q : Placed). option_map (λ (o : Object). has_level_in q.place o.kind) (object_at basin.objects q.owner)) p) false) own.at
+      ∙ ap₂ (λ o p. unwrap_or (option_map (λ (f : Object). has_level_in p f.kind) (object_at basin.objects o)) false) own.owns own.there
       ∙ ap (λ (o : Option Object). unwrap_or (option_map (λ (f : Object). has_level_in place f.kind) o) false) is
       ∙ level
 
@@ -151,8 +147,8 @@ module _ (basin : Draft) (valid : IsBasin basin) where
   levels free object other place slot found is level at reaches ready =
       let hit = hits basin valid other (cell_at slot 0) reaches in
       let shares = Shared-of basin (cell_at slot 0) (cell_at hit.1 0) hit.3 in
-      let owns : owner_of basin.objects slot ≡ object = owner_is basin.objects object place slot at in
-      let owns_other : owner_of basin.objects hit.1 ≡ other = owner_is basin.objects other hit.0 hit.1 hit.2 in
+      let owns : owner_of basin.objects slot ≡ object = owner_in basin.objects object place slot at in
+      let owns_other : owner_of basin.objects hit.1 ≡ other = owner_in basin.objects other hit.0 hit.1 hit.2 in
       elim (same_or_linked basin slot hit.1 valid shares.together) [
         | inl same ↦ sym owns_other ∙ ap (owner_of basin.objects) (sym same) ∙ owns
         | inr both ↦

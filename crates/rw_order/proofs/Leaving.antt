@@ -5,15 +5,17 @@ use Rattle.rw_order.proofs.Common.{content_in, denied_by, dispatch_of, dispatche
 use Rattle.rw_order.proofs.Common.{inl, inr, is_bounded, is_data, is_same_object, is_shared, is_some, is_written, known_value, last_put, looks_of}
 use Rattle.rw_order.proofs.Common.{none-some, numbers, object_at, option_map, option_or, put, puts_written, refl, slot_in_place, solve_of, solved}
 use Rattle.rw_order.proofs.Common.{subst, sym, true, unwrap_or, view_of, written_by, ℕ, ℤ, ◌∙◌, ◌∷◌, ◌≡◌, ◌⊎◌}
-use Rattle.rw_order.proofs.Lists.{all_both, all_kept, all_weaker}
+use Rattle.rw_order.proofs.Lists.{all_kept}
 use Rattle.rw_order.proofs.Held.{AnswersWithin, AreHeld}
 use Rattle.rw_order.proofs.AllKinds.{AreLevelledOf}
 use Rattle.rw_order.proofs.Numbers.{AllZero, answers_plain, given_zero}
 use Rattle.rw_order.proofs.Writing.{AllFind, AllNew, Finds, Grow, IsLast, after_puts, all_find_held, all_new, all_pass, all_pass_rest, all_stand}
 use Rattle.rw_order.proofs.Writing.{either_by, find_pass, grow_below, known_stays, last_of}
-use Rattle.rw_order.proofs.Places.{HaveSlots, are_clear, asked_held, content_at, known_at, puts_stand, values_at}
+use Rattle.rw_order.proofs.Places.{HaveSlots, are_clear, asked_held, puts_stand, values_at}
 use Rattle.rw_order.proofs.Resting.{HasSpoken, IsAtRest, IsSilent, known_zero, rest_within, seen_below}
 use Rattle.rw_order.proofs.Sounds.{IsLaidOut, IsMade, IsSound, can_stand, in_bounds, level_kept}
+use Rattle.rw_base.proofs.Lists.{both_all, weaker_all}
+use Rattle.rw_dispatch.proofs.Viewed.{content-slot, known-view}
 
 -- a put that the object asks for
 record IsAskedOf (basin : Draft) (object step : ℕ) (put : Asked) : Type 0 where
@@ -96,7 +98,7 @@ module _ (basin : Draft) (start : Cells) (step object : ℕ) (found : Object) (l
         → IsLast basin (λ put. (cells put.cell ≡ None) × IsAskedOf basin object step put) cell content
     last_new cell content put =
         last_of basin (λ p. (cells p.cell ≡ None) × IsAskedOf basin object step p) written cell content
-        (all_both (λ p. cells p.cell ≡ None) (IsAskedOf basin object step) written new of) put
+        (both_all (λ p. cells p.cell ≡ None) (IsAskedOf basin object step) written new of) put
 
     at_step : (cell : Cell) (content : Content) → IsLast basin (λ put. (cells put.cell ≡ None) × IsAskedOf basin object step put) cell content
         → cell.step.0 ≡ step
@@ -163,9 +165,9 @@ module _ (basin : Draft) (start : Cells) (step object : ℕ) (found : Object) (l
           → slot_in_place basin.objects object place ≡ slot → option_map (λ (c : Content). c.value) held ≡ Some value
           → IsSome (given view place) × (known_value view place ≡ Some value)
       by place value None slot is at e = absurd (none-some _ e)
-      by place value (Some content) None is at e = absurd (none-some _ (sym (content_at basin cells object step place None at) ∙ is))
+      by place value (Some content) None is at e = absurd (none-some _ (sym (content-slot basin cells object step place None at) ∙ is))
       by place value (Some content) (Some slot) is at e =
-          let known_one = known_at basin cells object step place (laid.few object place slot found is_object at) ∙ is in (
+          let known_one = known-view basin cells object step place (laid.few object place slot found is_object at) ∙ is in (
             ap is_some (ap (given_by (record { 0 = object })) known_one
                 ∙ ap (λ test. if test then None else Some (record { value = content.value; number = content.number })) (nothing place content is)),
             ap (option_map (λ (c : Content). c.value)) known_one ∙ e,
@@ -185,15 +187,15 @@ module _ (basin : Draft) (start : Cells) (step object : ℕ) (found : Object) (l
       all_find_held cells (asked_for basin object step puts) (asked_held basin cells object step puts held)
   find_all looked puts event answer e fine (inr nothing) of =
       let asked = asked_for basin object step puts in
-      all_weaker (λ (put : Asked). IsAskedOf basin object step put × (denied_by (end_in cells put) put ≡ None))
+      weaker_all (λ (put : Asked). IsAskedOf basin object step put × (denied_by (end_in cells put) put ≡ None))
       (λ (put : Asked). Finds (cells put.cell) put.content.value) asked
       (λ put both. find_pass object put (cells put.cell) both.0.writer
       (λ held is. (
         sound.zeros put.cell held is,
-        nothing both.0.place held (content_at basin cells object step both.0.place (Some both.0.slot) both.0.at ∙ ap cells (sym both.0.cell) ∙ is),
+        nothing both.0.place held (content-slot basin cells object step both.0.place (Some both.0.slot) both.0.at ∙ ap cells (sym both.0.cell) ∙ is),
       ))
       both.1)
-      (all_both (IsAskedOf basin object step) (λ (put : Asked). denied_by (end_in cells put) put ≡ None) asked of
+      (both_all (IsAskedOf basin object step) (λ (put : Asked). denied_by (end_in cells put) put ≡ None) asked of
       (all_pass cells object asked (dispatch_of cells looked object step asked) event e fine))
 
   leaves_by : (looked : List Look) (answer : Solved) (event : Event) → solve_of found.kind view ≡ answer

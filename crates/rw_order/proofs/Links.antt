@@ -9,7 +9,8 @@ use Rattle.rw_order.proofs.Common.{true, unwrap_or, zero, ℕ, ℤ, ◌&&◌, �
 use Rattle.std.specs.List.{IsDistinct}
 use Rattle.rw_order.proofs.Places.{IsApart}
 use Rattle.rw_order.proofs.Sounds.{in_bounds}
-use Rattle.rw_order.proofs.Slots.{in_its_place, owner_is, placed_in}
+use Rattle.rw_model.proofs.Owned.{owner_in, placed_in}
+use Rattle.rw_order.proofs.Slots.{in_its_place}
 
 -- ---- a slot of a list
 
@@ -61,13 +62,13 @@ module _ (basin : Draft) where
       (among_group basin.objects basin.links cell.slot.0 slot
       ∙ ap₂ (λ a b. a && b) (together_turned basin.links cell.slot.0 slot ∙ together)
       (known_number basin.objects slot (known_in_place basin.objects object place slot at)))
-      (owner_is basin.objects object place slot at)
+      (owner_in basin.objects object place slot at)
 
   pub reached : (object place slot step : ℕ) (cell : Cell) → slot_in_place basin.objects object place ≡ Some slot
       → is_shared basin cell (cell_at slot step) ≡ true
       → is_at basin object cell.slot.0 ≡ true
   reached object place slot step cell at shares =
-      own_at object slot cell.slot.0 (and_parts _ _ shares).0 (owner_is basin.objects object place slot at)
+      own_at object slot cell.slot.0 (and_parts _ _ shares).0 (owner_in basin.objects object place slot at)
 
   pub same_step : (cell other : Cell) → is_shared basin cell other ≡ true → other.step.0 ≡ cell.step.0
   same_step cell other shares = (Shared-of basin cell other shares).step
@@ -187,12 +188,12 @@ module _ (basin : Draft) (valid : IsBasin basin) where
       by place other slot there step at is_there differ true e =
           let same =
           one_slot slot there object (Shared-of basin (cell_at slot step) (cell_at there step) e).together
-          (owner_is basin.objects object place slot at)
-          (owner_is basin.objects object other there is_there) in
+          (owner_in basin.objects object place slot at)
+          (owner_in basin.objects object other there is_there) in
           let one = placed_in basin.objects object place slot at in
           let two = placed_in basin.objects object other slot (is_there ∙ ap Some (sym same)) in
-          let both : one.placed_one ≡ two.placed_one = same_Some _ _ (sym one.found ∙ two.found) in
-          absurd (differ (sym one.place_is ∙ ap (λ (p : Placed). p.place) both ∙ two.place_is))
+          let both : one.placed ≡ two.placed = same_Some _ _ (sym one.at ∙ two.at) in
+          absurd (differ (sym one.there ∙ ap (λ (p : Placed). p.place) both ∙ two.there))
 
   -- ---- a slot that shares with another is a slot
 

@@ -9,11 +9,11 @@ use Rattle.rw_order.proofs.Common.{solved_balance}
 use Rattle.rw_order.proofs.Common.{solved_at, solve_of, solved_put, solves, subst, suc, sym, true, unwrap_or, user_puts, value_from_others}
 use Rattle.rw_order.proofs.Common.{volume_of, weakest, zero, ℕ, ℤ, ◌++◌, ◌+ℤ◌, ◌<◌, ◌==◌, ◌∙◌, ◌∷◌, ◌≡◌, ◌≤◌}
 use Rattle.rw_order.specs.Free.{is_free}
-use Rattle.rw_order.proofs.Lists.{all_joined}
 use Rattle.rw_order.proofs.Held.{AreZero, Sight, given_known}
 use Rattle.rw_order.proofs.Terms.{Parts, balanced_is, parts_of, sight_of, term_in, terms_of}
 use Rattle.rw_order.proofs.Judged.{answered_puts}
 use Rattle.rw_order.proofs.Levels.{Zero, basis_both, store_zero, zero_at}
+use Rattle.rw_base.proofs.Lists.{all_append}
 
 -- ---- puts that rise from one place to below another
 
@@ -98,7 +98,7 @@ ArePlain low puts high = AllZero puts × Rise low puts high
 
 plain_both : (a b c : ℕ) (xs ys : List Put) → ArePlain a xs b → ArePlain b ys c → ArePlain a (xs ++ ys) c
 plain_both a b c xs ys first second =
-    (all_joined (λ (put : Put). put.number ≡ 0) xs ys first.0 second.0, rise_both a b c xs ys first.1 second.1)
+    (all_append (λ (put : Put). put.number ≡ 0) xs ys first.0 second.0, rise_both a b c xs ys first.1 second.1)
 
 plain_if : (a c : ℕ) (test : Bool) (xs ys : List Put) → ArePlain a xs c → ArePlain a ys c → ArePlain a (if test then xs else ys) c
 plain_if a c true xs ys x y = x

@@ -5,7 +5,6 @@ use Rattle.rw_order.proofs.Common.{false, held_after, if◌then◌else◌, inl, 
 use Rattle.rw_order.proofs.Common.{object_at, opened, over, refl, rests, same_Some, since, slot_in_place, standing, subst, suc, sym, true, waiting}
 use Rattle.rw_order.proofs.Common.{written_by, ℕ, ◌+◌, ◌<◌, ◌∙◌, ◌∷◌, ◌≡◌, ◌≢◌, ◌≤◌, ◌⊎◌}
 use Rattle.rw_order.proofs.Writing.{or_none}
-use Rattle.rw_order.proofs.Places.{content_at}
 use Rattle.rw_order.proofs.Resting.{IsAtRest}
 use Rattle.rw_order.proofs.Sounds.{IsLaidOut, IsSound}
 use Rattle.rw_order.proofs.Leaving.{HasSaid, Leaves, WroteNothing, leaves}
@@ -13,6 +12,7 @@ use Rattle.rw_order.proofs.Carried.{rest_earlier, rest_unreached, said_carries}
 use Rattle.rw_order.proofs.Counting.{count_grows, count_rises, known_count, one_if, one_few, reached_by, some_or}
 use Rattle.rw_order.proofs.Turns.{counts_other, counts_own, nobody_waits, opening, other_rests, other_woken, own_rests, ready_object, since_ready}
 use Rattle.rw_order.proofs.Turns.{still_inside, still_opened, waits_since}
+use Rattle.rw_dispatch.proofs.Viewed.{content-slot}
 
 -- where a log stands: at the timestep that was opened last. Where it rests nobody waits
 abbrev pub StandsAt : Draft → Log → Standing → Type 0
@@ -62,8 +62,8 @@ module _ (basin : Draft) (start : Cells) (laid : IsLaidOut basin)
     where
       by : (slot : Option ℕ) → slot_in_place basin.objects object place ≡ slot
           → is_same_object content.writer (ByObject (record { 0 = object })) ≡ false
-      by None at = absurd (none-some _ (sym (content_at basin cells object step place None at) ∙ is))
-      by (Some slot) at = elim (sound.made (cell_at slot step) content (sym (content_at basin cells object step place (Some slot) at) ∙ is)) [
+      by None at = absurd (none-some _ (sym (content-slot basin cells object step place None at) ∙ is))
+      by (Some slot) at = elim (sound.made (cell_at slot step) content (sym (content-slot basin cells object step place (Some slot) at) ∙ is)) [
         | inl there ↦ ap (λ w. is_same_object w (ByObject (record { 0 = object }))) (inputs_alone (cell_at slot step) content there)
         | inr made ↦ let late = made.step in absurd (omega (arith, before, late))
       ]

@@ -1,33 +1,24 @@
 -- The cells of one object's slots, and its puts to them.
 use Rattle.rw_order.proofs.Common.{AllByRecursion, Asked, Cells, Content, Draft, List, None, Option, Put, Some, [], ap, arith, asked_by, asked_for}
-use Rattle.rw_order.proofs.Common.{cases_lt, cell_at, content_in, false, get_or-map-range_with_len, get_or_past, inl, inr, is_shared, known, map}
+use Rattle.rw_order.proofs.Common.{cases_lt, cell_at, content_in, false, get_or_past, inl, inr, is_shared, known, map}
 use Rattle.rw_order.proofs.Common.{none-some, option_and_then, option_map, places, put, slot_in_place, subst, suc, sym, true, unwrap_or, value_in}
-use Rattle.rw_order.proofs.Common.{view_of, ℕ, ℤ, ◌+◌, ◌<◌, ◌∙◌, ◌∷◌, ◌≡◌, ◌≢◌}
-use Rattle.rw_order.proofs.Lists.{all_mapped, all_weaker}
+use Rattle.rw_order.proofs.Common.{view_of, ℕ, ℤ, ◌<◌, ◌∙◌, ◌∷◌, ◌≡◌, ◌≢◌}
 use Rattle.rw_order.proofs.Held.{AreHeld, Values}
 use Rattle.rw_order.proofs.Numbers.{Rise}
 use Rattle.rw_order.proofs.Writing.{AreClear, HeldIn, IsClear}
+use Rattle.rw_base.proofs.Lists.{mapped_all, weaker_all}
+use Rattle.rw_dispatch.proofs.Viewed.{content-slot, known-view}
 
 -- the values in an object's places
 abbrev pub values_at : Draft → Cells → ℕ → ℕ → Values
 values_at basin cells object step place = option_map (λ (content : Content). content.value) (content_in basin cells object step place)
 
 -- what stands in a place, by its slot
-pub content_at : (basin : Draft) (cells : Cells) (object step place : ℕ) (slot : Option ℕ) → slot_in_place basin.objects object place ≡ slot
-    → content_in basin cells object step place ≡ option_and_then cells (option_map (λ s. cell_at s step) slot)
-content_at basin cells object step place slot at = ap (λ s. option_and_then cells (option_map (λ n. cell_at n step) s)) at
-
-pub known_at : (basin : Draft) (cells : Cells) (object step place : ℕ) → place < 12
-    → known (view_of basin cells object step) place ≡ content_in basin cells object step place
-known_at basin cells object step place near =
-    let at : 0 + place ≡ place = omega arith in
-    get_or-map-range_with_len (content_in basin cells object step) 0 12 place place None near at
-
 pub known_is : (basin : Draft) (cells : Cells) (object step place : ℕ) (content : Content)
     → known (view_of basin cells object step) place ≡ Some content
     → content_in basin cells object step place ≡ Some content
 known_is basin cells object step place content is = elim (cases_lt place 12) [
-  | inl near ↦ sym (known_at basin cells object step place near) ∙ is
+  | inl near ↦ sym (known-view basin cells object step place near) ∙ is
   | inr past ↦ absurd (none-some _ (sym (get_or_past (map (content_in basin cells object step) places) place None past) ∙ is))
 ]
 
@@ -52,8 +43,8 @@ cell_held cells step (Some slot) value is = is
 pub asked_held : (basin : Draft) (cells : Cells) (object step : ℕ) (puts : List Put) → AreHeld (values_at basin cells object step) puts
     → HeldIn cells (asked_for basin object step puts)
 asked_held basin cells object step puts held =
-    all_mapped (λ (put : Asked). value_in cells put.cell ≡ Some put.content.value) (asked_by basin object step) puts
-    (all_weaker (λ (put : Put). values_at basin cells object step put.place ≡ Some put.value)
+    mapped_all (λ (put : Asked). value_in cells put.cell ≡ Some put.content.value) (asked_by basin object step) puts
+    (weaker_all (λ (put : Put). values_at basin cells object step put.place ≡ Some put.value)
     (λ (put : Put). value_in cells (asked_by basin object step put).cell ≡ Some put.value)
     puts (λ put is. cell_held cells step (slot_in_place basin.objects object put.place) put.value is) held)
 
@@ -100,6 +91,6 @@ puts_stand basin cells object step (put ∷ puts) slots stand =
     let there = slots.0.1 in
     let here : value_in cells (cell_at slots.0.0 step) ≡ Some put.value =
     subst (λ slot. value_in cells (cell_at (unwrap_or slot 0) step) ≡ Some put.value) there stand.0 in (
-      ap (option_map (λ (c : Content). c.value)) (content_at basin cells object step put.place (Some slots.0.0) there) ∙ here,
+      ap (option_map (λ (c : Content). c.value)) (content-slot basin cells object step put.place (Some slots.0.0) there) ∙ here,
       puts_stand basin cells object step puts slots.1 stand.1,
     )

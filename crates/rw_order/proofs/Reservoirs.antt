@@ -6,7 +6,7 @@ use Rattle.rw_order.proofs.Common.{fits, given, if◌then◌else◌, int_min, is
 use Rattle.rw_order.proofs.Common.{put_found, refl, release_puts, same_Some, solved_balance, side_flows, solved_put, subst, known_sum, sym, true}
 use Rattle.rw_order.proofs.Common.{volume_of}
 use Rattle.rw_order.proofs.Common.{ℕ, ℤ, ◌&&◌, ◌++◌, ◌-ℤ◌, ◌==◌, ◌∙◌, ◌∷◌, ◌≡◌}
-use Rattle.rw_order.proofs.Lists.{all_joined, all_left, all_right, all_weaker}
+use Rattle.rw_order.proofs.Lists.{all_left, all_right}
 use Rattle.rw_order.proofs.Held.{AreHeld, AreZero, FitsThere, IsSeenOf, Stands, Values, given_stands}
 use Rattle.rw_order.proofs.Terms.{balanced_is, store_sight, terms_of}
 use Rattle.rw_order.proofs.Agreeing.{agree_evaporation, agree_is, agree_past}
@@ -15,6 +15,7 @@ use Rattle.rw_order.proofs.Missing.{is_idle}
 use Rattle.rw_order.proofs.Judged.{Answered, rest_of}
 use Rattle.rw_order.proofs.Levels.{AreLevelled, Zero, basis_both, beside_of, contents_stand, hold_if, level_stays, store_parts, store_stands}
 use Rattle.rw_order.proofs.Levels.{store_zero, third_solved, volume_held, zero_at}
+use Rattle.rw_base.proofs.Lists.{all_append, weaker_all}
 
 or_none : (a b : Option Solved) → or_else a b ≡ None → (a ≡ None) × (b ≡ None)
 or_none None b e = (refl, e)
@@ -128,7 +129,7 @@ module _ (initial_storage : ℤ) (table : Option (List Row)) (local_inflow diver
     holds =
         let level = level_puts table (given one 2) (given one 3) (balanced_of kind one) in
         let lost_puts = evaporation_put evaporation (lost one) ++ release_puts max_release (known_after one (balanced_of kind one) 1) in
-        let fit_each = all_weaker (λ (put : Put). fits kind one put ≡ true) (λ (put : Put). put.place ≡ 2 → can_hold table put.value ≡ true)
+        let fit_each = weaker_all (λ (put : Put). fits kind one put ≡ true) (λ (put : Put). put.place ≡ 2 → can_hold table put.value ≡ true)
         (solved_put (balanced_of kind one) ++ (level ++ lost_puts)) (λ put fit. fit_holds put.place put.value (is_bounded one put) fit)
         answered.fit_all in
         let fit_rest =
@@ -136,7 +137,7 @@ module _ (initial_storage : ℤ) (table : Option (List Row)) (local_inflow diver
         fit_each in
         holds_by (given one 2) (given one 3) (balanced_of kind one) refl refl (zero_at (given one) 2 zeros_one) is_settled answered.stands
         basis_fine level_held
-        (all_joined (λ (put : Put). put.place ≡ 2 → can_hold table put.value ≡ true) (solved_put (balanced_of kind one)) level
+        (all_append (λ (put : Put). put.place ≡ 2 → can_hold table put.value ≡ true) (solved_put (balanced_of kind one)) level
         (all_left (λ (put : Put). put.place ≡ 2 → can_hold table put.value ≡ true) (solved_put (balanced_of kind one)) (level ++ lost_puts) fit_each)
         (all_left (λ (put : Put). put.place ≡ 2 → can_hold table put.value ≡ true) level lost_puts fit_rest))
 
@@ -188,4 +189,4 @@ module _ (initial_storage : ℤ) (table : Option (List Row)) (local_inflow diver
         let released =
         release_stays values max_release (known_after one (balanced_of kind one) 1) (known_after other (balanced_of kind other) 1) same_outflow
         (all_right is_there (evaporation_put evaporation (lost one)) _ rest_one) in
-        (sym same_fault ∙ answered.fine, all_joined is_there _ _ level_other (all_joined is_there _ _ lost_other released))
+        (sym same_fault ∙ answered.fine, all_append is_there _ _ level_other (all_append is_there _ _ lost_other released))

@@ -6,13 +6,14 @@ use Rattle.rw_order.proofs.Common.{is_written, looks_of, nat_lt, none-some, obje
 use Rattle.rw_order.proofs.Common.{puts_written, refl, solve_of, solved_by, subst, sym, true, unwrap_or, value_in, value_of_past, view_of, ℕ, ℤ, ◌-ℤ◌}
 use Rattle.rw_order.proofs.Common.{◌-◌, ◌∙◌, ◌≡◌, ◌⊎◌}
 use Rattle.rw_order.specs.Free.{is_free}
-use Rattle.rw_order.proofs.Lists.{all_kept, all_weaker}
+use Rattle.rw_order.proofs.Lists.{all_kept}
 use Rattle.rw_order.proofs.Held.{AnswersWithin, AreHeld, AreZero, FitsThere, IsSeenOf, IsWhole}
 use Rattle.rw_order.proofs.AllKinds.{AreLevelledOf, answers_within}
 use Rattle.rw_order.proofs.Carrying.{answers_idle}
 use Rattle.rw_order.proofs.Numbers.{KnownZero, given_zero}
 use Rattle.rw_order.proofs.Writing.{AreBelow, AreShared, Grow, HaveZeros, HeldIn, grow_below, none_denied, stays_below}
 use Rattle.rw_order.proofs.Places.{asked_held, known_is, values_at}
+use Rattle.rw_base.proofs.Lists.{weaker_all}
 
 -- ---- a dispatch of which the answer adds nothing
 
@@ -159,7 +160,7 @@ module _ (basin : Draft) (start old new : Cells) (object step : ℕ) (grow : Gro
     levelled = spoken.levelled;
     answer = spoken.answer;
     held =
-        all_weaker (λ (put : Put). values_at basin old object step put.place ≡ Some put.value)
+        weaker_all (λ (put : Put). values_at basin old object step put.place ≡ Some put.value)
         (λ (put : Put). values_at basin new object step put.place ≡ Some put.value)
         spoken.puts (λ put is. values_grow put.place put.value is) spoken.held;
   }

@@ -1,30 +1,25 @@
 -- The basin is gone through: what was looked at, and what is left.
 use Rattle.rw_order.proofs.Common.{Bool, Kind, List, None, Object, Option, Placed, Reservoir, Some, [], ap, ap₂, arith, both_ways, cases_Bool, drop}
-use Rattle.rw_order.proofs.Common.{drop-cons, false, get_or_from_slice_get, inl, inr, is_number, list_all, nat_eq_equiv, nat_tests, none-some}
-use Rattle.rw_order.proofs.Common.{numbered-known, object_at, option_and_then, option_map, refl, same_Some, slice_get, slice_get_within, slot_at}
-use Rattle.rw_order.proofs.Common.{slot_in_place, suc, sym, true, unwrap_or, ℕ, ◌&&◌, ◌+◌, ◌-◌, ◌==◌, ◌||◌, ◌∙◌, ◌∷◌, ◌≡◌, ◌≤◌}
+use Rattle.rw_order.proofs.Common.{false, inl, inr, is_number, list_all, nat_eq_equiv, nat_tests, none-some}
+use Rattle.rw_order.proofs.Common.{numbered-known, object_at, option_and_then, option_map, refl, same_Some, slice_get, slot_at}
+use Rattle.rw_order.proofs.Common.{slot_in_place, sym, true, unwrap_or, ℕ, ◌&&◌, ◌+◌, ◌-◌, ◌==◌, ◌||◌, ◌∙◌, ◌≡◌, ◌≤◌}
 use Rattle.rw_order.specs.Free.{has_level_in, is_level, is_free}
-use Rattle.rw_order.proofs.Slots.{in_its_place, placed_in}
+use Rattle.rw_model.proofs.Owned.{placed_in}
+use Rattle.rw_order.proofs.Slots.{in_its_place}
 use Rattle.rw_order.proofs.Links.{apart, owner}
+use Rattle.rw_base.proofs.Lists.{dropped_to}
 
 -- ---- objects
 
 abbrev pub AllKeep : List Object → Bool
 AllKeep objects = list_all (λ (object : Object). is_free object.kind) objects
 
-front : (objects : List Object) (k : ℕ) (object : Object) → slice_get objects k ≡ Some object → drop k objects ≡ object ∷ drop (k + 1) objects
-front objects k object at =
-    let next : suc k ≡ k + 1 = omega arith in
-    drop-cons objects k object (slice_get_within objects k object at)
-    ∙ ap (λ (x : Object). x ∷ drop (suc k) objects) (get_or_from_slice_get objects k object object at)
-    ∙ ap (λ (n : ℕ). object ∷ drop n objects) next
-
 looked : (objects : List Object) (k : ℕ) (kind : Kind) (found : Option Object) → slice_get objects k ≡ found
     → option_map (λ (o : Object). o.kind) found ≡ Some kind
     → AllKeep (drop k objects) ≡ (is_free kind && AllKeep (drop (k + 1) objects))
 looked objects k kind None at seen = absurd (none-some _ seen)
 looked objects k kind (Some object) at seen =
-    ap AllKeep (front objects k object at) ∙ ap (λ kind_is. is_free kind_is && AllKeep (drop (k + 1) objects)) (same_Some _ _ seen)
+    ap AllKeep (dropped_to objects k object at) ∙ ap (λ kind_is. is_free kind_is && AllKeep (drop (k + 1) objects)) (same_Some _ _ seen)
 
 look : (objects : List Object) (k : ℕ) (kind : Kind) → option_map (λ (o : Object). o.kind) (object_at objects (k + 1)) ≡ Some kind
     → AllKeep (drop k objects) ≡ (is_free kind && AllKeep (drop (k + 1) objects))
@@ -62,8 +57,8 @@ in_place_is objects slot place found first at = by (found.place == place) refl
       | inl same ↦
           let is : other ≡ slot = grind (arith, nat_tests, same) in
           let own = placed_in objects found.owner place other there in
-          let one : found ≡ own.placed_one = same_Some _ _ (sym at ∙ ap (slot_at objects) (sym is) ∙ own.found) in
-          let here : found.place ≡ place = ap (λ (p : Placed). p.place) one ∙ own.place_is in
+          let one : found ≡ own.placed = same_Some _ _ (sym at ∙ ap (slot_at objects) (sym is) ∙ own.at) in
+          let here : found.place ≡ place = ap (λ (p : Placed). p.place) one ∙ own.there in
           absurd (both_ways (found.place == place) differ (grind (arith, nat_tests, here)))
     ]
 

@@ -1,57 +1,9 @@
 -- An object's slots by place, and the place of each slot.
-use Rattle.rw_order.proofs.Common.{Bool, List, None, Object, Option, Placed, Slot, Some, [], all_slots, and_parts, ap, ap₂, arith, false, first_from}
-use Rattle.rw_order.proofs.Common.{if◌then◌else◌, inl, inr, is_in_place, length, nat_eq_equiv, nat_tests, none-some, numbered-known, option_map}
-use Rattle.rw_order.proofs.Common.{owner_of, placed_from, refl, same_Some, slice_get, slot_at, slot_in_place, slots_from, slots_of, subst, suc, sym}
-use Rattle.rw_order.proofs.Common.{true, unwrap_or, zero, ℕ, ◌&&◌, ◌++◌, ◌+◌, ◌-◌, ◌==◌, ◌∙◌, ◌∷◌, ◌≡◌, ◌≤◌, ◌⊎◌}
-
-pub record IsFoundAt (n k : ℕ) (test : Placed → Bool) (slots : List Placed) : Type 0 where
-  pub placed_one : Placed
-  pub after : n ≤ k
-  pub found : slice_get slots (k - n) ≡ Some placed_one
-  pub passes_it : test placed_one ≡ true
-
-found_at : (n k : ℕ) (test : Placed → Bool) (slots : List Placed) → first_from n test slots ≡ Some k → IsFoundAt n k test slots
-found_at n k test [] found = absurd (none-some _ found)
-found_at n k test (first ∷ rest) found = by (test first) refl found (found_at (n + 1) k test rest)
-  where
-    by : (here : Bool) → test first ≡ here → (if here then Some n else first_from (n + 1) test rest) ≡ Some k
-        → (first_from (n + 1) test rest ≡ Some k → IsFoundAt (n + 1) k test rest) → IsFoundAt n k test (first ∷ rest)
-    by true here found later =
-        let at : n ≡ k = same_Some _ _ found in
-        let start : k - n ≡ 0 = omega (arith, at) in
-        record { placed_one = first; after = omega (arith, at); found = ap (slice_get (first ∷ rest)) start; passes_it = here }
-    by false here found later =
-        let is = later found in
-        let start : k - n ≡ suc (k - (n + 1)) = omega (arith, is.after) in
-        record {
-          placed_one = is.placed_one;
-          after = omega (arith, is.after);
-          found = ap (slice_get (first ∷ rest)) start ∙ is.found;
-          passes_it = is.passes_it;
-        }
-
--- the slot of this number is the object's, in this place
-pub record IsPlaced (objects : List Object) (object place slot : ℕ) : Type 0 where
-  pub placed_one : Placed
-  pub found : slot_at objects slot ≡ Some placed_one
-  pub owner : placed_one.owner ≡ object
-  pub place_is : placed_one.place ≡ place
-
-pub placed_in : (objects : List Object) (object place slot : ℕ) → slot_in_place objects object place ≡ Some slot → IsPlaced objects object place slot
-placed_in objects object place slot at =
-    let found = found_at 1 slot (is_in_place object place) (all_slots objects) at in
-    let parts = and_parts (found.placed_one.owner == object) (found.placed_one.place == place) found.passes_it in
-    record {
-      placed_one = found.placed_one;
-      found = numbered-known (all_slots objects) slot found.after ∙ found.found;
-      owner = grind (arith, nat_tests, parts.0);
-      place_is = grind (arith, nat_tests, parts.1);
-    }
-
-pub owner_is : (objects : List Object) (object place slot : ℕ) → slot_in_place objects object place ≡ Some slot → owner_of objects slot ≡ object
-owner_is objects object place slot at =
-    let is = placed_in objects object place slot at in
-    ap (λ (found : Option Placed). unwrap_or (option_map (λ (placed_one : Placed). placed_one.owner) found) 0) is.found ∙ is.owner
+use Rattle.rw_order.proofs.Common.{Bool, List, None, Object, Option, Placed, Slot, Some, [], all_slots, ap, ap₂, arith, false, first_from}
+use Rattle.rw_order.proofs.Common.{if◌then◌else◌, inl, inr, is_in_place, length, nat_eq_equiv, none-some, numbered-known}
+use Rattle.rw_order.proofs.Common.{placed_from, refl, same_Some, slice_get, slot_at, slot_in_place, slots_from, slots_of, subst, suc, sym}
+use Rattle.rw_order.proofs.Common.{true, zero, ℕ, ◌&&◌, ◌++◌, ◌+◌, ◌-◌, ◌∙◌, ◌∷◌, ◌≡◌, ◌≤◌, ◌⊎◌}
+use Rattle.rw_model.proofs.Owned.{found_at, placed_in}
 
 -- ---- each slot has a place of its own
 
@@ -143,10 +95,10 @@ in_its_place objects slot placed_one first at =
     let some = first_there 1 (slot - 1) (is_in_place placed_one.owner placed_one.place) (all_slots objects) placed_one got passes_it in
     let found = found_at 1 some.0 (is_in_place placed_one.owner placed_one.place) (all_slots objects) some.1 in
     let own = placed_in objects placed_one.owner placed_one.place some.0 some.1 in
-    let is_own : own.placed_one ≡ found.placed_one =
-    same_Some _ _ (sym own.found ∙ numbered-known (all_slots objects) some.0 found.after ∙ found.found) in
-    let same = one_number 1 objects (some.0 - 1) (slot - 1) found.placed_one placed_one found.found got
-    (subst (λ (q : Placed). q.owner ≡ placed_one.owner) is_own own.owner) (subst (λ (q : Placed). q.place ≡ placed_one.place) is_own own.place_is) in
+    let is_own : own.placed ≡ found.placed =
+    same_Some _ _ (sym own.at ∙ numbered-known (all_slots objects) some.0 found.after ∙ found.found) in
+    let same = one_number 1 objects (some.0 - 1) (slot - 1) found.placed placed_one found.found got
+    (subst (λ (q : Placed). q.owner ≡ placed_one.owner) is_own own.owns) (subst (λ (q : Placed). q.place ≡ placed_one.place) is_own own.there) in
     let after = found.after in
     let number : some.0 ≡ slot = omega (arith, same, after, first) in
     some.1 ∙ ap Some number

@@ -8,7 +8,8 @@ use Rattle.rw_order.specs.Free.{has_level_in, is_free}
 use Rattle.rw_order.proofs.Held.{FitsThere}
 use Rattle.rw_order.proofs.AllKinds.{AreLevelledOf}
 use Rattle.rw_order.proofs.Writing.{AreShared, Grow, HaveZeros}
-use Rattle.rw_order.proofs.Places.{HaveSlots, IsApart, content_at, known_at, values_at}
+use Rattle.rw_order.proofs.Places.{HaveSlots, IsApart, values_at}
+use Rattle.rw_dispatch.proofs.Viewed.{content-slot, known-view}
 
 -- a value that the slot can have
 abbrev pub in_bounds : Draft → ℕ → ℤ → Bool
@@ -95,12 +96,12 @@ module _ (basin : Draft) (start : Cells) (last : ℕ) (laid : IsLaidOut basin) w
       → given_by (record { 0 = object }) (content_in basin cells object step place)
       ≡ given_by (record { 0 = object }) (content_in basin start object step place)
   content_kept cells object step place found None sound is level at =
-      ap (given_by (record { 0 = object })) (content_at basin cells object step place None at
-      ∙ sym (content_at basin start object step place None at))
+      ap (given_by (record { 0 = object })) (content-slot basin cells object step place None at
+      ∙ sym (content-slot basin start object step place None at))
   content_kept cells object step place found (Some slot) sound is level at =
-      ap (given_by (record { 0 = object })) (content_at basin cells object step place (Some slot) at)
+      ap (given_by (record { 0 = object })) (content-slot basin cells object step place (Some slot) at)
       ∙ given_kept cells object step place slot found (start (cell_at slot step)) (cells (cell_at slot step)) sound is level at refl refl
-      ∙ ap (given_by (record { 0 = object })) (sym (content_at basin start object step place (Some slot) at))
+      ∙ ap (given_by (record { 0 = object })) (sym (content-slot basin start object step place (Some slot) at))
 
   levelled_of : (kind : Kind) (one other : View) → ((place : ℕ) → has_level_in place kind ≡ true → place < 12 → given one place ≡ given other place)
       → AreLevelledOf kind one other
@@ -113,9 +114,9 @@ module _ (basin : Draft) (start : Cells) (last : ℕ) (laid : IsLaidOut basin) w
   level_kept cells object step found sound is =
       levelled_of found.kind (view_of basin cells object step) (view_of basin start object step)
       (λ place level near.
-      ap (given_by (record { 0 = object })) (known_at basin cells object step place near)
+      ap (given_by (record { 0 = object })) (known-view basin cells object step place near)
       ∙ content_kept cells object step place found (slot_in_place basin.objects object place) sound is level refl
-      ∙ ap (given_by (record { 0 = object })) (sym (known_at basin start object step place near)))
+      ∙ ap (given_by (record { 0 = object })) (sym (known-view basin start object step place near)))
 
   -- ---- what stands can be put
 
@@ -132,8 +133,8 @@ module _ (basin : Draft) (start : Cells) (last : ℕ) (laid : IsLaidOut basin) w
 
       by : (slot : Option ℕ) → slot_in_place basin.objects object place ≡ slot
           → is_bounded (view_of basin seen object step) (put place value number) ≡ true
-      by None at = absurd (none-some _ (sym (ap (option_map (λ (c : Content). c.value)) (content_at basin cells object step place None at)) ∙ is))
+      by None at = absurd (none-some _ (sym (ap (option_map (λ (c : Content). c.value)) (content-slot basin cells object step place None at)) ∙ is))
       by (Some slot) at =
           laid.bounds seen object step place slot number value found there at
           ∙ inside_by slot (cells (cell_at slot step)) refl
-          (sym (ap (option_map (λ (c : Content). c.value)) (content_at basin cells object step place (Some slot) at)) ∙ is)
+          (sym (ap (option_map (λ (c : Content). c.value)) (content-slot basin cells object step place (Some slot) at)) ∙ is)

@@ -7,6 +7,7 @@ use Rattle.rw_order.proofs.Common.{subst, sym, times, times-numbers, times-waiti
 use Rattle.rw_order.proofs.Common.{◌<◌, ◌==◌, ◌∙◌, ◌∷◌, ◌≡◌, ◌≢◌, ◌≤◌, ◌⊎◌}
 use Rattle.rw_order.proofs.Leaving.{IsAsked}
 use Rattle.rw_order.proofs.Counting.{one_if}
+use Rattle.rw_base.proofs.Lists.{neither_there}
 
 -- the timestep that was opened last, 0 where none was
 abbrev pub opening : Log → ℕ
@@ -142,10 +143,6 @@ turn_of basin log object step (solved dispatch) is =
     }
 turn_of basin log object step event is = absurd is
 
-both_none : {X : Type 0} (a b : Option X) → option_or a b ≡ None → (a ≡ None) × (b ≡ None)
-both_none None b e = (refl, e)
-both_none (Some x) b e = absurd (none-some _ (sym e))
-
 if_none : (test : Bool) (place : ℕ) → (if test then Some place else None) ≡ None → test ≡ false
 if_none true place e = absurd (none-some _ (sym e))
 if_none false place e = refl
@@ -191,7 +188,7 @@ module _ (basin : Draft) (log : Log) (object step : ℕ) (event : Event) (asked 
   pub other_rests : (other : ℕ) → other ≢ object → is_data basin other ≡ false → since basin (event ∷ log) other ≡ None
       → (since basin log other ≡ None) × (is_put_at basin other step (written_by event) ≡ false)
   other_rests other apart ready none =
-      let parts = both_none (since basin log other) _ (sym (since_other other apart ready) ∙ none) in
+      let parts = neither_there (since basin log other) _ (sym (since_other other apart ready) ∙ none) in
       (parts.0, if_none (is_put_at basin other step (written_by event)) (length log) parts.1)
 
   pub other_woken : (other : ℕ) → other ≢ object → is_data basin other ≡ false

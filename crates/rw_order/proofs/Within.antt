@@ -6,10 +6,11 @@ use Rattle.rw_order.proofs.Common.{brought, int_eq, ints, nat_tests, net_of, non
 use Rattle.rw_order.proofs.Common.{solved_balance}
 use Rattle.rw_order.proofs.Common.{solved_term, subst, suc, sym, true, zero, ℕ, ℤ, ◌++◌, ◌+ℤ◌, ◌∙◌, ◌∷◌, ◌≡◌}
 use Rattle.rw_order.specs.Free.{is_free}
-use Rattle.rw_order.proofs.Lists.{all_left, all_mapped, all_right, all_weaker}
+use Rattle.rw_order.proofs.Lists.{all_left, all_right}
 use Rattle.rw_order.proofs.Held.{Sight, Stands, Values}
 use Rattle.rw_order.proofs.Terms.{Comes, Parts, all_in, brought_in, brought_with, but_one, comes, parts_of, term_in, terms_of}
 use Rattle.rw_order.proofs.Agreeing.{Agree}
+use Rattle.rw_base.proofs.Lists.{mapped_all, weaker_all}
 
 -- ---- nothing is lost
 
@@ -39,15 +40,15 @@ share_of share keeps = tt
 pub shares_of : (sight : Sight) (parts : Parts) → KeepAll parts → All (λ (term : Term). IsShare term.share) (terms_of sight parts)
 shares_of sight parts keep =
     All-from_recursion (λ (term : Term). IsShare term.share) (terms_of sight parts)
-    (all_mapped (λ (term : Term). IsShare term.share) (term_in sight) parts
-    (all_weaker (λ (part : Share × ℕ). KeepsAll part.0) (λ (part : Share × ℕ). IsShare part.0) parts (λ part keeps. share_of part.0 keeps) keep))
+    (mapped_all (λ (term : Term). IsShare term.share) (term_in sight) parts
+    (weaker_all (λ (part : Share × ℕ). KeepsAll part.0) (λ (part : Share × ℕ). IsShare part.0) parts (λ part keeps. share_of part.0 keeps) keep))
 
 kept_of : (sight : Sight) (parts : Parts) (before : List Term) (term : Term) (after : List Term) → KeepAll parts
     → terms_of sight parts ≡ before ++ term ∷ after
     → KeepsAll term.share
 kept_of sight parts before term after keep among =
     (all_right (λ (t : Term). KeepsAll t.share) before (term ∷ after)
-    (subst (AllByRecursion (λ (t : Term). KeepsAll t.share)) among (all_mapped (λ (t : Term). KeepsAll t.share) (term_in sight) parts keep))).0
+    (subst (AllByRecursion (λ (t : Term). KeepsAll t.share)) among (mapped_all (λ (t : Term). KeepsAll t.share) (term_in sight) parts keep))).0
 
 -- a kind that is free loses nothing
 pub keep_parts : (kind : Kind) → is_free kind ≡ true → KeepAll (parts_of kind)

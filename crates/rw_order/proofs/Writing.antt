@@ -4,7 +4,8 @@ use Rattle.rw_order.proofs.Common.{List, None, Option, Some, [], ap, ap₂, arit
 use Rattle.rw_order.proofs.Common.{if◌then◌else◌, int_eq, is_same_object, is_shared, is_written, judged, last_put, nat_le, nat_tests, none-some}
 use Rattle.rw_order.proofs.Common.{option_map, option_or, or_fault, put, puts_written, recursion_from_All, refl, same_Some, subst, sym, true}
 use Rattle.rw_order.proofs.Common.{value_in, ℕ, ℤ, ◌==◌, ◌∙◌, ◌∷◌, ◌≡◌}
-use Rattle.rw_order.proofs.Lists.{all_both, all_kept, all_weaker}
+use Rattle.rw_order.proofs.Lists.{all_kept}
+use Rattle.rw_base.proofs.Lists.{both_all, weaker_all}
 
 -- what one has in a cell has the value that stands there in the other
 abbrev pub AreBelow : Cells → Cells → Type 0
@@ -100,7 +101,7 @@ pub none_denied : (low high : Cells) (object : ℕ) (puts : List Asked) (rest : 
     → judged low object puts rest ≡ rest
 none_denied low high object puts rest zeros below held =
     all_pass_rest low object puts rest
-    (all_weaker (λ (put : Asked). value_in high put.cell ≡ Some put.content.value) (λ (put : Asked). denied_by (end_in low put) put ≡ None) puts
+    (weaker_all (λ (put : Asked). value_in high put.cell ≡ Some put.content.value) (λ (put : Asked). denied_by (end_in low put) put ≡ None) puts
     (λ put stands. passes low high put (low put.cell) refl zeros below stands) held)
 
 pass_first : (cells : Cells) (object : ℕ) (put : Asked) (puts : List Asked) (rest event : Event) (found : Option (ℤ × ℤ))
@@ -132,7 +133,7 @@ find_held (Some content) value is = the_same content refl (same_Some _ _ is)
 
 pub all_find_held : (cells : Cells) (puts : List Asked) → HeldIn cells puts → AllFind cells puts
 all_find_held cells puts held =
-    all_weaker (λ (put : Asked). value_in cells put.cell ≡ Some put.content.value) (λ (put : Asked). Finds (cells put.cell) put.content.value) puts
+    weaker_all (λ (put : Asked). value_in cells put.cell ≡ Some put.content.value) (λ (put : Asked). Finds (cells put.cell) put.content.value) puts
     (λ put is. find_held (cells put.cell) put.content.value is) held
 
 find_by : (object : ℕ) (put : Asked) (held : Content) → put.content.writer ≡ ByObject (record { 0 = object }) → held.number ≡ 0
@@ -168,10 +169,10 @@ found_new cells put zeros (the_same content held same) is =
 
 pub all_new : (cells : Cells) (puts : List Asked) → HaveZeros cells → AllFind cells puts → AllNew cells (puts_written cells puts)
 all_new cells puts zeros find =
-    all_weaker (λ (put : Asked). Finds (cells put.cell) put.content.value × (is_written (end_in cells put) ≡ true))
+    weaker_all (λ (put : Asked). Finds (cells put.cell) put.content.value × (is_written (end_in cells put) ≡ true))
     (λ (put : Asked). cells put.cell ≡ None)
     (puts_written cells puts) (λ put both. found_new cells put zeros both.0 both.1)
-    (all_both (λ (put : Asked). Finds (cells put.cell) put.content.value) (λ (put : Asked). is_written (end_in cells put) ≡ true)
+    (both_all (λ (put : Asked). Finds (cells put.cell) put.content.value) (λ (put : Asked). is_written (end_in cells put) ≡ true)
     (puts_written cells puts)
     (all_kept (λ (put : Asked). Finds (cells put.cell) put.content.value) (λ (put : Asked). is_written (end_in cells put)) puts find)
     (recursion_from_All (λ (put : Asked). is_written (end_in cells put) ≡ true) (puts_written cells puts)

@@ -7,12 +7,7 @@ use Rattle.std.specs.Prelude.{Err, Ok, Result}
 use Rattle.rw_base.specs.declared.number.SlotNo.{SlotNo}
 use Rattle.rw_firing.specs.declared.look.Look.{Look}
 use Rattle.rw_base.specs.declared.memory.NoMemory.{NoMemory}
-use Rattle.rw_record.proofs.Noting.{joined}
-
-with_both : (cells : Cells) (first next : List Cell) (kept : Option (List Held))
-    → with_noted cells next (with_noted cells first kept) ≡ with_noted cells (first ++ next) kept
-with_both cells first next None = refl
-with_both cells first next (Some noted) = ap Some (joined cells noted first next)
+use Rattle.rw_record.proofs.Noting.{joined_notes}
 
 some_before : (cells : Cells) (done : List Cell) (start : Option (List Held)) → IsSome (with_noted cells done start) → IsSome start
 some_before cells done None some = some
@@ -21,7 +16,7 @@ some_before cells done (Some noted) some = refl
 module _ (cells : Cells) (done next : List Cell) (start middle new : Option (List Held)) (so_far : middle ≡ with_noted cells done start) where
   -- these are noted, and then those
   pub goes_on : new ≡ with_noted cells next middle → new ≡ with_noted cells (done ++ next) start
-  goes_on noted = noted ∙ ap (with_noted cells next) so_far ∙ with_both cells done next start
+  goes_on noted = noted ∙ ap (with_noted cells next) so_far ∙ joined_notes cells done next start
 
   -- these are noted, and then memory wants for those
   pub fails : (rest : List Cell) (fault : NoMemory) → AddsNotes cells next middle new (Err fault)
@@ -34,7 +29,7 @@ module _ (cells : Cells) (done next : List Cell) (start middle new : Option (Lis
       whole =
           ap (λ all. done ++ (all ++ rest)) adds.1.whole ∙ ap (λ all. done ++ all) (append_assoc adds.1.first adds.1.rest rest)
           ∙ sym (append_assoc done adds.1.first (adds.1.rest ++ rest));
-      noted = adds.1.noted ∙ ap (with_noted cells adds.1.first) so_far ∙ with_both cells done adds.1.first start;
+      noted = adds.1.noted ∙ ap (with_noted cells adds.1.first) so_far ∙ joined_notes cells done adds.1.first start;
     },
   )
 

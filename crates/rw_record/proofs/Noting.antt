@@ -3,7 +3,7 @@ use Rattle.rw_record.proofs.Common.{AreOnce, Bool, Cell, Cells, Contains, Contai
 use Rattle.rw_record.proofs.Common.{Contains-push, Contains-push_cases, Held, IsDistinct, IsDistinct-push, IsFalse, IsTrue, List, [], ap, cells_noted}
 use Rattle.rw_record.proofs.Common.{false, false≢true, if◌then◌else◌, inl, inr, is_noted, is_same_cell, list_any, list_any-append}
 use Rattle.rw_record.proofs.Common.{list_any-from_Contains, map-append, noted_after, or_cases, refl, subst, sym, arith, true, ◌++◌, ◌||◌, ◌↔◌, ◌∙◌}
-use Rattle.rw_record.proofs.Common.{◌∷◌, ◌≡◌, ◌⊎◌}
+use Rattle.rw_record.proofs.Common.{None, Option, Some, with_noted, ◌∷◌, ◌≡◌, ◌⊎◌}
 use Rattle.rw_record.proofs.Cells.{From, cells_equiv, first_of, first_or, map_from, map_of, same_cell}
 
 or_known : (a b : Bool) → (b ≡ true → a ≡ true) → a ≡ (a || b)
@@ -73,6 +73,11 @@ pub joined : (cells : Cells) (noted : List Held) (first next : List Cell)
     → noted_after cells (noted_after cells noted first) next ≡ noted_after cells noted (first ++ next)
 joined cells noted [] next = refl
 joined cells noted (cell ∷ first) next = joined cells (with_one cells noted cell) first next
+
+pub joined_notes : (cells : Cells) (first next : List Cell) (kept : Option (List Held))
+    → with_noted cells next (with_noted cells first kept) ≡ with_noted cells (first ++ next) kept
+joined_notes cells first next None = refl
+joined_notes cells first next (Some noted) = ap Some (joined cells noted first next)
 
 pub among : (cells : Cells) (noted : List Held) (more : List Cell) (cell : Cell)
     → IsTrue (is_noted (noted_after cells noted more) cell) ↔ (IsTrue (is_noted noted cell) ⊎ Contains more cell)

@@ -5,6 +5,7 @@ use Rattle.std.proofs.Common.{option_and_then, Result, Ok, Err, OnOk}
 use Rattle.rw_base.proofs.Common.{refl, rules, same_Some, slice_get, slice_get_within, string_bytes, sym, w64}
 use Rattle.std.specs.declared.alloc.Global.{Global}
 use Rattle.rw_base.specs.Quantity.{IsQuantity}
+use Rattle.rw_base.proofs.Lists.{got_last}
 use Rattle.rw_model.specs.Draft.{Draft}
 use Rattle.rw_run.specs.declared.trace.TraceEvent.{TraceEvent}
 use Rattle.rw_run.specs.declared.trace.TraceEvent.TheVariants.{Opened, Idle, Solve, Fire, Written, Closed, Fault}
@@ -14,10 +15,6 @@ use Rattle.rw_report.specs.Lines.{line_words, lines_words}
 use Rattle.rw_report.specs.Pieces.{AreTexts}
 use Rattle.rw_report.proofs.Growing.{here}
 use Rattle.rw_report.proofs.Keeping.{pushed_before}
-
-pushed_here : {A : Type 0} (items : List A) (one : A) → slice_get (items ++ one ∷ []) (length items) ≡ Some one
-pushed_here [] one = refl
-pushed_here (first ∷ items) one = pushed_here items one
 
 -- one text more
 pub texts_more : (words : ℕ → List ℕ) (texts : List (String Global)) (text : String Global) (before : ℕ)
@@ -32,7 +29,7 @@ texts_more words texts text before long is all place one there = by (nat_lt plac
         let most : before ≤ place = grind (arith, nat_tests, far) in
         let within = slice_get_within (texts ++ text ∷ []) place one there in
         let same : place ≡ length texts = omega (arith, most, long, within, length-append texts (text ∷ [])) in
-        let last : text ≡ one = same_Some text one (sym (pushed_here texts text) ∙ ap (slice_get (texts ++ text ∷ [])) (sym same) ∙ there) in
+        let last : text ≡ one = same_Some text one (sym (got_last texts text) ∙ ap (slice_get (texts ++ text ∷ [])) (sym same) ∙ there) in
         ap string_bytes (sym last) ∙ is ∙ ap (λ n. words (n + 1)) (sym long ∙ sym same)
 
 -- a line that says to be written this is that of a put

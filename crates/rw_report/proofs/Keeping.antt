@@ -3,6 +3,7 @@ use Rattle.rw_base.proofs.Common.{◌≡◌, ◌≤◌, ◌<◌, ◌+◌, ◌∙
 use Rattle.rw_base.proofs.Common.{ap, ap₂, arith, get_or_from_slice_get, length, length-set, map, nat_lt, nat_tests, none-some, option_map, refl}
 use Rattle.rw_base.proofs.Common.{same_Some, set, slice_get, slice_get_within, string_bytes, subst, sym, take}
 use Rattle.rw_base.specs.declared.number.Cell.{Cell}
+use Rattle.rw_base.proofs.Lists.{got_set}
 use Rattle.rw_model.specs.Draft.{Draft}
 use Rattle.rw_model.specs.Objects.{all_slots}
 use Rattle.rw_model.specs.declared.content.Content.{Content}
@@ -15,11 +16,6 @@ use Rattle.rw_report.specs.declared.kept.KeptLine.{KeptLine}
 use Rattle.rw_report.proofs.Listing.{row_told}
 
 -- ---- lists
-
-set_here : {A : Type 0} (items : List A) (place : ℕ) (one : A) → place < length items → slice_get (set items place one) place ≡ Some one
-set_here [] place one near = absurd (omega (arith, near))
-set_here (first ∷ items) zero one near = refl
-set_here (first ∷ items) (suc place) one near = set_here items place one (omega (arith, near))
 
 set_before : {A : Type 0} (items : List A) (place at : ℕ) (one item : A) → at < place → slice_get (set items place one) at ≡ Some item
     → slice_get items at ≡ Some item
@@ -51,7 +47,7 @@ tells_more basin cells lines place step one next near tells first at line before
         let step_is : step ≡ at + 1 = omega (arith, same, next) in
         subst (λ n. TellsKeptLine basin cells n line) step_is
         (subst (TellsKeptLine basin cells step)
-        (same_Some one line (sym (set_here lines place one near) ∙ ap (slice_get (set lines place one)) (sym same) ∙ there)) tells)
+        (same_Some one line (sym (got_set lines place one near) ∙ ap (slice_get (set lines place one)) (sym same) ∙ there)) tells)
 
 -- and one that is put behind them changes none of them
 pub tells_still : (basin : Draft) (cells : Cells) (lines : List KeptLine) (count : ℕ) (one : KeptLine) → count ≤ length lines

@@ -4,3 +4,4 @@ pub mod Listing
 pub mod Worked
 pub mod Keeping
 pub mod Adding
+pub mod Handing

@@ -7,5 +7,6 @@ pub mod Lines
 pub mod Outcome
 pub mod Pieces
 pub mod Whole
+pub mod Handed
 pub mod Why
 pub mod Worked

@@ -86,11 +86,14 @@ abbrev pub value_words : Option ℤ → List ℕ
 value_words None = []
 value_words (Some value) = signed_decimal value
 
--- the line of a timestep: its number, the moment at which it ends, and the values by slot number and timestep
+-- how the line of a timestep begins: its number, and the moment at which it ends
+abbrev pub row_front : Draft → ℕ → List ℕ
+row_front basin step = decimal step ++ (codes "," ++ stamp_text (end_of_step basin.control.stamps step))
+
+-- the line of a timestep, by the values by slot number and timestep
 abbrev pub row : Draft → (ℕ → ℕ → Option ℤ) → ℕ → List ℕ
 row basin values step =
-    (decimal step ++ (codes "," ++ stamp_text (end_of_step basin.control.stamps step)))
-    ++ (for_slots basin (λ slot. codes "," ++ value_words (values slot step)) ++ codes "\n")
+    row_front basin step ++ (for_slots basin (λ slot. codes "," ++ value_words (values slot step)) ++ codes "\n")
 
 -- the lines of the first timesteps, so many of them
 abbrev pub rows : Draft → (ℕ → ℕ → Option ℤ) → ℕ → List ℕ

@@ -33,10 +33,14 @@ section_top basin batch run reran = heading basin batch run.end ++ reran_words r
 abbrev pub run_table : Draft → RunOutcome → List ℕ
 run_table basin run = columns basin ++ rows basin (values_in run.cells) run.closed
 
+-- who wrote each value, and what happened, where that is asked for
+abbrev pub section_tail : Draft → RunOutcome → (flags trace : Bool) → List ℕ
+section_tail basin run flags trace =
+    if_asked flags (flag_table basin run.cells run.closed) ++ if_asked trace (trace_words basin run.lines)
+
 abbrev pub whole_of : Draft → (batch : ℕ) → RunOutcome → Option (List StepNo) → (flags trace : Bool) → List ℕ
 whole_of basin batch run reran flags trace =
-    section_top basin batch run reran ++ (run_table basin run
-    ++ (if_asked flags (flag_table basin run.cells run.closed) ++ if_asked trace (trace_words basin run.lines)))
+    section_top basin batch run reran ++ (run_table basin run ++ section_tail basin run flags trace)
 
 -- the section of a trace: how its run ended, and the table
 abbrev pub trace_of_run : Draft → (trace : ℕ) → RunOutcome → List ℕ

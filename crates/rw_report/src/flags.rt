@@ -49,7 +49,7 @@ pub(crate) fn write_content(buffer: &mut [u8; ROOM], content: Content, end: usiz
     write_number(buffer, value, between)
 }
 
-/// Appends the value and the flag of a content, by an array that is lent.
+/// Appends the value and the flag of a content, written in the buffer first.
 pub fn push_content_by(
     text: &mut String,
     buffer: &mut [u8; ROOM],
@@ -62,8 +62,8 @@ pub fn push_content_by(
     Ok(())
 }
 
-/// Appends the value and the flag of a content.
-pub fn push_content(text: &mut String, content: Content) -> Result<(), NoMemory>
+/// The same, with a buffer of its own.
+pub(crate) fn push_content(text: &mut String, content: Content) -> Result<(), NoMemory>
     ensures { OnOk result (string_bytes text.new ≡ string_bytes text.old ++ content_words content) }
 {
     let mut buffer = [0; ROOM];

@@ -8,6 +8,7 @@
 
 mod cell;
 mod flags;
+mod handed;
 mod heading;
 mod kept;
 pub mod law;
@@ -24,7 +25,8 @@ mod value;
 mod whole;
 
 pub use cell::why;
-pub use flags::{push_content, push_content_by};
+pub use flags::push_content_by;
+pub use handed::{Unwritten, write_section};
 pub use heading::push_heading;
 pub use lines::{line_at, push_line, push_put};
 pub use names::{object_words, push_slot};

@@ -182,7 +182,7 @@ fn write_put(buffer: &mut [u8; ROOM], step: StepNo, content: Content) -> usize
     write_count(buffer, step.0, between)
 }
 
-/// Appends how the line of a put ends, by an array that is lent.
+/// Appends how the line of a put ends, from its timestep on, written in the buffer first.
 pub fn push_put(
     text: &mut String,
     buffer: &mut [u8; ROOM],

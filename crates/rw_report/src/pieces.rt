@@ -6,7 +6,8 @@ use itoa::write_digits;
 use rw_base::NoMemory;
 use std::str::from_utf8_unchecked;
 
-/// The bytes of such an array.
+/// The bytes of the array that is lent to a call which writes the end of a line there before it is appended. What it held
+/// doesn't matter, nor what is left in it.
 pub const ROOM: usize = 672;
 
 /// Writes a byte so that it ends where it is said, and answers where it begins.

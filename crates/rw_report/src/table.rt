@@ -86,7 +86,12 @@ fn write_value(buffer: &mut [u8; ROOM], content: Option<Content>, end: usize) ->
 // Writes the values of the slots behind the first ones and up to a last one, from the last to the first, and answers where
 // they begin.
 #[inline(always)]
-fn write_block(buffer: &mut [u8; ROOM], cells: &StepCells, first: u16, last: u16) -> usize
+pub(crate) fn write_block(
+    buffer: &mut [u8; ROOM],
+    cells: &StepCells,
+    first: u16,
+    last: u16,
+) -> usize
     requires order { first ≤ last }
     requires few { last ≤ first + 32 }
     ensures start { result ≤ 672 }
@@ -176,7 +181,12 @@ fn push_stamped(text: &mut String, step: u16, stamp: &str) -> Result<(), NoMemor
 }
 
 // Appends the number of a timestep, a comma and its stamp.
-fn push_stamp(alloc: Global, text: &mut String, basin: &Basin, step: u16) -> Result<(), NoMemory>
+pub(crate) fn push_stamp(
+    alloc: Global,
+    text: &mut String,
+    basin: &Basin,
+    step: u16,
+) -> Result<(), NoMemory>
     requires first { 1 ≤ step }
     requires last { step ≤ basin.now.control.stamps.count }
     ensures { OnOk result (string_bytes text.new ≡ string_bytes text.old

@@ -12,7 +12,8 @@ use rw_run::{TraceEvent, Write};
 use std::alloc::Global;
 use std::marker::Model;
 
-/// What tells lines of traces of a basin, seen as the basin. The texts that many lines have in common it has made, each once.
+/// Tells lines of the traces of a basin, and is seen as the basin. It keeps the texts that many lines have in common, each made
+/// once.
 #[derive(Drop)]
 pub struct Teller<'a> {
     basin: &'a Basin,
@@ -35,7 +36,7 @@ impl<'a> Model for Teller<'a> {
 }
 
 impl<'a> Teller<'a> {
-    /// What tells those of a basin.
+    /// A teller of a basin. The one error is want of memory, as of each of its calls.
     pub fn new(alloc: Global, basin: &'a Basin) -> Result<Teller<'a>, NoMemory>
         ensures { IfOk result (λ teller. teller ≡ basin.now) }
     {
@@ -72,7 +73,7 @@ impl<'a> Teller<'a> {
         push_front(text, self.basin, self.slots.as_slice(), " ", slot)
     }
 
-    /// Appends the line of a put that is written, by an array that is lent.
+    /// Appends the line of a put that is written, with its end, written in the buffer first.
     pub fn push_write(
         &self,
         text: &mut String,

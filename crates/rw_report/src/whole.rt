@@ -85,7 +85,7 @@ fn push_reran(text: &mut String, reran: Option<&[StepNo]>) -> Result<(), NoMemor
 }
 
 // Appends the first line, and which timesteps were run again.
-fn push_top(
+pub(crate) fn push_top(
     text: &mut String,
     basin: &Basin,
     run: &Run,
@@ -99,7 +99,12 @@ fn push_top(
     push_reran(text, telling.reran)
 }
 
-fn push_flags_if(text: &mut String, basin: &Basin, run: &Run, flags: bool) -> Result<(), NoMemory>
+pub(crate) fn push_flags_if(
+    text: &mut String,
+    basin: &Basin,
+    run: &Run,
+    flags: bool,
+) -> Result<(), NoMemory>
     ensures { OnOk result (string_bytes text.new ≡ string_bytes text.old
         ++ if_asked flags (flag_table basin.now (held run.now.series) run.now.closed)) }
 {
@@ -110,7 +115,7 @@ fn push_flags_if(text: &mut String, basin: &Basin, run: &Run, flags: bool) -> Re
     }
 }
 
-fn push_trace_if(
+pub(crate) fn push_trace_if(
     alloc: Global,
     text: &mut String,
     basin: &Basin,

@@ -5,6 +5,7 @@ use Rattle.rw_base.proofs.Common.{Contains-from_any, Option, Some, None, option_
 use Rattle.rw_base.proofs.Common.{filter_agree, false≢true, and_parts, nat_tests, arith, refl, sym, ap, subst}
 use Rattle.std.proofs.lemmas.List.Elements.{Contains-append_right}
 use Rattle.rw_base.specs.declared.number.Cell.{Cell}
+use Rattle.rw_inputs.proofs.Groups.{together_first}
 use Rattle.rw_model.specs.Draft.{Draft}
 use Rattle.rw_model.specs.Links.{group_of, is_among, is_together, slot_numbers}
 use Rattle.rw_model.specs.Objects.{all_slots}
@@ -13,7 +14,7 @@ use Rattle.rw_inputs.specs.Edits.{Batch, Values, after_batch}
 use Rattle.rw_inputs.specs.Placings.{placings, placings_of, placings_to, if_placed}
 use Rattle.rw_inputs.specs.Inputs.{Inputs, IsInputsOf, kept_slot, value_at}
 use Rattle.rw_series.specs.Series.{IsCell, is_shared}
-use Rattle.rw_series.proofs.Sharing.{Shared-of, together_alike, together_turned}
+use Rattle.rw_series.proofs.Sharing.{Shared-of}
 use Rattle.rw_run.specs.Dispatch.{cell_at}
 use Rattle.rw_run.specs.Log.{Cells, Log, cells_of, placed, input_content, last_put, written_by}
 use Rattle.rw_run.specs.Runs.{with_inputs}
@@ -110,11 +111,6 @@ given_alike basin batch old new cells made values edited cell apart =
 first_is : (slots : List ℕ) (slot one other : ℕ) → is_among slot slots ≡ true → slice_index_or slots 0 one ≡ slice_index_or slots 0 other
 first_is [] slot one other among = absurd (false≢true among)
 first_is (first ∷ slots) slot one other among = refl
-
-together_first : (links : List (List ℕ)) (one other slot : ℕ) → is_together links one other ≡ true
-    → is_together links one slot ≡ is_together links other slot
-together_first links one other slot together =
-    together_turned links one slot ∙ together_alike links slot one other (one == other) refl together ∙ together_turned links slot other
 
 -- slots that carry one value have it at one slot
 kept_together : (basin : Draft) (one cell : Cell) → is_shared basin one cell ≡ true → kept_slot basin one.slot.0 ≡ kept_slot basin cell.slot.0

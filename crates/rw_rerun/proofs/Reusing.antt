@@ -6,6 +6,7 @@ use Rattle.std.proofs.lemmas.List.Elements.{Contains-append_cases, Contains-appe
 use Rattle.std.specs.List.{flat_map}
 use Rattle.rw_base.specs.declared.number.Cell.{Cell}
 use Rattle.rw_base.specs.declared.number.StepNo.{StepNo}
+use Rattle.rw_run.proofs.Reruns.{alike_at}
 use Rattle.rw_model.specs.Draft.{Draft}
 use Rattle.rw_run.specs.Behind.{IsBehind}
 use Rattle.rw_run.specs.Frame.{AreAlike, log_after}
@@ -66,11 +67,6 @@ alike_all : (one other : Cells) (cells : List Cell) → ((cell : Cell) → Conta
 alike_all one other [] same = tt
 alike_all one other (cell ∷ cells) same =
     (same cell (0, omega arith, refl), alike_all one other cells (λ c has. same c (Contains-append_right (cell ∷ []) cells c has)))
-
-alike_at : (one other : Cells) (cells : List Cell) → AreAlike one other cells → (cell : Cell) → Contains cells cell → one cell ≡ other cell
-alike_at one other [] alike cell (k, less, same) = absurd (omega (arith, less))
-alike_at one other (first ∷ cells) alike cell (zero, less, same) = subst (λ c. one c ≡ other c) same alike.0
-alike_at one other (first ∷ cells) alike cell (suc k, less, same) = alike_at one other cells alike.1 cell (k, omega (arith, less), same)
 
 module _ (basin : Draft) (policy : Policy) (earlier later now : Log) (step : ℕ) where
   -- what the record has is what the timestep looked at

@@ -1,5 +1,5 @@
 -- What inputs and puts leave in the cells is what an engine of the basin can show.
-use Rattle.rw_base.proofs.Common.{◌≡◌, ◌≤◌, ◌+◌, ◌∙◌, ◌==◌, ◌&&◌, ℕ, zero, suc, ℤ, Bool, true, false, if◌then◌else◌, List, [], ◌∷◌, All, All-append}
+use Rattle.rw_base.proofs.Common.{◌≡◌, ◌≤◌, ◌+◌, ◌∙◌, ◌==◌, ℕ, zero, suc, ℤ, Bool, true, false, if◌then◌else◌, List, [], ◌∷◌, All, All-append}
 use Rattle.rw_base.proofs.Common.{All-cons, All-contains, All-head, All-nil, All-tail, Contains, Contains-from_any, Option, Some, None, length}
 use Rattle.rw_base.proofs.Common.{option_or, false≢true, nat_tests, refl, sym, ap, ap₂, subst, arith, same_Some, none-some}
 use Rattle.std.specs.List.{flat_map}
@@ -13,7 +13,7 @@ use Rattle.rw_inputs.specs.Placings.{placings, placings_of, placings_to, if_plac
 use Rattle.rw_inputs.specs.Inputs.{Inputs, IsInputsOf, value_at}
 use Rattle.rw_series.specs.Series.{IsCell, is_shared}
 use Rattle.rw_series.proofs.Bounds.{bounds-shared}
-use Rattle.rw_series.proofs.Sharing.{Shared-of, among_group, known_number, together_alike}
+use Rattle.rw_series.proofs.Sharing.{Shared-of, shared_alike}
 use Rattle.rw_run.specs.Frame.{IsStepFrom, log_after}
 use Rattle.rw_run.specs.Log.{Asked, Cells, Event, Log, cells_of, placed, input_content, last_put, opened}
 use Rattle.rw_run.specs.RunOf.{last_closed}
@@ -45,18 +45,6 @@ same_cells basin one other same was = record {
 
 -- ---- a put
 
--- a cell is shared with all that share one value, or with none of them
-alike_to : (basin : Draft) (cell one other : Cell) → IsCell basin one → is_shared basin one other ≡ true
-    → is_shared basin cell one ≡ is_shared basin cell other
-alike_to basin cell one other known shared =
-    let is = Shared-of basin one other shared in
-    ap₂ (λ a b. a && b)
-    (among_group basin.objects basin.links cell.slot.0 one.slot.0
-    ∙ ap₂ (λ a b. a && b) (together_alike basin.links cell.slot.0 one.slot.0 other.slot.0 (one.slot.0 == other.slot.0) refl is.together)
-    (known_number basin.objects one.slot.0 known.slot ∙ sym is.known)
-    ∙ sym (among_group basin.objects basin.links cell.slot.0 other.slot.0))
-    (ap (λ step. step == cell.step.0) (sym is.step))
-
 -- what shares its value with a cell is a cell
 cell_with : (basin : Draft) (cell other : Cell) → IsCell basin cell → is_shared basin cell other ≡ true → is_cell basin other ≡ true
 cell_with basin cell other known shared =
@@ -85,7 +73,7 @@ module _ (basin : Draft) (put : Asked) (cells : Cells) (can : CanWrite basin put
   put_shown = record {
     those = record {
       shared = λ cell other known shared.
-          ap₂ (λ (test : Bool) there. option_or (if test then Some put.content else None) there) (alike_to basin put.cell cell other known shared)
+          ap₂ (λ (test : Bool) there. option_or (if test then Some put.content else None) there) (shared_alike basin put.cell cell other known shared)
           (was.those.shared cell other known shared);
       none = λ cell unknown. none_put cell unknown (is_shared basin put.cell cell) refl;
     };

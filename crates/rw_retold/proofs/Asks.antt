@@ -1,8 +1,9 @@
 -- What a firing asks for can be written where it is in the run, and is to slots of the basin.
 use Rattle.rw_base.proofs.Common.{◌≡◌, ◌∙◌, ◌≤◌, ◌+◌, ℕ, ℤ, Bool, true, false, List, [], ◌∷◌, Option, Some, None, All, All-cons, All-filter}
 use Rattle.rw_base.proofs.Common.{All-head, All-nil, All-tail}
-use Rattle.rw_base.proofs.Common.{arith, ap, sym, subst, refl, cond, filter, if◌then◌else◌, map, nat_le, nat_tests}
+use Rattle.rw_base.proofs.Common.{ap, sym, subst, refl, filter, if◌then◌else◌, map, nat_le}
 use Rattle.rw_base.specs.declared.number.Cell.{Cell}
+use Rattle.rw_writes.proofs.Granted.{one_asked}
 use Rattle.rw_model.specs.Draft.{Draft, IsSlot}
 use Rattle.rw_model.specs.Turn.{IsStep}
 use Rattle.rw_firing.specs.Fire.{Fire}
@@ -20,19 +21,11 @@ to_slots basin rule step (put ∷ puts) can =
     All-cons (λ (put : Asked). IsSlot basin.objects put.cell.slot.0) (asked_by_rule rule step put) (map (asked_by_rule rule step) puts)
     (All-head (CanAsk basin) put puts can).slot (to_slots basin rule step puts (All-tail (CanAsk basin) put puts can))
 
-one_within : (basin : Draft) (rule step : ℕ) (put : RulePut) (rest : List Asked) (passes : Bool) → 1 ≤ step → CanAsk basin put
-    → nat_le (step + put.ahead) basin.control.stamps.count ≡ passes → AreWrites basin rest
-    → AreWrites basin (cond passes (asked_by_rule rule step put ∷ rest) rest)
-one_within basin rule step put rest true first can passes writes =
-    All-cons (CanWrite basin) (asked_by_rule rule step put) rest
-    (record { cell = record { slot = can.slot; first = omega (arith, first); last = grind (arith, nat_tests, passes) }; within = can.within }) writes
-one_within basin rule step put rest false first can passes writes = writes
-
 all_within : (basin : Draft) (rule step : ℕ) (puts : List RulePut) → 1 ≤ step → All (CanAsk basin) puts
     → AreWrites basin (filter (is_in_run basin) (map (asked_by_rule rule step) puts))
 all_within basin rule step [] first can = All-nil (CanWrite basin)
 all_within basin rule step (put ∷ puts) first can =
-    one_within basin rule step put (filter (is_in_run basin) (map (asked_by_rule rule step) puts))
+    one_asked basin rule step put (filter (is_in_run basin) (map (asked_by_rule rule step) puts))
     (nat_le (step + put.ahead) basin.control.stamps.count) first
     (All-head (CanAsk basin) put puts can) refl (all_within basin rule step puts first (All-tail (CanAsk basin) put puts can))
 

@@ -8,6 +8,7 @@ use Rattle.rw_base.specs.declared.memory.NoMemory.{NoMemory}
 use Rattle.rw_base.specs.declared.number.ObjectNo.{ObjectNo}
 use Rattle.rw_base.specs.declared.number.RuleNo.{RuleNo}
 use Rattle.rw_base.specs.declared.number.StepNo.{StepNo}
+use Rattle.rw_base.proofs.Lists.{option_or_joined}
 use Rattle.rw_model.specs.Draft.{Draft}
 use Rattle.rw_model.specs.Turn.{IsStep}
 use Rattle.rw_firing.specs.Fire.{Fire}
@@ -381,10 +382,6 @@ fire_goes basin blocks rule done count left log whole walk new text mid grown st
 
 -- ---- a put that is written
 
-or_joined : {A : Type 0} (x y z : Option A) → option_or (option_or x y) z ≡ option_or x (option_or y z)
-or_joined None y z = refl
-or_joined (Some x) y z = refl
-
 abbrev pub Writes : Draft → Asked → Walk → Walk → Type 0
 Writes basin put walk new =
     CanWrite basin put → (cell : Cell) → held new.series cell ≡ option_or (last_put basin (put ∷ []) cell) (held walk.series cell)
@@ -413,7 +410,7 @@ module _ (basin : Draft) (policy : Policy) (write : Asked) (left : List TraceEve
         lines_are = ap lines_behind are;
         cells = λ cell.
             cells cell
-            ∙ or_joined (last_put basin pending cell) (if is_shared basin put.cell cell then Some put.content else None) (held walk.series cell)
+            ∙ option_or_joined (last_put basin pending cell) (if is_shared basin put.cell cell then Some put.content else None) (held walk.series cell)
             ∙ ap (λ (one : Asked). option_or (last_put basin pending cell) (option_or (last_put basin (one ∷ []) cell) (held walk.series cell)))
             (sym same)
             ∙ ap (option_or (last_put basin pending cell)) (sym (wrote cell));

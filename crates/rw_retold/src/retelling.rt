@@ -24,6 +24,7 @@ use std::alloc::Global;
 
 // Tells the next line, and what was asked for in the event that it begins.
 fn tell_line(
+    alloc: Global,
     walk: &mut Walk,
     text: &mut String,
     setup: &RunSetup<'_>,
@@ -69,7 +70,7 @@ fn tell_line(
         } => {
             push_plain(text, teller, setup.basin, line)?;
             if done {
-                walk.tell_firing(text, setup, teller, rule)
+                walk.tell_firing(alloc, text, setup, teller, rule)
             } else {
                 Ok(())
             }
@@ -83,6 +84,7 @@ fn tell_line(
 // Tells the line in a place. Most lines are of puts, and of such a line no more than the put is read.
 #[inline(always)]
 fn tell_at(
+    alloc: Global,
     walk: &mut Walk,
     text: &mut String,
     setup: &RunSetup<'_>,
@@ -110,12 +112,13 @@ fn tell_at(
             walk.write(setup.basin, &write);
             Ok(())
         }
-        None => tell_line(walk, text, setup, teller, line_at(trace, place)),
+        None => tell_line(alloc, walk, text, setup, teller, line_at(trace, place)),
     }
 }
 
 // Tells all lines.
 fn tell_all(
+    alloc: Global,
     walk: &mut Walk,
     text: &mut String,
     setup: &RunSetup<'_>,
@@ -134,7 +137,7 @@ fn tell_all(
         → OnOk result (string_bytes text.new ≡ whole) }
 {
     for place in 0..trace.len() {
-        tell_at(walk, text, setup, teller, trace, place)?;
+        tell_at(alloc, walk, text, setup, teller, trace, place)?;
     }
     Ok(())
 }
@@ -162,5 +165,5 @@ pub fn push_asked_trace(
     let mut walk = Walk::begin(alloc, setup, inputs)?;
     let teller = Teller::new(alloc, setup.basin)?;
     text.push_str("# trace\n")?;
-    tell_all(&mut walk, text, setup, &teller, trace)
+    tell_all(alloc, &mut walk, text, setup, &teller, trace)
 }

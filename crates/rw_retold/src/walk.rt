@@ -1,4 +1,4 @@
-ghost use Rattle.std.specs.Prelude.{◌≡◌, [], ◌∷◌, ◌++◌, ◌≤◌, ℕ, IfOk, List, OnOk, Ok, Some, if◌then◌else◌, map, codes, string_bytes};
+ghost use Rattle.std.specs.Prelude.{◌≡◌, [], ◌∷◌, ◌++◌, ◌≤◌, ℕ, IfOk, IsSome, List, OnOk, Ok, Some, if◌then◌else◌, map, codes, string_bytes};
 ghost use Rattle.std.specs.Option.{option_or};
 ghost use Rattle.rw_base.specs.declared.number.Cell.{Cell as Place};
 ghost use Rattle.rw_model.specs.Turn.{IsStep};
@@ -24,6 +24,7 @@ ghost use Rattle.rw_retold.specs.Walk.{IsWalkOf, IsWalkedTo};
 
 use crate::checks::{can_write, has_method, is_rule, is_step};
 use rpl_machine::Machine;
+use rpl_verify::Verified;
 use rw_asked::{push_dispatched, push_fired};
 use rw_base::{Cell, NoMemory, ObjectNo, RuleNo, StepNo};
 use rw_dispatch::{Workspace, judge_dispatch, make};
@@ -36,11 +37,12 @@ use rw_run::{TraceEvent, Write};
 use rw_series::Series;
 use std::alloc::Global;
 
-/// The cells as they were at a line of a trace, the open timestep, and what is wanted to have objects solve and rules fire again.
+/// The cells as they were at a line of a trace, the open timestep, and what is wanted to have objects solve and rules fire again. The
+/// machine, whose room is large, is made before the first firing.
 #[derive(Drop)]
 pub(crate) struct Walk {
     pub(crate) series: Series,
-    pub(crate) machine: Machine,
+    pub(crate) machine: Option<Machine>,
     pub(crate) work: Workspace,
     pub(crate) wanted: Vec<Write>,
     pub(crate) step: StepNo,
@@ -131,6 +133,20 @@ fn want_all(
     Ok(())
 }
 
+// Has a machine, which is made where there is none yet.
+fn want_machine(
+    alloc: Global,
+    policy: &Verified,
+    machine: &mut Option<Machine>,
+) -> Result<(), NoMemory>
+    ensures { OnOk result (IsSome machine.new) }
+{
+    if machine.is_none() {
+        *machine = Some(Machine::for_policy(alloc, policy)?);
+    }
+    Ok(())
+}
+
 impl Walk {
     /// Before the first timestep of the run of these inputs.
     pub(crate) fn begin(
@@ -145,11 +161,10 @@ impl Walk {
             (with_inputs [] (placings setup.now.basin.now inputs.now)) cell) }
     {
         let engine = Engine::without_trace(alloc, setup.basin, setup.policy, inputs)?;
-        let machine = Machine::for_policy(alloc, setup.policy)?;
         let run = engine.finish();
         Ok(Walk {
             series: run.series,
-            machine,
+            machine: None,
             work: Workspace::new(true),
             wanted: Vec::new(alloc),
             step: StepNo(0),
@@ -216,6 +231,7 @@ impl Walk {
     /// Tells what a rule asked for that fires.
     pub(crate) fn tell_firing(
         &mut self,
+        alloc: Global,
         text: &mut String,
         setup: &RunSetup<'_>,
         teller: &Teller<'_>,
@@ -241,7 +257,11 @@ impl Walk {
         if !is_rule(setup.policy, rule) {
             return Ok(());
         }
-        let fired = self.machine.fire(
+        want_machine(alloc, setup.policy, &mut self.machine)?;
+        let Some(machine) = &mut self.machine else {
+            unreachable!()
+        };
+        let fired = machine.fire(
             setup.policy,
             setup.predefs,
             setup.basin,

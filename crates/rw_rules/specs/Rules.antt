@@ -7,6 +7,7 @@ use Rattle.rw_dispatch.specs.Writes.{AreWrites}
 use Rattle.rw_run.specs.Log.{Asked, Cells, Firing, Log, asked_in, fired, written_by}
 use Rattle.rw_run.specs.Next.{Policy, ended, last_looks}
 use Rattle.rw_agenda.specs.Agenda.{Agenda, IsIndexed, looked_by, look_room}
+use Rattle.rw_writes.specs.Writes.{Writes}
 use Rattle.rpl_code.specs.declared.block.BlockHead.TheVariants.{Rule}
 use Rattle.rpl_policy.specs.Policy.{policy_of_code}
 use Rattle.rpl_verify.specs.Fits.{count_alike}
@@ -19,6 +20,10 @@ pub record Rules : Type 0 where
   pub agenda : Agenda
   pub asked : List Asked
   pub written : List Asked
+
+-- those of an agenda, and of the writes of the last firing
+abbrev pub rules_kept : Agenda → Writes → Rules
+rules_kept agenda writes = record { agenda = agenda; asked = writes.asked; written = writes.written }
 
 -- made for the rules of a policy for a basin, with room for what each may look at
 pub record IsRulesOf (basin : Draft) (policy : Accepted) (rules : Rules) : Type 0 where

@@ -1,4 +1,4 @@
-ghost use Rattle.std.specs.Prelude.{◌≡◌, [], ◌∷◌, ℕ, IfOk, IfSome, Ok, option_map, unwrap_or};
+ghost use Rattle.std.specs.Prelude.{◌≡◌, ◌≤◌, [], ◌∷◌, ℕ, IfOk, IfSome, IsSome, Ok, option_map, unwrap_or};
 ghost use Rattle.rw_model.specs.Draft.{Draft};
 ghost use Rattle.rw_series.specs.Series.{held};
 ghost use Rattle.rw_dispatch.specs.Stage.{IsStageOf, Leaves, stage};
@@ -8,9 +8,11 @@ ghost use Rattle.rw_run.specs.Log.{Cells, Firing, Log, fired, last_put, opened};
 ghost use Rattle.rw_run.specs.Next.{first_due};
 ghost use Rattle.rw_agenda.specs.Agenda.{IsIndexed, IsListed, looked_by};
 ghost use Rattle.rw_dispatch.specs.Writes.{AreWrites};
+ghost use Rattle.rpl_code.specs.declared.block.BlockHead.TheVariants.{Rule as RuleHead};
+ghost use Rattle.rpl_verify.specs.Fits.{count_alike};
 ghost use Rattle.rpl_verify.specs.Verified.{Accepted, verified};
 ghost use Rattle.rw_rules.specs.Firing.{IsRuleTurn};
-ghost use Rattle.rw_rules.specs.Rules.{FiredOn, IsRulesOf, WrittenOn, ShowsLooks, Told, policy_in};
+ghost use Rattle.rw_rules.specs.Rules.{FiredOn, IsRulesOf, WrittenOn, ShowsLooks, Told, policy_in, rules_kept};
 
 use crate::RuleFired;
 use crate::firing::fire;
@@ -32,22 +34,66 @@ use std::alloc::Global;
 use std::marker::Model;
 
 /// The rules of verified code in a run, seen as the agenda, the puts of the last firing in the run's timesteps, and those of them
-/// that are to be written.
+/// that are to be written. Where there is no rule there is no machine, whose room is large.
 #[derive(Drop)]
 pub struct Rules {
-    machine: Machine,
+    machine: Option<Machine>,
     agenda: Agenda,
     writes: Writes,
 }
 
 impl Model for Rules {
+    ghost use Rattle.std.specs.Prelude.{◌≤◌, IsSome, length};
     ghost use Rattle.rw_rules.specs.Rules as specs;
 
     ghost Value = { specs.Rules };
 
     ghost view = { λ rules.
-        record
-        { agenda = rules.agenda; asked = rules.writes.asked; written = rules.writes.written } };
+        specs.rules_kept rules.agenda rules.writes };
+
+    ghost invariant = { λ rules. 1 ≤ length rules.agenda.rules → IsSome rules.machine };
+}
+
+// A machine, where the policy has a rule.
+fn machine_for(alloc: Global, policy: &Verified) -> Result<Option<Machine>, NoMemory>
+    ensures { IfOk result
+        (λ machine. 1 ≤ count_alike RuleHead policy.now.blocks → IsSome machine) }
+{
+    if policy.rule_count() == 0 {
+        return Ok(None);
+    }
+    Ok(Some(Machine::for_policy(alloc, policy)?))
+}
+
+// Lets a rule fire by a machine, and has the agenda keep at what it looked.
+#[inline(always)]
+fn fire_by(
+    machine: &mut Machine,
+    agenda: &mut Agenda,
+    writes: &mut Writes,
+    policy: &Verified,
+    predefs: &Predefs,
+    basin: &Basin,
+    series: &Series,
+    rule: RuleNo,
+    step: StepNo,
+) -> RuleFired
+    requires turn { IsRuleTurn basin.now policy.now rule.0 step.0 }
+    requires made { IsRulesOf basin.now policy.now (rules_kept agenda.old writes.old) }
+    ensures made { IsRulesOf basin.now policy.now (rules_kept agenda.new writes.new) }
+    ensures told { Told basin.now policy.now (held series.now) rule.0 step.0 result
+        (rules_kept agenda.new writes.new) }
+    ensures can { AreWrites basin.now writes.new.written }
+    ensures keeps { FiredOn policy.now (held series.now) rule.0 (rules_kept agenda.old writes.old)
+        (rules_kept agenda.new writes.new) }
+{
+    index_stays();
+    let fired = fire(machine, writes, policy, predefs, basin, series, rule, step);
+    agenda.fired(rule, fired.looked);
+    RuleFired {
+        end: fired.end,
+        count: fired.count,
+    }
 }
 
 impl Rules {
@@ -58,7 +104,7 @@ impl Rules {
     {
         let reads = reads(alloc, policy, basin)?;
         let agenda = Agenda::for_rules(alloc, basin, reads.as_slice())?;
-        let machine = Machine::for_policy(alloc, policy)?;
+        let machine = machine_for(alloc, policy)?;
         let writes = Writes::with_room(alloc)?;
         Ok(Rules {
             machine,
@@ -108,9 +154,12 @@ impl Rules {
         ensures can { AreWrites basin.now self.new.written }
         ensures keeps { FiredOn policy.now (held series.now) rule.0 self.old self.new }
     {
-        index_stays();
-        let fired = fire(
-            &mut self.machine,
+        let Some(machine) = &mut self.machine else {
+            unreachable!()
+        };
+        fire_by(
+            machine,
+            &mut self.agenda,
             &mut self.writes,
             policy,
             predefs,
@@ -118,12 +167,7 @@ impl Rules {
             series,
             rule,
             step,
-        );
-        self.agenda.fired(rule, fired.looked);
-        RuleFired {
-            end: fired.end,
-            count: fired.count,
-        }
+        )
     }
 
     /// Writes the puts of the last firing, wakes the objects that they reach, and marks the rules: as the event of that firing leaves

@@ -3,6 +3,7 @@ use Rattle.rw_base.proofs.Common.{◌≡◌, ℕ, ◌-◌, ℤ, pos, ◌-ℤ◌,
 use Rattle.rw_base.proofs.Common.{None, nat_lt, nat_le, refl, sym, ap, ap₂, subst, ◌∙◌, arith, is_some, if◌then◌else◌, option_and_then, option_map}
 use Rattle.rw_base.proofs.Common.{unwrap_or, option_or, cons_option, filter, filter_map, find, same_Some, none-some}
 use Rattle.rw_base.specs.declared.number.Cell.{Cell}
+use Rattle.rw_base.proofs.Lists.{option_or_joined}
 use Rattle.rw_model.specs.declared.content.Content.{Content}
 use Rattle.rw_model.proofs.Common.{before_of, Draft, Object, object_at, end_of_put}
 use Rattle.rw_method.specs.declared.solved.Solved.{Solved}
@@ -65,18 +66,14 @@ waiting_same basin (event ∷ events) step x y =
 
 -- ---- cells that are alike before the timestep are alike in it
 
-or_assoc : {A : Type 0} (x y z : Option A) → option_or (option_or x y) z ≡ option_or x (option_or y z)
-or_assoc None y z = refl
-or_assoc (Some x) y z = refl
-
 held_over : (basin : Draft) (events x : Log) (cell : Cell)
     → cells_of basin (events ++ x) cell ≡ option_or (cells_of basin events cell) (cells_of basin x cell)
 held_over basin [] x cell = refl
 held_over basin (event ∷ events) x cell =
     ap (λ z. option_or (last_put basin (written_by event) cell) z) (held_over basin events x cell)
-    ∙ sym (or_assoc (last_put basin (written_by event) cell) _ _)
+    ∙ sym (option_or_joined (last_put basin (written_by event) cell) _ _)
 
-alike_over : (basin : Draft) (events : Log) (step : ℕ) (x y : Log) (cells : List Cell) → AreAlike (cells_of basin x) (cells_of basin y) cells
+pub alike_over : (basin : Draft) (events : Log) (step : ℕ) (x y : Log) (cells : List Cell) → AreAlike (cells_of basin x) (cells_of basin y) cells
     → AreAlike (cells_of basin (events ++ opened step ∷ x)) (cells_of basin (events ++ opened step ∷ y)) cells
 alike_over basin events step x y [] a = tt
 alike_over basin events step x y (cell ∷ cells) a = (
@@ -97,7 +94,7 @@ pub alike_both : {A : Type 0} (f g : Cell → A) (xs ys : List Cell) → AreAlik
 alike_both f g [] ys a b = b
 alike_both f g (x ∷ xs) ys a b = (a.0, alike_both f g xs ys a.1 b)
 
-alike_values : (f g : Cells) (cells : List Cell) → AreAlike f g cells → AreAlike (value_in f) (value_in g) cells
+pub alike_values : (f g : Cells) (cells : List Cell) → AreAlike f g cells → AreAlike (value_in f) (value_in g) cells
 alike_values f g [] a = tt
 alike_values f g (cell ∷ cells) a = (ap (option_map (λ (content : Content). content.value)) a.0, alike_values f g cells a.1)
 
@@ -194,7 +191,7 @@ final_if_fine f object (put ∷ puts) final fine =
 looks_at_same : (f g : Cells) (cells : List Cell) → AreAlike f g cells → looks_at f cells ≡ looks_at g cells
 looks_at_same f g cells a = map_same f g (λ c z. record { cell = c; seen = option_map (λ (content : Content). content.value) z }) cells a
 
-cells_of_looks : (f : Cells) (cells : List Cell) → cells_looked (looks_at f cells) ≡ cells
+pub cells_of_looks : (f : Cells) (cells : List Cell) → cells_looked (looks_at f cells) ≡ cells
 cells_of_looks f [] = refl
 cells_of_looks f (cell ∷ cells) = ap (λ z. cell ∷ z) (cells_of_looks f cells)
 

@@ -3,11 +3,11 @@ pub mod Waits
 pub mod Ready
 pub mod OneRun
 pub mod Sinces
-mod Frames
+pub mod Frames
 mod Reuses
 pub mod Agains
 mod StepEvents
-mod Reruns
+pub mod Reruns
 mod Lasts
 pub mod SameRuns
 mod SomeRun

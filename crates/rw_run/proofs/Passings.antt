@@ -84,7 +84,7 @@ module _ (basin : Draft) (policy : Policy) (step : ℕ) (end : Event) (before : 
       let on = goes_on event log next events one leads.1 in
       (one, on.0, within_from (event ∷ log) next events on.1 leads.1)
 
-leads_after : (basin : Draft) (policy : Policy) (old : Log) (events : List Event) (new : Log) → Leads basin policy old events new
+pub leads_after : (basin : Draft) (policy : Policy) (old : Log) (events : List Event) (new : Log) → Leads basin policy old events new
     → new ≡ log_after events old
 leads_after basin policy old [] new leads = leads
 leads_after basin policy old (event ∷ events) new leads = leads_after basin policy (event ∷ old) events new leads.1
@@ -152,7 +152,7 @@ still_closing step other old before end =
 
 -- ---- and of this one
 
-own_number : (step : ℕ) → (step == step) ≡ true
+pub own_number : (step : ℕ) → (step == step) ≡ true
 own_number step = grind (arith, nat_tests)
 
 opened_by_none : (step : ℕ) (event : Event) (log : Log) → IsWithin step event → before_opening step (event ∷ log) ≡ before_opening step log

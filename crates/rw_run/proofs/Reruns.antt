@@ -3,6 +3,7 @@ use Rattle.rw_base.proofs.Common.{◌≡◌, ◌<◌, ◌≤◌, ◌+◌, ◌==�
 use Rattle.rw_base.proofs.Common.{Some, None, IsSome, refl, sym, ap, subst, ◌∙◌, arith, inl, inr, ◌⊎◌, if◌then◌else◌, nat_tests, same_Some, none-some}
 use Rattle.rw_base.proofs.Common.{append_assoc}
 use Rattle.rw_base.specs.declared.number.Cell.{Cell}
+use Rattle.rw_run.proofs.Passings.{leads_after, own_number}
 use Rattle.rw_model.specs.Draft.{Draft}
 use Rattle.rw_run.specs.Frame.{AreAlike, IsFramed, IsStepFrom, log_after, looked_in}
 use Rattle.rw_run.specs.Log.{Cells, Event, Log, cells_of, placed, opened, closed, idle, solved, fired, fault}
@@ -131,11 +132,6 @@ log_after_more : (events : List Event) (event : Event) (log : Log) → log_after
 log_after_more [] event log = refl
 log_after_more (first ∷ events) event log = log_after_more events event (first ∷ log)
 
-leads_to : (basin : Draft) (policy : Policy) (old : Log) (events : List Event) (new : Log) → Leads basin policy old events new
-    → new ≡ log_after events old
-leads_to basin policy old [] new leads = leads
-leads_to basin policy old (event ∷ events) new leads = leads_to basin policy (event ∷ old) events new leads.1
-
 all_more : (P : Event → Type 0) (events : List Event) (event : Event) → AreAll P events → P event → AreAll P (events ++ event ∷ [])
 all_more P [] event all is = (is, tt)
 all_more P (first ∷ events) event all is = (all.0, all_more P events event all.1 is)
@@ -173,9 +169,6 @@ IsClosing event = ⊥
 abbrev step_opened : Event → ℕ
 step_opened (opened step) = step
 step_opened event = 0
-
-own_number : (step : ℕ) → (step == step) ≡ true
-own_number step = grind (arith, nat_tests)
 
 own_closing : (step : ℕ) (log : Log) → events_of step (closed step ∷ log) ≡ closed step ∷ events_of step log
 own_closing step log = ap (λ (t : Bool). if t then closed step ∷ events_of step log else events_of step log) (own_number step)
@@ -384,7 +377,7 @@ module _ (basin : Draft) (policy : Policy) where
   leads_again step one other end (event ∷ events) framed stays leads alike =
       reuse basin policy step one other end event (events ++ closed step ∷ []) framed (step_from step event events stays.0 stays.1) leads alike
 
-alike_at : (one other : Cells) (cells : List Cell) → AreAlike one other cells → (cell : Cell) → Contains cells cell → one cell ≡ other cell
+pub alike_at : (one other : Cells) (cells : List Cell) → AreAlike one other cells → (cell : Cell) → Contains cells cell → one cell ≡ other cell
 alike_at one other [] alike cell (k, less, same) = absurd (omega (arith, less))
 alike_at one other (first ∷ cells) alike cell (zero, less, same) = subst (λ c. one c ≡ other c) same alike.0
 alike_at one other (first ∷ cells) alike cell (suc k, less, same) = alike_at one other cells alike.1 cell (k, omega (arith, less), same)
@@ -429,7 +422,7 @@ held_alike basin policy inputs others earlier later step framed run_one run_othe
     ap (λ rest. if step == step then opened step ∷ rest else rest) (none_before basin policy step is.other here.0 here.1 ∙ sym from_one) in
     let one_made : log_after events (opened step ∷ o.old) ≡ closed step ∷ c.before_it =
     log_after_more o.events (closed step) (opened step ∷ o.old)
-    ∙ ap (λ log. closed step ∷ log) (sym (leads_to basin policy (opened step ∷ o.old) o.events c.before_it o.leads)) in
+    ∙ ap (λ log. closed step ∷ log) (sym (leads_after basin policy (opened step ∷ o.old) o.events c.before_it o.leads)) in
     let other_own : events_of step later ≡ events_of step (log_after events (opened step ∷ is.other)) =
     ap (events_of step) past.1 ∙ none_among step past.0 (log_after events (opened step ∷ is.other)) none in
     let both : events_of step (log_after events (opened step ∷ is.other)) ≡ events_of step (closed step ∷ c.before_it) =

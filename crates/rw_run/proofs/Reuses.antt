@@ -1,7 +1,8 @@
 -- The events of a timestep follow in another log that holds alike what they look at, and marks that follow the puts keep an index.
-use Rattle.rw_base.proofs.Common.{◌≡◌, ℕ, Bool, true, false, not, ◌||◌, List, [], ◌∷◌, Option, Some, None, refl, sym, ap, ap₂, subst, ◌∙◌, arith}
+use Rattle.rw_base.proofs.Common.{◌≡◌, ℕ, Bool, false, not, ◌||◌, List, [], ◌∷◌, Option, Some, None, refl, sym, ap, ap₂, subst, ◌∙◌}
 use Rattle.rw_base.proofs.Common.{if◌then◌else◌, option_map, option_or, list_any}
 use Rattle.rw_base.specs.declared.number.Cell.{Cell}
+use Rattle.std.proofs.lemmas.Bool.{or_parts}
 use Rattle.rw_model.specs.declared.content.Content.{Content}
 use Rattle.rw_model.specs.Draft.{Draft}
 use Rattle.rw_series.specs.Series.{is_shared}
@@ -65,22 +66,18 @@ reuse basin policy step x y end event events framed i l a =
 
 -- ---- marks
 
-either : (x y : Bool) → x || y ≡ false → (x ≡ false) × (y ≡ false)
-either false y e = (refl, e)
-either true y e = absurd (grind (arith, e))
-
 apart : (basin : Draft) (puts : List Asked) (cell : Cell) → list_any (λ (put : Asked). is_shared basin put.cell cell) puts ≡ false
     → last_put basin puts cell ≡ None
 apart basin [] cell e = refl
 apart basin (put ∷ puts) cell e =
-    let h = either (is_shared basin put.cell cell) _ e in
+    let h = or_parts (is_shared basin put.cell cell) _ e in
     ap₂ (λ rest test. option_or rest (if test then Some put.content else None)) (apart basin puts cell h.1) h.0
 
 still : (basin : Draft) (cells : Cells) (puts : List Asked) (looks : List Look) → is_touched basin puts looks ≡ false
     → is_changed (λ cell. option_or (last_put basin puts cell) (cells cell)) (Some looks) ≡ is_changed cells (Some looks)
 still basin cells puts [] e = refl
 still basin cells puts (look ∷ looks) e =
-    let h = either (list_any (λ (put : Asked). is_shared basin put.cell look.cell) puts) _ e in
+    let h = or_parts (list_any (λ (put : Asked). is_shared basin put.cell look.cell) puts) _ e in
     ap₂ (λ z rest. not (is_same_value look.seen (option_map (λ (content : Content). content.value) z)) || rest)
     (ap (λ z. option_or z (cells look.cell)) (apart basin puts look.cell h.0)) (still basin cells puts looks h.1)
 

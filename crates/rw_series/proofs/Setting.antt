@@ -4,6 +4,7 @@ use Rattle.rw_base.proofs.Common.{List, [], ◌∷◌, length, subst, refl, sym,
 use Rattle.rw_base.proofs.Common.{length-map, and_parts, All, zero-lt-suc, list_any_at, nat_eq_equiv}
 use Rattle.rw_base.specs.declared.number.Cell.{Cell}
 use Rattle.rw_base.specs.declared.number.SlotNo.{SlotNo}
+use Rattle.rw_base.proofs.Lists.{and_second_fails}
 use Rattle.rw_model.proofs.Common.{all_slots, Draft, numbers_of, is_together, is_among, slot_numbers, group_of}
 use Rattle.rw_series.specs.Cells.{is_kept}
 use Rattle.rw_series.specs.Columns.{column_of}
@@ -37,10 +38,6 @@ and_known : (a b : Bool) → b ≡ true → a ≡ (a && b)
 and_known true b is = sym is
 and_known false b is = refl
 
-and_unknown : (a b : Bool) → b ≡ false → (a && b) ≡ false
-and_unknown true b is = is
-and_unknown false b is = refl
-
 module _ (basin : Draft) (series : Series) (cell : Cell) (made : IsSeriesOf basin series) (known : IsCell basin cell) where
   last : cell.slot.0 ≤ series.slots
   last = omega (arith, known.slot.last, made.slots)
@@ -65,7 +62,7 @@ module _ (basin : Draft) (series : Series) (cell : Cell) (made : IsSeriesOf basi
       → (column_of series.columns other == column_of series.columns cell.slot.0) ≡ is_among other (group_of basin.objects basin.links cell.slot.0)
   test_unknown other zero_column none =
       let apart : (column_of series.columns other == column_of series.columns cell.slot.0) ≡ false = grind (arith, nat_tests, one, zero_column) in
-      apart ∙ sym (and_unknown (is_together basin.links cell.slot.0 other) (is_among other (slot_numbers basin.objects)) none)
+      apart ∙ sym (and_second_fails (is_together basin.links cell.slot.0 other) (is_among other (slot_numbers basin.objects)) none)
       ∙ sym (among_group basin.objects basin.links cell.slot.0 other)
 
   test_at : (other : ℕ) → (first_too : Bool) → nat_le 1 other ≡ first_too → (last_too : Bool) → nat_le other series.slots ≡ last_too

@@ -59,7 +59,7 @@ Shared-of basin cell other shared =
     let in_group = and_parts _ _ (sym (among_group basin.objects basin.links cell.slot.0 other.slot.0) ∙ parts.0) in
     record { together = in_group.0; known = in_group.1; step = grind (arith, nat_tests, parts.1) }
 
-shared_alike : (basin : Draft) (cell one other : Cell) → IsCell basin one → is_shared basin one other ≡ true
+pub shared_alike : (basin : Draft) (cell one other : Cell) → IsCell basin one → is_shared basin one other ≡ true
     → is_shared basin cell one ≡ is_shared basin cell other
 shared_alike basin cell one other known shared =
     let is = Shared-of basin one other shared in

@@ -5,6 +5,7 @@ use Rattle.rw_table.proofs.Common.{is_within_bounds, length, nat_lt, nat_tests, 
 use Rattle.rw_table.proofs.Common.{rows_refusal, subst, suc, sym, table_refusal, zero, ℕ, ◌+◌, ◌<◌, ◌↔◌, ◌∙◌, ◌≡◌, ◌≤◌}
 use Rattle.rw_base.proofs.Answering.{found}
 use Rattle.rw_base.proofs.Tests.{Decides-from_to, Decides-int_lt, passed, spared, unless, where-true}
+use Rattle.rw_base.proofs.Lists.{neither_there}
 use Rattle.rw_table.specs.declared.fault.TableFault.{TableFault}
 
 Decides-bounds : (row : Row) → Decides (is_within_bounds row) (IsWithinBounds row)
@@ -34,15 +35,10 @@ row-iff rows k = (
       ∙ where-true (is_rising_at rows k) _ _ ((Decides-rising rows k).1 good.rising),
 )
 
--- neither is there
-both-none : {A : Type 0} (a b : Option A) → option_or a b ≡ None → (a ≡ None) × (b ≡ None)
-both-none None b e = (refl, e)
-both-none (Some x) b e = cc
-
 rows-good : (rows : List Row) (n : ℕ) → rows_refusal rows n ≡ None → (k : ℕ) → k < n → IsGoodRow rows k
 rows-good rows zero e = λ k below. absurd (omega arith)
 rows-good rows (suc n) e =
-    let parts = both-none (rows_refusal rows n) (row_refusal rows n) e in
+    let parts = neither_there (rows_refusal rows n) (row_refusal rows n) e in
     λ k below. below_more (IsGoodRow rows) n (rows-good rows n parts.0) ((row-iff rows n).0 parts.1) k (omega arith)
 
 rows-free : (rows : List Row) (n : ℕ) → ((k : ℕ) → k < n → IsGoodRow rows k) → rows_refusal rows n ≡ None

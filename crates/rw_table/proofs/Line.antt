@@ -4,7 +4,7 @@ use Rattle.rw_table.proofs.Common.{◌≡◌, ◌≤ℤ◌, ◌≤◌}
 use Rattle.rw_table.proofs.Quotient.{share_below, share_rises}
 
 -- a number that isn't negative is a natural one
-natural : (z : ℤ) → pos 0 ≤ℤ z → (n : ℕ) × (z ≡ pos n)
+pub natural : (z : ℤ) → pos 0 ≤ℤ z → (n : ℕ) × (z ≡ pos n)
 natural (pos n) h = (n, refl)
 natural (negsuc n) h = absurd (omega (arith, ints))
 

@@ -1,3 +1,4 @@
+pub mod OneSection
 pub mod Common
 pub mod CommandLemmas
 pub mod OneReading

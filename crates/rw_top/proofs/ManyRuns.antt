@@ -14,7 +14,7 @@ use Rattle.rw_run.specs.RunOf.{IsRunOf, end_of}
 use Rattle.rw_run.specs.declared.run.Run.{Run}
 use Rattle.rw_series.specs.Series.{held}
 use Rattle.rw_mrm.specs.Summary.{Ended, IsTallyOf, summary_of}
-use Rattle.rw_mrm.specs.Tally.{IsTallyFor, Tally, is_settled, with_run}
+use Rattle.rw_mrm.specs.Tally.{IsTallyFor, Tally, is_settled, no_runs, with_run}
 use Rattle.rw_top.specs.Many.{AppendsMany, AreFirstPieces, AreScenarioRuns, IsScenarioRun, as_ended, many_texts, scenario_texts, status_of_runs}
 use Rattle.rw_top.specs.Policy.{PolicyFile as Rules}
 use Rattle.rw_top.specs.RunText.{ComesBy, IsCodeOf}
@@ -94,6 +94,10 @@ its_text basin number log run is = told_alike basin log run is (section_by basin
 its_cells : (basin : Draft) (log : Log) (run : Run) → IsRunOf basin log run → held run.series ≡ cells_of basin log
 its_cells basin log run is = λ i cell. is.cells cell i
 
+-- a tally of no runs is one for the basin
+pub empty_for : (basin : Draft) (room : ℕ) (tally : Tally) → tally ≡ no_runs basin room → IsTallyFor basin tally
+empty_for basin room tally is = record { slots = ap (λ (t : Tally). t.slots) is; steps = ap (λ (t : Tally). t.steps) is }
+
 -- a tally for the basin stays one
 pub stays_for : (basin : Draft) (settled : Bool) (cells : Cells) (tally next : Tally) → next ≡ with_run basin settled cells tally
     → IsTallyFor basin tally → IsTallyFor basin next
@@ -113,13 +117,14 @@ counts_more basin false cells tally next is = (ap (λ (t : Tally). t.runs) is, a
 
 module _ (basin : Draft) (policy : Rules) (inputs : Inputs) (batches : List Batch) where
   -- nothing was written
-  pub none_written : (out : SinkView) (tally : Tally) → IsTallyOf basin [] tally
+  pub none_written : (out : SinkView) (tally : Tally) → IsTallyFor basin tally → IsTallyOf basin [] tally
       → WritesScenarios basin policy inputs batches 0 (change out out) tally 0
-  none_written out tally none = record {
+  none_written out tally made none = record {
     logs = [];
     are = tt;
     grew = still out.contents out.contents refl;
     later = omega arith;
+    made = made;
     kept = none;
     status_is = refl;
   }
@@ -165,6 +170,7 @@ module _ (basin : Draft) (policy : Rules) (inputs : Inputs) (batches : List Batc
               (trace_of_run basin (count + 1) (outcome_by basin log)) so_far.grew
               (subst (λ t. GrowsBy now.contents after.contents t) (its_text basin (count + 1) log run its) wrote.grew));
           later = let first = so_far.later in let second = wrote.later in omega (arith, first, second);
+          made = stays_for basin (is_settled run.end) (held run.series) tally next is so_far.made;
           kept = subst (λ (t : Tally). IsTallyOf basin (map (as_ended basin) (logs ++ log ∷ [])) t) (sym tallied)
               (subst (λ runs. IsTallyOf basin runs (with_run basin (is_settled (end_of log)) (cells_of basin log) tally))
               (sym (map-append (as_ended basin) logs (log ∷ [])))

@@ -11,7 +11,7 @@ use Rattle.rw_run.specs.declared.run.Run.{Run}
 use Rattle.rw_report.specs.Outcome.{outcome_of}
 use Rattle.rw_report.specs.Whole.{trace_of_run}
 use Rattle.rw_mrm.specs.Summary.{IsTallyOf}
-use Rattle.rw_mrm.specs.Tally.{Tally}
+use Rattle.rw_mrm.specs.Tally.{IsTallyFor, Tally}
 use Rattle.rw_top.specs.Many.{AreScenarioRuns, as_ended, scenario_texts, status_of_runs}
 use Rattle.rw_top.specs.Policy.{PolicyFile as Rules}
 use Rattle.rw_top.specs.RunText.{ComesBy}
@@ -45,6 +45,7 @@ pub record WritesScenarios (basin : Draft) (policy : Rules) (inputs : Inputs) (b
   pub are : AreScenarioRuns basin policy inputs (take count batches) logs
   pub grew : GrowsBy out.before.contents out.after.contents (joined_sections (scenario_texts basin 1 logs))
   pub later : out.before.faults ≤ out.after.faults
+  pub made : IsTallyFor basin tally
   pub kept : IsTallyOf basin (map (as_ended basin) logs) tally
   pub status_is : status ≡ status_of_runs logs
 

@@ -5,6 +5,7 @@ use Rattle.rw_inputs.specs.Inputs.{Inputs, value_at}
 use Rattle.rw_io.specs.Causes.{Rose}
 use Rattle.rw_io.specs.Known.{GrowsBy, PrefixGrew}
 use Rattle.rw_io.specs.Outside.{Change, SinkView}
+use Rattle.rw_io.specs.Handed.{BrokeOff}
 use Rattle.rw_run.specs.declared.run.RunEnd.{RunEnd}
 use Rattle.rw_top.specs.declared.refusal.Refusal.{Refusal}
 use Rattle.rw_top.specs.declared.refusal.Refusal.TheVariants.{CannotWrite, NoMemory}
@@ -106,3 +107,11 @@ StopsAtOne IsSection number given out CannotWrite =
     (end : RunEnd) × (text : List ℕ) × IsSection number given end text
     × PrefixGrew out.before.contents out.after.contents text × Rose out.before.faults out.after.faults
 StopsAtOne IsSection number given out why = ⊥
+
+-- ---- and of one that is handed over in pieces
+
+-- why not all of a text is appended
+abbrev pub StopsText : SinkView → SinkView → List ℕ → Refusal → Type 0
+StopsText before after text NoMemory = after ≡ before
+StopsText before after text CannotWrite = BrokeOff before after text
+StopsText before after text why = ⊥

@@ -7,6 +7,7 @@
 //! line that says so.
 #![tactic(auto)]
 
+mod alone;
 mod asked;
 mod balance;
 mod cell;

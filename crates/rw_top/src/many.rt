@@ -1,12 +1,12 @@
 // The runs of scenarios by code, each told as soon as it is made, and their summary.
-ghost use Rattle.std.specs.Prelude.{◌≡◌, ◌≤◌, ◌<◌, ◌+◌, [], length, map, if◌then◌else◌, IfOk, MatchResult, Ok};
+ghost use Rattle.std.specs.Prelude.{◌≡◌, ◌≤◌, ◌<◌, ◌+◌, length, map, if◌then◌else◌, IfOk, MatchResult, Ok};
 ghost use Rattle.std.specs.List.{All};
 ghost use Rattle.rw_inputs.specs.Edits.{IsBatch};
 ghost use Rattle.rw_inputs.specs.Inputs.{IsInputsOf};
 ghost use Rattle.rw_io.specs.Outside.{change};
 ghost use Rattle.rw_method.specs.Catalogue.{AreInOrder};
-ghost use Rattle.rw_mrm.specs.Summary.{IsTallyOf, summary_by};
-ghost use Rattle.rw_mrm.specs.Tally.{IsTallyFor, is_settled};
+ghost use Rattle.rw_mrm.specs.Summary.{summary_by};
+ghost use Rattle.rw_mrm.specs.Tally.{is_settled, no_runs};
 ghost use Rattle.rpl_verify.specs.Verified.{verified};
 ghost use Rattle.rw_top.specs.Many.{AppendsMany, AreFirstPieces};
 ghost use Rattle.rw_top.specs.Policy.{PolicyFile as Rules};
@@ -103,7 +103,7 @@ fn status_with(status: u8, end: &RunEnd) -> u8
     }
 }
 
-// Writes the sections of all scenarios, adds their runs to a tally, and answers their status.
+// Writes the sections of all scenarios, adds their runs to a tally of none, and answers their status.
 fn write_scenarios<K: Sink, L: Ledger>(
     alloc: Global,
     setup: &RunSetup<'_>,
@@ -120,16 +120,13 @@ fn write_scenarios<K: Sink, L: Ledger>(
     requires inputs { IsInputsOf setup.now.basin.now inputs.now }
     requires batches { All (IsBatch setup.now.basin.now) batches.now }
     requires few { length batches.now ≤ 64 }
-    requires made { IsTallyFor setup.now.basin.now tally.old }
-    requires none { IsTallyOf setup.now.basin.now [] tally.old }
-    requires room { tally.old.room ≡ length batches.now }
-    ensures written { (policy : Rules) → IsCodeOf setup.now.basin.now policy setup.now.policy.now
+    requires empty { tally.old ≡ no_runs setup.now.basin.now (length batches.now) }
+    ensures { (policy : Rules) → IsCodeOf setup.now.basin.now policy setup.now.policy.now
         → MatchResult result
         (WritesScenarios setup.now.basin.now policy inputs.now batches.now (length batches.now)
         (change (K.seen out.old) (K.seen out.new)) tally.new)
         (StopsAmongPieces (AreFirstPieces setup.now.basin.now policy inputs.now batches.now)
         (length batches.now) (change (K.seen out.old) (K.seen out.new))) }
-    ensures made { IfOk result (λ status. IsTallyFor setup.now.basin.now tally.new) }
 {
     tallies();
     let mut status = 0;
@@ -191,7 +188,6 @@ pub(crate) fn write_many<K: Sink, L: Ledger>(
         (StopsAmongPieces (AreFirstPieces setup.now.basin.now policy inputs.now batches.now)
         (length batches.now) (change (K.seen out.old) (K.seen out.new))) }
 {
-    tallies();
     summary_of_runs();
     let mut tally = match Tally::for_basin(alloc, setup.basin, count_of(batches)) {
         Ok(tally) => tally,

@@ -28,7 +28,7 @@ use crate::migrate::migrated_text;
 use crate::reused::write_reused;
 use crate::sample::sample_by_policy;
 use crate::sections::write_sections;
-use crate::simulate::text_without_rules;
+use crate::simulate::write_without_rules;
 use crate::why::why_by_policy;
 use rpl_predef::Predefs;
 use rpl_verify::Verified;
@@ -51,19 +51,23 @@ fn status_of_run(end: &RunEnd) -> u8
     }
 }
 
-// The table of the run of the files without rules, and the status with which it is written.
-fn simulate<L: Ledger>(
+// Writes the section of the run of the files without rules.
+fn simulate<K: Sink, L: Ledger>(
     alloc: Global,
     files: &Files,
     methods: &Catalogue,
     predefs: &Predefs,
     extras: Extras,
     steps: &mut Steps<L>,
-) -> Result<(Vec<u8>, u8), NoMemory>
+    out: &mut K,
+) -> Result<u8, Refusal>
     requires order { AreInOrder (map (λ b. code (b.vtable, b.value)) methods.now.methods.items) }
     requires ready { AreReady J.Simulate files.now }
-    ensures { IfOk result
-        (λ pair. IsOne J.Simulate extras (files_seen files.now) pair.1 pair.0.items) }
+    ensures { MatchResult result
+        (Appends J.Simulate extras (files_seen files.now)
+        (change (K.seen out.old) (K.seen out.new)))
+        (Stops J.Simulate extras (files_seen files.now)
+        (change (K.seen out.old) (K.seen out.new))) }
 {
     let Some(inputs) = &files.inputs else {
         unreachable!();
@@ -75,8 +79,10 @@ fn simulate<L: Ledger>(
         policy: &none,
         predefs,
     };
-    let (text, end) = text_without_rules(alloc, &setup, extras, inputs, steps)?;
-    Ok((text, status_of_run(&end)))
+    match write_without_rules(alloc, &setup, extras, inputs, steps, out) {
+        Ok(end) => Ok(status_of_run(&end)),
+        Err(refusal) => Err(refusal),
+    }
 }
 
 // The budgets of the policy of the files, and the status with which they are written.
@@ -362,7 +368,7 @@ fn many<K: Sink, L: Ledger>(
     write_many(alloc, &setup, inputs, scenarios, steps, out)
 }
 
-// The one text of a job that lends its files, and the status with which it is written.
+// The one text of a job that lends its files and makes it whole, and the status with which it is written.
 fn text_of_job<L: Ledger>(
     alloc: Global,
     job: Job,
@@ -376,10 +382,10 @@ fn text_of_job<L: Ledger>(
     requires ready { AreReady job files.now }
     requires one { job ≢ J.Mrm }
     requires lent { job ≢ J.Run }
+    requires whole { job ≢ J.Simulate }
     ensures { IfOk result (λ pair. IsOne job extras (files_seen files.now) pair.1 pair.0.items) }
 {
     match job {
-        Job::Simulate => simulate(alloc, files, methods, predefs, extras, steps),
         Job::Check => check(alloc, files),
         Job::Compile => compile(alloc, files),
         Job::Why => tell_why(alloc, files, methods, predefs, steps),
@@ -388,6 +394,7 @@ fn text_of_job<L: Ledger>(
         Job::Migrate => migrate(alloc, files),
         Job::Mrm => unreachable!(),
         Job::Run => unreachable!(),
+        Job::Simulate => unreachable!(),
     }
 }
 
@@ -413,6 +420,7 @@ fn write_of<K: Sink, L: Ledger>(
     match job {
         Job::Mrm => many(alloc, files, methods, predefs, steps, out),
         Job::Run => run(alloc, files, methods, predefs, extras, steps, out),
+        Job::Simulate => simulate(alloc, files, methods, predefs, extras, steps, out),
         _ => {
             let made = text_of_job(alloc, job, files, methods, predefs, extras, steps);
             write_made(job, extras, files, made, out)

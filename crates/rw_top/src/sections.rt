@@ -1,5 +1,5 @@
 // The sections of a run by code, each written as soon as it is made.
-ghost use Rattle.std.specs.Prelude.{◌≡◌, ◌≤◌, ◌+◌, [], ◌∷◌, false, true, length, map, IfOk, MatchOption, MatchResult, Ok, Option};
+ghost use Rattle.std.specs.Prelude.{◌≡◌, ◌≤◌, ◌+◌, [], ◌∷◌, false, true, length, map, IfOk, IsTrue, MatchOption, MatchResult, Ok, Option};
 ghost use Rattle.std.specs.List.{All};
 ghost use Rattle.rw_inputs.specs.Edits.{IsBatch, after_batch};
 ghost use Rattle.rw_inputs.specs.Inputs.{Inputs as Rows, IsInputsOf, value_at};
@@ -11,6 +11,7 @@ ghost use Rattle.rw_top.specs.RunText.{IsCodeOf, IsRulesText, tells_asks};
 ghost use Rattle.rw_top.specs.Sections.{AppendsAll, AppendsOne, StopsAmong, StopsAtOne, first_given};
 
 use crate::Refusal;
+use crate::alone::write_by_code;
 use crate::asked::{asked_by_code, tells_asks};
 use crate::extras::Extras;
 use crate::run::tell_by_code;
@@ -206,8 +207,41 @@ fn write_from<K: Sink, L: Ledger>(
     }
 }
 
-/// Writes a section for inputs and one after each batch of edits, and answers how the run of the last one ended.
-pub(crate) fn write_sections<K: Sink, L: Ledger>(
+// Whether there is one section, which can be handed over in pieces.
+fn is_alone(extras: Extras, batches: &[Batch]) -> bool
+    ensures { IsTrue result → (tells_asks extras ≡ false) × (batches.now ≡ []) }
+{
+    !tells_asks(extras) && batches.is_empty()
+}
+
+// Writes the one section, in pieces.
+fn write_alone<K: Sink, L: Ledger>(
+    alloc: Global,
+    setup: &RunSetup<'_>,
+    extras: Extras,
+    inputs: Inputs,
+    steps: &mut Steps<L>,
+    out: &mut K,
+) -> Result<RunEnd, Refusal>
+    requires order { AreInOrder
+        (map (λ b. code (b.vtable, b.value)) setup.now.methods.now.methods.items) }
+    requires fits { verified setup.now.basin.now setup.now.policy.now.blocks
+        ≡ Ok setup.now.policy.now }
+    requires inputs { IsInputsOf setup.now.basin.now inputs }
+    requires plain { extras.reuse ≡ false }
+    requires silent { tells_asks extras ≡ false }
+    ensures { (policy : Rules) → IsCodeOf setup.now.basin.now policy setup.now.policy.now
+        → MatchResult result
+        (AppendsAll (IsRulesText setup.now.basin.now policy extras)
+        0 (first_given inputs) [] (change (K.seen out.old) (K.seen out.new)))
+        (StopsAmong (IsRulesText setup.now.basin.now policy extras)
+        0 (first_given inputs) [] (change (K.seen out.old) (K.seen out.new))) }
+{
+    write_by_code(alloc, setup, extras, &inputs, steps, out)
+}
+
+// Writes all sections on one sheet, each made whole.
+fn write_on_sheet<K: Sink, L: Ledger>(
     alloc: Global,
     setup: &RunSetup<'_>,
     extras: Extras,
@@ -235,4 +269,36 @@ pub(crate) fn write_sections<K: Sink, L: Ledger>(
     write_from(
         alloc, setup, extras, 0, inputs, batches, steps, &mut sheet, out,
     )
+}
+
+/// Writes a section for inputs and one after each batch of edits, and answers how the run of the last one ended.
+pub(crate) fn write_sections<K: Sink, L: Ledger>(
+    alloc: Global,
+    setup: &RunSetup<'_>,
+    extras: Extras,
+    inputs: Inputs,
+    batches: &[Batch],
+    steps: &mut Steps<L>,
+    out: &mut K,
+) -> Result<RunEnd, Refusal>
+    requires order { AreInOrder
+        (map (λ b. code (b.vtable, b.value)) setup.now.methods.now.methods.items) }
+    requires fits { verified setup.now.basin.now setup.now.policy.now.blocks
+        ≡ Ok setup.now.policy.now }
+    requires inputs { IsInputsOf setup.now.basin.now inputs }
+    requires batches { All (IsBatch setup.now.basin.now) batches.now }
+    requires few { length batches.now ≤ 64 }
+    requires plain { extras.reuse ≡ false }
+    ensures { (policy : Rules) → IsCodeOf setup.now.basin.now policy setup.now.policy.now
+        → MatchResult result
+        (AppendsAll (IsRulesText setup.now.basin.now policy extras)
+        0 (first_given inputs) batches.now (change (K.seen out.old) (K.seen out.new)))
+        (StopsAmong (IsRulesText setup.now.basin.now policy extras)
+        0 (first_given inputs) batches.now (change (K.seen out.old) (K.seen out.new))) }
+{
+    if is_alone(extras, batches) {
+        write_alone(alloc, setup, extras, inputs, steps, out)
+    } else {
+        write_on_sheet(alloc, setup, extras, inputs, batches, steps, out)
+    }
 }

@@ -6,5 +6,20 @@ mod OneOutput
 mod FirstCall
 mod Dues
 mod StatusLemmas
-mod SampleStatus
 mod CheckedPolicies
+mod Decimals
+mod TextRows
+mod Values
+pub mod Accepted
+mod Strings
+mod Lines
+mod Defined
+mod Ascii
+pub mod Judged
+pub mod Ruled
+pub mod TableRead
+mod SampleStatus
+mod AlikePolicies
+mod Counted
+pub mod Typing
+mod Accepting

@@ -7,9 +7,9 @@ use Rattle.std.specs.Prelude.{IsTrue, is_ok, true}
 use Rattle.rw_inputs.specs.Reading.{inputs_of}
 use Rattle.rw_model.specs.Draft.{Draft}
 use Rattle.rw_sample.specs.Texts.{sample_inputs, sample_model, sample_rules}
-use Rattle.rw_sample_laws.specs.Cascade.{sample_basin}
-use Rattle.rw_sample_laws.specs.Inflows.{inflow_at}
-use Rattle.rw_sample_laws.specs.Ruleset.{sample_ruleset}
+use Rattle.rw_top_laws.specs.Cascade.{sample_basin}
+use Rattle.rw_top_laws.specs.Inflows.{inflow_at}
+use Rattle.rw_top_laws.specs.Ruleset.{sample_ruleset}
 use Rattle.rpl_types.specs.Judged.{TypeRefusal, rules_judged}
 use Rattle.rpl_types.specs.Nodes.{Types}
 use Rattle.rw_top.proofs.OneReading.{policy_clash}

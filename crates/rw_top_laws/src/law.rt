@@ -1,4 +1,5 @@
-//! What the definitions of this crate speak of is one thing. Each law is the `ensures` of a function that does nothing.
+//! What the promise of the top call comes to: what it speaks of is one thing, and what each status says. Each law is the `ensures`
+//! of a function that does nothing.
 ghost use Rattle.std.specs.Prelude.{◌≡◌, ◌≢◌, ◌≤◌, ◌<◌, ◌-◌, ◌^◌, ◌↔◌, ◌⊎◌, ℕ, ℤ, Bool, false, List, [], ◌∷◌, ◌++◌, Option, None, Some, IfSome, IsSome, IsSomeAnd, codes, length, slice_get, take};
 ghost use Rattle.rw_plain_reservoir.specs.FirstForm.{FirstModel, IsFirstForm, IsFirstFlows};
 ghost use Rattle.rw_plain_reservoir.specs.Table.{IsFirstText};
@@ -61,6 +62,7 @@ ghost use Rattle.rw_top.specs.declared.extras.Extras.{Extras};
 ghost use Rattle.rw_top.specs.declared.refusal.File.{File};
 ghost use Rattle.rw_top.specs.declared.refusal.Refusal.{Refusal};
 
+use crate::sample::{rules_are_accepted, sample_is_read};
 use rpl_compile::accepted::compiled_budgets;
 use rpl_policy::law::code_keeps_promises;
 use rpl_rulesets::law::rulesets_have_runs;
@@ -69,7 +71,7 @@ use rw_model_toml::law::files_are_basins;
 use rw_plain_reservoir::law::first_text;
 use rw_report::law::texts_of_runs;
 use rw_run::law::one_run;
-use rw_sample_laws::law::{rules_are_accepted, sample_is_read};
+use rw_words::sample_words;
 
 /// A text is read as inputs in one way, and isn't refused where it is read.
 pub fn one_inputs()
@@ -357,15 +359,16 @@ pub fn statuses()
         → status ≢ 4 → status ≢ 5 → call.out.after.contents ≡ call.out.before.contents }
 {}
 
-/// A call whose words ask for the sample of a seed answers 0, 4 or 5: the sample's model, rules and inputs are accepted, no file is
-/// read, and its line is written with 0, whatever its run comes to.
+/// A call whose words ask for the sample of a seed answers 0, 4 or 5, whatever else stands among them: they ask for nothing more. The
+/// sample's model, rules and inputs are accepted, no file is read, and its line is written with 0, whatever its run comes to.
 pub fn sample_statuses()
-    ensures { (call : Call) (status seed : ℕ) → Promise call status
-        → AskForCommand call.words (plain_command (J.Sample seed) [])
+    ensures { (call : Call) (status seed : ℕ) (command : Command) → Promise call status
+        → AskForCommand call.words command → command.job ≡ J.Sample seed
         → (status ≡ 0) ⊎ (status ≡ 4) ⊎ (status ≡ 5) }
 {
     rules_are_accepted();
     sample_is_read();
+    sample_words();
 }
 
 /// Over a shelf and an output that never fail no call answers that a file can't be read or the output not be written.
@@ -375,8 +378,8 @@ pub fn sure_calls()
 {}
 
 /// What has to be refused of a command is, with its status, unless memory was wanting: where the shelf tells the files up to the one
-/// that is refused, and had no fault of them. Where each file is accepted, a cell that is sought is there, and the output had no fault either, only memory can be
-/// wanting.
+/// that is refused, and had no fault of them. Where each file is accepted, a cell that is sought is there, and the output had no fault
+/// either, only memory can be wanting.
 pub fn dues()
     ensures model { (call : Call) (status : ℕ) (command : Command) (why : ModelRefusal)
         → Promise call status → AskForCommand call.words command

@@ -1,5 +1,5 @@
 pub mod Simple
-pub mod Digits
 pub mod Paths
 pub mod Plain
+pub mod Sample
 pub mod Worked

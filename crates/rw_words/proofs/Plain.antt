@@ -106,7 +106,7 @@ top = (built program).top
 abbrev names : Names
 names = names_of (built program)
 
-abbrev shape_of_job : Job → Shape
+abbrev pub shape_of_job : Job → Shape
 shape_of_job job = unwrap_or (find (λ s. answers_to (job_name job) (label_of s)) (built program).subs) (new_shape [])
 
 -- the walk stopped at the name of a command, with these words behind it

@@ -12,5 +12,5 @@ mod seed;
 
 pub use command::{CellWords, Command, read_words};
 pub use job::Job;
-pub use law::{empty_words, one_path_each, plain_words, worked_words};
+pub use law::{empty_words, one_path_each, plain_words, sample_words, worked_words};
 pub use order::Order;

@@ -11,7 +11,7 @@ use Rattle.rw_writes.specs.Writes.{written_puts}
 
 -- ---- what a rule asks for
 
-one_asked : (basin : Draft) (rule step : ℕ) (put : RulePut) (rest : List Asked) (passes : Bool) → 1 ≤ step → CanAsk basin put
+pub one_asked : (basin : Draft) (rule step : ℕ) (put : RulePut) (rest : List Asked) (passes : Bool) → 1 ≤ step → CanAsk basin put
     → nat_le (step + put.ahead) basin.control.stamps.count ≡ passes → AreWrites basin rest
     → AreWrites basin (cond passes (asked_by_rule rule step put ∷ rest) rest)
 one_asked basin rule step put rest true first can passes writes =

@@ -1,2 +1,2 @@
-mod Granted
+pub mod Granted
 mod Marking

@@ -6,9 +6,21 @@ ghost use Rattle.rw_run.specs.Dispatch.{end_in, is_written};
 ghost use Rattle.rw_run.specs.Next.{is_put_again};
 ghost use Rattle.rw_writes.specs.Writes.{written_puts};
 
+use rw_base::Cell;
 use rw_model::{Basin, PutEnd, put_end};
 use rw_run::Write;
 use rw_series::{Series, is_shared};
+
+// The cell of a put. Its fields were written one by one just before, and are read so too: one load of both would wait.
+#[inline(always)]
+fn cell_of(write: &Write) -> Cell
+    ensures { result ≡ write.now.cell }
+{
+    Cell {
+        slot: write.cell.slot,
+        step: write.cell.step,
+    }
+}
 
 // Whether a later one is to a cell that shares its value with that of this one.
 fn is_put_again(basin: &Basin, write: &Write, later: &[Write]) -> bool
@@ -16,7 +28,7 @@ fn is_put_again(basin: &Basin, write: &Write, later: &[Write]) -> bool
     ensures { result ≡ is_put_again basin.now write.now later.now }
 {
     for other in later {
-        if is_shared(basin, write.cell, other.cell) {
+        if is_shared(basin, cell_of(write), other.cell) {
             return true;
         }
     }
@@ -27,7 +39,7 @@ fn is_put_again(basin: &Basin, write: &Write, later: &[Write]) -> bool
 fn is_written(series: &Series, write: &Write) -> bool
     ensures { result ≡ is_written (end_in (held series.now) write.now) }
 {
-    match put_end(series.get(write.cell), write.content) {
+    match put_end(series.get(cell_of(write)), write.content) {
         PutEnd::Written => true,
         _ => false,
     }

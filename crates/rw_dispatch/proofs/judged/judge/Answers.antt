@@ -22,7 +22,8 @@ loop-put-preserved c =
     let is = c.in_ok-judge_one.field-0 in
     let write = c.asked_by-write.ensures.asked in
     let added : c.if-branch.written ≡ c.loop-put.written ++ cond is (put ∷ []) [] = elim c.if-branch.branch [
-      | then-branch w ↦ w.written-is ∙ w.push.ensures ∙ ap (λ test. c.loop-put.written ++ cond test (put ∷ []) []) (sym w.if-branch.true)
+      | then-branch w ↦ w.written-is ∙ w.push.ensures ∙ ap (λ same. c.loop-put.written ++ same ∷ []) w.same_put.ensures
+          ∙ ap (λ test. c.loop-put.written ++ cond test (put ∷ []) []) (sym w.if-branch.true)
       | else-branch w ↦ w.written-is ∙ sym (append-nil c.loop-put.written)
           ∙ ap (λ test. c.loop-put.written ++ cond test (put ∷ []) []) (sym w.if-branch.false)
     ] in

@@ -10,8 +10,8 @@ use Rattle.rw_dispatch.proofs.CanPuts.{puts-seen, solved-seen}
 use Rattle.rw_dispatch.proofs.Waking.{can_all, writes_of}
 use Rattle.rw_dispatch.proofs.turn.judge_dispatch.Goals as goal
 
-pub answer-end-requires-clause-puts : goal.answer-end-requires-clause-puts
-answer-end-requires-clause-puts g c =
+pub answer-work-requires-clause-puts : goal.answer-work-requires-clause-puts
+answer-work-requires-clause-puts g c =
     puts-seen c.args.basin.now (held c.args.series.now) c.args.object.0 c.args.step.0 c.see-kind.result.now c.see-kind.new.view c.solve.new.solved
     c.see-kind.ensures.kind c.see-kind.ensures.seen c.solve.ensures c.requires.turn.known c.see-kind.ensures.sound
 
@@ -26,8 +26,8 @@ returns-clause-ends g c =
     c.see-kind.ensures.kind c.see-kind.ensures.seen c.solve.ensures in
     record {
       asked = asked_by_solution c.solve.new.solved;
-      written = c.answer-end.new.written;
-      is = ap (answered basin cells looked object step) (sym solved) ∙ (c.answer-end.ensures.answer cells looked c.see-kind.ensures.seen).is;
+      written = c.answer-work.new.written;
+      is = ap (answered basin cells looked object step) (sym solved) ∙ (c.answer-work.ensures.answer cells looked c.see-kind.ensures.seen).is;
     }
 
 pub keep_asked-requires-clause-puts : goal.keep_asked-requires-clause-puts
@@ -46,15 +46,15 @@ returns-clause-work g c =
     let solved = solved-seen basin cells object step c.see-kind.result.now c.see-kind.new.view c.solve.new.solved
     c.see-kind.ensures.kind c.see-kind.ensures.seen c.solve.ensures in
     let event = answered basin cells looked object step in
-    let tells = c.answer-end.ensures.answer cells looked c.see-kind.ensures.seen in
+    let tells = c.answer-work.ensures.answer cells looked c.see-kind.ensures.seen in
     let can = puts-seen basin cells object step c.see-kind.result.now c.see-kind.new.view c.solve.new.solved
     c.see-kind.ensures.kind c.see-kind.ensures.seen c.solve.ensures c.requires.turn.known c.see-kind.ensures.sound in
     record {
       writes =
-          writes_of basin looked object step (event c.solve.new.solved) c.answer-end.result puts c.answer-end.new.written c.answer-end.new.writes
-          tells c.answer-end.ensures.left c.answer-end.ensures.writes ∙ ap (λ s. written_by (event s)) solved;
-      can = can_all basin looked object step (event c.solve.new.solved) c.answer-end.result puts c.answer-end.new.written c.answer-end.new.writes
-          tells c.answer-end.ensures.left c.answer-end.ensures.writes c.requires.turn;
+          writes_of basin looked object step (event c.solve.new.solved) c.answer-work.result puts c.answer-work.new.written c.answer-work.new.writes
+          tells c.answer-work.ensures.left c.answer-work.ensures.writes ∙ ap (λ s. written_by (event s)) solved;
+      can = can_all basin looked object step (event c.solve.new.solved) c.answer-work.result puts c.answer-work.new.written c.answer-work.new.writes
+          tells c.answer-work.ensures.left c.answer-work.ensures.writes c.requires.turn;
       keeps = refl;
       asked = λ keeps calm. c.keep_asked.ensures keeps
           ∙ asked_told basin cells looked object step c.solve.new.solved (subst (λ s. ¬ IsFault (event s)) (sym solved) calm)

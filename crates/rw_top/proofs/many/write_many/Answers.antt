@@ -12,18 +12,18 @@ pub returns-in-Ok-write_summary : goal.returns-in-Ok-write_summary
 returns-in-Ok-write_summary g c = λ policy means.
     let basin = c.args.setup.now.basin.now in
     let tally = c.write_scenarios.new.tally in
-    let all = c.in-Ok-write_scenarios.ensures.written policy means in
+    let all = c.in-Ok-write_scenarios.ensures policy means in
     all_written basin policy c.args.inputs.now c.args.batches.now (g.K.Sink.seen c.args.out.now) (g.K.Sink.seen c.write_scenarios.new.out)
     (g.K.Sink.seen c.write_summary.new.out) tally c.in-Ok-write_scenarios.status all (summary_by basin tally)
-    (c.summary_of_runs.ensures basin (map (as_ended basin) all.logs) tally c.in-Ok-write_scenarios.ensures.made all.kept)
+    (c.summary_of_runs.ensures basin (map (as_ended basin) all.logs) tally all.made all.kept)
     c.in-Ok-write_summary.ensures.grew
 
 pub returns : goal.returns
 returns g c = λ policy means.
     let basin = c.args.setup.now.basin.now in
     let tally = c.write_scenarios.new.tally in
-    let all = c.in-Ok-write_scenarios.ensures.written policy means in
+    let all = c.in-Ok-write_scenarios.ensures policy means in
     stops_last basin policy c.args.inputs.now c.args.batches.now (g.K.Sink.seen c.args.out.now) (g.K.Sink.seen c.write_scenarios.new.out)
     (g.K.Sink.seen c.write_summary.new.out) tally c.in-Ok-write_scenarios.status all (summary_by basin tally)
-    (c.summary_of_runs.ensures basin (map (as_ended basin) all.logs) tally c.in-Ok-write_scenarios.ensures.made all.kept)
+    (c.summary_of_runs.ensures basin (map (as_ended basin) all.logs) tally all.made all.kept)
     c.in-Err-write_summary.refusal c.in-Err-write_summary.ensures

@@ -1,22 +1,27 @@
-use Rattle.rw_top.proofs.Common.{ap, arith, change, length, subst, sym, ◌+◌, ◌<◌, ◌∙◌, ◌≡◌}
+use Rattle.rw_top.proofs.Common.{[], ap, arith, change, length, subst, sym, ◌+◌, ◌<◌, ◌∙◌, ◌≡◌}
 use Rattle.rw_base.proofs.Common.{get_or}
-use Rattle.rw_mrm.specs.Tally.{is_settled}
+use Rattle.rw_mrm.specs.Summary.{IsTallyOf}
+use Rattle.rw_mrm.specs.Tally.{Tally, is_settled}
 use Rattle.rw_series.specs.Series.{held}
 use Rattle.rw_top.specs.Scenarios.{StopsAtScenario, WritesScenario, WritesScenarios}
-use Rattle.rw_top.proofs.ManyRuns.{counts_more, more_written, none_written, stays_for, stops_at}
+use Rattle.rw_top.proofs.ManyRuns.{counts_more, empty_for, more_written, none_written, stays_for, stops_at}
 use Rattle.rw_top.proofs.many.write_scenarios.Goals as goal
 
 pub loop-place-init : goal.loop-place-init
-loop-place-init g c = (
-  λ policy means. none_written c.args.setup.now.basin.now policy c.args.inputs.now c.args.batches.now (g.K.Sink.seen c.args.out.now) c.args.tally.now
-      c.requires.none,
-  c.requires.made,
-  c.requires.none.runs_are,
-  c.requires.room,
-)
+loop-place-init g c =
+    let basin = c.args.setup.now.basin.now in
+    let tally : Tally = c.args.tally.now in
+    let room = length c.args.batches.now in
+    let made = empty_for basin room tally c.requires.empty in
+    let none = subst (IsTallyOf basin []) (sym c.requires.empty) (c.tallies.ensures.begins basin room) in (
+      λ policy means. none_written basin policy c.args.inputs.now c.args.batches.now (g.K.Sink.seen c.args.out.now) tally made none,
+      made,
+      none.runs_are,
+      ap (λ (t : Tally). t.room) c.requires.empty,
+    )
 
-pub returns-in-Err-clause-written : goal.returns-in-Err-clause-written
-returns-in-Err-clause-written g c = λ policy means.
+pub returns-in-Err : goal.returns-in-Err
+returns-in-Err g c = λ policy means.
     let basin = c.args.setup.now.basin.now in
     let place = c.loop-place.place in
     let batch = c.index-batches-from.result in

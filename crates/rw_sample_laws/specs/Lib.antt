@@ -1,4 +1,0 @@
-pub mod Inflows
-pub mod ModelTable
-pub mod Cascade
-pub mod Ruleset
