@@ -235,7 +235,7 @@ fn hand_section<K: Sink>(
     }
 }
 
-/// WritesText the text of `section` to a sink, in pieces of up to 65,536 bytes and what is told besides the table in one of its
+/// Writes the text of `section` to a sink, in pieces of up to 65,536 bytes and what is told besides the table in one of its
 /// own. What wants memory is made before the first piece.
 pub fn write_section<K: Sink>(
     alloc: Global,
