@@ -99,10 +99,11 @@ def whole_array(values: Whole) -> pd.arrays.IntegerArray:
 
 def answer_of(model: Model, policy: Policy | None, section: Section, form: Numbers, name: str = "") -> Answer:
     """The run that a section tells."""
-    table = frame_of(model, section.columns, numbers(section.rows, len(section.columns)), form)
+    columns = section.columns
+    table = frame_of(model, columns, numbers(section.rows, range(len(columns))), form)
     answer = Answer(section.number, table, name=name, trace=section.trace, reran=section.reran)
-    if section.flags:
-        rows = [line[:-1].decode().split(",")[1:] for line in section.flags]
+    if section.flags is not None:
+        rows = [line.split(",")[1:] for line in section.flags]
         answer.flags = pd.DataFrame(rows, index=table.index, columns=table.columns, dtype="category")
     if section.fault:
         answer.fault = fault_of(model, policy, section.fault, answer)

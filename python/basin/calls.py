@@ -23,7 +23,7 @@ from .files import Model, Policy
 from .inputs import Inputs, inputs_of
 from .process import PathLike
 from .rows import batches_of, batches_text, step_number
-from .tables import sections
+from .tables import chapters, section_of, sections
 
 Errors = Literal["raise", "keep"]
 ModelGiven = Union[Model, PathLike]
@@ -158,8 +158,8 @@ def _answers(
     """The runs that the program tells. A fault is raised where it isn't to be kept."""
     if errors not in ("raise", "keep"):
         raise ValueError(f'errors is "raise" or "keep", and not {errors!r}')
-    with process.at_work([*words, *files.paths], program) as at_work:
-        found = sections(process.output_of(at_work))
+    with process.at_work([*words, *files.paths], program) as running:
+        found = sections(chapters(running))
         answers = [answer_of(files.model, files.policy, section, form) for section in found]
         for answer in answers if "--asked" in words else ():
             answer.asked = asked_of(files.model, files.policy, answer.trace)
@@ -276,18 +276,20 @@ def mrm(
     """
     with Files(model, policy, inputs) as files:
         path, names = files.batches(traces, "trace")
-        with process.at_work(["mrm", *files.paths, path], program) as at_work:
-            lines = process.output_of(at_work)
-            answers = [answer_of(files.model, files.policy, section, numbers) for section in sections(lines)]
-            summary = _summary(files.model, lines)
-    for answer in answers:
-        answer.name = names[answer.number - 1] if names else str(answer.number)
-    return Traces(answers, summary)
+        found = Traces([], pd.DataFrame())
+        with process.at_work(["mrm", *files.paths, path], program) as running:
+            for chapter in chapters(running):
+                if section := section_of(chapter):
+                    name = names[section.number - 1] if names else str(section.number)
+                    found.answers.append(answer_of(files.model, files.policy, section, numbers, name))
+                else:
+                    found.summary = _summary(files.model, chapter)
+    return found
 
 
-def _summary(model: Model, lines: Iterable[bytes]) -> pd.DataFrame:
+def _summary(model: Model, chapter: bytearray) -> pd.DataFrame:
     """The summary behind the sections of `mrm`."""
-    rows = [line[:-1].decode().split(",") for line in lines][1:]
+    rows = [line.split(",") for line in chapter.decode().splitlines()[2:]]
     index = model.index()
     columns = ("min", "median", "max")
     frame = pd.DataFrame(

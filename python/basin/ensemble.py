@@ -156,7 +156,11 @@ def _client(client: Client | None, workers: int | None) -> Iterator[Client]:
     from distributed import Client as NewClient
     from distributed import LocalCluster
 
-    settings = {"distributed.worker.profile.interval": "10s"}  # a look each 10 ms takes a tenth of the time
+    settings = {  # workers look after themselves some hundred times a second, which is a tenth of the time
+        "distributed.worker.profile.enabled": False,
+        "distributed.worker.memory.monitor-interval": "1s",
+        "distributed.admin.tick.interval": "1s",
+    }
     with contextlib.ExitStack() as opened_here:
         opened_here.enter_context(_hidden_main())
         opened_here.enter_context(dask.config.set(settings))

@@ -7,16 +7,17 @@ from __future__ import annotations
 
 import contextlib
 import os
+from dataclasses import dataclass
+from functools import lru_cache
 from pathlib import Path
 from typing import Any, Iterable, Iterator
 
 import netCDF4
 import numpy as np
-import numpy.typing as npt
 import pandas as pd
 
 from .files import Model
-from .tables import UNKNOWN
+from .tables import UNKNOWN, Whole
 
 CONVENTIONS = "CF-1.10"
 # Base units in the words of UDUNITS, which has no timestep: what comes in one is a sum over it.
@@ -49,19 +50,34 @@ def opened(path: Path) -> Iterator[Any]:
 
 def add_time(out: Any, model: Model) -> None:
     """The axis of time: the begin of each timestep, with its begin and end as bounds."""
-    index, ends = model.index(), model.ends()
-    out.createDimension("time", len(index))
+    told = axis_of(model)
+    out.createDimension("time", len(told.bounds))
     out.createDimension("bound", 2)
     axis = out.createVariable("time", "i8", ("time",))
-    axis.units, axis.calendar = f"hours since {index[0]:%Y-%m-%d %H:%M}", "proleptic_gregorian"
+    axis.units, axis.calendar = told.units, "proleptic_gregorian"
     axis.standard_name, axis.axis, axis.long_name = "time", "T", "begin of the timestep"
     axis.bounds = "time_bounds"
-    axis[:] = hours(index, index[0])
-    bounds = out.createVariable("time_bounds", "i8", ("time", "bound"))
-    bounds[:] = np.stack([hours(index, index[0]), hours(ends, index[0])], axis=1)
+    axis[:] = told.bounds[:, 0]
+    out.createVariable("time_bounds", "i8", ("time", "bound"))[:] = told.bounds
 
 
-def hours(moments: pd.DatetimeIndex, start: pd.Timestamp) -> npt.NDArray[np.int64]:
+@dataclass(frozen=True)
+class Axis:
+    """The begin and the end of each timestep, and in which units."""
+
+    units: str
+    bounds: Whole
+
+
+@lru_cache(maxsize=1)
+def axis_of(model: Model) -> Axis:
+    """The axis of a model's run, which is made once for all parts."""
+    index = model.index()
+    bounds = np.stack([hours(moments, index[0]) for moments in (index, model.ends())], axis=1)
+    return Axis(f"hours since {index[0]:%Y-%m-%d %H:%M}", bounds)
+
+
+def hours(moments: pd.DatetimeIndex, start: pd.Timestamp) -> Whole:
     """How many hours after the start moments are."""
     return np.asarray((moments - start) // pd.Timedelta("1h"), dtype=np.int64)
 

@@ -13,13 +13,13 @@ import numpy as np
 
 from . import process
 from .calls import MOST_ROWS
-from .errors import Refused
+from .errors import Error, Refused
 from .files import Model
 from .inputs import Inputs, LaidOver
 from .netcdf import add_texts, add_time, add_whole, appearing, opened
 from .plans import NAMES, Plan
 from .rows import Row, batches_text
-from .tables import UNKNOWN, Section, is_exact, numbers, sections
+from .tables import UNKNOWN, Section, chapters, is_exact, numbers, section_of, sections
 from .traces import stored_rows
 
 
@@ -40,19 +40,25 @@ class Values:
     """What the traces of a part come to."""
 
     def __init__(self, plan: Plan, model: Model, traces: int) -> None:
-        self.slots = plan.slots
+        self.slots, self.header = plan.slots, ",".join(("step", "stamp", *model.slots)).encode()
         columns = {slot: place for place, slot in enumerate(model.slots)}
         self.picks = [columns[slot] for slot in plan.slots]
         self.cells = np.full((len(plan.slots), traces, model.steps), UNKNOWN)
         self.closed = np.zeros(traces, np.int32)
         self.faults = [""] * traces
         self.refused = [""] * traces
+        self.told = 0  # how many of them
+        self.exact_as_float64 = True
 
     def take(self, trace: int, section: Section) -> None:
         """Takes the section of a trace, by its place."""
-        found = numbers(section.rows, len(section.columns), self.picks)
+        if section.header != self.header:
+            raise Error("the program's columns aren't the slots that this package reads in the model")
+        found = numbers(section.rows, self.picks)
+        self.exact_as_float64 &= is_exact(found)
         self.cells[:, trace, : len(found)] = found.T
         self.closed[trace], self.faults[trace] = len(found), section.fault
+        self.told += 1
 
 
 def run_part(folder: str, number: int) -> Done:
@@ -99,12 +105,13 @@ def at_once(plan: Plan, model: Model, rows: list[list[Row]]) -> Values:
         file.write(batches_text(rows, "trace"))
         file.flush()
         words = ["mrm", *map(str, plan.files), file.name]
-        with process.at_work(words, plan.program) as at_work:
-            output = process.output_of(at_work)
-            for section in sections(output):
-                values.take(section.number - 1, section)
-            while output.read(process.PIPE):  # the summary, of which nothing is kept
-                pass
+        with process.at_work(words, plan.program) as running:
+            for chapter in chapters(running, last=b"%d," % model.steps):
+                if section := section_of(chapter):
+                    values.take(section.number - 1, section)
+                if values.told == len(rows):
+                    running.leave()  # without the summary, of which nothing is kept
+                    break
     return values
 
 
@@ -134,8 +141,8 @@ def one_by_one(plan: Plan, model: Model, rows: list[list[Row]]) -> Values:
             text = inputs.under(laid)
             path.write_text(text)
             try:
-                with process.at_work(words, plan.program) as at_work:
-                    for section in sections(process.output_of(at_work)):
+                with process.at_work(words, plan.program) as running:
+                    for section in sections(chapters(running)):
                         values.take(trace, section)
             except Refused as refused:
                 if refused.file != "inputs" or refused.row is None:
@@ -149,7 +156,7 @@ def write(plan: Plan, model: Model, number: int, values: Values) -> None:
     plan.part(number).parent.mkdir(exist_ok=True)
     with appearing(plan.part(number)) as out:
         out.digest = plan.digest
-        out.exact_as_float64 = int(is_exact(values.cells))
+        out.exact_as_float64 = int(values.exact_as_float64)
         out.createDimension("trace", len(plan.names[number]))
         add_time(out, model)
         add_texts(out, "trace", plan.names[number])

@@ -117,8 +117,9 @@ def plan(
 
 def judge(folder: Path, program: str) -> None:
     """`Refused` where the program refuses a file of the runs, by the run without any trace."""
-    with process.at_work(["run", *(str(folder / name) for name in NAMES)], program) as at_work:
-        while process.output_of(at_work).read(process.PIPE):
+    room = memoryview(bytearray(process.PIPE))
+    with process.at_work(["run", *(str(folder / name) for name in NAMES)], program) as running:
+        while running.readinto(room):
             pass
 
 
@@ -150,12 +151,18 @@ def store(folder: Path, traces: Traces, size: int, before: list[Any]) -> tuple[l
         raise ValueError("there is no trace")
     program, *texts = before
     digest = hashlib.sha256(Path(program).read_bytes())
-    parts = [slice(low, low + size) for low in range(0, len(traces.names), size)]
+    parts = shares(len(traces.names), size)
     names = [traces.names[some] for some in parts]
     for text in (*texts, json.dumps(names).encode(), *traces.store(folder, parts)):
         digest.update(b"%d\0" % len(text) + text)
     (folder / "parts").mkdir()
     return names, digest.hexdigest()
+
+
+def shares(count: int, size: int) -> list[slice]:
+    """So many in as few parts as have that size at most, all of about one size, so that no worker waits for another."""
+    parts = -(-count // size)
+    return [slice(count * k // parts, count * (k + 1) // parts) for k in range(parts)]
 
 
 def settle(new: Plan, folder: Path) -> None:

@@ -41,36 +41,62 @@ def find_program(path: PathLike | None = None) -> str:
     return os.path.abspath(found)
 
 
+class Program:
+    """The program while it writes to a pipe."""
+
+    def __init__(self, process: subprocess.Popen[bytes], errors: IO[bytes]) -> None:
+        assert process.stdout is not None
+        self.process, self.output, self.errors = process, process.stdout, errors
+        self.is_left = False
+        with contextlib.suppress(OSError, AttributeError):  # where the system allows no such pipe
+            fcntl.fcntl(self.output, fcntl.F_SETPIPE_SZ, PIPE)
+
+    def readinto(self, room: memoryview, /) -> int:
+        """How many bytes were read, 0 at the end: of a program that answered nothing, or died, nobody sees that."""
+        count = self.output.readinto(room)  # type: ignore[attr-defined]
+        if not count:
+            self.judge()
+        return int(count)
+
+    def read(self) -> bytes:
+        """All that it writes."""
+        return self.output.read()
+
+    def leave(self) -> None:
+        """Ends it, where all is read that is wanted."""
+        self.is_left = True
+        self.process.kill()
+
+    def judge(self) -> None:
+        """Waits for its end. `Refused` where it answered nothing, unless it was left."""
+        status = self.process.wait()
+        if not self.is_left:
+            self.errors.seek(0)
+            judge(status, self.errors.read())
+
+
 @contextlib.contextmanager
-def at_work(words: Sequence[str], program: PathLike | None = None) -> Iterator[subprocess.Popen[bytes]]:
+def at_work(words: Sequence[str], program: PathLike | None = None) -> Iterator[Program]:
     """The program while it writes to a pipe. Behind it `Refused` where it answered nothing."""
     path = find_program(program)
     with tempfile.TemporaryFile() as errors:
         try:
             process = subprocess.Popen(
-                [path, *words], stdin=subprocess.DEVNULL, stdout=subprocess.PIPE, stderr=errors, bufsize=PIPE
+                [path, *words], stdin=subprocess.DEVNULL, stdout=subprocess.PIPE, stderr=errors, bufsize=0
             )
         except OSError as error:
             raise NoProgram(f"cannot run {plain(path)}: {error.strerror}") from None
         with process:
-            with contextlib.suppress(OSError, AttributeError):  # where the system allows no such pipe
-                fcntl.fcntl(output_of(process), fcntl.F_SETPIPE_SZ, PIPE)
-            yield process
-        errors.seek(0)
-        judge(process.returncode, errors.read())
-
-
-def output_of(process: subprocess.Popen[bytes]) -> IO[bytes]:
-    """What the program writes."""
-    assert process.stdout is not None
-    return process.stdout
+            running = Program(process, errors)
+            yield running
+        running.judge()
 
 
 def answer(words: Sequence[str], program: PathLike | None = None) -> tuple[int, str]:
     """The status, 0 or 1, and the text that was written. `Refused` with any other status."""
-    with at_work(words, program) as process:
-        text = output_of(process).read()
-    return process.returncode, text.decode()
+    with at_work(words, program) as running:
+        text = running.read()
+    return running.process.returncode, text.decode()
 
 
 def judge(status: int, errors: bytes) -> None:

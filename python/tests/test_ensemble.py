@@ -51,7 +51,7 @@ def test_values_are_those_reckoned_by_hand(tmp_path: Path, way: str) -> None:
     inflow = inflows(70)
     told = planned(tmp_path / "a", inflow, way=in_way(way))
     done = ensemble.execute(told, workers=0)
-    assert [(one.part, one.settled, one.faults, one.refused) for one in done] == [(0, 64, 0, 0), (1, 6, 0, 0)]
+    assert [(one.part, one.settled, one.faults, one.refused) for one in done] == [(0, 35, 0, 0), (1, 35, 0, 0)]
     assert (cells_of(told, "Dam.Storage") == storage(inflow)).all()
     assert (cells_of(told, "Dam.Outflow") == outflow(inflow)).all()
     with ensemble.values(told) as data:

@@ -2,13 +2,16 @@
 
 from __future__ import annotations
 
+import io
+
 import numpy as np
 import pandas as pd
 import pytest
 
+from basin import tables
 from basin.inputs import LaidOver
 from basin.rows import Row, folded, long_rows, wide_rows
-from basin.tables import UNKNOWN, as_floats, numbers, sections
+from basin.tables import UNKNOWN, Text, as_floats, chapters, numbers, section_of, sections
 
 from small import inputs, model
 
@@ -34,23 +37,88 @@ slot,step,known,min,median,max
 """
 
 
-def test_sections() -> None:
-    lines = iter(TEXT.splitlines(keepends=True))
-    first, second, third = sections(lines)
-    assert (first.number, first.fault, first.columns, len(first.rows)) == (0, "", ["D.A", "D.B"], 2)
-    assert first.flags == [b"1,I0,\n", b"2,,R1\n"] and first.reran is None
+class Drops(io.BytesIO):
+    """A stream of which so many bytes at most are read at once."""
+
+    def __init__(self, text: bytes, most: int) -> None:
+        super().__init__(text)
+        self.most = most
+
+    def readinto(self, room: memoryview, /) -> int:  # type: ignore[override]
+        return super().readinto(room[: self.most])
+
+
+def rows_of(*lines: bytes) -> Text:
+    """Rows as they stand in a section."""
+    return np.frombuffer(b"".join(lines), np.uint8)
+
+
+@pytest.mark.parametrize("most", [1, 7, 1000])
+def test_sections(most: int, monkeypatch: pytest.MonkeyPatch) -> None:
+    monkeypatch.setattr(tables, "ROOM", 64)  # less than a chapter has
+    first, second, third = sections(chapters(Drops(TEXT, most)))
+    assert (first.number, first.fault, first.columns) == (0, "", ["D.A", "D.B"])
+    assert bytes(first.rows).count(b"\n") == 2
+    assert first.flags == ["1,I0,", "2,,R1"] and first.reran is None
     assert (second.fault, second.reran) == ("limit object D step 2 after 50", [1, 2])
-    assert second.trace == ["open 1", "close 1"]
-    assert (third.number, third.rows) == (3, [])
-    assert next(lines).startswith(b"slot,")  # the summary is left
+    assert second.trace == ["open 1", "close 1"] and second.flags is None
+    assert numbers(second.rows, [1, 0]).tolist() == [[-(10**17), 7]]
+    assert (third.number, len(third.rows)) == (3, 0)
+
+
+def test_the_summary_is_no_section_and_is_not_waited_for() -> None:
+    *_, last, summary = chapters(io.BytesIO(TEXT))
+    assert section_of(last) is not None and section_of(summary) is None
+    assert summary == b"# summary 1 of 1\nslot,step,known,min,median,max\n"
+    whole = TEXT[: TEXT.index(b"# flags")]
+    told = chapters(Stuck(whole), b"2,")
+    assert next(told) == whole
+    with pytest.raises(AssertionError, match="stuck"):
+        next(told)
+    with pytest.raises(AssertionError, match="stuck"):
+        next(chapters(Stuck(whole[:-1]), b"2,"))
+
+
+class Stuck(io.BytesIO):
+    """A stream behind which nothing comes, and no end."""
+
+    def readinto(self, room: memoryview, /) -> int:  # type: ignore[override]
+        count = super().readinto(room)
+        assert count, "stuck"
+        return count
 
 
 def test_numbers_of_all_and_of_picked_columns() -> None:
-    rows = [b"1,2020-01-02T00:00,-5,,100000000000000000\n", b"2,2020-01-03T00:00,,0,-100000000000000000\n"]
-    whole = numbers(rows, 3)
+    rows = rows_of(b"1,2020-01-02T00:00,-5,,100000000000000000\n", b"2,2020-01-03T00:00,,0,-100000000000000000\n")
+    whole = numbers(rows, range(3))
     assert whole.tolist() == [[-5, UNKNOWN, 10**17], [UNKNOWN, 0, -(10**17)]]
-    assert numbers(rows, 3, [2, 0]).tolist() == [[10**17, -5], [-(10**17), UNKNOWN]]
-    assert numbers([], 3).shape == (0, 3)
+    assert numbers(rows, [2, 0]).tolist() == [[10**17, -5], [-(10**17), UNKNOWN]]
+    assert numbers(rows_of(), range(3)).shape == (0, 3) and numbers(rows, []).shape == (2, 0)
+
+
+def test_numbers_of_each_length_in_rows_of_unlike_lengths() -> None:
+    spelt = [0, 7, *(sign * (10**size - 10 ** (size // 2) + 3) for size in range(1, 19) for sign in (1, -1)), 10**18]
+    cells: list[int | None] = [*spelt, None]
+    table = [[cells[(row * 7 + column * column) % len(cells)] for column in range(9)] for row in range(400)]
+    table[:3] = [[None] * 9] * 3  # the first rows are shorter than all others
+    table[-1] = [None] * 9  # and the last one
+    rows = rows_of(
+        *(
+            f"{step},2020-01-01T00:00,{','.join('' if cell is None else str(cell) for cell in row)}\n".encode()
+            for step, row in enumerate(table, 1)
+        )
+    )
+    wanted = np.array([[UNKNOWN if cell is None else cell for cell in row] for row in table])
+    for picks in (range(9), [0], [8], [4, 1, 4], [2, 7]):
+        assert (numbers(rows, picks) == wanted[:, list(picks)]).all()
+
+
+def test_rows_that_are_cut_are_not_read() -> None:
+    for last in (b"2,2020-01-03T00:00,4\n", b"2,\n"):
+        with pytest.raises(ValueError, match="fewer columns"):
+            numbers(rows_of(b"1,2020-01-02T00:00,5,6\n", last, b"3,2020-01-04T00:00,5,6\n"), [1, 0])
+        with pytest.raises(ValueError, match="fewer columns"):
+            numbers(rows_of(b"1,2020-01-02T00:00,5,6\n", last), [1, 0])
 
 
 def test_floats_are_exact_or_refused() -> None:
