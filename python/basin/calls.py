@@ -163,6 +163,8 @@ def _answers(
         answers = [answer_of(files.model, files.policy, section, form) for section in found]
         for answer in answers if "--asked" in words else ():
             answer.asked = asked_of(files.model, files.policy, answer.trace)
+    if not answers:
+        raise Error("the program told of no run")
     for answer in answers:
         if answer.fault and errors == "raise":
             raise answer.fault

@@ -47,7 +47,7 @@ class Values:
         self.closed = np.zeros(traces, np.int32)
         self.faults = [""] * traces
         self.refused = [""] * traces
-        self.told = 0  # how many of them
+        self.lacking = set(range(traces))  # of which nothing is told yet
         self.exact_as_float64 = True
 
     def take(self, trace: int, section: Section) -> None:
@@ -58,13 +58,19 @@ class Values:
         self.exact_as_float64 &= is_exact(found)
         self.cells[:, trace, : len(found)] = found.T
         self.closed[trace], self.faults[trace] = len(found), section.fault
-        self.told += 1
+        self.lacking.discard(trace)
+
+    def refuse(self, trace: int, why: str) -> None:
+        """Keeps why a trace isn't run."""
+        self.refused[trace] = why
+        self.lacking.discard(trace)
 
 
 def run_part(folder: str, number: int) -> Done:
     """Runs a part and writes its values. Where they are there it tells of them: a worker may die behind its writing."""
+    begun, used = clock.time(), sum(os.times()[:4])
     plan = Plan.read(folder)
-    begun, used, names = clock.time(), sum(os.times()[:4]), plan.names[number]
+    names = plan.names[number]
     faults, refused = kept(plan, number) if plan.part(number).exists() else run_anew(plan, number)
     processor = sum(os.times()[:4]) - used
     return Done(number, len(names) - faults - refused, faults, refused, begun, clock.time(), processor)
@@ -74,6 +80,8 @@ def run_anew(plan: Plan, number: int) -> tuple[int, int]:
     """Runs a part and writes its values: how many traces ended in a fault, and how many are refused."""
     model, names = model_of(plan.folder, plan.digest), plan.names[number]
     values = values_of(plan, model, stored_rows(plan.folder, number, plan.first(number), len(names)))
+    if values.lacking:
+        raise Error(f"the program told nothing of {len(values.lacking)} of {len(names)} traces")
     write(plan, model, number, values)
     return sum(map(bool, values.faults)), sum(map(bool, values.refused))
 
@@ -109,7 +117,7 @@ def at_once(plan: Plan, model: Model, rows: list[list[Row]]) -> Values:
             for chapter in chapters(running, last=b"%d," % model.steps):
                 if section := section_of(chapter):
                     values.take(section.number - 1, section)
-                if values.told == len(rows):
+                if not values.lacking:
                     running.leave()  # without the summary, of which nothing is kept
                     break
     return values
@@ -136,7 +144,7 @@ def one_by_one(plan: Plan, model: Model, rows: list[list[Row]]) -> Values:
         words = ["run", *map(str, plan.files[:2]), str(path)]
         for trace, laid in enumerate(rows):
             if row := inputs.twice(laid):
-                values.refused[trace] = f"twice: {row.text}"
+                values.refuse(trace, f"twice: {row.text}")
                 continue
             text = inputs.under(laid)
             path.write_text(text)
@@ -147,7 +155,7 @@ def one_by_one(plan: Plan, model: Model, rows: list[list[Row]]) -> Values:
             except Refused as refused:
                 if refused.file != "inputs" or refused.row is None:
                     raise
-                values.refused[trace] = f"{refused.reason}: {text.splitlines()[refused.row - 1]}"
+                values.refuse(trace, f"{refused.reason}: {text.splitlines()[refused.row - 1]}")
     return values
 
 

@@ -78,8 +78,8 @@ def chapters(stream: Readable, last: bytes = b"") -> Iterator[bytearray]:
     held = bytearray(ROOM)
     begin = end = 0
     while count := read_behind(held, end, stream):
-        end += count
-        while stop := end_of_chapter(held, begin, end, last):
+        seen, end = end, end + count
+        while stop := end_of_chapter(held, begin, seen, end, last):
             yield held[begin:stop]
             begin = stop
         if begin:
@@ -97,9 +97,9 @@ def read_behind(held: bytearray, end: int, stream: Readable) -> int:
         return stream.readinto(behind) or 0
 
 
-def end_of_chapter(held: bytearray, begin: int, end: int, last: bytes) -> int:
-    """Where the chapter ends that begins there, or 0. No line has a # but in front."""
-    stop = held.find(b"#", begin + 1, end)
+def end_of_chapter(held: bytearray, begin: int, seen: int, end: int, last: bytes) -> int:
+    """Where the chapter ends that begins there, or 0, of which so much was seen before. No line has a # but in front."""
+    stop = held.find(b"#", max(begin + 1, seen), end)
     if stop > 0:
         return stop
     is_whole = last and begin < end and held[end - 1] == LINE_FEED
@@ -135,6 +135,8 @@ def numbers(rows: Text, picks: Sequence[int]) -> Whole:
 
     Of each row only the front is gone through, up to the last of these columns: about as far as in the first row.
     """
+    if len(rows) and rows[-1] != LINE_FEED:
+        raise ValueError("the last row is cut")
     ends = np.flatnonzero(rows == LINE_FEED)
     wanted = np.asarray(picks, dtype=np.int64) + BESIDE_CELLS
     if not len(ends) or not len(wanted):

@@ -11,6 +11,7 @@ import pytest
 
 import basin
 from basin.errors import Refused
+from basin.process import answer
 
 from small import EXAMPLES, INPUTS, MODEL, STEPS, VALLEY, inputs, model, outflow, policy, wants
 
@@ -257,10 +258,19 @@ def test_programs_that_are_none_or_go_wrong(tmp_path: Path, monkeypatch: pytest.
     killed = script(tmp_path / "killed", "kill -9 $$")
     with pytest.raises(basin.Error, match="signal 9"):
         basin.run(model(), policy(), inputs(), program=killed)
+    with pytest.raises(basin.Error, match="no run"):
+        basin.run(model(), policy(), inputs(), program=script(tmp_path / "mute", "exit 0"))
     long_line = script(tmp_path / "long", "head -c 300000 /dev/zero | tr '\\0' x >&2; exit 6")
     with pytest.raises(basin.Refused) as told:  # more than a pipe holds
         basin.run(model(), policy(), inputs(), program=long_line)
     assert len(told.value.said) == 300_000 and len(str(told.value)) < 5_000
+
+
+def test_the_program_has_not_what_dask_sets_for_workers(tmp_path: Path, monkeypatch: pytest.MonkeyPatch) -> None:
+    monkeypatch.setenv("MALLOC_TRIM_THRESHOLD_", "65536")
+    monkeypatch.setenv("OMP_NUM_THREADS", "1")
+    program = script(tmp_path / "told", 'echo "$MALLOC_TRIM_THRESHOLD_ $OMP_NUM_THREADS"')
+    assert answer([], program) == (0, " 1\n")
 
 
 def script(path: Path, line: str) -> str:

@@ -16,6 +16,7 @@ import xarray
 
 import basin
 from basin import ensemble
+from basin.plans import shares
 from basin.statistics import blocks, percentile
 from basin.tables import UNKNOWN
 
@@ -60,6 +61,68 @@ def test_values_are_those_reckoned_by_hand(tmp_path: Path, way: str) -> None:
         held = data["Dam.Storage"]
         assert (held.attrs["units"], held.attrs["basin_unit"]) == ("m3", "m3")
         assert data["Dam.Outflow"].attrs["cell_methods"] == "time: sum"
+
+
+def written(*traces: tuple[int, str]) -> str:
+    """What `mrm` writes of traces with these inflows, each with how it ended."""
+    header = f"step,stamp,{','.join(model().slots)}\n"
+    table = basin.run(model(), policy(), inputs(), numbers="Int64").table
+    rows = table.astype(str).agg(",".join, axis=1)
+    text = "".join(f"{step},2020-01-01T00:00,{row}\n" for step, row in enumerate(rows, 1))
+    return "".join(f"# trace {number} {ending}\n{header}{text if ending == 'settled' else ''}" for number, ending in traces)
+
+
+def telling(folder: Path, text: str, ending: str) -> str:
+    """A program by which a part is this text, and then something else."""
+    program, told = folder / "basin", folder / "told"
+    told.write_text(text)
+    program.write_text(f"#!/bin/sh\n[ $1 = mrm ] || exit 0\ncat {told}\n{ending}\n")
+    program.chmod(0o755)
+    return str(program)
+
+
+@pytest.mark.parametrize("last", ["settled", "fault limit object Dam step 1 after 50"])
+def test_a_program_is_left_where_all_traces_are_told(tmp_path: Path, last: str) -> None:
+    summary = "" if last == "settled" else "# summary 1 of 2\n"  # of a fault the next line tells where it ends
+    program = telling(tmp_path, written((1, "settled"), (2, last)) + summary, "exec sleep 1000")
+    told = planned(tmp_path / "a", inflows(2), way="mrm", program=program)
+    (done,) = ensemble.execute(told, workers=0)
+    assert (done.settled, done.faults) == ((2, 0) if last == "settled" else (1, 1))
+    assert (cells_of(told, "Dam.Storage")[0] == storage(np.full(STEPS, 9))).all()
+
+
+@pytest.mark.parametrize(
+    "cut, ending, why",
+    [
+        (0, "exit 0", "told nothing of 1 of 3 traces"),
+        (0, "kill -9 $$", "ended by signal 9"),
+        (5, "kill -9 $$", "ended by signal 9"),  # within a row, of which nobody sees the half
+        (0, "echo basin: want of memory >&2; exit 5", "want of memory"),
+        (5, "exit 0", "row is cut"),
+    ],
+)
+def test_a_program_that_tells_too_little(tmp_path: Path, cut: int, ending: str, why: str) -> None:
+    text = written((1, "settled"), (2, "settled"))
+    program = telling(tmp_path, text[: len(text) - cut], ending)
+    told = planned(tmp_path / "a", inflows(3), way="mrm", program=program)
+    with pytest.raises(basin.Error, match=why):
+        ensemble.execute(told, workers=0)
+    assert told.missing() == [0] and list((told.folder / "parts").iterdir()) == []
+
+
+def test_a_program_with_other_columns(tmp_path: Path) -> None:
+    text = written((1, "settled")).replace("Dam.Inflow,Dam.Outflow", "Dam.Outflow,Dam.Inflow")
+    told = planned(tmp_path / "a", inflows(1), way="mrm", program=telling(tmp_path, text, "exit 0"))
+    with pytest.raises(basin.Error, match="columns aren't the slots"):
+        ensemble.execute(told, workers=0)
+
+
+def test_parts_are_of_about_one_size() -> None:
+    for count in (1, 5, 63, 64, 65, 130, 1000):
+        for size in (1, 7, 64):
+            lengths = [some.stop - some.start for some in shares(count, size)]
+            assert sum(lengths) == count and len(lengths) == -(-count // size)
+            assert 1 <= min(lengths) and max(lengths) <= min(size, min(lengths) + 1)
 
 
 def test_one_call_for_all_three_with_progress(

@@ -119,6 +119,8 @@ def test_rows_that_are_cut_are_not_read() -> None:
             numbers(rows_of(b"1,2020-01-02T00:00,5,6\n", last, b"3,2020-01-04T00:00,5,6\n"), [1, 0])
         with pytest.raises(ValueError, match="fewer columns"):
             numbers(rows_of(b"1,2020-01-02T00:00,5,6\n", last), [1, 0])
+    with pytest.raises(ValueError, match="cut"):
+        numbers(rows_of(b"1,2020-01-02T00:00,5,6\n", b"2,2020-01-03T00:00,5,6"), [1, 0])
 
 
 def test_floats_are_exact_or_refused() -> None:

@@ -48,6 +48,12 @@ def test_a_thousand_traces_with_a_worker_killed(tmp_path: Path) -> None:
     assert not list((told.folder / "parts").glob(".*"))
 
 
+def test_local_workers_keep_their_memory() -> None:
+    with ensemble._client(None, 1) as client:
+        found = client.submit(os.environ.get, "MALLOC_TRIM_THRESHOLD_").result()
+    assert found == os.environ.get("MALLOC_TRIM_THRESHOLD_")
+
+
 def test_a_script_without_a_guard_starts_no_workers_without_end(tmp_path: Path) -> None:
     told = planned(tmp_path / "a", inflows(20), size=5)
     script = tmp_path / "script.py"
