@@ -5,22 +5,27 @@ from __future__ import annotations
 import argparse
 import sys
 
-from basin_files.reasons import LONG, plain
-
 from . import ensemble
 from .errors import Error
-from .parts import run_part
+from .parts import Done, failure, outcomes
 from .plans import Plan
 
 EXAMPLE = "example: python3 -m basin run FOLDER --workers 4 && python3 -m basin merge FOLDER 5 50 95"
 
 
 def task(words: argparse.Namespace) -> None:
-    """Runs the parts of a task that are missing."""
+    """Runs the parts of a task that are missing, of which none stops another."""
+    if not 1 <= words.task <= words.tasks:
+        raise ValueError(f"of {words.tasks} tasks none is the one numbered {words.task}")
     missing = set(words.plan.missing())
-    for number in range(words.task - 1, words.plan.parts, words.tasks):
-        if number in missing:
-            print(run_part(str(words.plan.folder), number), flush=True)
+    mine = [number for number in range(words.task - 1, words.plan.parts, words.tasks) if number in missing]
+    failed = []
+    for number, found in outcomes(words.plan.folder, mine):
+        print(found if isinstance(found, Done) else f"part {number} failed: {found}", flush=True)
+        if not isinstance(found, Done):
+            failed.append((number, found))
+    if failed:
+        raise failure(failed, len(mine))
 
 
 def execute(words: argparse.Namespace) -> None:
@@ -39,8 +44,8 @@ def plan_of(folder: str) -> Plan:
     """The plan of a folder."""
     try:
         return Plan.read(folder)
-    except (OSError, ValueError):
-        raise argparse.ArgumentTypeError(f"{plain(folder, LONG)} holds no plan") from None
+    except Error as error:
+        raise argparse.ArgumentTypeError(str(error)) from None
 
 
 def words_of() -> argparse.Namespace:

@@ -3,7 +3,7 @@
 from __future__ import annotations
 
 from dataclasses import dataclass, field
-from typing import Literal
+from typing import Literal, Sequence
 
 import numpy as np
 import pandas as pd
@@ -106,7 +106,7 @@ def answer_of(model: Model, policy: Policy | None, section: Section, form: Numbe
         rows = [line.split(",")[1:] for line in section.flags]
         answer.flags = pd.DataFrame(rows, index=table.index, columns=table.columns, dtype="category")
     if section.fault:
-        answer.fault = fault_of(model, policy, section.fault, answer)
+        answer.fault = fault_of(model, policy.rule_names(model) if policy else [], section.fault, answer)
     return answer
 
 
@@ -117,11 +117,12 @@ def asked_of(model: Model, policy: Policy | None, trace: list[str]) -> pd.DataFr
     """
     rows: list[tuple[object, ...]] = []
     puts: list[Asked] = []
+    names = policy.rule_names(model) if policy else []
     step, by, rule = 0, "", 0
     for line in trace:
         if line.startswith("  "):
             if told_by(line, puts):
-                rows.append((step, by, rule or pd.NA, rule_name(policy, model, rule) if policy and rule else ""))
+                rows.append((step, by, rule or pd.NA, rule_name(names, rule)))
             continue
         word, *rest = line.split()
         if word == "open":
@@ -141,17 +142,16 @@ def asked_of(model: Model, policy: Policy | None, trace: list[str]) -> pd.DataFr
     return frame
 
 
-def fault_of(model: Model, policy: Policy | None, words: str, answer: Answer | None = None) -> Fault:
+def fault_of(model: Model, names: Sequence[str], words: str, answer: Answer | None = None) -> Fault:
     """The fault that these words say, with the moment of its timestep and the name of its rule."""
     fault = Fault(words)
     time = model.index()[fault.step - 1] if fault.step else None
-    return Fault(words, time, rule_name(policy, model, fault.rule) if policy and fault.rule else "", answer)
+    return Fault(words, time, rule_name(names, fault.rule or 0), answer)
 
 
-def rule_name(policy: Policy, model: Model, number: int) -> str:
-    """The name of a rule, or "" where it has none."""
-    names = policy.rule_names(model)
-    return names[number - 1] if number <= len(names) else ""
+def rule_name(names: Sequence[str], number: int) -> str:
+    """The name of a rule by its number, or "" where it has none, as in code, or where there is no rule: 0."""
+    return names[number - 1] if 1 <= number <= len(names) else ""
 
 
 def cell_of(model: Model, policy: Policy, text: str, fault: bool) -> Cell:
@@ -167,7 +167,7 @@ def cell_of(model: Model, policy: Policy, text: str, fault: bool) -> Cell:
             value, flag = (None, "") if words[1] == "unknown" else (int(words[1]), words[2])
         elif words[0] == "step":
             rule = int(words[3]) if words[2] == "rule" else pd.NA
-            name = words[3] if rule is pd.NA else names[rule - 1] if rule <= len(names) else ""
+            name = words[3] if rule is pd.NA else rule_name(names, rule)
             history.append((int(words[1]), words[2], rule, name, int(words[4]), words[5]))
         else:
             raise Error(f"why wrote a line that this package doesn't know: {words}")
@@ -189,4 +189,4 @@ def book_of(model: Model, policy: Policy, lines: list[str]) -> Book:
     table["unknown"] = [words[1] == "unknown" for words in rows]
     table.attrs["units"] = dict.fromkeys(columns, "m3")
     words = ending.removeprefix("fault ")
-    return Book(table, fault_of(model, policy, words) if ending != "settled" else None)
+    return Book(table, fault_of(model, policy.rule_names(model), words) if ending != "settled" else None)

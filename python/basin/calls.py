@@ -2,6 +2,7 @@
 
 from __future__ import annotations
 
+import os
 import tempfile
 from pathlib import Path
 from typing import Any, Iterable, Literal, Union, overload
@@ -17,7 +18,8 @@ from basin_rules import effects as of_rules
 from basin_rules.policy import read_policy
 
 from . import process
-from .answers import Answer, Book, Cell, Effects, Numbers, Traces, answer_of, asked_of, book_of, cell_of
+from .answers import Answer, Book, Cell, Effects, Numbers, Traces
+from .answers import answer_of, asked_of, book_of, cell_of, rule_name
 from .errors import Error, Refused
 from .files import Model, Policy
 from .inputs import Inputs, inputs_of
@@ -61,7 +63,7 @@ class Files:
 
     def batches(self, given: Any, word: str) -> tuple[str, list[str]]:
         """The path of edits or traces, and their names where they are made of frames."""
-        if isinstance(given, (str, Path)):
+        if isinstance(given, (str, os.PathLike)):
             return str(Path(given).absolute()), []
         named = batches_of(self.model, given, word)
         path = self.folder / f"{word}.csv"
@@ -196,7 +198,7 @@ def check(model: ModelGiven, policy: PolicyGiven, *, program: PathLike | None = 
         names = files.policy.rule_names(files.model)
     rows = [[int(word) for word in line.split()[1::2]] for line in text.splitlines()[1:]]
     frame = pd.DataFrame(rows, columns=["rule", "instructions", "reads", "puts", "words"]).set_index("rule")
-    frame.insert(0, "name", [names[number - 1] if number <= len(names) else "" for number in frame.index])
+    frame.insert(0, "name", [rule_name(names, number) for number in frame.index])
     return frame
 
 
@@ -216,7 +218,7 @@ def effects(
         (
             rule,
             slot,
-            names[rule - 1] if rule <= len(names) else "",
+            rule_name(names, rule),
             *(found.counts[(rule, slot)][one] for one in headings),
         )
         for rule, slots in enumerate(found.sets, 1)

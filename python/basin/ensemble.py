@@ -18,12 +18,14 @@ from typing import TYPE_CHECKING, Any, Callable, Iterator, Literal, Sequence
 
 import pandas as pd
 
+from basin_files.reasons import plain
+
 from .answers import fault_of
 from .calls import InputsGiven, ModelGiven, PolicyGiven
 from .errors import Error
 from .files import Policy
 from .netcdf import opened
-from .parts import Done, run_part
+from .parts import Done, Outcome, failure, outcomes, run_part
 from .plans import Plan, each_part, plan
 from .process import PathLike
 from .slurm import slurm
@@ -101,9 +103,8 @@ def execute(
     done: list[Done] = []
     failed: list[tuple[int, BaseException]] = []
     here = client is None and workers == 0
-    for number, found in (
-        _here(told, missing) if here else _by_workers(told, missing, client, workers, retries)
-    ):
+    ended = outcomes(told.folder, missing) if here else _by_workers(told, missing, client, workers, retries)
+    for number, found in ended:
         if isinstance(found, BaseException):
             failed.append((number, found))
         else:
@@ -111,23 +112,10 @@ def execute(
             tell(len(done), len(missing), found)
     _clear(told)
     if failed:
-        number, error = failed[0]
-        raise Error(f"{len(failed)} of {len(missing)} parts failed; part {number}: {error}") from error
+        raise failure(failed, len(missing)) from failed[0][1]
     if count := sum(part.refused for part in done):
         warnings.warn(RefusedTraces(f"{count} traces are refused: basin.ensemble.refusals(..)"), stacklevel=2)
     return done
-
-
-Outcome = tuple[int, "Done | BaseException"]
-
-
-def _here(told: Plan, missing: list[int]) -> Iterator[Outcome]:
-    """Runs parts one after another."""
-    for number in missing:
-        try:
-            yield number, run_part(str(told.folder), number)
-        except Exception as error:
-            yield number, error
 
 
 def _by_workers(
@@ -208,9 +196,10 @@ def _is_left(path: Path) -> bool:
 
 def faults(told: Plan) -> pd.DataFrame:
     """The traces that ended in a fault, by name: kind, object, slot, rule, timestep, value, and the words."""
-    model, policy, rows = told.model, Policy(told.files[1]), []
+    model, rows = told.model, []
+    names = Policy(told.files[1]).rule_names(model)
     for name, words in _texts(told, "fault"):
-        fault = fault_of(model, policy, words)
+        fault = fault_of(model, names, words)
         rows.append((name, *(getattr(fault, column) for column in FAULT_COLUMNS)))
     frame = pd.DataFrame(rows, columns=["trace", *FAULT_COLUMNS]).set_index("trace")
     return frame.astype({"rule": "Int64", "step": "Int64"})
@@ -239,6 +228,7 @@ def values(told: Plan, numbers: Kept = "float") -> xarray.Dataset:
     """
     import xarray
 
+    _judge(numbers)
     return xarray.open_mfdataset(
         [path for _, path in each_part(told)],
         preprocess=lambda part: _exact(part, numbers),
@@ -253,11 +243,23 @@ def values(told: Plan, numbers: Kept = "float") -> xarray.Dataset:
 
 
 def statistics(told: Plan, numbers: Kept = "float") -> xarray.Dataset:
-    """What `merge` wrote, by time: SLOT.known, SLOT.min, SLOT.max, SLOT.mean, SLOT.percentile."""
+    """What `merge` wrote, by time: SLOT.known, SLOT.min, SLOT.max, SLOT.mean, SLOT.percentile.
+
+    `numbers` as of `values`. `Error` where nothing is merged yet.
+    """
     import xarray
 
+    _judge(numbers)
+    if not (told.folder / STATISTICS).exists():
+        raise Error("there are no statistics yet: basin.ensemble.merge(..) writes them")
     with xarray.open_dataset(told.folder / STATISTICS, mask_and_scale=numbers == "float") as data:
         return _exact(data, numbers).load()
+
+
+def _judge(numbers: str) -> None:
+    """`ValueError` where numbers are asked for in another form."""
+    if numbers not in ("float", "int64"):
+        raise ValueError(f'numbers is "float" or "int64", and not {numbers!r}')
 
 
 def _exact(data: xarray.Dataset, numbers: Kept) -> xarray.Dataset:
@@ -270,6 +272,10 @@ def _exact(data: xarray.Dataset, numbers: Kept) -> xarray.Dataset:
 
 def nearest(told: Plan, slot: str, percent: Percent, over: Literal["mean", "last"] = "mean") -> str:
     """The settled trace whose mean of a slot (or last known value) is that percentile of all of them, by name."""
+    if over not in ("mean", "last"):
+        raise ValueError(f'over is "mean" or "last", and not {over!r}')
+    if slot not in told.slots:
+        raise Error(f"the ensemble keeps no slot {plain(slot)}")
     found: list[tuple[Fraction, int, str]] = []
     for _, path in each_part(told):
         with opened(path) as part:

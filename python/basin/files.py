@@ -20,7 +20,13 @@ from basin_rules.rulesets import read_ruleset
 from .errors import Error
 from .process import PathLike
 
-FREQUENCIES = {"1h": "H", "6h": "6H", "12h": "12H", "24h": "D", "1month": "MS"}
+FREQUENCIES = {
+    "1h": pd.offsets.Hour(1),
+    "6h": pd.offsets.Hour(6),
+    "12h": pd.offsets.Hour(12),
+    "24h": pd.offsets.Day(1),
+    "1month": pd.offsets.MonthBegin(1),
+}
 Given = TypeVar("Given", bound="File")
 
 

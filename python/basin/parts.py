@@ -8,6 +8,7 @@ import time as clock
 from dataclasses import dataclass
 from functools import lru_cache
 from pathlib import Path
+from typing import Iterable, Iterator
 
 import numpy as np
 
@@ -34,6 +35,9 @@ class Done:
     begun: float
     ended: float
     processor: float
+
+
+Outcome = tuple[int, "Done | BaseException"]
 
 
 class Values:
@@ -64,6 +68,21 @@ class Values:
         """Keeps why a trace isn't run."""
         self.refused[trace] = why
         self.lacking.discard(trace)
+
+
+def outcomes(folder: Path, numbers: Iterable[int]) -> Iterator[Outcome]:
+    """Runs parts one after another, of which none stops another."""
+    for number in numbers:
+        try:
+            yield number, run_part(str(folder), number)
+        except Exception as error:
+            yield number, error
+
+
+def failure(failed: list[tuple[int, BaseException]], tried: int) -> Error:
+    """What is said where parts failed."""
+    number, error = failed[0]
+    return Error(f"{len(failed)} of {tried} parts failed; part {number}: {error}")
 
 
 def run_part(folder: str, number: int) -> Done:

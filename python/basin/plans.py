@@ -38,9 +38,12 @@ class Plan:
 
     @classmethod
     def read(cls, folder: PathLike) -> Plan:
-        """The plan of a folder."""
-        told = json.loads((Path(folder) / "plan.json").read_text())
-        return cls(folder=Path(folder), **told)
+        """The plan of a folder. `Error` where it holds none."""
+        place = Path(folder).absolute()
+        try:
+            return cls(folder=place, **json.loads((place / "plan.json").read_text()))
+        except (OSError, ValueError, TypeError):
+            raise Error(f"{plain(str(place), LONG)} holds no plan") from None
 
     @property
     def parts(self) -> int:
@@ -105,9 +108,8 @@ def plan(
         judge(new, path)
         chosen = chosen_slots(read_model, slots)
         with traces_of(read_model, traces) as given:
-            names, digest = store(
-                new, given, size, [path, *map(digested, files), json.dumps(chosen).encode()]
-            )
+            texts = [*map(digested, files), json.dumps(chosen).encode()]
+            names, digest = store(new, given, size, path, texts)
         found = Plan(place, names, chosen, way or way_of(path), path, digest)
         settle(found, new)
     finally:
@@ -145,11 +147,12 @@ def digested(file: File) -> bytes:
     return b"%d\0" % len(file.content) + file.content
 
 
-def store(folder: Path, traces: Traces, size: int, before: list[Any]) -> tuple[list[list[str]], str]:
+def store(
+    folder: Path, traces: Traces, size: int, program: str, texts: list[bytes]
+) -> tuple[list[list[str]], str]:
     """Writes the traces, and answers their names by part, and the digest of all that the runs go by."""
     if not traces.names:
         raise ValueError("there is no trace")
-    program, *texts = before
     digest = hashlib.sha256(Path(program).read_bytes())
     parts = shares(len(traces.names), size)
     names = [traces.names[some] for some in parts]

@@ -3,6 +3,7 @@
 from __future__ import annotations
 
 import re
+from numbers import Real
 from typing import Any, Hashable, Iterable, Iterator, Mapping, NamedTuple
 
 import numpy as np
@@ -43,12 +44,14 @@ def slot_name(name: Hashable) -> str:
 
 def step_number(model: Model, time: Any) -> int:
     """The number of a timestep, by its number or by the moment at which it begins."""
-    if isinstance(time, (int, np.integer)) and not isinstance(time, bool):
+    if isinstance(time, Real) and not isinstance(time, (bool, np.bool_)) and time == time // 1:
         return int(time)
     try:
-        moment = pd.Timestamp(time)
+        moment = pd.NaT if isinstance(time, Real) else pd.Timestamp(time)
     except ValueError:
-        raise ValueError(f"{plain(str(time))} is no timestep and no moment") from None
+        moment = pd.NaT
+    if moment is pd.NaT:
+        raise ValueError(f"{plain(str(time))} is no timestep and no moment")
     number = None if moment.tz else model.timesteps.beginning_at(moment.to_pydatetime(warn=False))
     if number is None:
         raise ValueError(f"no timestep begins at {moment}")
@@ -69,7 +72,7 @@ def whole(value: Any, where: str) -> int:
     if isinstance(value, (float, np.floating)) and not -EXACT <= value <= EXACT:
         raise ValueError(f"{where}: {value} is beyond 2^53 and not exact as a float: give whole numbers")
     number = int(value)
-    if number != value:
+    if number != value or isinstance(value, (bool, np.bool_)):
         raise ValueError(f"{where}: {value} isn't a whole number of base units (round it first)")
     return number
 
@@ -78,7 +81,7 @@ def whole_series(column: pd.Series, where: str, steps: npt.NDArray[np.int64]) ->
     """A column's values as whole numbers, `UNKNOWN` where there is none."""
     known = column.notna().to_numpy()
     found = np.full(len(column), UNKNOWN)
-    if pd.api.types.is_integer_dtype(column.dtype):
+    if pd.api.types.is_signed_integer_dtype(column.dtype):
         found[known] = column[known].to_numpy(np.int64)
     elif pd.api.types.is_float_dtype(column.dtype):
         floats = column.to_numpy(np.float64, na_value=np.nan)
@@ -88,7 +91,11 @@ def whole_series(column: pd.Series, where: str, steps: npt.NDArray[np.int64]) ->
         found[known] = floats[known].astype(np.int64)
     else:
         for place in np.flatnonzero(known):
-            found[place] = whole(column.iloc[place], f"{where} at timestep {steps[place]}")
+            at = f"{where} at timestep {steps[place]}"
+            number = whole(column.iloc[place], at)
+            if not UNKNOWN <= number < -UNKNOWN:
+                raise ValueError(f"{at}: {number} is beyond 64 bits")
+            found[place] = number
     return found
 
 
@@ -108,8 +115,10 @@ def steps_of_index(model: Model, index: pd.Index) -> npt.NDArray[np.int64]:
     """The timesteps of a frame's rows, which are numbered or named by the moments at which they begin."""
     if isinstance(index, pd.PeriodIndex):
         index = index.to_timestamp()
-    if not isinstance(index, pd.DatetimeIndex):
+    if pd.api.types.is_integer_dtype(index.dtype):
         return np.asarray(index, dtype=np.int64)
+    if not isinstance(index, pd.DatetimeIndex):
+        return np.array([step_number(model, time) for time in index], dtype=np.int64)
     places = model.index().get_indexer(index)
     if (places < 0).any():
         raise ValueError(f"no timestep begins at {index[places < 0][0]}")
@@ -141,7 +150,12 @@ def batches_of(model: Model, given: Any, word: str) -> Batches:
     if isinstance(given, pd.DataFrame):
         return long_rows(model, given, word)
     named = given.items() if isinstance(given, Mapping) else enumerate(given, 1)
-    return {str(name): list(wide_rows(model, frame)) for name, frame in named}
+    found: Batches = {}
+    for name, frame in named:
+        if str(name) in found:
+            raise ValueError(f"{word} {plain(str(name))} is given twice")
+        found[str(name)] = list(wide_rows(model, frame))
+    return found
 
 
 def batches_text(batches: Iterable[list[Row]], word: str) -> str:

@@ -10,6 +10,7 @@ import pandas as pd
 import pytest
 
 import basin
+from basin import files as of_files
 from basin.errors import Refused
 from basin.process import answer
 
@@ -178,13 +179,19 @@ def test_order_of_dispatches() -> None:
     assert list(newest.table["Dam.Storage"].iloc[:2]) == [1005, 1010]
 
 
-def test_asked() -> None:
-    given = inputs(f"{INPUTS}Dam.Outflow,3-5,7\n")  # the rule wants 4
+def wants_asked() -> None:
+    """Skips the test where the program hasn't --asked."""
     try:
-        answer = basin.run(model(), policy(), given, trace=True, asked=True)
+        basin.run(model(), policy(), inputs(), trace=True, asked=True)
     except Refused as refused:
         assert refused.status == 2
         pytest.skip("the program has no --asked")
+
+
+def test_asked() -> None:
+    wants_asked()
+    given = inputs(f"{INPUTS}Dam.Outflow,3-5,7\n")  # the rule wants 4
+    answer = basin.run(model(), policy(), given, trace=True, asked=True)
     assert answer.trace[0] == "open 1" and answer.asked is not None
     mine = answer.asked[answer.asked["by"] == "rule"]
     denied = mine[mine["fate"] == "denied"]
@@ -196,6 +203,17 @@ def test_asked() -> None:
     assert set(written["value"]) == {4} and len(written) == STEPS - 3
     assert written["held"].isna().all() and set(written["name"]) == {"let out"}
     assert basin.run(model(), policy(), given, trace=True).asked is None
+
+
+def test_asked_reads_the_rules_once(monkeypatch: pytest.MonkeyPatch) -> None:
+    wants_asked()
+    counted: list[object] = []
+    read = of_files.read_ruleset
+    monkeypatch.setattr(
+        of_files, "read_ruleset", lambda source, *more: counted.append(source) or read(source, *more)
+    )
+    basin.run(model(), policy(), inputs(), trace=True, asked=True)
+    assert len(counted) == 1
 
 
 def test_balance() -> None:

@@ -389,6 +389,37 @@ def test_plans_that_can_not_be(tmp_path: Path) -> None:
     told = planned(tmp_path / "a", inflows(2))
     with pytest.raises(basin.Error, match="1 of 1 parts are missing"):
         ensemble.merge(told)
+    with pytest.raises(basin.Error, match="no statistics yet"):
+        ensemble.statistics(told)
+    for read in (ensemble.values, ensemble.statistics):
+        with pytest.raises(ValueError, match="float"):
+            read(told, numbers="Int64")  # type: ignore[arg-type]
+
+
+def test_plans_are_found_by_their_folder(tmp_path: Path, monkeypatch: pytest.MonkeyPatch) -> None:
+    told = planned(tmp_path / "a", inflows(2))
+    monkeypatch.chdir(tmp_path)
+    assert ensemble.Plan.read("a") == told  # by its whole path, since workers may be elsewhere
+    for text in ("", "[]", "{}"):
+        (tmp_path / "plan.json").write_text(text)
+        with pytest.raises(basin.Error, match="holds no plan"):
+            ensemble.Plan.read(tmp_path)
+    with pytest.raises(basin.Error, match="holds no plan"):
+        ensemble.Plan.read("b")
+
+
+def test_a_task_whose_part_fails_runs_the_others(tmp_path: Path) -> None:
+    told = planned(tmp_path / "a", inflows(6), size=2)
+    (told.folder / "traces.nc").rename(told.folder / "away")
+    (told.folder / "traces").mkdir()
+    (told.folder / "traces/00001.csv").write_text("trace,slot,step,value\n1,Dam.Inflow,1,7\n2,Dam.Inflow,1,8\n")
+    words = [sys.executable, "-m", "basin", "task", told.folder]
+    done = subprocess.run([*words, "1", "1"], capture_output=True, text=True, check=False)
+    assert done.returncode == 2 and done.stderr.startswith("basin: 2 of 3 parts failed; part 0: ")
+    assert told.missing() == [0, 2]
+    for task, tasks in (("0", "1"), ("2", "1"), ("1", "0")):
+        done = subprocess.run([*words, task, tasks], capture_output=True, text=True, check=False)
+        assert (done.returncode, done.stderr) == (2, f"basin: of {tasks} tasks none is the one numbered {task}\n")
 
 
 def test_the_trace_nearest_to_a_percentile(tmp_path: Path) -> None:
@@ -398,6 +429,10 @@ def test_the_trace_nearest_to_a_percentile(tmp_path: Path) -> None:
     last = storage(inflow)[:, -1]
     order = np.argsort(last, kind="stable")
     assert ensemble.nearest(told, "Dam.Storage", 28, over="last") == f"y{1900 + order[6]}"
+    with pytest.raises(basin.Error, match="keeps no slot"):
+        ensemble.nearest(told, "Dam.Inflow", 50)
+    with pytest.raises(ValueError, match="mean"):
+        ensemble.nearest(told, "Dam.Storage", 50, over="median")  # type: ignore[arg-type]
     means = outflow(inflow).sum(axis=1)
     assert ensemble.nearest(told, "Dam.Outflow", 100) == f"y{1900 + np.argsort(means, kind='stable')[-1]}"
 

@@ -10,7 +10,7 @@ import pytest
 
 from basin import tables
 from basin.inputs import LaidOver
-from basin.rows import Row, folded, long_rows, wide_rows
+from basin.rows import Row, batches_of, folded, long_rows, wide_rows
 from basin.tables import UNKNOWN, Text, as_floats, chapters, numbers, section_of, sections
 
 from small import inputs, model
@@ -154,11 +154,38 @@ def test_columns_of_any_sort(column: object) -> None:
 
 @pytest.mark.parametrize(
     "value, why",
-    [(0.5, "whole number"), (2.0**53 + 2, "2.53"), (float("inf"), "2.53"), ("x", "invalid literal")],
+    [
+        (0.5, "whole number"),
+        (2.0**53 + 2, "2.53"),
+        (float("inf"), "2.53"),
+        ("x", "invalid literal"),
+        (True, "whole number"),
+        (np.uint64(2**64 - 1), "64 bits"),
+        (10**20, "64 bits"),
+    ],
 )
 def test_what_is_not_whole_is_refused(value: object, why: str) -> None:
     with pytest.raises(ValueError, match=why):
         list(wide_rows(model(), pd.DataFrame({"Dam.Inflow": [value]}, index=[1])))
+
+
+def test_timesteps_of_frames() -> None:
+    wanted = ["Dam.Inflow,1,5", "Dam.Inflow,3,6"]
+    moments = model().index()[[0, 2]]
+    for index in ([1, 3], [1.0, 3.0], moments, moments.astype(object), moments.strftime("%Y-%m-%d")):
+        frame = pd.DataFrame({"Dam.Inflow": [5, 6]}, index=pd.Index(index))
+        assert [row.text for row in wide_rows(model(), frame)] == wanted
+    for odd in (1.5, np.nan, None, pd.NaT, "soon", True):
+        with pytest.raises(ValueError, match="no timestep"):
+            list(wide_rows(model(), pd.DataFrame({"Dam.Inflow": [5, 6]}, index=pd.Index([1, odd], dtype=object))))
+    with pytest.raises(ValueError, match="no timestep"):
+        list(wide_rows(model(), pd.DataFrame({"Dam.Inflow": [5, 6]}, index=[1, 1.5])))
+
+
+def test_no_trace_is_lost_for_its_name() -> None:
+    frame = pd.DataFrame({"Dam.Inflow": [5]}, index=[1])
+    with pytest.raises(ValueError, match="trace 1 is given twice"):
+        batches_of(model(), {1: frame, "1": frame}, "trace")
 
 
 @pytest.mark.parametrize(
