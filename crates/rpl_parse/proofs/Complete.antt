@@ -351,14 +351,17 @@ no_two its_word O.Minus is_before same_level = no_one its_word same_level
     no_one its_word is_level = omega (arith, is_level)
 no_two its_word other_word is_before same_level = absurd (cc is_before)
 
-module _ (inner : ℕ → List Tok → Read) (deepest : ℕ) (reads : Reads inner deepest) where
+module _ (inner : ℕ → List Tok → Read) (deepest : ℕ) (inner_reads : Reads inner deepest) where
   up_to_reads : (a_mark : Mark) (expression : Tree) (tokens_here middle rest : List Tok) → depth expression ≤ deepest
       → Spells expression tokens_here middle → middle ≡ mark a_mark ∷ rest → Closes a_mark
       → up_to inner deepest a_mark tokens_here ≡ Some (got expression (depth expression) rest)
   unfolding Reads
   up_to_reads a_mark expression tokens_here middle rest shallow spells closes_at closes =
       let stops_there : Stops 7 middle = subst (λ l. Stops 7 l) (sym closes_at) (closing a_mark rest 7 closes) in
-      rw (reads 7 expression tokens_here middle (loose_all expression) shallow spells stops_there, behind_here a_mark middle rest closes_at) refl
+      rw (
+        inner_reads 7 expression tokens_here middle (loose_all expression) shallow spells stops_there,
+        behind_here a_mark middle rest closes_at,
+      ) refl
 
   items_reads : (expressions : Trees) (a_mark : Mark) (turns : ℕ) (so_far : Many) (middle rest : List Tok) → depths expressions ≤ deepest
       → SpellsMore expressions so_far.left middle → middle ≡ mark a_mark ∷ rest
@@ -373,7 +376,7 @@ module _ (inner : ℕ → List Tok → Read) (deepest : ℕ) (reads : Reads inne
   items_reads (tree first more) a_mark (suc turns) so_far middle rest shallow spells_more closes_at closes no_comma fits_so =
       let first_read = got first (depth first) spells_more.2.0 in
       let read_one =
-      reads 7 first spells_more.0 spells_more.2.0 (loose_all first) (omega arith) spells_more.2.1
+      inner_reads 7 first spells_more.0 spells_more.2.0 (loose_all first) (omega arith) spells_more.2.1
       (more_ends more a_mark spells_more.2.0 middle rest spells_more.2.2 closes_at closes) in
       let with_first = many (so_far.trees ++ first ∷ []) (max so_far.most (depth first)) spells_more.2.0 in
       items_turn inner deepest turns so_far spells_more.0 first_read (behind_here M.Comma so_far.left spells_more.0 spells_more.1) read_one
@@ -386,7 +389,7 @@ module _ (inner : ℕ → List Tok → Read) (deepest : ℕ) (reads : Reads inne
       → some_items inner deepest tokens_here ≡ Some (many (expression ∷ list_of expressions) (depths (tree expression expressions)) second_middle)
   unfolding Reads
   list_reads expression expressions a_mark tokens_here middle second_middle rest shallow spells more_spells closes_at closes no_comma =
-      rw (reads 7 expression tokens_here middle (loose_all expression) (omega arith) spells
+      rw (inner_reads 7 expression tokens_here middle (loose_all expression) (omega arith) spells
       (more_ends expressions a_mark middle second_middle rest more_spells closes_at closes))
       (items_reads expressions a_mark (length middle) (many (expression ∷ []) (depth expression) middle) second_middle rest
       (omega arith) more_spells closes_at closes no_comma (count_within expressions middle second_middle more_spells))
@@ -634,7 +637,8 @@ module _ (inner : ℕ → List Tok → Read) (deepest : ℕ) (reads : Reads inne
       let right_loose : suc lower - 1 ≡ lower = omega arith in
       let right_read_so : inner (suc lower - 1) mid ≡ Some (got right (depth right) rest) =
       rw right_loose
-      (reads lower right mid rest (let right_tight = between.2.2.0 in omega (arith, right_tight, is_level)) (omega arith) between.2.2.1 stops) in
+      (inner_reads lower right mid rest
+      (let right_tight = between.2.2.0 in omega (arith, right_tight, is_level)) (omega arith) between.2.2.1 stops) in
       record {
         turns = suc left_chain.turns;
         few = omega arith;
@@ -738,7 +742,7 @@ module _ (inner : ℕ → List Tok → Read) (deepest : ℕ) (reads : Reads inne
           is_prefix_there,
           same_word,
           behind_here (mark_of_one its_word) tokens_here parts.0 parts.1,
-          reads (suc lower) expression parts.0 rest (omega (arith, tight_so, is_level)) (omega arith) parts.2.1 stops,
+          inner_reads (suc lower) expression parts.0 rest (omega (arith, tight_so, is_level)) (omega arith) parts.2.1 stops,
         ) refl
 
     by_two : (its_word : TwoWord) (left right : Tree) → (looseness_of its_word ≤ lower) ⊎ (looseness_of its_word ≡ suc lower)

@@ -12,4 +12,4 @@ loop-behind-preserved c =
     let step : drop (length params - (c.loop-behind.behind + 1)) params ≡ c.index-params-params.result ∷ drop left params =
     grind (arith, common_steps, c.index-params-params.is, counted) in
     one_before c.loop-behind.scope c.push.new.self c.type_here.result (parameter_of c.index-params-params.result) _ _
-    (rw c.deref.ensures.value counted c.in-Ok.ensures.ok) (ap (map parameter_of) step) c.type_here.ensures c.loop-behind.invariant
+    (rw c.deref.ensures.value at c.in-Ok.ensures.ok) (ap (map parameter_of) step) c.type_here.ensures c.loop-behind.invariant
