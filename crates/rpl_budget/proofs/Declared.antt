@@ -12,62 +12,64 @@ use Rattle.rpl_budget.proofs.Costs.{counting, looking, putting}
 use Rattle.rpl_budget.proofs.Exact.{costed, heads_same, stopped, stopped_budget}
 use Rattle.rpl_budget.proofs.Passed.{acts_are, acts_found, found, pass_is}
 
-pub same_budget : {a b c d p q r s : ℕ} → a ≡ p → b ≡ q → c ≡ r → d ≡ s → budget a b c d ≡ budget p q r s
-same_budget u v w x = rw (u, v, w, x) refl
+pub same_budget : {count looks puts words other_count other_looks other_puts other_words : ℕ} → count ≡ other_count → looks ≡ other_looks
+    → puts ≡ other_puts → words ≡ other_words → budget count looks puts words ≡ budget other_count other_looks other_puts other_words
+same_budget counts_are looks_are puts_are words_are = rw (counts_are, looks_are, puts_are, words_are) refl
 
 module _ (functions : List Priced) where
-  abbrev F : (Budget → ℕ) → List Costed
-  F part = costed part functions
+  abbrev costed_by : (Budget → ℕ) → List Costed
+  costed_by part = costed part functions
 
   abbrev words_of : List Costed
-  words_of = F (λ b. b.words)
+  words_of = costed_by (λ b. b.words)
 
   by_heads : (P : List Head → Type 0) → P (priced_heads functions) → P (costed_heads words_of)
-  by_heads P p = subst P (sym (heads_same (λ b. b.words) functions)) p
+  by_heads P holds = subst P (sym (heads_same (λ b. b.words) functions)) holds
 
   -- ---- a rule
 
   abbrev rule_words : Acts → List Head → ℕ
-  rule_words body h = weights (acts_local_kinds h [] body) + height_of_acts words_of [] body
+  rule_words body heads_given = weights (acts_local_kinds heads_given [] body) + height_of_acts words_of [] body
 
   abbrev exact_rule : Acts → Budget
   exact_rule body =
-      budget (most_of_acts price_of_steps (F (λ b. b.count)) [] body) (most_of_acts price_of_looks (F (λ b. b.looks)) [] body)
-      (most_of_acts price_of_puts (F (λ b. b.puts)) [] body) (rule_words body (costed_heads words_of))
+      budget (most_of_acts price_of_steps (costed_by (λ b. b.count)) [] body) (most_of_acts price_of_looks (costed_by (λ b. b.looks)) [] body)
+      (most_of_acts price_of_puts (costed_by (λ b. b.puts)) [] body) (rule_words body (costed_heads words_of))
 
   rule_is : (body : Acts) → declared_budget (stopped functions) (rule [] body) ≡ stopped_budget (exact_rule body)
   rule_is body =
       ap budget_of_load (acts_are functions [] body)
-      ∙ by_heads (λ h. budget_of_load (acts_found functions [] body)
+      ∙ by_heads (λ heads. budget_of_load (acts_found functions [] body)
       ≡ budget (capped limits.count (exact_rule body).count) (capped limits.looks (exact_rule body).looks)
-      (capped limits.puts (exact_rule body).puts) (capped limits.words (rule_words body h)))
+      (capped limits.puts (exact_rule body).puts) (capped limits.words (rule_words body heads)))
       (same_budget refl refl refl (omega arith))
 
   -- ---- a function
 
-  module _ (params : List Parameter) (result : TypeName) (body : Tree) where
+  module _ (parameters : List Parameter) (result : TypeName) (body : Tree) where
     abbrev takes : List Kind
-    takes = param_kinds params
+    takes = param_kinds parameters
 
     abbrev kind : Kind
     kind = kind_of_type result
 
     abbrev names : Names
-    names = param_names params
+    names = param_names parameters
 
     abbrev function_words : List Head → ℕ
-    function_words h = weights takes + (weights (local_kinds h names body) + max (height words_of names body) (weight kind))
+    function_words heads_given = weights takes + (weights (local_kinds heads_given names body) + max (height words_of names body) (weight kind))
 
     abbrev exact_function : Budget
     exact_function =
-        budget (most_of_body price_of_steps (F (λ b. b.count)) names kind body) (most_of_body price_of_looks (F (λ b. b.looks)) names kind body)
-        (most_of_body price_of_puts (F (λ b. b.puts)) names kind body) (function_words (costed_heads words_of))
+        budget (most_of_body price_of_steps (costed_by (λ b. b.count)) names kind body)
+        (most_of_body price_of_looks (costed_by (λ b. b.looks)) names kind body)
+        (most_of_body price_of_puts (costed_by (λ b. b.puts)) names kind body) (function_words (costed_heads words_of))
 
     function_is : function_budget (room_for takes) kind (pass (stopped functions) names body) ≡ stopped_budget exact_function
     function_is =
         ap (function_budget (room_for takes) kind) (pass_is functions names body)
-        ∙ by_heads (λ h. function_budget (room_for takes) kind (found functions names body) ≡ budget (capped limits.count exact_function.count)
-        (capped limits.looks exact_function.looks) (capped limits.puts exact_function.puts) (capped limits.words (function_words h)))
+        ∙ by_heads (λ heads. function_budget (room_for takes) kind (found functions names body) ≡ budget (capped limits.count exact_function.count)
+        (capped limits.looks exact_function.looks) (capped limits.puts exact_function.puts) (capped limits.words (function_words heads)))
         (same_budget (Costs.body_cost counting functions names kind body) (Costs.body_cost looking functions names kind body)
         (Costs.body_cost putting functions names kind body) (omega arith))
 
@@ -88,16 +90,17 @@ exact functions rules =
 
 passed : (functions : List Priced) (rules : List Declared) → passed_from (stopped functions) rules ≡ exact functions rules
 passed functions [] = refl
-passed functions (rule called_so body ∷ rest) = ap₂ (λ b bs. b ∷ bs) (rule_is functions body) (passed functions rest)
-passed functions (function called_so params result body ∷ rest) =
-    let takes = param_kinds params in
+passed functions (rule called_so body ∷ rest) = ap₂ (λ b budgets. b ∷ budgets) (rule_is functions body) (passed functions rest)
+passed functions (function called_so parameters result body ∷ rest) =
+    let takes = param_kinds parameters in
     let kind = kind_of_type result in
-    let inside = exact_function functions params result body in
+    let inside = exact_function functions parameters result body in
     let known : Budget → Priced =
     λ most. record { head = record { name = called_so; takes = takes; result = kind }; room = room_for takes; most = most } in
-    ap (λ (b : Budget). b ∷ passed_from (known (call_budget (room_for takes) b) ∷ stopped functions) rest) (function_is functions params result body)
-    ∙ ap (λ (most : Budget). stopped_budget inside ∷ passed_from (known most ∷ stopped functions) rest) (call_is functions params result body)
-    ∙ ap (λ bs. stopped_budget inside ∷ bs) (passed (known (exact_call functions params result body) ∷ functions) rest)
+    ap (λ (its_budget : Budget). its_budget ∷ passed_from (known (call_budget (room_for takes) its_budget) ∷ stopped functions) rest)
+    (function_is functions parameters result body)
+    ∙ ap (λ (most : Budget). stopped_budget inside ∷ passed_from (known most ∷ stopped functions) rest) (call_is functions parameters result body)
+    ∙ ap (λ budgets. stopped_budget inside ∷ budgets) (passed (known (exact_call functions parameters result body) ∷ functions) rest)
 
 pub all_passed : (rules : List Declared) → passed_from predefined_priced rules ≡ budgets_of rules
 all_passed rules = passed predefined_priced rules

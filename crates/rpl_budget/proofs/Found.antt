@@ -12,41 +12,45 @@ use Rattle.rpl_budget.specs.Pass.{Priced, priced_named, no_function}
 module _ {A B : Type 0} (passes : A → Bool) (value : A → B) where
   abbrev pub first_of_all : B → List A → B
   first_of_all otherwise [] = otherwise
-  first_of_all otherwise (a ∷ xs) = if passes a then value a else first_of_all otherwise xs
+  first_of_all otherwise (entry ∷ entries) = if passes entry then value entry else first_of_all otherwise entries
 
   abbrev pub last_of_all : B → List A → B
   last_of_all otherwise [] = otherwise
-  last_of_all otherwise (a ∷ xs) = last_of_all (if passes a then value a else otherwise) xs
+  last_of_all otherwise (entry ∷ entries) = last_of_all (if passes entry then value entry else otherwise) entries
 
-  one_behind : (otherwise : B) (xs : List A) (a : A)
-      → first_of_all (if passes a then value a else otherwise) xs ≡ first_of_all otherwise (xs ++ a ∷ [])
-  one_behind otherwise [] a = refl
-  one_behind otherwise (b ∷ bs) a = ap (λ found. if passes b then value b else found) (one_behind otherwise bs a)
+  one_behind : (otherwise : B) (entries : List A) (entry : A)
+      → first_of_all (if passes entry then value entry else otherwise) entries ≡ first_of_all otherwise (entries ++ entry ∷ [])
+  one_behind otherwise [] entry = refl
+  one_behind otherwise (first ∷ others) entry = ap (λ found. if passes first then value first else found) (one_behind otherwise others entry)
 
-  pub last_is_first : (otherwise : B) (xs : List A) → last_of_all otherwise xs ≡ first_of_all otherwise (reverse xs)
+  pub last_is_first : (otherwise : B) (entries : List A) → last_of_all otherwise entries ≡ first_of_all otherwise (reverse entries)
   last_is_first otherwise [] = refl
-  last_is_first otherwise (a ∷ xs) =
-      last_is_first (if passes a then value a else otherwise) xs ∙ one_behind otherwise (reverse xs) a
-      ∙ ap (first_of_all otherwise) (sym (reverse-append (a ∷ []) xs))
+  last_is_first otherwise (entry ∷ entries) =
+      last_is_first (if passes entry then value entry else otherwise) entries ∙ one_behind otherwise (reverse entries) entry
+      ∙ ap (first_of_all otherwise) (sym (reverse-append (entry ∷ []) entries))
 
 -- ---- names
 
-pub kind_found : (names : List (List ℕ × TreeKind)) (x : List ℕ)
-    → tree_kind_seen (unwrap_or (first_named names x) Number) ≡ kind_named (names_of names) x
-kind_found [] x = refl
-kind_found (entry ∷ names) x =
-    of_choice (λ kind. tree_kind_seen (unwrap_or kind Number)) (bytes_eq entry.0 x) (Some entry.1) (first_named names x) _ (kind_found names x)
+pub kind_found : (names : List (List ℕ × TreeKind)) (sought : List ℕ)
+    → tree_kind_seen (unwrap_or (first_named names sought) Number) ≡ kind_named (names_of names) sought
+kind_found [] sought = refl
+kind_found (entry ∷ names) sought =
+    of_choice (λ kind. tree_kind_seen (unwrap_or kind Number)) (bytes_eq entry.0 sought) (Some entry.1) (first_named names sought) _
+    (kind_found names sought)
 
 -- ---- functions
 
 abbrev pub last_function : List ℕ → Priced → List Priced → Priced
-last_function x = last_of_all (λ (f : Priced). bytes_eq f.head.name x) (λ (f : Priced). f)
+last_function sought = last_of_all (λ (priced : Priced). bytes_eq priced.head.name sought) (λ (priced : Priced). priced)
 
-latest : (x : List ℕ) (functions : List Priced)
-    → first_of_all (λ (f : Priced). bytes_eq f.head.name x) (λ (f : Priced). f) no_function functions ≡ priced_named functions x
-latest x [] = refl
-latest x (f ∷ functions) = ap (λ found. if bytes_eq f.head.name x then f else found) (latest x functions)
+latest : (sought : List ℕ) (functions : List Priced)
+    → first_of_all (λ (priced : Priced). bytes_eq priced.head.name sought) (λ (priced : Priced). priced) no_function functions
+    ≡ priced_named functions sought
+latest sought [] = refl
+latest sought (priced ∷ functions) = ap (λ found. if bytes_eq priced.head.name sought then priced else found) (latest sought functions)
 
-pub function_found : (x : List ℕ) (functions : List Priced) → last_function x no_function functions ≡ priced_named (reverse functions) x
-function_found x functions =
-    last_is_first (λ (f : Priced). bytes_eq f.head.name x) (λ (f : Priced). f) no_function functions ∙ latest x (reverse functions)
+pub function_found : (sought : List ℕ) (functions : List Priced)
+    → last_function sought no_function functions ≡ priced_named (reverse functions) sought
+function_found sought functions =
+    last_is_first (λ (priced : Priced). bytes_eq priced.head.name sought) (λ (priced : Priced). priced) no_function functions
+    ∙ latest sought (reverse functions)

@@ -11,139 +11,156 @@ cap n = capped limits.words n
 
 -- ---- locals
 
-pub weights-append : (xs ys : List Kind) → weights (xs ++ ys) ≡ weights xs + weights ys
-weights-append [] ys = omega arith
-weights-append (x ∷ xs) ys = let more = weights-append xs ys in omega (arith, more)
+pub weights-append : (first second : List Kind) → weights (first ++ second) ≡ weights first + weights second
+weights-append [] second = omega arith
+weights-append (kind ∷ first) second = let more = weights-append first second in omega (arith, more)
 
 -- what two lists of locals take
-pub two_locals : (xs ys : List Kind) → cap (cap (weights xs) + cap (weights ys)) ≡ cap (weights (xs ++ ys))
-two_locals xs ys = omega (arith, weights-append xs ys)
+pub two_locals : (first second : List Kind) → cap (cap (weights first) + cap (weights second)) ≡ cap (weights (first ++ second))
+two_locals first second = omega (arith, weights-append first second)
 
 -- ---- heights
 
-cap_max : (a b : ℕ) → cap (max a b) ≡ max (cap a) (cap b)
-cap_max a b = omega arith
+cap_max : (first second : ℕ) → cap (max first second) ≡ max (cap first) (cap second)
+cap_max first second = omega arith
 
-cap_above : (n a : ℕ) → cap (n + cap a) ≡ cap (n + a)
-cap_above n a = omega arith
+cap_above : (above first : ℕ) → cap (above + cap first) ≡ cap (above + first)
+cap_above above first = omega arith
 
-none_before : (a : ℕ) → max 0 a ≡ a
-none_before a = omega arith
+none_before : (first : ℕ) → max 0 first ≡ first
+none_before first = omega arith
 
-none_behind : (a : ℕ) → max a 0 ≡ a
-none_behind a = omega arith
+none_behind : (first : ℕ) → max first 0 ≡ first
+none_behind first = omega arith
 
-grouped : (a b c : ℕ) → max (max a b) c ≡ max a (max b c)
-grouped a b c = omega arith
+grouped : (first second third : ℕ) → max (max first second) third ≡ max first (max second third)
+grouped first second third = omega arith
 
-with_each : (a b c : ℕ) → max (max a c) (max b c) ≡ max (max a b) c
-with_each a b c = omega arith
+with_each : (first second third : ℕ) → max (max first third) (max second third) ≡ max (max first second) third
+with_each first second third = omega arith
 
 -- a test, and one of two values in a place
-one_of_two : (c y n w : ℕ)
-    → max (cap c) (max (max (max (cap y) (max 0 (cap w))) (max (cap n) (max 0 (cap w)))) 0) ≡ cap (max c (max (max y n) w))
-one_of_two c y n w =
-    ap (λ v. max (cap c) (max (max (max (cap y) v) (max (cap n) v)) 0)) (none_before (cap w))
-    ∙ ap (max (cap c)) (none_behind _ ∙ with_each (cap y) (cap n) (cap w) ∙ ap (λ v. max v (cap w)) (sym (cap_max y n)) ∙ sym (cap_max (max y n) w))
-    ∙ sym (cap_max c (max (max y n) w))
+one_of_two : (condition if_true if_false room : ℕ)
+    → max (cap condition) (max (max (max (cap if_true) (max 0 (cap room))) (max (cap if_false) (max 0 (cap room)))) 0)
+    ≡ cap (max condition (max (max if_true if_false) room))
+one_of_two condition if_true if_false room =
+    ap (λ height_there. max (cap condition) (max (max (max (cap if_true) height_there) (max (cap if_false) height_there)) 0)) (none_before (cap room))
+    ∙ ap (max (cap condition))
+    (none_behind _ ∙ with_each (cap if_true) (cap if_false) (cap room)
+    ∙ ap (λ height_there. max height_there (cap room)) (sym (cap_max if_true if_false)) ∙ sym (cap_max (max if_true if_false) room))
+    ∙ sym (cap_max condition (max (max if_true if_false) room))
 
 -- a list, a first value above it, and turns above both
-turns_above : (l n f m b w : ℕ)
-    → max (max (cap l) (cap (n + cap f))) (max 0 (cap (m + max (max (cap b) (max 0 (cap w))) 0)))
-    ≡ cap (max l (max (n + f) (m + max b w)))
-turns_above l n f m b w =
-    let turn : max (max (cap b) (max 0 (cap w))) 0 ≡ cap (max b w) = none_behind _ ∙ ap (max (cap b)) (none_before (cap w)) ∙ sym (cap_max b w) in
-    ap (λ v. max (max (cap l) (cap (n + cap f))) v) (none_before _ ∙ ap (λ v. cap (m + v)) turn ∙ cap_above m (max b w))
-    ∙ ap (λ v. max (max (cap l) v) (cap (m + max b w))) (cap_above n f) ∙ grouped (cap l) (cap (n + f)) (cap (m + max b w))
-    ∙ ap (max (cap l)) (sym (cap_max (n + f) (m + max b w))) ∙ sym (cap_max l (max (n + f) (m + max b w)))
+turns_above : (source list_words initial turn_words body total : ℕ)
+    → max (max (cap source) (cap (list_words + cap initial))) (max 0 (cap (turn_words + max (max (cap body) (max 0 (cap total))) 0)))
+    ≡ cap (max source (max (list_words + initial) (turn_words + max body total)))
+turns_above source list_words initial turn_words body total =
+    let turn : max (max (cap body) (max 0 (cap total))) 0 ≡ cap (max body total) = none_behind _ ∙ ap (max (cap body)) (none_before (cap total))
+    ∙ sym (cap_max body total) in
+    ap (λ height_there. max (max (cap source) (cap (list_words + cap initial))) height_there)
+    (none_before _ ∙ ap (λ height_there. cap (turn_words + height_there)) turn ∙ cap_above turn_words (max body total))
+    ∙ ap (λ height_there. max (max (cap source) height_there) (cap (turn_words + max body total))) (cap_above list_words initial)
+    ∙ grouped (cap source) (cap (list_words + initial)) (cap (turn_words + max body total))
+    ∙ ap (max (cap source)) (sym (cap_max (list_words + initial) (turn_words + max body total)))
+    ∙ sym (cap_max source (max (list_words + initial) (turn_words + max body total)))
 
 module _ (functions : List Priced) where
-  abbrev F : List Costed
-  F = costed (λ b. b.words) functions
+  abbrev costed_functions : List Costed
+  costed_functions = costed (λ b. b.words) functions
 
-  abbrev H : List Head
-  H = costed_heads F
+  abbrev heads : List Head
+  heads = costed_heads costed_functions
 
   -- what stops of how high an expression stands
-  abbrev T : Names → Tree → ℕ
-  T names t = cap (height F names t)
+  abbrev capped_height : Names → Tree → ℕ
+  capped_height names expression = cap (height costed_functions names expression)
 
-  by_heads : (P : List Head → Type 0) → P H → P (priced_heads functions)
-  by_heads P p = subst P (heads_same (λ b. b.words) functions) p
+  by_heads : (P : List Head → Type 0) → P heads → P (priced_heads functions)
+  by_heads P holds = subst P (heads_same (λ b. b.words) functions) holds
 
   abbrev Choice : Names → Tree → Tree → Tree → List Head → Type 0
-  Choice names c y n h =
-      let words = cap (weight (tree_kind h names (choice c y n))) in
-      max (T names c) (max (max (max (T names y) (max 0 words)) (max (T names n) (max 0 words))) 0) ≡ T names (choice c y n)
+  Choice names condition if_true if_false heads_given =
+      let words = cap (weight (tree_kind heads_given names (choice condition if_true if_false))) in
+      max (capped_height names condition)
+      (max (max (max (capped_height names if_true) (max 0 words)) (max (capped_height names if_false) (max 0 words))) 0)
+      ≡ capped_height names (choice condition if_true if_false)
 
-  pub choice_height : (names : Names) (c y n : Tree) → Choice names c y n (priced_heads functions)
-  choice_height names c y n =
-      by_heads (Choice names c y n)
-      (one_of_two (height F names c) (height F names y) (height F names n) (weight (tree_kind H names (choice c y n))))
+  pub choice_height : (names : Names) (condition if_true if_false : Tree) → Choice names condition if_true if_false (priced_heads functions)
+  choice_height names condition if_true if_false =
+      by_heads (Choice names condition if_true if_false)
+      (one_of_two (height costed_functions names condition) (height costed_functions names if_true) (height costed_functions names if_false)
+      (weight (tree_kind heads names (choice condition if_true if_false))))
 
   abbrev Bind : Names → List ℕ → Tree → Tree → List Head → Type 0
-  Bind names x e b h = max (T names e) (max 0 (T ((x, tree_kind h names e) ∷ names) b)) ≡ T names (bind x e b)
+  Bind names new_name value_tree body heads_given =
+      max (capped_height names value_tree) (max 0 (capped_height ((new_name, tree_kind heads_given names value_tree) ∷ names) body))
+      ≡ capped_height names (bind new_name value_tree body)
 
-  pub bind_height : (names : Names) (x : List ℕ) (e b : Tree) → Bind names x e b (priced_heads functions)
-  bind_height names x e b = by_heads (Bind names x e b) (omega arith)
+  pub bind_height : (names : Names) (new_name : List ℕ) (value_tree body : Tree) → Bind names new_name value_tree body (priced_heads functions)
+  bind_height names new_name value_tree body = by_heads (Bind names new_name value_tree body) (omega arith)
 
   abbrev Each : Names → List ℕ → Tree → List ℕ → Tree → Tree → List Head → Type 0
-  Each names x l a f b h =
-      let all = tree_kind h names l in
-      let total = tree_kind h names f in
-      let inside : Names = (a, total) ∷ (x, element_of all) ∷ names in
-      max (max (T names l) (cap (weight all + T names f)))
-      (max (max 0 (max 0 0)) (cap (room_of all + 3 + max (max (T inside b) (max 0 (cap (weight total)))) 0)))
-      ≡ T names (each x l a f b)
+  Each names item_name source total_name initial body heads_given =
+      let all = tree_kind heads_given names source in
+      let total = tree_kind heads_given names initial in
+      let inside : Names = (total_name, total) ∷ (item_name, element_of all) ∷ names in
+      max (max (capped_height names source) (cap (weight all + capped_height names initial)))
+      (max (max 0 (max 0 0)) (cap (room_of all + 3 + max (max (capped_height inside body) (max 0 (cap (weight total)))) 0)))
+      ≡ capped_height names (each item_name source total_name initial body)
 
-  pub each_height : (names : Names) (x : List ℕ) (l : Tree) (a : List ℕ) (f b : Tree) → Each names x l a f b (priced_heads functions)
-  each_height names x l a f b =
-      let all = tree_kind H names l in
-      let total = tree_kind H names f in
-      by_heads (Each names x l a f b)
-      (turns_above (height F names l) (weight all) (height F names f) (room_of all + 3)
-      (height F ((a, total) ∷ (x, element_of all) ∷ names) b) (weight total))
+  pub each_height : (names : Names) (item_name : List ℕ) (source : Tree) (total_name : List ℕ) (initial body : Tree)
+      → Each names item_name source total_name initial body (priced_heads functions)
+  each_height names item_name source total_name initial body =
+      let all = tree_kind heads names source in
+      let total = tree_kind heads names initial in
+      by_heads (Each names item_name source total_name initial body)
+      (turns_above (height costed_functions names source) (weight all) (height costed_functions names initial) (room_of all + 3)
+      (height costed_functions ((total_name, total) ∷ (item_name, element_of all) ∷ names) body) (weight total))
 
   abbrev Mapped : Names → List ℕ → Tree → Tree → List Head → Type 0
-  Mapped names x l b h =
-      let all = tree_kind h names l in
-      max (T names l) (max (max 0 0) (cap (2 * room_of all + 4 + max (T ((x, element_of all) ∷ names) b) 0)))
-      ≡ T names (mapped x l b)
+  Mapped names item_name source body heads_given =
+      let all = tree_kind heads_given names source in
+      max (capped_height names source) (max (max 0 0) (cap (2 * room_of all + 4 + max (capped_height ((item_name, element_of all) ∷ names) body) 0)))
+      ≡ capped_height names (mapped item_name source body)
 
-  pub mapped_height : (names : Names) (x : List ℕ) (l b : Tree) → Mapped names x l b (priced_heads functions)
-  mapped_height names x l b = by_heads (Mapped names x l b) (omega arith)
+  pub mapped_height : (names : Names) (item_name : List ℕ) (source body : Tree) → Mapped names item_name source body (priced_heads functions)
+  mapped_height names item_name source body = by_heads (Mapped names item_name source body) (omega arith)
 
   abbrev Argument : Names → Kind → List Kind → Tree → Trees → List Head → Type 0
-  Argument names kind kinds t ts h =
-      max (max (T names t) (max 0 (cap (weight kind)))) (cap (weight kind + cap (height_of_arguments F names kinds ts)))
-      ≡ cap (height_of_arguments F names (kind ∷ kinds) (tree t ts))
+  Argument names kind kinds expression expressions heads_given =
+      max (max (capped_height names expression) (max 0 (cap (weight kind))))
+      (cap (weight kind + cap (height_of_arguments costed_functions names kinds expressions)))
+      ≡ cap (height_of_arguments costed_functions names (kind ∷ kinds) (tree expression expressions))
 
-  pub argument_height : (names : Names) (kind : Kind) (kinds : List Kind) (t : Tree) (ts : Trees)
-      → Argument names kind kinds t ts (priced_heads functions)
-  argument_height names kind kinds t ts = by_heads (Argument names kind kinds t ts) (omega arith)
+  pub argument_height : (names : Names) (kind : Kind) (kinds : List Kind) (expression : Tree) (expressions : Trees)
+      → Argument names kind kinds expression expressions (priced_heads functions)
+  argument_height names kind kinds expression expressions = by_heads (Argument names kind kinds expression expressions) (omega arith)
 
   abbrev WithName : Names → List ℕ → Tree → Acts → List Head → Type 0
-  WithName names x e body h =
-      max (T names e) (max 0 (cap (height_of_acts F ((x, tree_kind h names e) ∷ names) body)))
-      ≡ cap (height_of_act F names (with_name x e body))
+  WithName names new_name value_tree body heads_given =
+      max (capped_height names value_tree)
+      (max 0 (cap (height_of_acts costed_functions ((new_name, tree_kind heads_given names value_tree) ∷ names) body)))
+      ≡ cap (height_of_act costed_functions names (with_name new_name value_tree body))
 
-  pub with_height : (names : Names) (x : List ℕ) (e : Tree) (body : Acts) → WithName names x e body (priced_heads functions)
-  with_height names x e body = by_heads (WithName names x e body) (omega arith)
+  pub with_height : (names : Names) (new_name : List ℕ) (value_tree : Tree) (body : Acts)
+      → WithName names new_name value_tree body (priced_heads functions)
+  with_height names new_name value_tree body = by_heads (WithName names new_name value_tree body) (omega arith)
 
   -- a second value that is made while the first one waits
   abbrev Second : Names → Tree → Tree → List Head → Type 0
-  Second names l r h =
-      max (T names l) (max (cap (weight (tree_kind h names l) + T names r)) 0)
-      ≡ cap (max (height F names l) (weight (tree_kind H names l) + height F names r))
+  Second names left right heads_given =
+      max (capped_height names left) (max (cap (weight (tree_kind heads_given names left) + capped_height names right)) 0)
+      ≡ cap (max (height costed_functions names left) (weight (tree_kind heads names left) + height costed_functions names right))
 
-  pub second_height : (names : Names) (l r : Tree) → Second names l r (priced_heads functions)
-  second_height names l r = by_heads (Second names l r) (omega arith)
+  pub second_height : (names : Names) (left right : Tree) → Second names left right (priced_heads functions)
+  second_height names left right = by_heads (Second names left right) (omega arith)
 
   -- a call, by the kinds that the function takes
   abbrev Call : Names → List ℕ → Trees → List Head → Type 0
-  Call names f ts h =
-      max (cap (height_of_arguments F names (takes_named h f) ts))
-      (max (cap (cap (weights (takes_named h f)) + cap (most_named F f))) (cap (weight (result_named h f)))) ≡ T names (call f ts)
+  Call names function_name expressions heads_given =
+      max (cap (height_of_arguments costed_functions names (takes_named heads_given function_name) expressions))
+      (max (cap (cap (weights (takes_named heads_given function_name)) + cap (most_named costed_functions function_name)))
+      (cap (weight (result_named heads_given function_name)))) ≡ capped_height names (call function_name expressions)
 
-  pub call_height : (names : Names) (f : List ℕ) (ts : Trees) → Call names f ts (priced_heads functions)
-  call_height names f ts = by_heads (Call names f ts) (omega arith)
+  pub call_height : (names : Names) (function_name : List ℕ) (expressions : Trees) → Call names function_name expressions (priced_heads functions)
+  call_height names function_name expressions = by_heads (Call names function_name expressions) (omega arith)

@@ -3,85 +3,104 @@ use Rattle.std.proofs.Common.{◌≡◌, ℕ, zero, suc, ◌+◌, ◌*◌, ◌�
 use Rattle.rpl_tree.specs.Budget.{capped}
 
 abbrev pub plus : ℕ → ℕ → ℕ → ℕ
-plus l a b = capped l (a + b)
+plus limit first second = capped limit (first + second)
 
-pub sum : (l a b : ℕ) → plus l (capped l a) (capped l b) ≡ capped l (a + b)
-sum l a b = omega arith
+pub sum : (limit first second : ℕ) → plus limit (capped limit first) (capped limit second) ≡ capped limit (first + second)
+sum limit first second = omega arith
 
 -- ---- products
 
-below : (l m b : ℕ) → b ≤ l → capped l (m * capped l b) ≡ capped l (m * b)
-below l m b h = let e : capped l b ≡ b = omega (arith, h) in ap (λ x. capped l (m * x)) e
+below : (limit times second : ℕ) → second ≤ limit → capped limit (times * capped limit second) ≡ capped limit (times * second)
+below limit times second at_most = let stops_so : capped limit second ≡ second = omega (arith, at_most) in ap (λ x. capped limit (times * x)) stops_so
 
-at_least : (m b : ℕ) → b ≤ suc m * b
-at_least m b = omega arith
+at_least : (times second : ℕ) → second ≤ suc times * second
+at_least times second = omega arith
 
-beyond : (l m b : ℕ) → l < b → capped l (m * capped l b) ≡ capped l (m * b)
-beyond l zero b h = omega arith
-beyond l (suc m) b h =
-    let e : capped l b ≡ suc l = omega (arith, h) in
-    let whole : capped l (suc m * b) ≡ suc l = omega (arith, h, at_least m b) in
-    let stopped : capped l (suc m * suc l) ≡ suc l = omega (arith, at_least m (suc l)) in
-    ap (λ x. capped l (suc m * x)) e ∙ stopped ∙ sym whole
+beyond : (limit times second : ℕ) → limit < second → capped limit (times * capped limit second) ≡ capped limit (times * second)
+beyond limit zero second less = omega arith
+beyond limit (suc times) second less =
+    let stops_so : capped limit second ≡ suc limit = omega (arith, less) in
+    let whole : capped limit (suc times * second) ≡ suc limit = omega (arith, less, at_least times second) in
+    let stopped : capped limit (suc times * suc limit) ≡ suc limit = omega (arith, at_least times (suc limit)) in
+    ap (λ x. capped limit (suc times * x)) stops_so ∙ stopped ∙ sym whole
 
-pub product : (l m b : ℕ) → capped l (m * capped l b) ≡ capped l (m * b)
-product l m b = by (nat_lt l b) refl
+pub product : (limit times second : ℕ) → capped limit (times * capped limit second) ≡ capped limit (times * second)
+product limit times second = by (nat_lt limit second) refl
   where
-    by : (t : Bool) → nat_lt l b ≡ t → capped l (m * capped l b) ≡ capped l (m * b)
-    by true e = let h : l < b = grind arith in beyond l m b h
-    by false e = let h : b ≤ l = grind arith in below l m b h
+    by : (test : Bool) → nat_lt limit second ≡ test → capped limit (times * capped limit second) ≡ capped limit (times * second)
+    by true test_is = let holds : limit < second = grind arith in beyond limit times second holds
+    by false test_is = let holds : second ≤ limit = grind arith in below limit times second holds
 
 -- ---- one price. A number v is what stops of a step s
 
 -- of a value that is given the room of its place
-pub room : (l a s v : ℕ) → v ≡ capped l s → plus l (capped l a) (plus l v 0) ≡ capped l (a + s)
-room l a s v e = omega (arith, e)
+pub room : (limit first step_cost step_stopped : ℕ) → step_stopped ≡ capped limit step_cost
+    → plus limit (capped limit first) (plus limit step_stopped 0) ≡ capped limit (first + step_cost)
+room limit first step_cost step_stopped step_is = omega (arith, step_is)
 
-pub choice : (l c y n wy wn vy vn s v : ℕ) → vy ≡ capped l wy → vn ≡ capped l wn → v ≡ capped l s
-    → plus l (capped l c) (plus l (max (plus l (capped l y) (plus l vy 0)) (plus l (capped l n) (plus l vn 0))) v)
-    ≡ capped l (c + (max (y + wy) (n + wn) + s))
-choice l c y n wy wn vy vn s v ey en e = omega (arith, ey, en, e)
+pub choice : (limit condition if_true if_false true_room false_room true_stopped false_stopped step_cost step_stopped : ℕ)
+    → true_stopped ≡ capped limit true_room → false_stopped ≡ capped limit false_room → step_stopped ≡ capped limit step_cost
+    → plus limit (capped limit condition)
+    (plus limit
+    (max (plus limit (capped limit if_true) (plus limit true_stopped 0)) (plus limit (capped limit if_false) (plus limit false_stopped 0)))
+    step_stopped)
+    ≡ capped limit (condition + (max (if_true + true_room) (if_false + false_room) + step_cost))
+choice limit condition if_true if_false true_room false_room true_stopped false_stopped step_cost step_stopped true_is false_is step_is =
+    omega (arith, true_is, false_is, step_is)
 
-pub bind : (l a s v b : ℕ) → v ≡ capped l s → plus l (capped l a) (plus l v (capped l b)) ≡ capped l (a + (s + b))
-bind l a s v b e = omega (arith, e)
+pub bind : (limit first step_cost step_stopped second : ℕ) → step_stopped ≡ capped limit step_cost
+    → plus limit (capped limit first) (plus limit step_stopped (capped limit second)) ≡ capped limit (first + (step_cost + second))
+bind limit first step_cost step_stopped second step_is = omega (arith, step_is)
 
-pub turn : (l b w vw s v : ℕ) → vw ≡ capped l w → v ≡ capped l s
-    → plus l (plus l (capped l b) (plus l vw 0)) v ≡ capped l (b + (w + s))
-turn l b w vw s v ew e = omega (arith, ew, e)
+pub turn : (limit second room_cost room_stopped step_cost step_stopped : ℕ) → room_stopped ≡ capped limit room_cost
+    → step_stopped ≡ capped limit step_cost
+    → plus limit (plus limit (capped limit second) (plus limit room_stopped 0)) step_stopped ≡ capped limit (second + (room_cost + step_cost))
+turn limit second room_cost room_stopped step_cost step_stopped room_is step_is = omega (arith, room_is, step_is)
 
-pub each : (l a f s v t m : ℕ) → v ≡ capped l s
-    → plus l (plus l (capped l a) (capped l f)) (plus l (plus l v (plus l 0 0)) (capped l (m * capped l t)))
-    ≡ capped l (a + (f + (s + m * t)))
-each l a f s v t m e = omega (arith, e, product l m t)
+pub each : (limit first initial step_cost step_stopped turn_cost times : ℕ) → step_stopped ≡ capped limit step_cost
+    → plus limit (plus limit (capped limit first) (capped limit initial))
+    (plus limit (plus limit step_stopped (plus limit 0 0)) (capped limit (times * capped limit turn_cost)))
+    ≡ capped limit (first + (initial + (step_cost + times * turn_cost)))
+each limit first initial step_cost step_stopped turn_cost times step_is = omega (arith, step_is, product limit times turn_cost)
 
-pub mapped : (l a s v b m : ℕ) → v ≡ capped l s
-    → plus l (capped l a) (plus l (plus l v 0) (capped l (m * plus l (capped l b) v))) ≡ capped l (a + (s + m * (b + s)))
-mapped l a s v b m e =
-    let inner : plus l (capped l b) v ≡ capped l (b + s) = omega (arith, e) in
-    let turns : capped l (m * plus l (capped l b) v) ≡ capped l (m * (b + s)) = ap (λ x. capped l (m * x)) inner ∙ product l m (b + s) in
-    omega (arith, e, turns)
+pub mapped : (limit first step_cost step_stopped second times : ℕ) → step_stopped ≡ capped limit step_cost
+    → plus limit (capped limit first) (plus limit (plus limit step_stopped 0) (capped limit (times * plus limit (capped limit second) step_stopped)))
+    ≡ capped limit (first + (step_cost + times * (second + step_cost)))
+mapped limit first step_cost step_stopped second times step_is =
+    let inner : plus limit (capped limit second) step_stopped ≡ capped limit (second + step_cost) = omega (arith, step_is) in
+    let turns : capped limit (times * plus limit (capped limit second) step_stopped) ≡ capped limit (times * (second + step_cost)) =
+    ap (λ x. capped limit (times * x)) inner ∙ product limit times (second + step_cost) in
+    omega (arith, step_is, turns)
 
-pub step : (l a s v : ℕ) → v ≡ capped l s → plus l (capped l a) v ≡ capped l (a + s)
-step l a s v e = omega (arith, e)
+pub step : (limit first step_cost step_stopped : ℕ) → step_stopped ≡ capped limit step_cost
+    → plus limit (capped limit first) step_stopped ≡ capped limit (first + step_cost)
+step limit first step_cost step_stopped step_is = omega (arith, step_is)
 
-pub listed : (l a s v : ℕ) → v ≡ capped l s → plus l (capped l a) (plus l v 0) ≡ capped l (a + s)
-listed l a s v e = omega (arith, e)
+pub listed : (limit first step_cost step_stopped : ℕ) → step_stopped ≡ capped limit step_cost
+    → plus limit (capped limit first) (plus limit step_stopped 0) ≡ capped limit (first + step_cost)
+listed limit first step_cost step_stopped step_is = omega (arith, step_is)
 
-pub two : (l a b s v : ℕ) → v ≡ capped l s → plus l (capped l a) (plus l (capped l b) v) ≡ capped l (a + (b + s))
-two l a b s v e = omega (arith, e)
+pub two : (limit first second step_cost step_stopped : ℕ) → step_stopped ≡ capped limit step_cost
+    → plus limit (capped limit first) (plus limit (capped limit second) step_stopped) ≡ capped limit (first + (second + step_cost))
+two limit first second step_cost step_stopped step_is = omega (arith, step_is)
 
-pub or_first : (l a b s v t w : ℕ) → v ≡ capped l s → w ≡ capped l t
-    → plus l (capped l a) (plus l (max v (capped l b)) w) ≡ capped l (a + (max s b + t))
-or_first l a b s v t w e f = omega (arith, e, f)
+pub or_first : (limit first second step_cost step_stopped other_cost other_stopped : ℕ) → step_stopped ≡ capped limit step_cost
+    → other_stopped ≡ capped limit other_cost
+    → plus limit (capped limit first) (plus limit (max step_stopped (capped limit second)) other_stopped)
+    ≡ capped limit (first + (max step_cost second + other_cost))
+or_first limit first second step_cost step_stopped other_cost other_stopped step_is other_is = omega (arith, step_is, other_is)
 
-pub or_last : (l a b s v t w : ℕ) → v ≡ capped l s → w ≡ capped l t
-    → plus l (capped l a) (plus l (max v (capped l b)) w) ≡ capped l (a + (max b s + t))
-or_last l a b s v t w e f = omega (arith, e, f)
+pub or_last : (limit first second step_cost step_stopped other_cost other_stopped : ℕ) → step_stopped ≡ capped limit step_cost
+    → other_stopped ≡ capped limit other_cost
+    → plus limit (capped limit first) (plus limit (max step_stopped (capped limit second)) other_stopped)
+    ≡ capped limit (first + (max second step_cost + other_cost))
+or_last limit first second step_cost step_stopped other_cost other_stopped step_is other_is = omega (arith, step_is, other_is)
 
-pub branch : (l c a b s v : ℕ) → v ≡ capped l s
-    → plus l (capped l c) (plus l (max (capped l a) (capped l b)) v) ≡ capped l (c + (max a b + s))
-branch l c a b s v e = omega (arith, e)
+pub branch : (limit condition first second step_cost step_stopped : ℕ) → step_stopped ≡ capped limit step_cost
+    → plus limit (capped limit condition) (plus limit (max (capped limit first) (capped limit second)) step_stopped)
+    ≡ capped limit (condition + (max first second + step_cost))
+branch limit condition first second step_cost step_stopped step_is = omega (arith, step_is)
 
-pub argument : (l a w vw b : ℕ) → vw ≡ capped l w
-    → plus l (plus l (capped l a) (plus l vw 0)) (capped l b) ≡ capped l (a + (w + b))
-argument l a w vw b e = omega (arith, e)
+pub argument : (limit first room_cost room_stopped second : ℕ) → room_stopped ≡ capped limit room_cost
+    → plus limit (plus limit (capped limit first) (plus limit room_stopped 0)) (capped limit second) ≡ capped limit (first + (room_cost + second))
+argument limit first room_cost room_stopped second room_is = omega (arith, room_is)

@@ -3,6 +3,6 @@ use Rattle.rw_base.proofs.Common.{◌≡◌, List, [], ◌∷◌, length, refl, 
 use Rattle.rpl_tree.specs.declared.expression.Expr.{Expr}
 use Rattle.rpl_tree.proofs.Common.{count_of, trees_in}
 
-pub count_is : (es : List Expr) → count_of (trees_in es) ≡ length es
+pub count_is : (expressions : List Expr) → count_of (trees_in expressions) ≡ length expressions
 count_is [] = refl
-count_is (e ∷ es) = let rest = count_is es in omega (arith, rest)
+count_is (first ∷ expressions) = let rest = count_is expressions in omega (arith, rest)

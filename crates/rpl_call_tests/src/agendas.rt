@@ -8,6 +8,7 @@ use rw_base::RuleNo;
 use rw_model::{AgendaOrder, Basin};
 use rw_series::Series;
 use std::alloc::Global;
+use std::mem::drop;
 use std::process::Abort;
 
 // Two rules that look at nothing: each is due once in a timestep, in order.
@@ -36,6 +37,8 @@ fn check(rt: &impl Abort, alloc: Global, basin: &Basin) {
     };
     assert!(rt; basin.control().agenda == AgendaOrder::HighFirst);
     assert!(rt; each_is_due_once(&mut agenda, &series));
+    drop(agenda);
+    drop(series);
 }
 
 #[test]
@@ -43,4 +46,5 @@ fn rules_are_due_in_order(rt: HostRuntime) {
     let alloc = rt.alloc();
     let basin = dam(&rt, alloc);
     check(&rt, alloc, &basin);
+    drop(basin);
 }

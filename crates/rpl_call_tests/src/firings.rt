@@ -16,6 +16,7 @@ use rw_model::{AgendaOrder, Basin, BasinBuilder, Kind, RunControl};
 use rw_series::Series;
 use rw_table::Rating;
 use std::alloc::{AllocError, Global};
+use std::mem::drop;
 use std::process::Abort;
 use std::test::Fail;
 
@@ -254,12 +255,12 @@ fn long_locals(alloc: Global) -> Result<String, AllocError> {
     Ok(text)
 }
 
-// A firing comes to what is wanted.
-fn compare(rt: &impl Abort, fired: Fired<'_>, code: &str, want: &Want) {
-    assert_eq!(rt; fired.end, want.end, "{code}");
-    assert!(rt; are_puts(fired.puts, want.puts), "{code}");
-    assert_eq!(rt; fired.looked.len(), want.looks, "{code}");
-    assert_eq!(rt; fired.count, want.count, "{code}");
+// Whether a firing comes to what is wanted.
+fn is_wanted(fired: &Fired<'_>, want: &Want) -> bool {
+    fired.end == want.end
+        && are_puts(fired.puts, want.puts)
+        && fired.looked.len() == want.looks
+        && fired.count == want.count
 }
 
 // Fires the rule of a code.
@@ -280,7 +281,8 @@ fn fire(
         panic!(rt; "no memory")
     };
     let fired = machine.fire(policy, predefs, basin, series, RuleNo(1), StepNo(1));
-    compare(rt, fired, code, want);
+    assert!(rt; is_wanted(&fired, want), "{code}");
+    drop(machine);
 }
 
 // Reads a code and fires its rule.
@@ -296,6 +298,7 @@ fn check(
     assert!(rt; code.len() <= 16_777_216);
     let policy = accepted(rt, alloc, basin, code);
     fire(rt, alloc, &policy, predefs, series, basin, code, want);
+    drop(policy);
 }
 
 fn check_all(rt: &impl Abort, alloc: Global, predefs: &Predefs, series: &Series, basin: &Basin) {
@@ -306,12 +309,16 @@ fn check_all(rt: &impl Abort, alloc: Global, predefs: &Predefs, series: &Series,
         panic!(rt; "no memory")
     };
     check(rt, alloc, predefs, series, basin, text.as_str(), &NOTHING);
+    drop(text);
     the_later_is_written(rt, alloc, predefs, basin, series);
 }
 
 fn check_in(rt: &impl Abort, alloc: Global, predefs: &Predefs, basin: &Basin) {
     match Series::sized(alloc, basin) {
-        Ok(series) => check_all(rt, alloc, predefs, &series, basin),
+        Ok(series) => {
+            check_all(rt, alloc, predefs, &series, basin);
+            drop(series);
+        }
         Err(_) => panic!(rt; "no memory"),
     }
 }
@@ -319,19 +326,21 @@ fn check_in(rt: &impl Abort, alloc: Global, predefs: &Predefs, basin: &Basin) {
 fn check_in_dam(rt: &impl Abort, alloc: Global, predefs: &Predefs) {
     let basin = dam(rt, alloc);
     check_in(rt, alloc, predefs, &basin);
+    drop(basin);
 }
 
 #[test]
 fn rules_do_what_was_worked_out(rt: HostRuntime) -> Result<(), Fail> {
     let alloc = rt.alloc();
-    let mut rows = Vec::new(alloc);
-    rows.push(Predef::of(1, least))?;
-    rows.push(Predef::of(2, greatest))?;
-    rows.push(Predef::of(3, absolute))?;
-    rows.push(Predef::of(4, clamped))?;
-    rows.push(Predef::of(5, rounded_down))?;
-    rows.push(Predef::of(6, sign))?;
-    rows.push(Predef::of(7, mul_div))?;
+    let rows = vec![in alloc;
+        Predef::of(1, least),
+        Predef::of(2, greatest),
+        Predef::of(3, absolute),
+        Predef::of(4, clamped),
+        Predef::of(5, rounded_down),
+        Predef::of(6, sign),
+        Predef::of(7, mul_div),
+    ]?;
     let Ok(predefs) = Predefs::of(rows) else {
         return Err(Fail::from("no predefined functions"));
     };

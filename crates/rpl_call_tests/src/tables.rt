@@ -11,14 +11,15 @@ fn quantity(value: i64) -> Result<Qty, Fail> {
 
 #[test]
 fn functions_are_called_by_number(rt: HostRuntime) -> Result<(), Fail> {
-    let mut rows = Vec::new(rt.alloc());
-    rows.push(Predef::of(1, least))?;
-    rows.push(Predef::of(2, greatest))?;
-    rows.push(Predef::of(3, absolute))?;
-    rows.push(Predef::of(4, clamped))?;
-    rows.push(Predef::of(5, rounded_down))?;
-    rows.push(Predef::of(6, sign))?;
-    rows.push(Predef::of(7, mul_div))?;
+    let rows = vec![in rt.alloc();
+        Predef::of(1, least),
+        Predef::of(2, greatest),
+        Predef::of(3, absolute),
+        Predef::of(4, clamped),
+        Predef::of(5, rounded_down),
+        Predef::of(6, sign),
+        Predef::of(7, mul_div),
+    ]?;
     let Ok(predefs) = Predefs::of(rows) else {
         return Err(Fail::from("a table is refused"));
     };
@@ -34,27 +35,29 @@ fn functions_are_called_by_number(rt: HostRuntime) -> Result<(), Fail> {
 
 #[test]
 fn exchanged_functions_are_refused(rt: HostRuntime) -> Result<(), Fail> {
-    let mut rows = Vec::new(rt.alloc());
-    rows.push(Predef::of(2, greatest))?;
-    rows.push(Predef::of(1, least))?;
-    rows.push(Predef::of(3, absolute))?;
-    rows.push(Predef::of(4, clamped))?;
-    rows.push(Predef::of(5, rounded_down))?;
-    rows.push(Predef::of(6, sign))?;
-    rows.push(Predef::of(7, mul_div))?;
+    let rows = vec![in rt.alloc();
+        Predef::of(2, greatest),
+        Predef::of(1, least),
+        Predef::of(3, absolute),
+        Predef::of(4, clamped),
+        Predef::of(5, rounded_down),
+        Predef::of(6, sign),
+        Predef::of(7, mul_div),
+    ]?;
     assert!(rt; matches!(Predefs::of(rows), Err(PredefsFault::WrongPlace(1))));
     Ok(())
 }
 
 #[test]
 fn six_functions_are_too_few(rt: HostRuntime) -> Result<(), Fail> {
-    let mut rows = Vec::new(rt.alloc());
-    rows.push(Predef::of(1, least))?;
-    rows.push(Predef::of(2, greatest))?;
-    rows.push(Predef::of(3, absolute))?;
-    rows.push(Predef::of(4, clamped))?;
-    rows.push(Predef::of(5, rounded_down))?;
-    rows.push(Predef::of(6, sign))?;
+    let rows = vec![in rt.alloc();
+        Predef::of(1, least),
+        Predef::of(2, greatest),
+        Predef::of(3, absolute),
+        Predef::of(4, clamped),
+        Predef::of(5, rounded_down),
+        Predef::of(6, sign),
+    ]?;
     assert!(rt; matches!(Predefs::of(rows), Err(PredefsFault::WrongCount(6))));
     Ok(())
 }

@@ -15,6 +15,7 @@ use rw_run::Write;
 use rw_series::Series;
 use rw_writes::Writes;
 use std::alloc::Global;
+use std::mem::drop;
 use std::process::Abort;
 
 const CODE: &str =
@@ -71,6 +72,8 @@ fn is_fired(
     );
     assert!(rt; fired.count == 12);
     assert!(rt; is_only(writes.written(), 5));
+    drop(machine);
+    drop(writes);
 }
 
 fn is_fired_of_rules(
@@ -90,6 +93,7 @@ fn is_fired_of_rules(
     let fired = rules.fire(policy, predefs, basin, series, RuleNo(1), StepNo(1));
     assert!(rt; fired.end == FireEnd::Done && fired.count == 12);
     assert!(rt; is_only(rules.written(), 5));
+    drop(rules);
 }
 
 /// Of two puts to a slot the later one is written.
@@ -104,4 +108,5 @@ pub(crate) fn the_later_is_written(
     no_rule_looks(rt, alloc, basin, &policy);
     is_fired(rt, alloc, predefs, basin, series, &policy);
     is_fired_of_rules(rt, alloc, predefs, basin, series, &policy);
+    drop(policy);
 }

@@ -1,4 +1,4 @@
--- What is written at a site: each step leads on to the next one.
+-- What is written at a site: `At` says that locals and lines so far are those of the site, and each step of writing leads on to the next site.
 use Rattle.rpl_compile.proofs.Common.{Bool, BoundName, Instruction, Kind, List, N, Site, ValueKind, Written, [], ap, append-nil, append_assoc, arith}
 use Rattle.rpl_compile.proofs.Common.{at_line, bound, code_kind, code_kinds, false, if◌then◌else◌, is_same_kind, keeping, knowing, length}
 use Rattle.rpl_compile.proofs.Common.{length-append, on, outer, over, refl, reverse, reverse-append, room_of, set-append_seam, subst, sym, take}
@@ -9,18 +9,18 @@ use Rattle.rpl_code.specs.declared.instruction.Instruction.TheVariants as I
 use Rattle.rpl_compile.specs.Written.{with_name}
 
 -- with these locals and these lines so far
-pub record At (w : Written) (s : Site) (ls : List ValueKind) (is : List Instruction) : Type 0 where
-  pub scope : w.scope ≡ s.scope
-  pub below : w.below ≡ reverse (code_kinds s.below)
-  pub locals : w.locals ≡ ls
-  pub lines : w.lines ≡ is
-  pub free : length ls ≡ s.free
-  pub place : length is ≡ s.place
+pub record At (so_far : Written) (site : Site) (kept : List ValueKind) (above : List Instruction) : Type 0 where
+  pub scope : so_far.scope ≡ site.scope
+  pub below : so_far.below ≡ reverse (code_kinds site.below)
+  pub locals : so_far.locals ≡ kept
+  pub lines : so_far.lines ≡ above
+  pub free : length kept ≡ site.free
+  pub place : length above ≡ site.place
 
 -- ---- lists
 
 pub longer : {A : Type 0} (xs ys : List A) {n : ℕ} → length xs ≡ n → length (xs ++ ys) ≡ n + length ys
-longer xs ys e = length-append xs ys ∙ ap (λ n. n + length ys) e
+longer xs ys xs_counted = length-append xs ys ∙ ap (λ n. n + length ys) xs_counted
 
 -- one element is another
 pub as_long : {A : Type 0} (xs ys : List A) (x y : A) → length (xs ++ x ∷ ys) ≡ length (xs ++ y ∷ ys)
@@ -28,8 +28,8 @@ as_long xs ys x y = length-append xs (x ∷ ys) ∙ sym (length-append xs (y ∷
 
 -- without the last of them
 pub taken : {A : Type 0} (xs ys : List A) (n : ℕ) → length ys ≡ n → take (length (xs ++ ys) - n) (xs ++ ys) ≡ xs
-taken xs ys n e =
-    let rest : length (xs ++ ys) - n ≡ length xs = omega (arith, length-append xs ys, e) in
+taken xs ys n ys_counted =
+    let rest : length (xs ++ ys) - n ≡ length xs = omega (arith, length-append xs ys, ys_counted) in
     ap (λ m. take m (xs ++ ys)) rest ∙ take-append_seam xs ys
 
 pub on_top : (kind : Kind) (kinds : List Kind) → reverse (code_kinds kinds) ++ code_kind kind ∷ [] ≡ reverse (code_kinds (kind ∷ kinds))
@@ -37,193 +37,217 @@ on_top kind kinds = sym (reverse-append (code_kind kind ∷ []) (code_kinds kind
 
 -- ---- the same, said otherwise
 
-pub locals_as : {w : Written} {s : Site} {ls : List ValueKind} {is : List Instruction} (ks : List ValueKind) → ls ≡ ks → At w s ls is → At w s ks is
-locals_as {w} {s} {ls} {is} ks e h = subst (λ xs. At w s xs is) e h
+pub locals_as : {so_far : Written} {site : Site} {kept : List ValueKind} {above : List Instruction} (also_kept : List ValueKind) → kept ≡ also_kept
+    → At so_far site kept above → At so_far site also_kept above
+locals_as {so_far} {site} {kept} {above} also_kept kept_is stands = subst (λ xs. At so_far site xs above) kept_is stands
 
-pub lines_as : {w : Written} {s : Site} {ls : List ValueKind} {is : List Instruction} (js : List Instruction) → is ≡ js → At w s ls is → At w s ls js
-lines_as {w} {s} {ls} {is} js e h = subst (λ xs. At w s ls xs) e h
+pub lines_as : {so_far : Written} {site : Site} {kept : List ValueKind} {above : List Instruction} (lines : List Instruction) → above ≡ lines
+    → At so_far site kept above → At so_far site kept lines
+lines_as {so_far} {site} {kept} {above} lines above_is stands = subst (λ xs. At so_far site kept xs) above_is stands
 
 -- two steps on
-pub twice_on : {w : Written} {ls : List ValueKind} {is : List Instruction} (s : Site) → At w (on 1 (on 1 s)) ls is → At w (on 2 s) ls is
-twice_on s h = record {
-  scope = h.scope;
-  below = h.below;
-  locals = h.locals;
-  lines = h.lines;
-  free = h.free;
-  place = let e = h.place in omega (arith, e);
+pub twice_on : {so_far : Written} {kept : List ValueKind} {above : List Instruction} (site : Site) → At so_far (on 1 (on 1 site)) kept above
+    → At so_far (on 2 site) kept above
+twice_on site stands = record {
+  scope = stands.scope;
+  below = stands.below;
+  locals = stands.locals;
+  lines = stands.lines;
+  free = stands.free;
+  place = let e = stands.place in omega (arith, e);
 }
 
 -- ---- steps
 
-pub line_at : {w : Written} {s : Site} {ls : List ValueKind} {is : List Instruction} (i j : Instruction) → i ≡ j
-    → At w s ls is → At (with_line i w) (on 1 s) ls (is ++ j ∷ [])
-line_at {w} {s} {ls} {is} i j e h = record {
-  scope = h.scope;
-  below = h.below;
-  locals = h.locals;
-  lines = λ k. h.lines k ++ e k ∷ [];
-  free = h.free;
-  place = longer is (j ∷ []) h.place;
+pub line_at : {so_far : Written} {site : Site} {kept : List ValueKind} {above : List Instruction} (line other_line : Instruction) → line ≡ other_line
+    → At so_far site kept above → At (with_line line so_far) (on 1 site) kept (above ++ other_line ∷ [])
+line_at {so_far} {site} {kept} {above} line other_line line_is stands = record {
+  scope = stands.scope;
+  below = stands.below;
+  locals = stands.locals;
+  lines = λ k. stands.lines k ++ line_is k ∷ [];
+  free = stands.free;
+  place = longer above (other_line ∷ []) stands.place;
 }
 
 -- the line at a place is another
-pub other_line_at : {w : Written} {s : Site} {ls : List ValueKind} (before behind : List Instruction) (i j k : Instruction) (n : ℕ)
-    → n ≡ length before → j ≡ k → At w s ls (before ++ i ∷ behind) → At (at_line n j w) s ls (before ++ k ∷ behind)
-other_line_at {w} {s} {ls} before behind i j k n at same h = record {
-  scope = h.scope;
-  below = h.below;
-  locals = h.locals;
-  lines = ap (λ (v : Written). v.lines) (λ x. at_line (at x) (same x) (record {
-    scope = w.scope;
-    locals = w.locals;
-    below = w.below;
+pub other_line_at : {so_far : Written} {site : Site} {kept : List ValueKind} (before behind : List Instruction) (old new said : Instruction)
+    (place : ℕ)
+    → place ≡ length before → new ≡ said → At so_far site kept (before ++ old ∷ behind)
+    → At (at_line place new so_far) site kept (before ++ said ∷ behind)
+other_line_at {so_far} {site} {kept} before behind old new said place n_is same stands = record {
+  scope = stands.scope;
+  below = stands.below;
+  locals = stands.locals;
+  lines = ap (λ (version : Written). version.lines) (λ x. at_line (n_is x) (same x) (record {
+    scope = so_far.scope;
+    locals = so_far.locals;
+    below = so_far.below;
     lines =
-        h.lines x;
+        stands.lines x;
   }))
-      ∙ set-append_seam before i behind k;
-  free = h.free;
-  place = as_long before behind k i ∙ h.place;
+      ∙ set-append_seam before old behind said;
+  free = stands.free;
+  place = as_long before behind said old ∙ stands.place;
 }
 
-pub operand_at : {w : Written} {s : Site} {ls : List ValueKind} {is : List Instruction} (k l : Kind) → k ≡ l
-    → At w s ls is → At (with_operand k w) (over l s) ls is
-operand_at {w} {s} {ls} {is} k l e h = record {
-  scope = h.scope;
-  below = (λ x. h.below x ++ code_kind (e x) ∷ []) ∙ on_top l s.below;
-  locals = h.locals;
-  lines = h.lines;
-  free = h.free;
-  place = h.place;
+pub operand_at : {so_far : Written} {site : Site} {kept : List ValueKind} {above : List Instruction} (kind other_kind : Kind) → kind ≡ other_kind
+    → At so_far site kept above → At (with_operand kind so_far) (over other_kind site) kept above
+operand_at {so_far} {site} {kept} {above} kind other_kind kind_is stands = record {
+  scope = stands.scope;
+  below = (λ x. stands.below x ++ code_kind (kind_is x) ∷ []) ∙ on_top other_kind site.below;
+  locals = stands.locals;
+  lines = stands.lines;
+  free = stands.free;
+  place = stands.place;
 }
 
 -- the operand on top is taken
-pub taken_at : {w : Written} {ls : List ValueKind} {is : List Instruction} (k : Kind) (s : Site)
-    → At w (over k s) ls is → At (without_operands 1 w) s ls is
-taken_at {w} {ls} {is} k s h = record {
-  scope = h.scope;
-  below = ap (λ (b : List ValueKind). take (length b - 1) b) (h.below ∙ sym (on_top k s.below))
-      ∙ taken (reverse (code_kinds s.below)) (code_kind k ∷ []) 1 refl;
-  locals = h.locals;
-  lines = h.lines;
-  free = h.free;
-  place = h.place;
+pub taken_at : {so_far : Written} {kept : List ValueKind} {above : List Instruction} (kind : Kind) (site : Site)
+    → At so_far (over kind site) kept above → At (without_operands 1 so_far) site kept above
+taken_at {so_far} {kept} {above} kind site stands = record {
+  scope = stands.scope;
+  below = ap (λ (below : List ValueKind). take (length below - 1) below) (stands.below ∙ sym (on_top kind site.below))
+      ∙ taken (reverse (code_kinds site.below)) (code_kind kind ∷ []) 1 refl;
+  locals = stands.locals;
+  lines = stands.lines;
+  free = stands.free;
+  place = stands.place;
 }
 
-pub local_at : {w : Written} {s : Site} {ls : List ValueKind} {is : List Instruction} → At w s ls is → At (with_local w) (keeping 1 s) (ls
-    ++ N ∷ []) is
-local_at {w} {s} {ls} {is} h = record {
-  scope = h.scope;
-  below = h.below;
-  locals = λ x. h.locals x ++ N ∷ [];
-  lines = h.lines;
-  free = longer ls (N ∷ []) h.free;
-  place = h.place;
+pub local_at : {so_far : Written} {site : Site} {kept : List ValueKind} {above : List Instruction} → At so_far site kept above
+    → At (with_local so_far) (keeping 1 site) (kept
+    ++ N ∷ []) above
+local_at {so_far} {site} {kept} {above} stands = record {
+  scope = stands.scope;
+  below = stands.below;
+  locals = λ x. stands.locals x ++ N ∷ [];
+  lines = stands.lines;
+  free = longer kept (N ∷ []) stands.free;
+  place = stands.place;
 }
 
-pub two_locals_at : {w : Written} {s : Site} {ls : List ValueKind} {is : List Instruction} → At w s ls is
-    → At (with_local (with_local w)) (keeping 2 s) (ls ++ N ∷ N ∷ []) is
-two_locals_at {w} {s} {ls} {is} h = record {
-  scope = h.scope;
-  below = h.below;
-  locals = (λ x. (h.locals x ++ N ∷ []) ++ N ∷ []) ∙ append_assoc ls (N ∷ []) (N ∷ []);
-  lines = h.lines;
-  free = longer ls (N ∷ N ∷ []) h.free;
-  place = h.place;
+pub two_locals_at : {so_far : Written} {site : Site} {kept : List ValueKind} {above : List Instruction} → At so_far site kept above
+    → At (with_local (with_local so_far)) (keeping 2 site) (kept ++ N ∷ N ∷ []) above
+two_locals_at {so_far} {site} {kept} {above} stands = record {
+  scope = stands.scope;
+  below = stands.below;
+  locals = (λ x. (stands.locals x ++ N ∷ []) ++ N ∷ []) ∙ append_assoc kept (N ∷ []) (N ∷ []);
+  lines = stands.lines;
+  free = longer kept (N ∷ N ∷ []) stands.free;
+  place = stands.place;
 }
 
 -- the kind of a local
-pub kind_at : {w : Written} {s : Site} {is : List Instruction} (before behind : List ValueKind) (c : ValueKind) (k l : Kind) (n : ℕ)
-    → n ≡ length before → k ≡ l → At w s (before ++ c ∷ behind) is → At (with_kind n k w) s (before ++ code_kind l ∷ behind) is
-kind_at {w} {s} {is} before behind c k l n at same h = record {
-  scope = h.scope;
-  below = h.below;
-  locals = ap (λ (v : Written). v.locals) (λ x. with_kind (at x) (same x) (record {
-    scope = w.scope;
-    locals = h.locals x;
-    below = w.below;
+pub kind_at : {so_far : Written} {site : Site} {above : List Instruction} (before behind : List ValueKind) (old : ValueKind) (kind other_kind : Kind)
+    (number : ℕ)
+    → number ≡ length before → kind ≡ other_kind → At so_far site (before ++ old ∷ behind) above
+    → At (with_kind number kind so_far) site (before ++ code_kind other_kind ∷ behind) above
+kind_at {so_far} {site} {above} before behind old kind other_kind number n_is same stands = record {
+  scope = stands.scope;
+  below = stands.below;
+  locals = ap (λ (version : Written). version.locals) (λ x. with_kind (n_is x) (same x) (record {
+    scope = so_far.scope;
+    locals = stands.locals x;
+    below = so_far.below;
     lines =
-        w.lines;
+        so_far.lines;
   }))
-      ∙ set-append_seam before c behind (code_kind l);
-  lines = h.lines;
-  free = as_long before behind (code_kind l) c ∙ h.free;
-  place = h.place;
+      ∙ set-append_seam before old behind (code_kind other_kind);
+  lines = stands.lines;
+  free = as_long before behind (code_kind other_kind) old ∙ stands.free;
+  place = stands.place;
 }
 
-pub name_at : {w : Written} {s : Site} {ls : List ValueKind} {is : List Instruction} (x : List ℕ) (k l : Kind) (m n : ℕ) → k ≡ l → m ≡ n
-    → At w s ls is → At (with_name (bound x k m) w) (knowing (bound x l n) s) ls is
-name_at {w} {s} {ls} {is} x k l m n e f h = record {
-  scope = λ i. bound x (e i) (f i) ∷ h.scope i;
-  below = h.below;
-  locals = h.locals;
-  lines = h.lines;
-  free = h.free;
-  place = h.place;
+pub name_at : {so_far : Written} {site : Site} {kept : List ValueKind} {above : List Instruction} (new_name : List ℕ) (kind other_kind : Kind)
+    (number other_number : ℕ) → kind ≡ other_kind → number ≡ other_number
+    → At so_far site kept above
+    → At (with_name (bound new_name kind number) so_far) (knowing (bound new_name other_kind other_number) site) kept above
+name_at {so_far} {site} {kept} {above} new_name kind other_kind number other_number kind_is m_is stands = record {
+  scope = λ i. bound new_name (kind_is i) (m_is i) ∷ stands.scope i;
+  below = stands.below;
+  locals = stands.locals;
+  lines = stands.lines;
+  free = stands.free;
+  place = stands.place;
 }
 
 -- the name is taken away
-pub unnamed_at : {w : Written} {ls : List ValueKind} {is : List Instruction} (b : BoundName) (s : Site) → At w (knowing b s) ls is → At
-    (without_name w) s ls is
-unnamed_at {w} {ls} {is} b s h = record {
-  scope = ap outer h.scope;
-  below = h.below;
-  locals = h.locals;
-  lines = h.lines;
-  free = h.free;
-  place = h.place;
+pub unnamed_at : {so_far : Written} {kept : List ValueKind} {above : List Instruction} (bound_name : BoundName) (site : Site)
+    → At so_far (knowing bound_name site) kept above → At
+    (without_name so_far) site kept above
+unnamed_at {so_far} {kept} {above} bound_name site stands = record {
+  scope = ap outer stands.scope;
+  below = stands.below;
+  locals = stands.locals;
+  lines = stands.lines;
+  free = stands.free;
+  place = stands.place;
 }
 
 -- ---- room
 
-unchanged_at : {w : Written} {s : Site} {ls : List ValueKind} {is : List Instruction} → At w s ls is → At w (on 0 s) ls is
-unchanged_at {w} {s} {ls} {is} h = record {
-  scope = h.scope;
-  below = h.below;
-  locals = h.locals;
-  lines = h.lines;
-  free = h.free;
-  place = let e = h.place in omega (arith, e);
+unchanged_at : {so_far : Written} {site : Site} {kept : List ValueKind} {above : List Instruction} → At so_far site kept above
+    → At so_far (on 0 site) kept above
+unchanged_at {so_far} {site} {kept} {above} stands = record {
+  scope = stands.scope;
+  below = stands.below;
+  locals = stands.locals;
+  lines = stands.lines;
+  free = stands.free;
+  place = let e = stands.place in omega (arith, e);
 }
 
-room_by : {w : Written} {s : Site} {ls : List ValueKind} {is : List Instruction} (same : Bool) (i : Instruction) → At w s ls is
-    → At (if same then w else with_line i w) (on (if same then 0 else 1) s) ls (is ++ (if same then [] else i ∷ []))
-room_by {w} {s} {ls} {is} true i h = lines_as (is ++ []) (sym (append-nil is)) (unchanged_at h)
-room_by {w} {s} {ls} {is} false i h = line_at i i refl h
+room_by : {so_far : Written} {site : Site} {kept : List ValueKind} {above : List Instruction} (same : Bool) (line : Instruction)
+    → At so_far site kept above
+    → At (if same then so_far else with_line line so_far) (on (if same then 0 else 1) site) kept (above ++ (if same then [] else line ∷ []))
+room_by {so_far} {site} {kept} {above} true line stands = lines_as (above ++ []) (sym (append-nil above)) (unchanged_at stands)
+room_by {so_far} {site} {kept} {above} false line stands = line_at line line refl stands
 
-pub room_at : {w : Written} {s : Site} {ls : List ValueKind} {is : List Instruction} (k l m n : Kind) → k ≡ m → l ≡ n
-    → At w s ls is → At (written_with_room k (written_step l w)) (on (widening_size m n) s) ls (is ++ widening m n)
-room_at {w} {s} {ls} {is} k l m n e f h =
-    subst (λ (x : Kind). At (written_with_room k (written_step l w)) (on (widening_size m x) s) ls (is ++ widening m x)) f
-    (subst (λ (x : Kind). At (written_with_room k (written_step l w)) (on (widening_size x l) s) ls (is ++ widening x l)) e
-    (room_by (is_same_kind k l) (I.Widen (room_of k)) h))
+pub room_at : {so_far : Written} {site : Site} {kept : List ValueKind} {above : List Instruction} (place kind place_said kind_said : Kind)
+    → place ≡ place_said → kind ≡ kind_said
+    → At so_far site kept above
+    → At (written_with_room place (written_step kind so_far)) (on (widening_size place_said kind_said) site) kept
+    (above ++ widening place_said kind_said)
+room_at {so_far} {site} {kept} {above} place kind place_said kind_said kind_is other_kind_is stands =
+    subst (λ (any : Kind).
+    At (written_with_room place (written_step kind so_far)) (on (widening_size place_said any) site) kept (above ++ widening place_said any))
+    other_kind_is
+    (subst (λ (any : Kind).
+    At (written_with_room place (written_step kind so_far)) (on (widening_size any kind) site) kept (above ++ widening any kind)) kind_is
+    (room_by (is_same_kind place kind) (I.Widen (room_of place)) stands))
 
 -- ---- branches
 
 -- behind the first part of a branch
-pub second_at : {w : Written} {s : Site} {ls : List ValueKind} (before first : List Instruction) (n : ℕ) → n ≡ length before
-    → At w s ls (before ++ I.Branch 0 ∷ first)
-    → At (with_second n w) (on 2 s) ls ((before ++ I.Branch (s.place + 1) ∷ first) ++ I.Jump 0 ∷ target s.below ∷ [])
-second_at {w} {s} {ls} before first n at h =
-    let place : length w.lines + 1 ≡ s.place + 1 = ap (λ (xs : List Instruction). length xs + 1) h.lines ∙ ap (λ m. m + 1) h.place in
-    let branched = before ++ I.Branch (s.place + 1) ∷ first in
-    let jump = line_at (I.Jump 0) (I.Jump 0) refl (other_line_at before first (I.Branch 0) (I.Branch (length w.lines + 1)) _ n at
-    (ap I.Branch place) h) in
-    let there = line_at (I.Target w.below) (target s.below) (ap I.Target h.below) jump in
-    twice_on s (lines_as (branched ++ I.Jump 0 ∷ target s.below ∷ []) (append_assoc branched (I.Jump 0 ∷ []) (target s.below ∷ [])) there)
+pub second_at : {so_far : Written} {site : Site} {kept : List ValueKind} (before first : List Instruction) (branch_place : ℕ)
+    → branch_place ≡ length before
+    → At so_far site kept (before ++ I.Branch 0 ∷ first)
+    → At (with_second branch_place so_far) (on 2 site) kept ((before ++ I.Branch (site.place + 1) ∷ first) ++ I.Jump 0 ∷ target site.below ∷ [])
+second_at {so_far} {site} {kept} before first branch_place n_is stands =
+    let place : length so_far.lines + 1 ≡ site.place + 1 = ap (λ (lines : List Instruction). length lines + 1) stands.lines
+    ∙ ap (λ m. m + 1) stands.place in
+    let branched = before ++ I.Branch (site.place + 1) ∷ first in
+    let jump = line_at (I.Jump 0) (I.Jump 0) refl (other_line_at before first (I.Branch 0) (I.Branch (length so_far.lines + 1)) _ branch_place n_is
+    (ap I.Branch place) stands) in
+    let there = line_at (I.Target so_far.below) (target site.below) (ap I.Target stands.below) jump in
+    twice_on site (lines_as (branched ++ I.Jump 0 ∷ target site.below ∷ []) (append_assoc branched (I.Jump 0 ∷ []) (target site.below ∷ [])) there)
 
 -- behind the second part
-pub end_at : {w : Written} {s : Site} {ls : List ValueKind} (before second : List Instruction) (kinds : List ValueKind) (there : Instruction) (n : ℕ)
-    → n ≡ length before → I.Target kinds ≡ there → At w s ls (before ++ I.Jump 0 ∷ second)
-    → At (with_end n kinds w) (on 1 s) ls ((before ++ I.Jump s.place ∷ second) ++ there ∷ [])
-end_at {w} {s} {ls} before second kinds there n at same h =
-    let place : length w.lines ≡ s.place = ap (λ (xs : List Instruction). length xs) h.lines ∙ h.place in
-    line_at (I.Target kinds) there same (other_line_at before second (I.Jump 0) (I.Jump (length w.lines)) _ n at (ap I.Jump place) h)
+pub end_at : {so_far : Written} {site : Site} {kept : List ValueKind} (before second : List Instruction) (kinds : List ValueKind)
+    (there : Instruction) (jump_place : ℕ)
+    → jump_place ≡ length before → I.Target kinds ≡ there → At so_far site kept (before ++ I.Jump 0 ∷ second)
+    → At (with_end jump_place kinds so_far) (on 1 site) kept ((before ++ I.Jump site.place ∷ second) ++ there ∷ [])
+end_at {so_far} {site} {kept} before second kinds there jump_place n_is same stands =
+    let place : length so_far.lines ≡ site.place = ap (λ (lines : List Instruction). length lines) stands.lines ∙ stands.place in
+    line_at (I.Target kinds) there same
+    (other_line_at before second (I.Jump 0) (I.Jump (length so_far.lines)) _ jump_place n_is (ap I.Jump place) stands)
 
 -- the same where there is a value
-pub value_end_at : {w : Written} {s : Site} {ls : List ValueKind} (before second : List Instruction) (k l : Kind) (n : ℕ)
-    → n ≡ length before → k ≡ l → At w s ls (before ++ I.Jump 0 ∷ second)
-    → At (with_value_end n k w) (on 1 s) ls ((before ++ I.Jump s.place ∷ second) ++ target (l ∷ s.below) ∷ [])
-value_end_at {w} {s} {ls} before second k l n at same h =
-    end_at before second (w.below ++ code_kind k ∷ []) (target (l ∷ s.below)) n at
-    (ap I.Target ((λ x. h.below x ++ code_kind (same x) ∷ []) ∙ on_top l s.below)) h
+pub value_end_at : {so_far : Written} {site : Site} {kept : List ValueKind} (before second : List Instruction) (kind other_kind : Kind)
+    (jump_place : ℕ)
+    → jump_place ≡ length before → kind ≡ other_kind → At so_far site kept (before ++ I.Jump 0 ∷ second)
+    → At (with_value_end jump_place kind so_far) (on 1 site) kept ((before ++ I.Jump site.place ∷ second) ++ target (other_kind ∷ site.below) ∷ [])
+value_end_at {so_far} {site} {kept} before second kind other_kind jump_place n_is same stands =
+    end_at before second (so_far.below ++ code_kind kind ∷ []) (target (other_kind ∷ site.below)) jump_place n_is
+    (ap I.Target ((λ x. stands.below x ++ code_kind (same x) ∷ []) ∙ on_top other_kind site.below)) stands

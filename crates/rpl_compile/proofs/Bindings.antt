@@ -1,4 +1,4 @@
--- A value that is kept in a local, with a name.
+-- A value that is kept in a local, with a name: the claim of WITH in an expression. Statements use the same (`binds`).
 use Rattle.rpl_compile.proofs.Common.{Env, Frame, Instruction, IsKinded, Kind, List, Outcome, Running, Site, Some, State, Tree, Value, after}
 use Rattle.rpl_compile.proofs.Common.{after_tree, arith, bind, bound, code_of, keeping, kind_at, kind_of_value, knowing, length, local_count}
 use Rattle.rpl_compile.proofs.Common.{local_kinds, names_in, on, refl, set, size, slice_get, slice_get_within, spent, subst, suc, value_of, weight, ℕ}
@@ -8,98 +8,127 @@ use Rattle.rpl_compile.proofs.Goes.{Goes, goes_first}
 use Rattle.rpl_compile.proofs.OfKind.{At, HasKind, at_back, at_front, at_head, at_tail, set_before, set_here, set_long}
 use Rattle.rpl_compile.proofs.Sizes.{code-size}
 use Rattle.rpl_compile.proofs.LocalSizes.{locals_size}
-use Rattle.rpl_compile.proofs.Setting.{Claim, H, Here, Kept, Left, Setting, fr, goes_at, goes_left, here_on, holds_kept, kept_less, part, same_kept}
+use Rattle.rpl_compile.proofs.Setting.{Claim, Here, Kept, Left, Setting, frame_at, goes_at, goes_left, heads_in, here_on, holds_kept, kept_less, part}
+use Rattle.rpl_compile.proofs.Setting.{same_kept}
 use Rattle.rpl_compile.proofs.Steps.{stores}
 
-pub kept_set : (free n : ℕ) (ls us : List Value) (v : Value) → free ≤ n → Kept free ls us → Kept free ls (set us n v)
-kept_set free n ls us v le k = (set_long us n v ∙ k.0, λ i lt. set_before us n i v (omega (arith, lt, le)) ∙ k.1 i lt)
+pub kept_set : (free number : ℕ) (locals locals_now : List Value) (a_value : Value) → free ≤ number → Kept free locals locals_now
+    → Kept free locals (set locals_now number a_value)
+kept_set free number locals locals_now a_value at_most kept =
+    (set_long locals_now number a_value ∙ kept.0, λ i less. set_before locals_now number i a_value (omega (arith, less, at_most)) ∙ kept.1 i less)
 
-module _ (g : Setting) where
+module _ (setting : Setting) where
   -- the first free local gets a name and a value
-  pub here_known : (site : Site) (env : Env) (ls us ops : List Value) (x : List ℕ) (k : Kind) (v : Value) (n : ℕ) → HasKind k v
-      → slice_get g.kinds site.free ≡ Some k → Here g site env ls ops → Kept site.free ls us
-      → Here g (knowing (bound x k site.free) (keeping (suc n) site)) ((x, v) ∷ env) (set us site.free v) ops
-  here_known site env ls us ops x k v n hv has h ku =
-      let long : length us ≡ length g.kinds = ku.0 ∙ h.1 in
-      let there : site.free < length us = omega (arith, slice_get_within g.kinds site.free k has, long) in (
+  pub here_known : (site : Site) (environment : Env) (locals locals_now operands : List Value) (new_name : List ℕ) (kind : Kind) (a_value : Value)
+      (more : ℕ) → HasKind kind a_value
+      → slice_get setting.kinds site.free ≡ Some kind → Here setting site environment locals operands → Kept site.free locals locals_now
+      → Here setting (knowing (bound new_name kind site.free) (keeping (suc more) site)) ((new_name, a_value) ∷ environment)
+      (set locals_now site.free a_value) operands
+  here_known site environment locals locals_now operands new_name kind a_value more has_kind has here kept =
+      let long : length locals_now ≡ length setting.kinds = kept.0 ∙ here.1 in
+      let there : site.free < length locals_now = omega (arith, slice_get_within setting.kinds site.free kind has, long) in (
         (
           refl,
-          hv,
-          set_here us site.free v there,
+          has_kind,
+          set_here locals_now site.free a_value there,
           omega arith,
           has,
-          holds_kept g.kinds site.scope env ls (set us site.free v) site.free (site.free + suc n) h.0 (omega arith)
-              (kept_set site.free site.free ls us v (omega arith) ku),
+          holds_kept setting.kinds site.scope environment locals (set locals_now site.free a_value) site.free (site.free + suc more) here.0
+              (omega arith)
+              (kept_set site.free site.free locals locals_now a_value (omega arith) kept),
         ),
-        set_long us site.free v ∙ long,
-        h.2,
+        set_long locals_now site.free a_value ∙ long,
+        here.2,
       )
 
   -- where the value stands among the lines, and what comes behind it
-  pub record BoundAt (e : Tree) (site : Site) (lines : List Instruction) (kinds : List Kind) : Type 0 where
-    pub value_at : At g.block.lines site.place (code_of g.callees (keeping 1 site) e)
-    pub value_kinds : At g.kinds (site.free + 1) (local_kinds (H g) (names_in site.scope) e)
-    pub keeps : slice_get g.block.lines (site.place + size (H g) (names_in site.scope) e) ≡ Some (I.Store site.free)
-    pub local : slice_get g.kinds site.free ≡ Some (kind_at (H g) site e)
-    pub behind : At g.block.lines (site.place + size (H g) (names_in site.scope) e + 1) lines
-    pub others : At g.kinds (site.free + 1 + local_count e) kinds
+  pub record BoundAt (value_tree : Tree) (site : Site) (lines : List Instruction) (kinds : List Kind) : Type 0 where
+    pub value_at : At setting.block.lines site.place (code_of setting.callees (keeping 1 site) value_tree)
+    pub value_kinds : At setting.kinds (site.free + 1) (local_kinds (heads_in setting) (names_in site.scope) value_tree)
+    pub keeps : slice_get setting.block.lines (site.place + size (heads_in setting) (names_in site.scope) value_tree) ≡ Some (I.Store site.free)
+    pub local : slice_get setting.kinds site.free ≡ Some (kind_at (heads_in setting) site value_tree)
+    pub behind : At setting.block.lines (site.place + size (heads_in setting) (names_in site.scope) value_tree + 1) lines
+    pub others : At setting.kinds (site.free + 1 + local_count value_tree) kinds
 
-  pub bound_at : (e : Tree) (site : Site) (lines : List Instruction) (kinds : List Kind) → IsKinded g.world.basin (H g) (names_in site.scope) e
-      → At g.block.lines site.place (code_of g.callees (keeping 1 site) e ++ I.Store site.free ∷ lines)
-      → At g.kinds site.free (kind_at (H g) site e ∷ (local_kinds (H g) (names_in site.scope) e ++ kinds)) → BoundAt e site lines kinds
-  bound_at e site lines kinds kinded placed loc =
+  pub bound_at : (value_tree : Tree) (site : Site) (lines : List Instruction) (kinds : List Kind)
+      → IsKinded setting.world.basin (heads_in setting) (names_in site.scope) value_tree
+      → At setting.block.lines site.place (code_of setting.callees (keeping 1 site) value_tree ++ I.Store site.free ∷ lines)
+      → At setting.kinds site.free
+      (kind_at (heads_in setting) site value_tree ∷ (local_kinds (heads_in setting) (names_in site.scope) value_tree ++ kinds))
+      → BoundAt value_tree site lines kinds
+  bound_at value_tree site lines kinds kinded placed locals_at =
       let names = names_in site.scope in
-      let c = code_of g.callees (keeping 1 site) e in
-      let a1 = at_back g.block.lines site.place (size (H g) names e) c (I.Store site.free ∷ lines)
-      (code-size g.world.basin g.callees (keeping 1 site) e kinded) placed in
-      let le = local_kinds (H g) names e in
-      let b1 = at_tail g.kinds site.free (kind_at (H g) site e) (le ++ kinds) loc in
+      let value_code = code_of setting.callees (keeping 1 site) value_tree in
+      let behind_value = at_back setting.block.lines site.place (size (heads_in setting) names value_tree) value_code (I.Store site.free ∷ lines)
+      (code-size setting.world.basin setting.callees (keeping 1 site) value_tree kinded) placed in
+      let value_locals = local_kinds (heads_in setting) names value_tree in
+      let behind_local = at_tail setting.kinds site.free (kind_at (heads_in setting) site value_tree) (value_locals ++ kinds) locals_at in
       record {
-        value_at = at_front g.block.lines site.place c (I.Store site.free ∷ lines) placed;
-        value_kinds = at_front g.kinds (site.free + 1) le kinds b1;
-        keeps = at_head g.block.lines (site.place + size (H g) names e) (I.Store site.free) lines a1;
-        local = at_head g.kinds site.free (kind_at (H g) site e) (le ++ kinds) loc;
-        behind = at_tail g.block.lines (site.place + size (H g) names e) (I.Store site.free) lines a1;
-        others = at_back g.kinds (site.free + 1) (local_count e) le kinds (locals_size (H g) e names) b1;
+        value_at = at_front setting.block.lines site.place value_code (I.Store site.free ∷ lines) placed;
+        value_kinds = at_front setting.kinds (site.free + 1) value_locals kinds behind_local;
+        keeps = at_head setting.block.lines (site.place + size (heads_in setting) names value_tree) (I.Store site.free) lines behind_value;
+        local = at_head setting.kinds site.free (kind_at (heads_in setting) site value_tree) (value_locals ++ kinds) locals_at;
+        behind = at_tail setting.block.lines (site.place + size (heads_in setting) names value_tree) (I.Store site.free) lines behind_value;
+        others = at_back setting.kinds (site.free + 1) (local_count value_tree) value_locals kinds
+            (locals_size (heads_in setting) value_tree names) behind_local;
       }
 
-  pub binds : {A : Type 0} (x : List ℕ) (e : Tree) (site : Site) (env : Env) (ls ops : List Value) (lo : List Running) (rest : List Frame)
-      (lines : List Instruction) (kinds : List Kind) (go : Value → Outcome A) (Q : A → State → Type 0)
-      → Claim g e → IsKinded g.world.basin (H g) (names_in site.scope) e → Here g site env ls ops → BoundAt e site lines kinds
-      → ((v : Value) (us : List Value) → Kept site.free ls us → Here g
-      (knowing (bound x (kind_at (H g) site e) site.free) (on 1 (after_tree g.callees e (keeping 1 site)))) ((x, v) ∷ env) us ops
-      → Goes g.code g.world (fr g (site.place + size (H g) (names_in site.scope) e + 1) us ops lo ∷ rest) (go v) Q)
-      → Goes g.code g.world (fr g site.place ls ops lo ∷ rest)
-      (value_of g.world g.functions env e >>= (λ v. after (spent (weight (kind_of_value v))) (go v))) Q
-  binds x e site env ls ops lo rest lines kinds go Q c kinded h b inside =
-      let k = kind_at (H g) site e in
-      let q : ℕ = site.place + size (H g) (names_in site.scope) e in
-      part g k (site.free + 1) q ls ops lo rest (fr g site.place ls ops lo ∷ rest) (value_of g.world g.functions env e)
-      (λ v. after (spent (weight (kind_of_value v))) (go v)) Q
-      (c (keeping 1 site) env ls ops lo rest (b.value_at, b.value_kinds, kinded) (here_on g site env ls ls ops 1 h (same_kept site.free ls)))
-      (λ v us hv ku.
-      let k1 = kept_less site.free (site.free + 1) ls us (omega arith) ku in
-      let z : q + 1 ≡ suc q = omega arith in
-      let m : site.free + suc (local_count e) ≡ site.free + 1 + local_count e = omega arith in
-      let there = here_known site env ls us ops x k v (local_count e) hv b.local h k1 in
-      goes_first g.code g.world (fr g q us (v ∷ ops) lo) rest (fr g (suc q) (set us site.free v) ops lo ∷ rest)
-      (spent (weight (kind_of_value v))) (go v) Q
-      (stores g q site.free us ops lo rest v k b.keeps b.local hv)
-      (goes_at g (q + 1) (suc q) (set us site.free v) ops lo rest (go v) Q z
-      (inside v (set us site.free v) (kept_set site.free site.free ls us v (omega arith) k1)
-      (subst (λ n. Here g (knowing (bound x k site.free) (record { scope = site.scope; free = n; place = site.place; below = site.below }))
-      ((x, v) ∷ env) (set us site.free v) ops) m there))))
+  pub binds : {A : Type 0} (new_name : List ℕ) (value_tree : Tree) (site : Site) (environment : Env) (locals operands : List Value)
+      (loops : List Running) (callers : List Frame)
+      (lines : List Instruction) (kinds : List Kind) (go : Value → Outcome A) (Wanted : A → State → Type 0)
+      → Claim setting value_tree → IsKinded setting.world.basin (heads_in setting) (names_in site.scope) value_tree
+      → Here setting site environment locals operands → BoundAt value_tree site lines kinds
+      → ((a_value : Value) (locals_now : List Value) → Kept site.free locals locals_now → Here setting
+      (knowing (bound new_name (kind_at (heads_in setting) site value_tree) site.free)
+      (on 1 (after_tree setting.callees value_tree (keeping 1 site)))) ((new_name, a_value) ∷ environment) locals_now operands
+      → Goes setting.code setting.world
+      (frame_at setting (site.place + size (heads_in setting) (names_in site.scope) value_tree + 1) locals_now operands loops ∷ callers)
+      (go a_value) Wanted)
+      → Goes setting.code setting.world (frame_at setting site.place locals operands loops ∷ callers)
+      (value_of setting.world setting.functions environment value_tree >>= (λ a_value. after (spent (weight (kind_of_value a_value))) (go a_value)))
+      Wanted
+  binds new_name value_tree site environment locals operands loops callers lines kinds go Wanted claim_of_value_tree kinded here bound_so inside =
+      let kind = kind_at (heads_in setting) site value_tree in
+      let end : ℕ = site.place + size (heads_in setting) (names_in site.scope) value_tree in
+      part setting kind (site.free + 1) end locals operands loops callers (frame_at setting site.place locals operands loops ∷ callers)
+      (value_of setting.world setting.functions environment value_tree)
+      (λ a_value. after (spent (weight (kind_of_value a_value))) (go a_value)) Wanted
+      (claim_of_value_tree (keeping 1 site) environment locals operands loops callers (bound_so.value_at, bound_so.value_kinds, kinded)
+      (here_on setting site environment locals locals operands 1 here (same_kept site.free locals)))
+      (λ a_value locals_now has_kind kept_so.
+      let kept_here = kept_less site.free (site.free + 1) locals locals_now (omega arith) kept_so in
+      let same_place : end + 1 ≡ suc end = omega arith in
+      let same_free : site.free + suc (local_count value_tree) ≡ site.free + 1 + local_count value_tree = omega arith in
+      let there =
+      here_known site environment locals locals_now operands new_name kind a_value
+      (local_count value_tree) has_kind bound_so.local here kept_here in
+      goes_first setting.code setting.world (frame_at setting end locals_now (a_value ∷ operands) loops) callers
+      (frame_at setting (suc end) (set locals_now site.free a_value) operands loops ∷ callers)
+      (spent (weight (kind_of_value a_value))) (go a_value) Wanted
+      (stores setting end site.free locals_now operands loops callers a_value kind bound_so.keeps bound_so.local has_kind)
+      (goes_at setting (end + 1) (suc end) (set locals_now site.free a_value) operands loops callers (go a_value) Wanted same_place
+      (inside a_value (set locals_now site.free a_value) (kept_set site.free site.free locals locals_now a_value (omega arith) kept_here)
+      (subst (λ n.
+      Here setting (knowing (bound new_name kind site.free) (record { scope = site.scope; free = n; place = site.place; below = site.below }))
+      ((new_name, a_value) ∷ environment) (set locals_now site.free a_value) operands) same_free there))))
 
-  pub on_bind : (x : List ℕ) (e b : Tree) → Claim g e → Claim g b → Claim g (bind x e b)
-  on_bind x e b ce cb site env ls ops lo rest w h =
-      let K = kind_at (H g) site (bind x e b) in
-      let inside : Site = knowing (bound x (kind_at (H g) site e) site.free) (on 1 (after_tree g.callees e (keeping 1 site))) in
-      let past : ℕ = site.place + size (H g) (names_in site.scope) (bind x e b) in
-      let lb = local_kinds (H g) (names_in inside.scope) b in
-      let a = bound_at e site (code_of g.callees inside b) lb w.2.0 w.0 w.1 in
-      binds x e site env ls ops lo rest (code_of g.callees inside b) lb (λ v. value_of g.world g.functions ((x, v) ∷ env) b)
-      (Left g K site.free past ls ops lo rest) ce w.2.0 h a
-      (λ v us ku there.
-      goes_left g K site.free inside.free (inside.place + size (H g) (names_in inside.scope) b) past ls us ops lo rest
-      (fr g inside.place us ops lo ∷ rest) (value_of g.world g.functions ((x, v) ∷ env) b) (omega arith) (omega arith) ku
-      (cb inside ((x, v) ∷ env) us ops lo rest (a.behind, a.others, w.2.1) there))
+  pub on_bind : (new_name : List ℕ) (value_tree body : Tree) → Claim setting value_tree → Claim setting body
+      → Claim setting (bind new_name value_tree body)
+  on_bind new_name value_tree body claim_of_value_tree claim_of_body site environment locals operands loops callers wants here =
+      let kind = kind_at (heads_in setting) site (bind new_name value_tree body) in
+      let inside : Site =
+      knowing (bound new_name (kind_at (heads_in setting) site value_tree) site.free)
+      (on 1 (after_tree setting.callees value_tree (keeping 1 site))) in
+      let past : ℕ = site.place + size (heads_in setting) (names_in site.scope) (bind new_name value_tree body) in
+      let body_locals = local_kinds (heads_in setting) (names_in inside.scope) body in
+      let bound_so = bound_at value_tree site (code_of setting.callees inside body) body_locals wants.2.0 wants.0 wants.1 in
+      binds new_name value_tree site environment locals operands loops callers (code_of setting.callees inside body) body_locals
+      (λ a_value. value_of setting.world setting.functions ((new_name, a_value) ∷ environment) body)
+      (Left setting kind site.free past locals operands loops callers) claim_of_value_tree wants.2.0 here bound_so
+      (λ a_value locals_now kept_so there.
+      goes_left setting kind site.free inside.free
+      (inside.place + size (heads_in setting) (names_in inside.scope) body) past locals locals_now operands loops callers
+      (frame_at setting inside.place locals_now operands loops ∷ callers)
+      (value_of setting.world setting.functions ((new_name, a_value) ∷ environment) body) (omega arith) (omega arith) kept_so
+      (claim_of_body inside ((new_name, a_value) ∷ environment) locals_now operands loops callers
+      (bound_so.behind, bound_so.others, wants.2.1) there))

@@ -22,47 +22,51 @@ use Rattle.rpl_compile.proofs.LocalFacts.{parameter_names}
 -- what the functions cost that can be called, in each of the four measures
 pub record AllCosted (budgets : List Budget) (callees : List Callee) (steps looks puts deep : List Costed) : Type 0 where
   pub by_steps : AreCosted (call_count budgets) callees steps
-  pub by_looks : AreCosted (call_part (λ (b : Budget). b.looks) budgets) callees looks
-  pub by_puts : AreCosted (call_part (λ (b : Budget). b.puts) budgets) callees puts
-  pub by_words : AreCosted (call_part (λ (b : Budget). b.words) budgets) callees deep
+  pub by_looks : AreCosted (call_part (λ (its_budget : Budget). its_budget.looks) budgets) callees looks
+  pub by_puts : AreCosted (call_part (λ (its_budget : Budget). its_budget.puts) budgets) callees puts
+  pub by_words : AreCosted (call_part (λ (its_budget : Budget). its_budget.words) budgets) callees deep
 
-module _ (scope : Scope) (lines : List Instruction) (bs : List Before) (spotted : scope.spots ≡ spots lines)
-    (fits : befores scope 0 (before [] []) lines ≡ Ok bs)
+module _ (scope : Scope) (lines : List Instruction) (befores_there : List Before) (spotted : scope.spots ≡ spots lines)
+    (fits : befores scope 0 (before [] []) lines ≡ Ok befores_there)
     (budgets : List Budget) (callees : List Callee) (callable : AreCallable scope.heads scope.number callees) (functions deep : List Costed)
-    (by_words : AreCosted (call_part (λ (b : Budget). b.words) budgets) callees deep)
+    (by_words : AreCosted (call_part (λ (its_budget : Budget). its_budget.words) budgets) callees deep)
     (pays : Price) (price : Before → Instruction → ℕ) (prices : Prices scope pays price) (cost : CallCost) (costed : AreCosted cost callees functions)
-    (at : (b : Before) (f : List ℕ) (head : Head) (block : Option ℕ) → IsCallable scope.heads scope.number head block
-    → price b (call_by f block) ≡ cost head block) where
-  pub paying_calls : CallsFit scope lines pays (paying_account scope lines bs spotted fits budgets pays price prices) callees functions deep
+    (at : (here : Before) (function_name : List ℕ) (head : Head) (block : Option ℕ) → IsCallable scope.heads scope.number head block
+    → price here (call_by function_name block) ≡ cost head block) where
+  pub paying_calls : CallsFit scope lines pays
+      (paying_account scope lines befores_there spotted fits budgets pays price prices) callees functions deep
   unfolding paying_account
-  paying_calls f has p ls os =
-      let b : Before = before (reverse (code_kinds (takes_named (callee_heads callees) f)) ++ ls) os in
-      let above = called_cost scope.heads scope.number (call_part (λ (b : Budget). b.words) budgets)
-      (λ i. words_at scope budgets b i - words_kept scope.locals b) f
-      (words_call scope budgets b f) callees deep callable by_words has in
-      let least = words_above scope budgets b f callees in
+  paying_calls function_name has place under open_loops =
+      let here : Before = before (reverse (code_kinds (takes_named (callee_heads callees) function_name)) ++ under) open_loops in
+      let above = called_cost scope.heads scope.number (call_part (λ (its_budget : Budget). its_budget.words) budgets)
+      (λ i. words_at scope budgets here i - words_kept scope.locals here) function_name
+      (words_call scope budgets here function_name) callees deep callable by_words has in
+      let least = words_above scope budgets here function_name callees in
       record {
-        fits = calls_fit scope callees callable f has p ls os;
-        goes_on = call_onward callees f;
-        sum = called_cost scope.heads scope.number cost (price b) f (at b f) callees functions callable costed has;
+        fits = calls_fit scope callees callable function_name has place under open_loops;
+        goes_on = call_onward callees function_name;
+        sum = called_cost scope.heads scope.number cost (price here) function_name (at here function_name) callees functions callable costed has;
         high = omega (arith, above, least);
       }
 
 -- what a block comes to, in each measure
-pub record Comes (scope : Scope) (lines : List Instruction) (bs : List Before) (budgets : List Budget) (count looks puts words : ℕ) : Type 0 where
-  pub by_count : C scope budgets (count_of scope budgets) lines bs 0 ≡ count
-  pub by_looks : C scope budgets (looks_of scope budgets) lines bs 0 ≡ looks
-  pub by_puts : C scope budgets (puts_of scope budgets) lines bs 0 ≡ puts
-  pub by_words : W scope budgets lines bs 0 ≡ words
+pub record Comes (scope : Scope) (lines : List Instruction) (befores_there : List Before) (budgets : List Budget)
+    (count looks puts words : ℕ) : Type 0 where
+  pub by_count : C scope budgets (count_of scope budgets) lines befores_there 0 ≡ count
+  pub by_looks : C scope budgets (looks_of scope budgets) lines befores_there 0 ≡ looks
+  pub by_puts : C scope budgets (puts_of scope budgets) lines befores_there 0 ≡ puts
+  pub by_words : W scope budgets lines befores_there 0 ≡ words
 
-pub comes_to : (scope : Scope) (lines : List Instruction) (bs : List Before) (budgets : List Budget) (count looks puts words : ℕ)
-    → Comes scope lines bs budgets count looks puts words
-    → budget_by scope budgets bs lines
+pub comes_to : (scope : Scope) (lines : List Instruction) (befores_there : List Before) (budgets : List Budget) (count looks puts words : ℕ)
+    → Comes scope lines befores_there budgets count looks puts words
+    → budget_by scope budgets befores_there lines
     ≡ budget (capped limits.count count) (capped limits.looks looks) (capped limits.puts puts) (capped limits.words words)
-comes_to scope lines bs budgets count looks puts words h =
-    ap₂ (λ a b. budget (capped limits.count a) (capped limits.looks b) (capped limits.puts (C scope budgets (puts_of scope budgets) lines bs 0))
-    (capped limits.words (W scope budgets lines bs 0))) h.by_count h.by_looks
-    ∙ ap₂ (λ a b. budget (capped limits.count count) (capped limits.looks looks) (capped limits.puts a) (capped limits.words b)) h.by_puts h.by_words
+comes_to scope lines befores_there budgets count looks puts words comes =
+    ap₂ (λ a b.
+    budget (capped limits.count a) (capped limits.looks b) (capped limits.puts (C scope budgets (puts_of scope budgets) lines befores_there 0))
+    (capped limits.words (W scope budgets lines befores_there 0))) comes.by_count comes.by_looks
+    ∙ ap₂ (λ a b. budget (capped limits.count count) (capped limits.looks looks) (capped limits.puts a) (capped limits.words b)) comes.by_puts
+    comes.by_words
 
 module _ (basin : Draft) (all : List Block) (number : ℕ) (callees : List Callee) (callable : AreCallable (heads_of all) number callees)
     (budgets : List Budget)
@@ -71,97 +75,110 @@ module _ (basin : Draft) (all : List Block) (number : ℕ) (callees : List Calle
   steps_heads = costed_same (call_count budgets) callees steps costed.by_steps
 
   abbrev deep_heads : callee_heads callees ≡ costed_heads deep
-  deep_heads = costed_same (call_part (λ (b : Budget). b.words) budgets) callees deep costed.by_words
+  deep_heads = costed_same (call_part (λ (its_budget : Budget). its_budget.words) budgets) callees deep costed.by_words
 
-  pub rule_comes : (body : Acts) (bs : List Before)
+  pub rule_comes : (body : Acts) (befores_there : List Before)
       → let block : Block = rule_block callees body in
       let scope : Scope = scope_of basin all number block in
-      befores scope 0 (before [] []) block.lines ≡ Ok bs → AreKindedActs basin (callee_heads callees) [] body
-      → Comes scope block.lines bs budgets (most_of_acts price_of_steps steps [] body) (most_of_acts price_of_looks looks [] body)
+      befores scope 0 (before [] []) block.lines ≡ Ok befores_there → AreKindedActs basin (callee_heads callees) [] body
+      → Comes scope block.lines befores_there budgets (most_of_acts price_of_steps steps [] body) (most_of_acts price_of_looks looks [] body)
       (most_of_acts price_of_puts puts [] body)
       (weights (acts_local_kinds (costed_heads deep) [] body) + height_of_acts deep [] body)
-  rule_comes body bs fits h =
+  rule_comes body befores_there fits are_kinded_acts =
       let block : Block = rule_block callees body in
       let scope : Scope = scope_of basin all number block in
       let lines : List Instruction = block.lines in
       let kept : ℕ = words_kept scope.locals (before [] []) in
       let high : ℕ = kept + height_of_acts deep [] body in
-      let c1 = paying_calls scope lines bs refl fits budgets callees callable steps deep costed.by_words price_of_steps (count_of scope budgets)
+      let count_calls =
+      paying_calls scope lines befores_there refl fits budgets callees callable steps deep costed.by_words price_of_steps (count_of scope budgets)
       (count_prices scope budgets)
       (call_count budgets) costed.by_steps (counts_call scope budgets) in
-      let c2 = paying_calls scope lines bs refl fits budgets callees callable looks deep costed.by_words price_of_looks (looks_of scope budgets)
+      let looks_calls =
+      paying_calls scope lines befores_there refl fits budgets callees callable looks deep costed.by_words price_of_looks (looks_of scope budgets)
       (looks_prices scope budgets)
-      (call_part (λ (b : Budget). b.looks) budgets) costed.by_looks (looks_call scope budgets) in
-      let c3 = paying_calls scope lines bs refl fits budgets callees callable puts deep costed.by_words price_of_puts (puts_of scope budgets)
+      (call_part (λ (its_budget : Budget). its_budget.looks) budgets) costed.by_looks (looks_call scope budgets) in
+      let puts_calls =
+      paying_calls scope lines befores_there refl fits budgets callees callable puts deep costed.by_words price_of_puts (puts_of scope budgets)
       (puts_prices scope budgets)
-      (call_part (λ (b : Budget). b.puts) budgets) costed.by_puts (puts_call scope budgets) in
-      let g1 = rule_goes basin all number callees steps deep steps_heads deep_heads price_of_steps body
-      (paying_account scope lines bs refl fits budgets price_of_steps (count_of scope budgets) (count_prices scope budgets)) c1 h in
-      let g2 = rule_goes basin all number callees looks deep (costed_same _ callees looks costed.by_looks) deep_heads price_of_looks body
-      (paying_account scope lines bs refl fits budgets price_of_looks (looks_of scope budgets) (looks_prices scope budgets)) c2 h in
-      let g3 = rule_goes basin all number callees puts deep (costed_same _ callees puts costed.by_puts) deep_heads price_of_puts body
-      (paying_account scope lines bs refl fits budgets price_of_puts (puts_of scope budgets) (puts_prices scope budgets)) c3 h in
-      let w1 = whole scope lines bs refl fits budgets price_of_steps (count_of scope budgets) (count_prices scope budgets)
+      (call_part (λ (its_budget : Budget). its_budget.puts) budgets) costed.by_puts (puts_call scope budgets) in
+      let count_way = rule_goes basin all number callees steps deep steps_heads deep_heads price_of_steps body
+      (paying_account scope lines befores_there refl fits budgets price_of_steps (count_of scope budgets) (count_prices scope budgets)) count_calls
+      are_kinded_acts in
+      let looks_way = rule_goes basin all number callees looks deep (costed_same _ callees looks costed.by_looks) deep_heads price_of_looks body
+      (paying_account scope lines befores_there refl fits budgets price_of_looks (looks_of scope budgets) (looks_prices scope budgets)) looks_calls
+      are_kinded_acts in
+      let puts_way = rule_goes basin all number callees puts deep (costed_same _ callees puts costed.by_puts) deep_heads price_of_puts body
+      (paying_account scope lines befores_there refl fits budgets price_of_puts (puts_of scope budgets) (puts_prices scope budgets)) puts_calls
+      are_kinded_acts in
+      let count_whole = whole scope lines befores_there refl fits budgets price_of_steps (count_of scope budgets) (count_prices scope budgets)
       (most_of_acts price_of_steps steps [] body) high (before [] [])
-      (g1.go (has_all lines) refl).0 g1.tall in
-      let w2 = whole scope lines bs refl fits budgets price_of_looks (looks_of scope budgets) (looks_prices scope budgets)
+      (count_way.go (has_all lines) refl).0 count_way.tall in
+      let looks_whole = whole scope lines befores_there refl fits budgets price_of_looks (looks_of scope budgets) (looks_prices scope budgets)
       (most_of_acts price_of_looks looks [] body) high (before [] [])
-      (g2.go (has_all lines) refl).0 g2.tall in
-      let w3 = whole scope lines bs refl fits budgets price_of_puts (puts_of scope budgets) (puts_prices scope budgets)
+      (looks_way.go (has_all lines) refl).0 looks_way.tall in
+      let puts_whole = whole scope lines befores_there refl fits budgets price_of_puts (puts_of scope budgets) (puts_prices scope budgets)
       (most_of_acts price_of_puts puts [] body) high (before [] [])
-      (g3.go (has_all lines) refl).0 g3.tall in
+      (puts_way.go (has_all lines) refl).0 puts_way.tall in
       let own : words_of_all scope.locals ≡ weights (acts_local_kinds (costed_heads deep) [] body) =
-      all_words_coded (acts_local_kinds (callee_heads callees) [] body) ∙ ap (λ hs. weights (acts_local_kinds hs [] body)) deep_heads in
-      let last = w1.1 in
-      record { by_count = w1.0; by_looks = w2.0; by_puts = w3.0; by_words = omega (arith, last, own) }
+      all_words_coded (acts_local_kinds (callee_heads callees) [] body) ∙ ap (λ heads. weights (acts_local_kinds heads [] body)) deep_heads in
+      let last = count_whole.1 in
+      record { by_count = count_whole.0; by_looks = looks_whole.0; by_puts = puts_whole.0; by_words = omega (arith, last, own) }
 
-  pub function_comes : (params : List Parameter) (result : Kind) (body : Tree) (bs : List Before)
-      → let block : Block = function_block callees params result body in
+  pub function_comes : (parameters : List Parameter) (result : Kind) (body : Tree) (befores_there : List Before)
+      → let block : Block = function_block callees parameters result body in
       let scope : Scope = scope_of basin all number block in
-      let names : Names = param_names params in
-      befores scope 0 (before [] []) block.lines ≡ Ok bs → IsKindedBody basin (callee_heads callees) names result body
-      → Comes scope block.lines bs budgets (most_of_body price_of_steps steps names result body) (most_of_body price_of_looks looks names result body)
+      let names : Names = param_names parameters in
+      befores scope 0 (before [] []) block.lines ≡ Ok befores_there → IsKindedBody basin (callee_heads callees) names result body
+      → Comes scope block.lines befores_there budgets (most_of_body price_of_steps steps names result body)
+      (most_of_body price_of_looks looks names result body)
       (most_of_body price_of_puts puts names result body)
-      (weights (param_kinds params) + (weights (local_kinds (costed_heads deep) names body) + max (height deep names body) (weight result)))
-  function_comes params result body bs fits h =
-      let block : Block = function_block callees params result body in
+      (weights (param_kinds parameters) + (weights (local_kinds (costed_heads deep) names body) + max (height deep names body) (weight result)))
+  function_comes parameters result body befores_there fits is_kinded_body =
+      let block : Block = function_block callees parameters result body in
       let scope : Scope = scope_of basin all number block in
       let lines : List Instruction = block.lines in
-      let names : Names = param_names params in
+      let names : Names = param_names parameters in
       let kept : ℕ = words_kept scope.locals (before [] []) in
       let high : ℕ = kept + max (height deep names body) (weight result) in
       let end : Before = before (code_kind result ∷ []) [] in
-      let c1 = paying_calls scope lines bs refl fits budgets callees callable steps deep costed.by_words price_of_steps (count_of scope budgets)
+      let count_calls =
+      paying_calls scope lines befores_there refl fits budgets callees callable steps deep costed.by_words price_of_steps (count_of scope budgets)
       (count_prices scope budgets)
       (call_count budgets) costed.by_steps (counts_call scope budgets) in
-      let c2 = paying_calls scope lines bs refl fits budgets callees callable looks deep costed.by_words price_of_looks (looks_of scope budgets)
+      let looks_calls =
+      paying_calls scope lines befores_there refl fits budgets callees callable looks deep costed.by_words price_of_looks (looks_of scope budgets)
       (looks_prices scope budgets)
-      (call_part (λ (b : Budget). b.looks) budgets) costed.by_looks (looks_call scope budgets) in
-      let c3 = paying_calls scope lines bs refl fits budgets callees callable puts deep costed.by_words price_of_puts (puts_of scope budgets)
+      (call_part (λ (its_budget : Budget). its_budget.looks) budgets) costed.by_looks (looks_call scope budgets) in
+      let puts_calls =
+      paying_calls scope lines befores_there refl fits budgets callees callable puts deep costed.by_words price_of_puts (puts_of scope budgets)
       (puts_prices scope budgets)
-      (call_part (λ (b : Budget). b.puts) budgets) costed.by_puts (puts_call scope budgets) in
-      let g1 = function_goes basin all number callees steps deep steps_heads deep_heads price_of_steps params result body
-      (paying_account scope lines bs refl fits budgets price_of_steps (count_of scope budgets) (count_prices scope budgets)) c1 h in
-      let g2 = function_goes basin all number callees looks deep
-      (costed_same _ callees looks costed.by_looks) deep_heads price_of_looks params result body
-      (paying_account scope lines bs refl fits budgets price_of_looks (looks_of scope budgets) (looks_prices scope budgets)) c2 h in
-      let g3 = function_goes basin all number callees puts deep
-      (costed_same _ callees puts costed.by_puts) deep_heads price_of_puts params result body
-      (paying_account scope lines bs refl fits budgets price_of_puts (puts_of scope budgets) (puts_prices scope budgets)) c3 h in
-      let w1 = whole scope lines bs refl fits budgets price_of_steps (count_of scope budgets) (count_prices scope budgets)
+      (call_part (λ (its_budget : Budget). its_budget.puts) budgets) costed.by_puts (puts_call scope budgets) in
+      let count_way = function_goes basin all number callees steps deep steps_heads deep_heads price_of_steps parameters result body
+      (paying_account scope lines befores_there refl fits budgets price_of_steps (count_of scope budgets) (count_prices scope budgets)) count_calls
+      is_kinded_body in
+      let looks_way = function_goes basin all number callees looks deep
+      (costed_same _ callees looks costed.by_looks) deep_heads price_of_looks parameters result body
+      (paying_account scope lines befores_there refl fits budgets price_of_looks (looks_of scope budgets) (looks_prices scope budgets)) looks_calls
+      is_kinded_body in
+      let puts_way = function_goes basin all number callees puts deep
+      (costed_same _ callees puts costed.by_puts) deep_heads price_of_puts parameters result body
+      (paying_account scope lines befores_there refl fits budgets price_of_puts (puts_of scope budgets) (puts_prices scope budgets)) puts_calls
+      is_kinded_body in
+      let count_whole = whole scope lines befores_there refl fits budgets price_of_steps (count_of scope budgets) (count_prices scope budgets)
       (most_of_body price_of_steps steps names result body) high end
-      (g1.go (has_all lines) refl).0 g1.tall in
-      let w2 = whole scope lines bs refl fits budgets price_of_looks (looks_of scope budgets) (looks_prices scope budgets)
+      (count_way.go (has_all lines) refl).0 count_way.tall in
+      let looks_whole = whole scope lines befores_there refl fits budgets price_of_looks (looks_of scope budgets) (looks_prices scope budgets)
       (most_of_body price_of_looks looks names result body) high end
-      (g2.go (has_all lines) refl).0 g2.tall in
-      let w3 = whole scope lines bs refl fits budgets price_of_puts (puts_of scope budgets) (puts_prices scope budgets)
+      (looks_way.go (has_all lines) refl).0 looks_way.tall in
+      let puts_whole = whole scope lines befores_there refl fits budgets price_of_puts (puts_of scope budgets) (puts_prices scope budgets)
       (most_of_body price_of_puts puts names result body) high end
-      (g3.go (has_all lines) refl).0 g3.tall in
-      let given = code_kinds (param_kinds params) in
-      let bound_names : Names = names_in (parameters_from 0 params) in
-      let own : words_of_all scope.locals ≡ weights (param_kinds params) + weights (local_kinds (costed_heads deep) names body) =
+      (puts_way.go (has_all lines) refl).0 puts_way.tall in
+      let given = code_kinds (param_kinds parameters) in
+      let bound_names : Names = names_in (parameters_from 0 parameters) in
+      let own : words_of_all scope.locals ≡ weights (param_kinds parameters) + weights (local_kinds (costed_heads deep) names body) =
       words_added given (code_kinds (local_kinds (callee_heads callees) bound_names body))
-      ∙ ap₂ (λ m n. m + n) (all_words_coded (param_kinds params)) (all_words_coded (local_kinds (callee_heads callees) bound_names body)
-      ∙ ap₂ (λ hs ns. weights (local_kinds hs ns body)) deep_heads (parameter_names 0 params)) in
-      let last = w1.1 in
-      record { by_count = w1.0; by_looks = w2.0; by_puts = w3.0; by_words = omega (arith, last, own) }
+      ∙ ap₂ (λ m n. m + n) (all_words_coded (param_kinds parameters)) (all_words_coded (local_kinds (callee_heads callees) bound_names body)
+      ∙ ap₂ (λ heads ns. weights (local_kinds heads ns body)) deep_heads (parameter_names 0 parameters)) in
+      let last = count_whole.1 in
+      record { by_count = count_whole.0; by_looks = looks_whole.0; by_puts = puts_whole.0; by_words = omega (arith, last, own) }

@@ -17,17 +17,19 @@ use Rattle.rpl_compile.proofs.LocalFacts.{parameter_names, many_params}
 -- ---- types that are written
 
 kind_is : (written : TypeName) → HasListRoom written → written_kind written ≡ kind_of_type written
-kind_is (numeric_list m unit) h = ap numbers_kind (short_is _ h.1)
-kind_is (slot_list m unit) h = ap slots_kind (short_is _ h.1)
-kind_is _ h = refl
+kind_is (numeric_list room unit) has_list_room = ap numbers_kind (short_is _ has_list_room.1)
+kind_is (slot_list room unit) has_list_room = ap slots_kind (short_is _ has_list_room.1)
+kind_is _ has_list_room = refl
 
-takes_are : (params : List Parameter) → HaveRoom params → written_takes params ≡ param_kinds params
-takes_are [] h = refl
-takes_are (p ∷ ps) h = λ i. kind_is p.of_type h.0 i ∷ takes_are ps h.1 i
+takes_are : (parameters : List Parameter) → HaveRoom parameters → written_takes parameters ≡ param_kinds parameters
+takes_are [] have_room = refl
+takes_are (parameter ∷ parameters) have_room = λ i. kind_is parameter.of_type have_room.0 i ∷ takes_are parameters have_room.1 i
 
-parameters_are : (n : ℕ) (params : List Parameter) → HaveRoom params → written_parameters n params ≡ parameters_from n params
-parameters_are n [] h = refl
-parameters_are n (p ∷ ps) h = λ i. bound p.name (kind_is p.of_type h.0 i) n ∷ parameters_are (n + 1) ps h.1 i
+parameters_are : (number : ℕ) (parameters : List Parameter) → HaveRoom parameters
+    → written_parameters number parameters ≡ parameters_from number parameters
+parameters_are number [] have_room = refl
+parameters_are number (parameter ∷ parameters) have_room =
+    λ i. bound parameter.name (kind_is parameter.of_type have_room.0 i) number ∷ parameters_are (number + 1) parameters have_room.1 i
 
 predefined_spelt : AllByRecursion IsSpelt predefined_callees
 predefined_spelt = (
@@ -44,7 +46,7 @@ predefined_spelt = (
 module _ (basin : Draft) (valid : IsBasin basin) where
   rule_is : (callees : List Callee) (body : Acts) → AllByRecursion IsSpelt callees → AreKindedActs basin (callee_heads callees) [] body
       → written_rule callees body ≡ rule_block callees body
-  rule_is callees body spelled h =
+  rule_is callees body spelled are_kinded_acts =
       let begin : At (begun [] []) (start [] 0) [] [] = record {
         scope = refl;
         below = refl;
@@ -53,52 +55,53 @@ module _ (basin : Draft) (valid : IsBasin basin) where
         free = refl;
         place = refl;
       } in
-      let left = claim_acts basin callees spelled valid body _ _ _ _ begin h in
+      let left = claim_acts basin callees spelled valid body _ _ _ _ begin are_kinded_acts in
       λ i. record { head = Rule; locals = left.locals i; lines = left.lines i }
 
-  function_is : (callees : List Callee) (params : List Parameter) (result : TypeName) (body : Tree) → AllByRecursion IsSpelt callees → HaveRoom params
-      → HasListRoom result → IsKindedBody basin (callee_heads callees) (param_names params) (kind_of_type result) body
-      → written_function callees params (written_kind result) body ≡ function_block callees params (kind_of_type result) body
-  function_is callees params result body spelled rooms room h =
-      let scope = parameters_from 0 params in
-      let site = start scope (length params) in
-      let takes = code_kinds (param_kinds params) in
+  function_is : (callees : List Callee) (parameters : List Parameter) (result : TypeName) (body : Tree) → AllByRecursion IsSpelt callees
+      → HaveRoom parameters
+      → HasListRoom result → IsKindedBody basin (callee_heads callees) (param_names parameters) (kind_of_type result) body
+      → written_function callees parameters (written_kind result) body ≡ function_block callees parameters (kind_of_type result) body
+  function_is callees parameters result body spelled rooms room is_kinded_body =
+      let scope = parameters_from 0 parameters in
+      let site = start scope (length parameters) in
+      let takes = code_kinds (param_kinds parameters) in
       let kind = kind_is result room in
-      let long : length takes ≡ length params = length-map (param_kinds params) code_kind ∙ many_params params in
-      let begin : At (begun_function params) site takes [] = record {
-        scope = parameters_are 0 params rooms;
+      let long : length takes ≡ length parameters = length-map (param_kinds parameters) code_kind ∙ many_params parameters in
+      let begin : At (begun_function parameters) site takes [] = record {
+        scope = parameters_are 0 parameters rooms;
         below = refl;
-        locals = ap code_kinds (takes_are params rooms);
+        locals = ap code_kinds (takes_are parameters rooms);
         lines = refl;
         free = long;
         place = refl;
       } in
       let inside : IsKinded basin (callee_heads callees) (names_in scope) body =
-      subst (λ names. IsKinded basin (callee_heads callees) names body) (sym (parameter_names 0 params)) h.0 in
+      subst (λ names. IsKinded basin (callee_heads callees) names body) (sym (parameter_names 0 parameters)) is_kinded_body.0 in
       let own = claim basin callees spelled valid body _ site _ _ begin inside in
       let left = room_at _ _ (kind_of_type result) (kind_of_tree callees site body) kind own.kind own.on in
       let kept = code_kinds (local_kinds (callee_heads callees) (names_in scope) body) in
       let locals = (λ i. drop (sym long i) (left.locals i)) ∙ drop-append_seam takes kept in
-      λ i. record { head = Function (code_kind (kind i)) (code_kinds (takes_are params rooms i)); locals = locals i; lines = left.lines i }
+      λ i. record { head = Function (code_kind (kind i)) (code_kinds (takes_are parameters rooms i)); locals = locals i; lines = left.lines i }
 
   blocks_are : (callees : List Callee) (number : ℕ) (rules : List Declared) → AllByRecursion IsSpelt callees → AreRoomy rules
       → AreKindedFrom basin (callee_heads callees) rules → written_from callees number rules ≡ blocks_from callees number rules
-  blocks_are callees number [] spelled rooms h = refl
-  blocks_are callees number (rule called_so body ∷ rest) spelled rooms h =
-      λ i. rule_is callees body spelled h.0 i ∷ blocks_are callees (number + 1) rest spelled rooms h.1 i
-  blocks_are callees number (function called_so params result body ∷ rest) spelled (room, answers, rooms) (kinded, others) =
+  blocks_are callees number [] spelled rooms are_kinded_from = refl
+  blocks_are callees number (rule called_so body ∷ rest) spelled rooms are_kinded_from =
+      λ i. rule_is callees body spelled are_kinded_from.0 i ∷ blocks_are callees (number + 1) rest spelled rooms are_kinded_from.1 i
+  blocks_are callees number (function called_so parameters result body ∷ rest) spelled (room, answers, rooms) (kinded, others) =
       let made : Callee = record {
-        head = record { name = called_so; takes = param_kinds params; result = kind_of_type result };
+        head = record { name = called_so; takes = param_kinds parameters; result = kind_of_type result };
         block = Some number;
       } in
-      let first = function_is callees params result body spelled room answers kinded in
+      let first = function_is callees parameters result body spelled room answers kinded in
       let spelled_here : IsSpelt made = λ none. absurd (false≢true (subst IsSome none refl)) in
       let behind = blocks_are (made ∷ callees) (number + 1) rest (spelled_here, spelled) rooms others in
       (λ i. first i ∷ written_from (record {
-        head = record { name = called_so; takes = takes_are params room i; result = kind_is result answers i };
+        head = record { name = called_so; takes = takes_are parameters room i; result = kind_is result answers i };
         block = Some number;
       } ∷ callees) (number + 1) rest)
-      ∙ ap (λ bs. function_block callees params (kind_of_type result) body ∷ bs) behind
+      ∙ ap (λ befores_there. function_block callees parameters (kind_of_type result) body ∷ befores_there) behind
 
   pub translated : (rules : List Declared) → AreRoomy rules → AreKinded basin rules → written_from predefined_callees 1 rules ≡ translate rules
-  translated rules rooms h = blocks_are predefined_callees 1 rules predefined_spelt rooms h
+  translated rules rooms are_kinded = blocks_are predefined_callees 1 rules predefined_spelt rooms are_kinded

@@ -13,66 +13,66 @@ use Rattle.rpl_compile.proofs.OfKind.{all_words_coded}
 
 -- ---- prices
 
-count_unit : (scope : Scope) (budgets : List Budget) (b : Before) (i : Instruction) → IsUnit i → count_of scope budgets b i ≡ 1
-count_unit scope budgets b (I.Load n) u = absurd u
-count_unit scope budgets b (I.Store n) u = absurd u
-count_unit scope budgets b (I.List n) u = absurd u
-count_unit scope budgets b I.Append u = absurd u
-count_unit scope budgets b (I.Widen n) u = absurd u
-count_unit scope budgets b (I.Invoke n) u = absurd u
-count_unit scope budgets b _ u = refl
+count_unit : (scope : Scope) (budgets : List Budget) (here : Before) (line : Instruction) → IsUnit line → count_of scope budgets here line ≡ 1
+count_unit scope budgets here (I.Load n) is_unit = absurd is_unit
+count_unit scope budgets here (I.Store n) is_unit = absurd is_unit
+count_unit scope budgets here (I.List n) is_unit = absurd is_unit
+count_unit scope budgets here I.Append is_unit = absurd is_unit
+count_unit scope budgets here (I.Widen n) is_unit = absurd is_unit
+count_unit scope budgets here (I.Invoke n) is_unit = absurd is_unit
+count_unit scope budgets here _ is_unit = refl
 
-looks_unit : (scope : Scope) (budgets : List Budget) (b : Before) (i : Instruction) → IsUnit i → looks_of scope budgets b i ≡ 0
-looks_unit scope budgets b I.Read u = absurd u
-looks_unit scope budgets b I.Known u = absurd u
-looks_unit scope budgets b (I.Invoke n) u = absurd u
-looks_unit scope budgets b _ u = refl
+looks_unit : (scope : Scope) (budgets : List Budget) (here : Before) (line : Instruction) → IsUnit line → looks_of scope budgets here line ≡ 0
+looks_unit scope budgets here I.Read is_unit = absurd is_unit
+looks_unit scope budgets here I.Known is_unit = absurd is_unit
+looks_unit scope budgets here (I.Invoke n) is_unit = absurd is_unit
+looks_unit scope budgets here _ is_unit = refl
 
-puts_unit : (scope : Scope) (budgets : List Budget) (b : Before) (i : Instruction) → IsUnit i → puts_of scope budgets b i ≡ 0
-puts_unit scope budgets b (I.Put o s n) u = absurd u
-puts_unit scope budgets b (I.Invoke n) u = absurd u
-puts_unit scope budgets b _ u = refl
+puts_unit : (scope : Scope) (budgets : List Budget) (here : Before) (line : Instruction) → IsUnit line → puts_of scope budgets here line ≡ 0
+puts_unit scope budgets here (I.Put o s n) is_unit = absurd is_unit
+puts_unit scope budgets here (I.Invoke n) is_unit = absurd is_unit
+puts_unit scope budgets here _ is_unit = refl
 
 pub count_prices : (scope : Scope) (budgets : List Budget) → Prices scope price_of_steps (count_of scope budgets)
 count_prices scope budgets = record {
-  adds = λ m n. refl;
+  adds = λ _ _. refl;
   unit = count_unit scope budgets;
-  load = λ b n k e. ap words_of_kind e;
-  store = λ b n k e. ap words_of_kind e;
-  listed = λ b n. refl;
-  appended = λ b. refl;
-  widened = λ b n. refl;
-  read = λ b. refl;
-  known = λ b. refl;
-  put = λ b o s n. refl;
+  load = λ _ _ _ stands. ap words_of_kind stands;
+  store = λ _ _ _ stands. ap words_of_kind stands;
+  listed = λ _ _. refl;
+  appended = λ _. refl;
+  widened = λ _ _. refl;
+  read = λ _. refl;
+  known = λ _. refl;
+  put = λ _ _ _ _. refl;
 }
 
 pub looks_prices : (scope : Scope) (budgets : List Budget) → Prices scope price_of_looks (looks_of scope budgets)
 looks_prices scope budgets = record {
-  adds = λ m n. omega arith;
+  adds = λ _ _. omega arith;
   unit = looks_unit scope budgets;
-  load = λ b n k e. refl;
-  store = λ b n k e. refl;
-  listed = λ b n. refl;
-  appended = λ b. refl;
-  widened = λ b n. refl;
-  read = λ b. refl;
-  known = λ b. refl;
-  put = λ b o s n. refl;
+  load = λ _ _ _ _. refl;
+  store = λ _ _ _ _. refl;
+  listed = λ _ _. refl;
+  appended = λ _. refl;
+  widened = λ _ _. refl;
+  read = λ _. refl;
+  known = λ _. refl;
+  put = λ _ _ _ _. refl;
 }
 
 pub puts_prices : (scope : Scope) (budgets : List Budget) → Prices scope price_of_puts (puts_of scope budgets)
 puts_prices scope budgets = record {
-  adds = λ m n. omega arith;
+  adds = λ _ _. omega arith;
   unit = puts_unit scope budgets;
-  load = λ b n k e. refl;
-  store = λ b n k e. refl;
-  listed = λ b n. refl;
-  appended = λ b. refl;
-  widened = λ b n. refl;
-  read = λ b. refl;
-  known = λ b. refl;
-  put = λ b o s n. refl;
+  load = λ _ _ _ _. refl;
+  store = λ _ _ _ _. refl;
+  listed = λ _ _. refl;
+  appended = λ _. refl;
+  widened = λ _ _. refl;
+  read = λ _. refl;
+  known = λ _. refl;
+  put = λ _ _ _ _. refl;
 }
 
 -- ---- calls
@@ -83,69 +83,74 @@ CallCost = Head → Option ℕ → ℕ
 
 abbrev pub call_count : List Budget → CallCost
 call_count budgets head None = 1
-call_count budgets head (Some n) = weights head.takes + 1 + part_of (λ (b : Budget). b.count) (numbered budgets n)
+call_count budgets head (Some number) = weights head.takes + 1 + part_of (λ (its_budget : Budget). its_budget.count) (numbered budgets number)
 
 abbrev pub call_part : (Budget → ℕ) → List Budget → CallCost
 call_part part budgets head None = 0
-call_part part budgets head (Some n) = part_of part (numbered budgets n)
+call_part part budgets head (Some number) = part_of part (numbered budgets number)
 
 -- the functions that are costed are those that are called, and cost so much
 abbrev pub AreCosted : CallCost → List Callee → List Costed → Type 0
 AreCosted cost [] [] = Unit {0}
-AreCosted cost (c ∷ callees) (f ∷ functions) = (c.head ≡ f.head) × (cost c.head c.block ≡ f.most) × AreCosted cost callees functions
+AreCosted cost (callee ∷ callees) (costed ∷ functions) = (callee.head ≡ costed.head) × (cost callee.head callee.block ≡ costed.most)
+    × AreCosted cost callees functions
 AreCosted cost _ _ = ⊥
 
 pub costed_same : (cost : CallCost) (callees : List Callee) (functions : List Costed) → AreCosted cost callees functions
     → callee_heads callees ≡ costed_heads functions
-costed_same cost [] [] h = refl
-costed_same cost [] (f ∷ functions) h = absurd h
-costed_same cost (c ∷ callees) [] h = absurd h
-costed_same cost (c ∷ callees) (f ∷ functions) h = ap₂ (λ a b. a ∷ b) h.0 (costed_same cost callees functions h.2)
+costed_same cost [] [] are_costed = refl
+costed_same cost [] (costed ∷ functions) are_costed = absurd are_costed
+costed_same cost (callee ∷ callees) [] are_costed = absurd are_costed
+costed_same cost (callee ∷ callees) (costed ∷ functions) are_costed =
+    ap₂ (λ a b. a ∷ b) are_costed.0 (costed_same cost callees functions are_costed.2)
 
-pub called_cost : (all : List BlockHead) (number : ℕ) (cost : CallCost) (price : Instruction → ℕ) (f : List ℕ)
-    → ((head : Head) (block : Option ℕ) → IsCallable all number head block → price (call_by f block) ≡ cost head block)
+pub called_cost : (all : List BlockHead) (number : ℕ) (cost : CallCost) (price : Instruction → ℕ) (function_name : List ℕ)
+    → ((head : Head) (block : Option ℕ) → IsCallable all number head block → price (call_by function_name block) ≡ cost head block)
     → (callees : List Callee) (functions : List Costed) → AreCallable all number callees → AreCosted cost callees functions
-    → HasHead (callee_heads callees) f
-    → price (call_line callees f) ≡ most_named functions f
-called_cost all number cost price f at [] functions a h has = absurd (cc has)
-called_cost all number cost price f at (c ∷ callees) [] a h has = absurd h
-called_cost all number cost price f at (c ∷ callees) (g ∷ functions) a h has =
-    by (bytes_eq c.head.name f) has (λ more. called_cost all number cost price f at callees functions a.1 h.2 more)
-    ∙ ap (λ (head : Head). if bytes_eq head.name f then g.most else most_named functions f) h.0
+    → HasHead (callee_heads callees) function_name
+    → price (call_line callees function_name) ≡ most_named functions function_name
+called_cost all number cost price function_name at [] functions are_callable are_costed has = absurd (cc has)
+called_cost all number cost price function_name at (callee ∷ callees) [] are_callable are_costed has = absurd are_costed
+called_cost all number cost price function_name at (callee ∷ callees) (costed ∷ functions) are_callable are_costed has =
+    by (bytes_eq callee.head.name function_name) has
+    (λ more. called_cost all number cost price function_name at callees functions are_callable.1 are_costed.2 more)
+    ∙ ap (λ (head : Head). if bytes_eq head.name function_name then costed.most else most_named functions function_name) are_costed.0
   where
-    by : (t : Bool) → IsTrue (t || list_any (λ (head : Head). bytes_eq head.name f) (callee_heads callees))
-        → (HasHead (callee_heads callees) f → price (call_line callees f) ≡ most_named functions f)
-        → price (if t then call_by f c.block else call_line callees f) ≡ (if t then g.most else most_named functions f)
-    by true has later = at c.head c.block a.0 ∙ h.1
+    by : (test : Bool) → IsTrue (test || list_any (λ (head : Head). bytes_eq head.name function_name) (callee_heads callees))
+        → (HasHead (callee_heads callees) function_name → price (call_line callees function_name) ≡ most_named functions function_name)
+        → price (if test then call_by function_name callee.block else call_line callees function_name)
+        ≡ (if test then costed.most else most_named functions function_name)
+    by true has later = at callee.head callee.block are_callable.0 ∙ are_costed.1
     by false has later = later has
 
-module _ (scope : Scope) (budgets : List Budget) (b : Before) (f : List ℕ) where
+module _ (scope : Scope) (budgets : List Budget) (here : Before) (function_name : List ℕ) where
   pub counts_call : (head : Head) (block : Option ℕ) → IsCallable scope.heads scope.number head block
-      → count_of scope budgets b (call_by f block) ≡ call_count budgets head block
-  counts_call head None h = refl
-  counts_call head (Some n) h =
-      let w : words_of_parameters (numbered scope.heads n) ≡ weights head.takes =
-      ap words_of_parameters h.there ∙ all_words_coded head.takes in omega (arith, w)
+      → count_of scope budgets here (call_by function_name block) ≡ call_count budgets head block
+  counts_call head None is_callable = refl
+  counts_call head (Some number) is_callable =
+      let words : words_of_parameters (numbered scope.heads number) ≡ weights head.takes =
+      ap words_of_parameters is_callable.there ∙ all_words_coded head.takes in omega (arith, words)
 
   pub looks_call : (head : Head) (block : Option ℕ) → IsCallable scope.heads scope.number head block
-      → looks_of scope budgets b (call_by f block) ≡ call_part (λ (b : Budget). b.looks) budgets head block
-  looks_call head None h = refl
-  looks_call head (Some n) h = refl
+      → looks_of scope budgets here (call_by function_name block) ≡ call_part (λ (its_budget : Budget). its_budget.looks) budgets head block
+  looks_call head None is_callable = refl
+  looks_call head (Some number) is_callable = refl
 
   pub puts_call : (head : Head) (block : Option ℕ) → IsCallable scope.heads scope.number head block
-      → puts_of scope budgets b (call_by f block) ≡ call_part (λ (b : Budget). b.puts) budgets head block
-  puts_call head None h = refl
-  puts_call head (Some n) h = refl
+      → puts_of scope budgets here (call_by function_name block) ≡ call_part (λ (its_budget : Budget). its_budget.puts) budgets head block
+  puts_call head None is_callable = refl
+  puts_call head (Some number) is_callable = refl
 
   -- beside the words that are there already
   pub words_call : (head : Head) (block : Option ℕ) → IsCallable scope.heads scope.number head block
-      → words_at scope budgets b (call_by f block) - words_kept scope.locals b ≡ call_part (λ (b : Budget). b.words) budgets head block
-  words_call head None h = omega arith
-  words_call head (Some n) h = omega arith
+      → words_at scope budgets here (call_by function_name block) - words_kept scope.locals here
+      ≡ call_part (λ (its_budget : Budget). its_budget.words) budgets head block
+  words_call head None is_callable = omega arith
+  words_call head (Some number) is_callable = omega arith
 
-  pub words_above : (callees : List Callee) → words_kept scope.locals b ≤ words_at scope budgets b (call_line callees f)
+  pub words_above : (callees : List Callee) → words_kept scope.locals here ≤ words_at scope budgets here (call_line callees function_name)
   words_above callees =
-      each_call (λ i. words_kept scope.locals b ≤ words_at scope budgets b i) f (omega arith) (λ n. omega arith) callees
+      each_call (λ i. words_kept scope.locals here ≤ words_at scope budgets here i) function_name (omega arith) (λ n. omega arith) callees
 
 -- ---- predefined functions
 
@@ -157,13 +162,13 @@ predefined_free part budgets = (refl, refl, (refl, refl, (refl, refl, (refl, ref
 
 -- ---- with one budget more
 
-get_front : {A : Type 0} (xs ys : List A) (k : ℕ) → k < length xs → slice_get (xs ++ ys) k ≡ slice_get xs k
-get_front [] ys k lt = absurd (omega (arith, lt))
-get_front (x ∷ xs) ys zero lt = refl
-get_front (x ∷ xs) ys (suc k) lt = get_front xs ys k (omega (arith, lt))
+get_front : {A : Type 0} (xs ys : List A) (place : ℕ) → place < length xs → slice_get (xs ++ ys) place ≡ slice_get xs place
+get_front [] ys place less = absurd (omega (arith, less))
+get_front (x ∷ xs) ys zero less = refl
+get_front (x ∷ xs) ys (suc place) less = get_front xs ys place (omega (arith, less))
 
-pub numbered_front : {A : Type 0} (xs ys : List A) (n : ℕ) → 1 ≤ n → n ≤ length xs → numbered (xs ++ ys) n ≡ numbered xs n
-numbered_front xs ys n low le = ap (λ o. if nat_le 1 n then o else None) (get_front xs ys (n - 1) (omega (arith, low, le)))
+pub numbered_front : {A : Type 0} (xs ys : List A) (number : ℕ) → 1 ≤ number → number ≤ length xs → numbered (xs ++ ys) number ≡ numbered xs number
+numbered_front xs ys number low at_most = ap (λ o. if nat_le 1 number then o else None) (get_front xs ys (number - 1) (omega (arith, low, at_most)))
 
 -- what calls come to stays as it is when budgets are put behind those of the blocks that can be called
 pub costed_later : (all : List BlockHead) (number : ℕ) (budgets more : List Budget) (cost : List Budget → CallCost)
@@ -171,15 +176,19 @@ pub costed_later : (all : List BlockHead) (number : ℕ) (budgets more : List Bu
     → ((head : Head) → cost (budgets ++ more) head None ≡ cost budgets head None) → number ≡ suc (length budgets)
     → (callees : List Callee) (functions : List Costed) → AreCallable all number callees → AreCosted (cost budgets) callees functions
     → AreCosted (cost (budgets ++ more)) callees functions
-costed_later all number budgets more cost by_block free n [] [] a h = tt
-costed_later all number budgets more cost by_block free n [] (f ∷ functions) a h = absurd h
-costed_later all number budgets more cost by_block free n (c ∷ callees) [] a h = absurd h
-costed_later all number budgets more cost by_block free n (c ∷ callees) (f ∷ functions) a h =
-    (h.0, by c.block a.0 ∙ h.1, costed_later all number budgets more cost by_block free n callees functions a.1 h.2)
+costed_later all number budgets more cost by_block free number_is [] [] are_callable are_costed = tt
+costed_later all number budgets more cost by_block free number_is [] (costed ∷ functions) are_callable are_costed = absurd are_costed
+costed_later all number budgets more cost by_block free number_is (callee ∷ callees) [] are_callable are_costed = absurd are_costed
+costed_later all number budgets more cost by_block free number_is (callee ∷ callees) (costed ∷ functions) are_callable are_costed = (
+  are_costed.0,
+  by callee.block are_callable.0
+      ∙ are_costed.1,
+  costed_later all number budgets more cost by_block free number_is callees functions are_callable.1 are_costed.2,
+)
   where
-    by : (block : Option ℕ) → IsCallable all number c.head block → cost (budgets ++ more) c.head block ≡ cost budgets c.head block
-    by None e = free c.head
-    by (Some m) e =
-        let low = (numbered_is all m _ e.there).1 in
-        let lt = e.earlier in
-        by_block c.head m (numbered_front budgets more m low (omega (arith, lt, n)))
+    by : (block : Option ℕ) → IsCallable all number callee.head block → cost (budgets ++ more) callee.head block ≡ cost budgets callee.head block
+    by None is_callable = free callee.head
+    by (Some number_there) is_callable =
+        let low = (numbered_is all number_there _ is_callable.there).1 in
+        let lt = is_callable.earlier in
+        by_block callee.head number_there (numbered_front budgets more number_there low (omega (arith, lt, number_is)))

@@ -1,4 +1,4 @@
--- The lines of expressions are those that TRANSLATE gives: loops, lists, calls, and all expressions.
+-- The lines of expressions are those that TRANSLATE gives: loops, lists, calls, and by recursion all expressions (`claim`).
 use Rattle.rpl_compile.proofs.Common.{AllByRecursion, AreArguments, AreOfKind, Callee, Draft, Instruction, IsBasin, Kind, List, N, Site, Tree, Trees}
 use Rattle.rpl_compile.proofs.Common.{ValueKind, Written, [], after_room, after_tree, all_code, all_local_kinds, ap, append-nil, append_assoc}
 use Rattle.rpl_compile.proofs.Common.{arguments_code, arith, at, bind, bound, brackets, call, call_line, callee_heads, callee_named, choice}
@@ -19,217 +19,254 @@ use Rattle.rpl_compile.proofs.AtSites.{two_locals_at, unnamed_at}
 
 -- ---- lists
 
-behind_two : (ls : List ValueKind) (k l : Kind) (a b c : List Kind)
-    → ((ls ++ code_kind k ∷ []) ++ code_kind l ∷ (code_kinds a ++ code_kinds b)) ++ code_kinds c ≡ ls ++ code_kinds (k ∷ l ∷ (a ++ (b ++ c)))
-behind_two ls k l a b c =
-    append_assoc (ls ++ code_kind k ∷ []) (code_kind l ∷ (code_kinds a ++ code_kinds b)) (code_kinds c)
-    ∙ append_assoc ls (code_kind k ∷ []) (code_kind l ∷ ((code_kinds a ++ code_kinds b) ++ code_kinds c))
-    ∙ ap (λ ks. ls ++ code_kind k ∷ code_kind l ∷ ks)
-    (append_assoc (code_kinds a) (code_kinds b) (code_kinds c) ∙ ap (λ ks. code_kinds a ++ ks) (sym (codes_append b c)) ∙ sym (codes_append a (b
-    ++ c)))
+behind_two : (kept : List ValueKind) (kind other_kind : Kind) (first second third : List Kind)
+    → ((kept ++ code_kind kind ∷ []) ++ code_kind other_kind ∷ (code_kinds first ++ code_kinds second)) ++ code_kinds third
+    ≡ kept ++ code_kinds (kind ∷ other_kind ∷ (first ++ (second ++ third)))
+behind_two kept kind other_kind first second third =
+    append_assoc (kept ++ code_kind kind ∷ []) (code_kind other_kind ∷ (code_kinds first ++ code_kinds second)) (code_kinds third)
+    ∙ append_assoc kept (code_kind kind ∷ []) (code_kind other_kind ∷ ((code_kinds first ++ code_kinds second) ++ code_kinds third))
+    ∙ ap (λ kinds. kept ++ code_kind kind ∷ code_kind other_kind ∷ kinds)
+    (append_assoc (code_kinds first) (code_kinds second) (code_kinds third)
+    ∙ ap (λ kinds. code_kinds first ++ kinds) (sym (codes_append second third)) ∙ sym (codes_append first (second
+    ++ third)))
 
-loop_lines : {A : Type 0} (before l f b r : List A) (s t n o : A)
-    → (((((((((before ++ l) ++ f) ++ s ∷ []) ++ t ∷ []) ++ b) ++ r) ++ s ∷ []) ++ n ∷ []) ++ o ∷ [])
-    ≡ before ++ (l ++ (f ++ (s ∷ t ∷ (b ++ (r ++ (s ∷ n ∷ o ∷ []))))))
-loop_lines before l f b r s t n o =
-    let end = s ∷ n ∷ o ∷ [] in
-    let first = (before ++ l) ++ f in
-    let begun = (first ++ s ∷ []) ++ t ∷ [] in
-    let turn = (begun ++ b) ++ r in
-    append_assoc (turn ++ s ∷ []) (n ∷ []) (o ∷ []) ∙ append_assoc turn (s ∷ []) (n ∷ o ∷ [])
-    ∙ append_assoc (begun ++ b) r end ∙ append_assoc begun b (r ++ end)
-    ∙ append_assoc (first ++ s ∷ []) (t ∷ []) (b ++ (r ++ end)) ∙ append_assoc first (s ∷ []) (t ∷ (b ++ (r ++ end)))
-    ∙ append_assoc (before ++ l) f (s ∷ t ∷ (b ++ (r ++ end))) ∙ append_assoc before l (f ++ (s ∷ t ∷ (b ++ (r ++ end))))
+loop_lines : {A : Type 0} (before source initial body room : List A) (store begin next load : A)
+    → (((((((((before ++ source) ++ initial) ++ store ∷ []) ++ begin ∷ []) ++ body) ++ room) ++ store ∷ []) ++ next ∷ []) ++ load ∷ [])
+    ≡ before ++ (source ++ (initial ++ (store ∷ begin ∷ (body ++ (room ++ (store ∷ next ∷ load ∷ []))))))
+loop_lines before source initial body room store begin next load =
+    let end = store ∷ next ∷ load ∷ [] in
+    let first = (before ++ source) ++ initial in
+    let begun = (first ++ store ∷ []) ++ begin ∷ [] in
+    let turn = (begun ++ body) ++ room in
+    append_assoc (turn ++ store ∷ []) (next ∷ []) (load ∷ []) ∙ append_assoc turn (store ∷ []) (next ∷ load ∷ [])
+    ∙ append_assoc (begun ++ body) room end ∙ append_assoc begun body (room ++ end)
+    ∙ append_assoc (first ++ store ∷ []) (begin ∷ []) (body ++ (room ++ end)) ∙ append_assoc first (store ∷ []) (begin ∷ (body ++ (room ++ end)))
+    ∙ append_assoc (before ++ source) initial (store ∷ begin ∷ (body ++ (room ++ end)))
+    ∙ append_assoc before source (initial ++ (store ∷ begin ∷ (body ++ (room ++ end))))
 
-three_parts : {A : Type 0} (before a b c : List A) → ((before ++ a) ++ b) ++ c ≡ before ++ (a ++ (b ++ c))
-three_parts before a b c = append_assoc (before ++ a) b c ∙ append_assoc before a (b ++ c)
+three_parts : {A : Type 0} (before first second third : List A) → ((before ++ first) ++ second) ++ third ≡ before ++ (first ++ (second ++ third))
+three_parts before first second third = append_assoc (before ++ first) second third ∙ append_assoc before first (second ++ third)
 
 -- values one after the other, each of which waits; what was there before is below
-pub record Row (r : Written) (w : Written) (s : Site) (ls : List ValueKind) (is : List Instruction) (waiting : List ValueKind) : Type 0 where
-  pub scope : r.scope ≡ s.scope
-  pub below : r.below ≡ w.below ++ waiting
-  pub locals : r.locals ≡ ls
-  pub lines : r.lines ≡ is
+pub record Row (result : Written) (so_far : Written) (site : Site) (kept : List ValueKind) (above : List Instruction)
+    (waiting : List ValueKind) : Type 0 where
+  pub scope : result.scope ≡ site.scope
+  pub below : result.below ≡ so_far.below ++ waiting
+  pub locals : result.locals ≡ kept
+  pub lines : result.lines ≡ above
 
-empty_row : {w : Written} {s : Site} {ls : List ValueKind} {is : List Instruction} → At w s ls is → Row w w s (ls ++ []) (is ++ []) []
-empty_row {w} {s} {ls} {is} start = record {
+empty_row : {so_far : Written} {site : Site} {kept : List ValueKind} {above : List Instruction} → At so_far site kept above
+    → Row so_far so_far site (kept ++ []) (above ++ []) []
+empty_row {so_far} {site} {kept} {above} start = record {
   scope = start.scope;
-  below = sym (append-nil w.below);
-  locals = start.locals ∙ sym (append-nil ls);
-  lines = start.lines ∙ sym (append-nil is);
+  below = sym (append-nil so_far.below);
+  locals = start.locals ∙ sym (append-nil kept);
+  lines = start.lines ∙ sym (append-nil above);
 }
 
 module _ (basin : Draft) (callees : List Callee) where
-  pub on_each : (x : List ℕ) (l : Tree) (a : List ℕ) (f b : Tree) → Claim basin callees l → Claim basin callees f → Claim basin callees b
-      → Claim basin callees (each x l a f b)
-  on_each x l a f b claim_l claim_f claim_b w s ls is start h =
+  pub on_each : (item_name : List ℕ) (source : Tree) (total_name : List ℕ) (initial body : Tree) → Claim basin callees source
+      → Claim basin callees initial → Claim basin callees body
+      → Claim basin callees (each item_name source total_name initial body)
+  on_each item_name source total_name initial body claim_of_source claim_of_initial claim_of_body so_far site kept above start is_kinded =
       let heads = callee_heads callees in
-      let names = names_in s.scope in
-      let all_kind = kind_of_tree callees s l in
+      let names = names_in site.scope in
+      let all_kind = kind_of_tree callees site source in
       let item = element_of all_kind in
-      let kind = kind_of_tree callees s f in
-      let items = keeping 2 s in
-      let all = claim_l _ items _ _ (two_locals_at start) h.0 in
-      let total = claim_f _ (over all_kind (after_tree callees l items)) _ _ (operand_at _ all_kind all.kind all.on) h.2 in
-      let behind = after_tree callees f (after_tree callees l items) in
-      let kept_l = code_kinds (local_kinds heads names l) in
-      let kept_f = code_kinds (local_kinds heads names f) in
-      let number : length w.locals ≡ length ls = ap (λ (ks : List ValueKind). length ks) start.locals in
-      let sum : length (w.locals ++ N ∷ []) ≡ length (ls ++ code_kind item ∷ []) =
-      ap (λ (ks : List ValueKind). length (ks ++ N ∷ [])) start.locals ∙ as_long ls [] N (code_kind item) in
-      let sum_free : length (w.locals ++ N ∷ []) ≡ s.free + 1 = sum ∙ longer ls (code_kind item ∷ []) start.free in
-      let element = ap element_of all.kind in
-      let first = kind_at ls (N ∷ (kept_l ++ kept_f)) N _ item (length w.locals) number element
-      (locals_as _ (gathered_twice ls kept_l kept_f N N) (taken_at all_kind behind total.on)) in
-      let second = kind_at (ls ++ code_kind item ∷ []) (kept_l ++ kept_f) N _ kind _ sum total.kind
-      (locals_as _ (sym (append_assoc ls (code_kind item ∷ []) (N ∷ (kept_l ++ kept_f)))) first) in
-      let stored = line_at (I.Store (length (w.locals ++ N ∷ []))) (I.Store (s.free + 1)) (ap I.Store sum_free) second in
-      let begun = twice_on behind (line_at (I.Foreach (length w.locals)) (I.Foreach s.free) (ap I.Foreach (number ∙ start.free)) stored) in
-      let named = name_at a _ kind _ (s.free + 1) total.kind sum_free (name_at x _ item _ s.free element (number ∙ start.free) begun) in
-      let inside = knowing (bound a kind (s.free + 1)) (knowing (bound x item s.free) (on 2 behind)) in
-      let body = claim_b _ inside _ _ named h.3 in
-      let outside = on (size heads (names_in inside.scope) b) (keeping (local_count b) (on 2 behind)) in
-      let unnamed = unnamed_at (bound x item s.free) outside
-      (unnamed_at (bound a kind (s.free + 1)) (knowing (bound x item s.free) outside) body.on) in
-      let room = room_at _ _ kind (kind_of_tree callees inside b) total.kind body.kind unnamed in
-      let again = line_at (I.Store (length (w.locals ++ N ∷ []))) (I.Store (s.free + 1)) (ap I.Store sum_free) room in
-      let last = line_at (I.Load (length (w.locals ++ N ∷ []))) (I.Load (s.free + 1)) (ap I.Load sum_free) (line_at I.Next I.Next refl again) in
-      ended basin callees (each x l a f b) (compiled callees w (each x l a f b)) start h total.kind last.scope last.below
-      (last.locals ∙ behind_two ls item kind (local_kinds heads names l) (local_kinds heads names f) (local_kinds heads (names_in inside.scope) b))
-      (last.lines ∙ loop_lines is _ _ (code_of callees inside b) (room_lines callees kind inside b) (I.Store (s.free + 1)) (I.Foreach s.free) I.Next
-      (I.Load (s.free + 1)))
+      let kind = kind_of_tree callees site initial in
+      let items = keeping 2 site in
+      let source_written = claim_of_source _ items _ _ (two_locals_at start) is_kinded.0 in
+      let total =
+      claim_of_initial _ (over all_kind (after_tree callees source items)) _ _
+      (operand_at _ all_kind source_written.kind source_written.on) is_kinded.2 in
+      let behind = after_tree callees initial (after_tree callees source items) in
+      let source_locals = code_kinds (local_kinds heads names source) in
+      let initial_locals = code_kinds (local_kinds heads names initial) in
+      let number : length so_far.locals ≡ length kept = ap (λ (also_kept : List ValueKind). length also_kept) start.locals in
+      let sum : length (so_far.locals ++ N ∷ []) ≡ length (kept ++ code_kind item ∷ []) =
+      ap (λ (also_kept : List ValueKind). length (also_kept ++ N ∷ [])) start.locals ∙ as_long kept [] N (code_kind item) in
+      let sum_free : length (so_far.locals ++ N ∷ []) ≡ site.free + 1 = sum ∙ longer kept (code_kind item ∷ []) start.free in
+      let element = ap element_of source_written.kind in
+      let first = kind_at kept (N ∷ (source_locals ++ initial_locals)) N _ item (length so_far.locals) number element
+      (locals_as _ (gathered_twice kept source_locals initial_locals N N) (taken_at all_kind behind total.on)) in
+      let second = kind_at (kept ++ code_kind item ∷ []) (source_locals ++ initial_locals) N _ kind _ sum total.kind
+      (locals_as _ (sym (append_assoc kept (code_kind item ∷ []) (N ∷ (source_locals ++ initial_locals)))) first) in
+      let stored = line_at (I.Store (length (so_far.locals ++ N ∷ []))) (I.Store (site.free + 1)) (ap I.Store sum_free) second in
+      let begun = twice_on behind (line_at (I.Foreach (length so_far.locals)) (I.Foreach site.free) (ap I.Foreach (number ∙ start.free)) stored) in
+      let named =
+      name_at total_name _ kind _ (site.free + 1) total.kind sum_free
+      (name_at item_name _ item _ site.free element (number ∙ start.free) begun) in
+      let inside = knowing (bound total_name kind (site.free + 1)) (knowing (bound item_name item site.free) (on 2 behind)) in
+      let body_written = claim_of_body _ inside _ _ named is_kinded.3 in
+      let outside = on (size heads (names_in inside.scope) body) (keeping (local_count body) (on 2 behind)) in
+      let unnamed = unnamed_at (bound item_name item site.free) outside
+      (unnamed_at (bound total_name kind (site.free + 1)) (knowing (bound item_name item site.free) outside) body_written.on) in
+      let room = room_at _ _ kind (kind_of_tree callees inside body) total.kind body_written.kind unnamed in
+      let again = line_at (I.Store (length (so_far.locals ++ N ∷ []))) (I.Store (site.free + 1)) (ap I.Store sum_free) room in
+      let last = line_at (I.Load (length (so_far.locals ++ N ∷ []))) (I.Load (site.free + 1)) (ap I.Load sum_free)
+      (line_at I.Next I.Next refl again) in
+      ended basin callees (each item_name source total_name initial body)
+      (compiled callees so_far (each item_name source total_name initial body)) start is_kinded total.kind last.scope last.below
+      (last.locals
+      ∙ behind_two kept item kind (local_kinds heads names source) (local_kinds heads names initial)
+      (local_kinds heads (names_in inside.scope) body))
+      (last.lines
+      ∙ loop_lines above _ _ (code_of callees inside body) (room_lines callees kind inside body) (I.Store (site.free + 1))
+      (I.Foreach site.free) I.Next
+      (I.Load (site.free + 1)))
 
   -- ---- values in a row
 
   abbrev ClaimAll : Trees → Type 0
-  ClaimAll ts =
-      (w : Written) (s : Site) (ls : List ValueKind) (is : List Instruction) → At w s ls is → (kind : Kind)
-      → AreOfKind basin (callee_heads callees) (names_in s.scope) kind ts → (waiting : List ValueKind) × (length waiting ≡ count_of ts)
-      × Row (compiled_all callees w ts) w s (ls ++ code_kinds (all_local_kinds (callee_heads callees) (names_in s.scope) ts)) (is
-      ++ all_code callees s ts) waiting
+  ClaimAll expressions =
+      (so_far : Written) (site : Site) (kept : List ValueKind) (above : List Instruction) → At so_far site kept above → (kind : Kind)
+      → AreOfKind basin (callee_heads callees) (names_in site.scope) kind expressions → (waiting : List ValueKind)
+      × (length waiting ≡ count_of expressions)
+      × Row (compiled_all callees so_far expressions) so_far site
+      (kept ++ code_kinds (all_local_kinds (callee_heads callees) (names_in site.scope) expressions)) (above
+      ++ all_code callees site expressions) waiting
 
   on_none : ClaimAll no_trees
-  on_none w s ls is start kind h = ([], refl, empty_row start)
+  on_none so_far site kept above start kind are_of_kind = ([], refl, empty_row start)
 
-  on_tree : (t : Tree) (ts : Trees) → Claim basin callees t → ClaimAll ts → ClaimAll (tree t ts)
-  on_tree t ts claim_t claim_ts w s ls is start kind h =
+  on_tree : (expression : Tree) (expressions : Trees) → Claim basin callees expression → ClaimAll expressions → ClaimAll (tree expression expressions)
+  on_tree expression expressions claim_of_expression claim_of_expressions so_far site kept above start kind are_of_kind =
       let heads = callee_heads callees in
-      let names = names_in s.scope in
-      let own = kind_of_tree callees s t in
-      let first = claim_t w s ls is start h.0 in
-      let waits = operand_at (compiled callees w t).kind own first.kind first.on in
-      let rest = claim_ts _ (over own (after_tree callees t s)) _ _ waits kind h.2 in
-      let long : length (code_kind own ∷ rest.0) ≡ count_of ts + 1 = let e = rest.1 in omega (arith, e) in
+      let names = names_in site.scope in
+      let own = kind_of_tree callees site expression in
+      let first = claim_of_expression so_far site kept above start are_of_kind.0 in
+      let waits = operand_at (compiled callees so_far expression).kind own first.kind first.on in
+      let rest = claim_of_expressions _ (over own (after_tree callees expression site)) _ _ waits kind are_of_kind.2 in
+      let long : length (code_kind own ∷ rest.0) ≡ count_of expressions + 1 = let e = rest.1 in omega (arith, e) in
       let row = rest.2 in (
         code_kind own ∷ rest.0,
         long,
         record {
           scope = row.scope;
           below = row.below ∙ (λ i. ((first.on.below ∙ sym start.below) i ++ code_kind (first.kind i) ∷ []) ++ rest.0)
-              ∙ append_assoc w.below (code_kind own ∷ []) rest.0;
-          locals = row.locals ∙ two_more ls (local_kinds heads names t) (all_local_kinds heads names ts);
-          lines = row.lines ∙ append_assoc is (code_of callees s t) _;
+              ∙ append_assoc so_far.below (code_kind own ∷ []) rest.0;
+          locals = row.locals ∙ two_more kept (local_kinds heads names expression) (all_local_kinds heads names expressions);
+          lines = row.lines ∙ append_assoc above (code_of callees site expression) _;
         },
       )
 
-  on_list : (ts : Trees) → ClaimAll ts → Claim basin callees (list ts)
-  on_list ts claim_ts w s ls is start h =
+  on_list : (expressions : Trees) → ClaimAll expressions → Claim basin callees (list expressions)
+  on_list expressions claim_of_expressions so_far site kept above start is_kinded =
       let heads = callee_heads callees in
-      let names = names_in s.scope in
-      let found = claim_ts w s ls is start (first_kind heads names ts) h.3 in
+      let names = names_in site.scope in
+      let found = claim_of_expressions so_far site kept above start (first_kind heads names expressions) is_kinded.3 in
       let row = found.2 in
-      let short_count = short_is (count_of ts) h.1 in
-      let first = ap (λ scope. first_ahead callees (names_in scope) ts) start.scope ∙ first_is basin callees names
-      (first_kind heads names ts) ts h.3 in
-      ended basin callees (list ts) (compiled callees w (list ts)) start h (λ i. list_kind (short_count i) (first i)) row.scope
-      (ap (λ (b : List ValueKind). take (length b - count_of ts) b) row.below ∙ taken w.below found.0 (count_of ts) found.1 ∙ start.below)
-      row.locals ((λ i. row.lines i ++ I.List (short_count i) ∷ []) ∙ append_assoc is _ (I.List (count_of ts) ∷ []))
+      let short_count = short_is (count_of expressions) is_kinded.1 in
+      let first = ap (λ scope. first_ahead callees (names_in scope) expressions) start.scope ∙ first_is basin callees names
+      (first_kind heads names expressions) expressions is_kinded.3 in
+      ended basin callees (list expressions) (compiled callees so_far (list expressions)) start is_kinded
+      (λ i. list_kind (short_count i) (first i)) row.scope
+      (ap (λ (below : List ValueKind). take (length below - count_of expressions) below) row.below
+      ∙ taken so_far.below found.0 (count_of expressions) found.1 ∙ start.below)
+      row.locals ((λ i. row.lines i ++ I.List (short_count i) ∷ []) ∙ append_assoc above _ (I.List (count_of expressions) ∷ []))
 
   -- ---- arguments
 
   abbrev ClaimArguments : Trees → Type 0
-  ClaimArguments ts =
-      (w : Written) (s : Site) (ls : List ValueKind) (is : List Instruction) → At w s ls is → (kinds : List Kind)
-      → AreArguments basin (callee_heads callees) (names_in s.scope) kinds ts
-      → Row (compiled_arguments callees w kinds ts) w s (ls ++ code_kinds (all_local_kinds (callee_heads callees) (names_in s.scope) ts))
-      (is ++ arguments_code callees s kinds ts) (code_kinds kinds)
+  ClaimArguments expressions =
+      (so_far : Written) (site : Site) (kept : List ValueKind) (above : List Instruction) → At so_far site kept above → (kinds : List Kind)
+      → AreArguments basin (callee_heads callees) (names_in site.scope) kinds expressions
+      → Row (compiled_arguments callees so_far kinds expressions) so_far site
+      (kept ++ code_kinds (all_local_kinds (callee_heads callees) (names_in site.scope) expressions))
+      (above ++ arguments_code callees site kinds expressions) (code_kinds kinds)
 
   no_arguments : ClaimArguments no_trees
-  no_arguments w s ls is start [] h = empty_row start
-  no_arguments w s ls is start (kind ∷ kinds) h = absurd h
+  no_arguments so_far site kept above start [] are_arguments = empty_row start
+  no_arguments so_far site kept above start (kind ∷ kinds) are_arguments = absurd are_arguments
 
-  on_argument : (t : Tree) (ts : Trees) → Claim basin callees t → ClaimArguments ts → ClaimArguments (tree t ts)
-  on_argument t ts claim_t claim_ts w s ls is start [] h = absurd h
-  on_argument t ts claim_t claim_ts w s ls is start (kind ∷ kinds) h =
+  on_argument : (expression : Tree) (expressions : Trees) → Claim basin callees expression → ClaimArguments expressions
+      → ClaimArguments (tree expression expressions)
+  on_argument expression expressions claim_of_expression claim_of_expressions so_far site kept above start [] are_arguments = absurd are_arguments
+  on_argument expression expressions claim_of_expression claim_of_expressions so_far site kept above start (kind ∷ kinds) are_arguments =
       let heads = callee_heads callees in
-      let names = names_in s.scope in
-      let first = claim_t w s ls is start h.0 in
-      let room = room_at kind (compiled callees w t).kind kind (kind_of_tree callees s t) refl first.kind first.on in
-      let row = claim_ts _ (over kind (after_room callees kind s t)) _ _ (operand_at kind kind refl room) kinds h.2 in
+      let names = names_in site.scope in
+      let first = claim_of_expression so_far site kept above start are_arguments.0 in
+      let room = room_at kind (compiled callees so_far expression).kind kind (kind_of_tree callees site expression) refl first.kind first.on in
+      let row = claim_of_expressions _ (over kind (after_room callees kind site expression)) _ _
+      (operand_at kind kind refl room) kinds are_arguments.2 in
       record {
         scope = row.scope;
         below = row.below ∙ (λ i. ((room.below ∙ sym start.below) i ++ code_kind kind ∷ []) ++ code_kinds kinds)
-            ∙ append_assoc w.below (code_kind kind ∷ []) (code_kinds kinds);
-        locals = row.locals ∙ two_more ls (local_kinds heads names t) (all_local_kinds heads names ts);
-        lines = row.lines ∙ three_parts is (code_of callees s t) (room_lines callees kind s t) _;
+            ∙ append_assoc so_far.below (code_kind kind ∷ []) (code_kinds kinds);
+        locals = row.locals ∙ two_more kept (local_kinds heads names expression) (all_local_kinds heads names expressions);
+        lines = row.lines ∙ three_parts above (code_of callees site expression) (room_lines callees kind site expression) _;
       }
 
   -- ---- all expressions, where predefined names are text and the basin is valid
 
   module _ (spelled : AllByRecursion IsSpelt callees) (valid : IsBasin basin) where
-    on_call : (f : List ℕ) (ts : Trees) → ClaimArguments ts → Claim basin callees (call f ts)
-    on_call f ts claim_ts w s ls is start h =
+    on_call : (function_name : List ℕ) (expressions : Trees) → ClaimArguments expressions → Claim basin callees (call function_name expressions)
+    on_call function_name expressions claim_of_expressions so_far site kept above start is_kinded =
         let heads = callee_heads callees in
-        let takes = (callee_named callees f).head.takes in
-        let same = takes_is callees f in
-        let row = claim_ts w s ls is start takes (subst (λ kinds. AreArguments basin heads (names_in s.scope) kinds ts) (sym same) h.1) in
-        ended basin callees (call f ts) (compiled callees w (call f ts)) start h (result_is callees f) row.scope
-        (ap (λ (b : List ValueKind). take (length b - length takes) b) row.below ∙ taken w.below (code_kinds takes) (length takes)
+        let takes = (callee_named callees function_name).head.takes in
+        let same = takes_is callees function_name in
+        let row = claim_of_expressions so_far site kept above start takes
+        (subst (λ kinds. AreArguments basin heads (names_in site.scope) kinds expressions) (sym same) is_kinded.1) in
+        ended basin callees (call function_name expressions) (compiled callees so_far (call function_name expressions)) start is_kinded
+        (result_is callees function_name) row.scope
+        (ap (λ (below : List ValueKind). take (length below - length takes) below) row.below ∙ taken so_far.below (code_kinds takes) (length takes)
         (length-map takes code_kind)
         ∙ start.below)
         row.locals
-        ((λ i. row.lines i ++ call_is callees f spelled h.0 i ∷ [])
-        ∙ append_assoc is (arguments_code callees s takes ts) (call_line callees f ∷ [])
-        ∙ ap (λ kinds. is ++ (arguments_code callees s kinds ts ++ call_line callees f ∷ [])) same)
+        ((λ i. row.lines i ++ call_is callees function_name spelled is_kinded.0 i ∷ [])
+        ∙ append_assoc above (arguments_code callees site takes expressions) (call_line callees function_name ∷ [])
+        ∙ ap (λ kinds. above ++ (arguments_code callees site kinds expressions ++ call_line callees function_name ∷ [])) same)
 
     mutual
-      pub claim : (t : Tree) → Claim basin callees t
-      claim (literal n unit) = λ w s ls is start h.
-          on_leaf basin callees (literal n unit) number_kind (I.Num (number_in_units n unit)) (number_line n unit) w s ls is start h refl (ap I.Num
-          (number_is n unit h)) refl refl
-      claim (truth b) = λ w s ls is start h. on_leaf basin callees (truth b) truth_kind (I.Bool b) (I.Bool b) w s ls is start h refl refl refl refl
-      claim now = λ w s ls is start h. on_leaf basin callees now date_kind I.Now I.Now w s ls is start h refl refl refl refl
-      claim (slot o x) = λ w s ls is start h.
-          on_leaf basin callees (slot o x) slot_kind (I.Slot (spelt_name o) (spelt_name x)) (I.Slot o x) w s ls is start h refl
-          (λ i. I.Slot (owner_spelt basin valid o x h i) (slot_spelt basin valid o x h i)) refl refl
-      claim (name x) = λ w s ls is start h.
-          on_leaf basin callees (name x) (kind_named (names_in w.scope) x) (I.Load (local_named w.scope x)) (I.Load
-          (local_named s.scope x)) w s ls is start h
-          (ap (λ scope. kind_named (names_in scope) x) start.scope) (ap (λ scope. I.Load (local_named scope x)) start.scope) refl refl
-      claim (call f ts) = on_call f ts (claim_arguments ts)
-      claim (brackets t) = λ w s ls is start h. let own = claim t w s ls is start h in record { kind = own.kind; on = own.on }
-      claim (list ts) = on_list ts (claim_all ts)
-      claim (choice c y n) = on_choice basin callees c y n (claim c) (claim y) (claim n)
-      claim (bind x e b) = on_bind basin callees x e b (claim e) (claim b)
-      claim (each x l a f b) = on_each x l a f b (claim l) (claim f) (claim b)
-      claim (mapped x l b) = on_mapped basin callees x l b (claim l) (claim b)
-      claim (one One.Known (at sl d)) = on_known basin callees sl d (claim sl) (claim d)
-      claim (one One.Known e) = λ w s ls is start h. absurd h.1
-      claim (one word e) = λ w s ls is start h.
-          on_one basin callees (one word e) e (one_kind word) (one_line word) (one_line word) (claim e) w s ls is start h h.0 refl refl refl refl
-      claim (two Two.Or l r) = on_or basin callees l r (claim l) (claim r)
-      claim (two Two.And l r) = on_and basin callees l r (claim l) (claim r)
-      claim (two word l r) = λ w s ls is start h. on_two basin callees word l r (claim l) (claim r) w s ls is start h refl
-      claim (convert word o e) = λ w s ls is start h.
-          on_one basin callees (convert word o e) e number_kind (convert_line word (spelt_name o)) (convert_line word o)
-          (claim e) w s ls is start h h.1 refl
-          (ap (convert_line word) (table_spelt basin valid o h.0)) refl refl
-      claim (at sl d) = on_at basin callees sl d (claim sl) (claim d)
+      pub claim : (expression : Tree) → Claim basin callees expression
+      claim (literal number unit) = λ so_far site kept above start is_kinded.
+          on_leaf basin callees (literal number unit) number_kind (I.Num (number_in_units number unit))
+          (number_line number unit) so_far site kept above start is_kinded refl (ap I.Num
+          (number_is number unit is_kinded)) refl refl
+      claim (truth is_so) =
+          λ so_far site kept above start is_kinded.
+          on_leaf basin callees (truth is_so) truth_kind (I.Bool is_so) (I.Bool is_so) so_far site kept above start is_kinded refl refl refl refl
+      claim now =
+          λ so_far site kept above start is_kinded.
+          on_leaf basin callees now date_kind I.Now I.Now so_far site kept above start is_kinded refl refl refl refl
+      claim (slot object slot_name) = λ so_far site kept above start is_kinded.
+          on_leaf basin callees (slot object slot_name) slot_kind (I.Slot (spelt_name object) (spelt_name slot_name))
+          (I.Slot object slot_name) so_far site kept above start is_kinded refl
+          (λ i. I.Slot (owner_spelt basin valid object slot_name is_kinded i) (slot_spelt basin valid object slot_name is_kinded i)) refl refl
+      claim (name sought) = λ so_far site kept above start is_kinded.
+          on_leaf basin callees (name sought) (kind_named (names_in so_far.scope) sought) (I.Load (local_named so_far.scope sought)) (I.Load
+          (local_named site.scope sought)) so_far site kept above start is_kinded
+          (ap (λ scope. kind_named (names_in scope) sought) start.scope) (ap (λ scope. I.Load (local_named scope sought)) start.scope) refl refl
+      claim (call function_name arguments) = on_call function_name arguments (claim_arguments arguments)
+      claim (brackets inside) = λ so_far site kept above start is_kinded. let own = claim inside so_far site kept above start is_kinded in
+          record { kind = own.kind; on = own.on }
+      claim (list items) = on_list items (claim_all items)
+      claim (choice condition if_true if_false) =
+          on_choice basin callees condition if_true if_false (claim condition) (claim if_true) (claim if_false)
+      claim (bind new_name value_tree body) = on_bind basin callees new_name value_tree body (claim value_tree) (claim body)
+      claim (each item_name source total_name initial body) =
+          on_each item_name source total_name initial body (claim source) (claim initial) (claim body)
+      claim (mapped item_name source body) = on_mapped basin callees item_name source body (claim source) (claim body)
+      claim (one One.Known (at slot_tree date)) = on_known basin callees slot_tree date (claim slot_tree) (claim date)
+      claim (one One.Known operand) = λ so_far site kept above start is_kinded. absurd is_kinded.1
+      claim (one word operand) = λ so_far site kept above start is_kinded.
+          on_one basin callees (one word operand) operand (one_kind word) (one_line word) (one_line word)
+          (claim operand) so_far site kept above start is_kinded is_kinded.0 refl refl refl refl
+      claim (two Two.Or left right) = on_or basin callees left right (claim left) (claim right)
+      claim (two Two.And left right) = on_and basin callees left right (claim left) (claim right)
+      claim (two word left right) =
+          λ so_far site kept above start is_kinded.
+          on_two basin callees word left right (claim left) (claim right) so_far site kept above start is_kinded refl
+      claim (convert word object operand) = λ so_far site kept above start is_kinded.
+          on_one basin callees (convert word object operand) operand number_kind (convert_line word (spelt_name object)) (convert_line word object)
+          (claim operand) so_far site kept above start is_kinded is_kinded.1 refl
+          (ap (convert_line word) (table_spelt basin valid object is_kinded.0)) refl refl
+      claim (at slot_tree date) = on_at basin callees slot_tree date (claim slot_tree) (claim date)
 
-      pub claim_all : (ts : Trees) → ClaimAll ts
+      pub claim_all : (expressions : Trees) → ClaimAll expressions
       claim_all no_trees = on_none
-      claim_all (tree t ts) = on_tree t ts (claim t) (claim_all ts)
+      claim_all (tree first others) = on_tree first others (claim first) (claim_all others)
 
-      pub claim_arguments : (ts : Trees) → ClaimArguments ts
+      pub claim_arguments : (expressions : Trees) → ClaimArguments expressions
       claim_arguments no_trees = no_arguments
-      claim_arguments (tree t ts) = on_argument t ts (claim t) (claim_arguments ts)
+      claim_arguments (tree first others) = on_argument first others (claim first) (claim_arguments others)

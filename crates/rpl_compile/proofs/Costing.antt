@@ -1,4 +1,5 @@
--- Where code of a declaration stands, and what it is told in.
+-- What the code of a declaration is told in (`Costing`): where it stands, the functions that can be called with what they cost, and the account.
+-- `Claim` is what is proved of each tree: its lines lead from the operands below to its value, and come to what the tree costs.
 use Rattle.rpl_compile.proofs.Common.{Before, Callee, Costed, HasHead, Head, Instruction, IsKinded, Kind, List, Names, Ok, Open, Price, Scope, Site}
 use Rattle.rpl_compile.proofs.Common.{Some, Tree, ValueKind, [], ap, arith, before, behind, call_line, callee_heads, code_kind, code_kinds, code_of}
 use Rattle.rpl_compile.proofs.Common.{costed_heads, going_of, height, judged_at, length, local_kinds, max, most, most_named, names_in, onward, refl}
@@ -17,18 +18,19 @@ use Rattle.rpl_compile.proofs.LocalSizes.{locals_size}
 -- in a block of this scope, a call of each function that there is fits, and comes to what the function costs
 pub record CallFits (scope : Scope) (lines : List Instruction) (pays : Price) (account : Account scope lines pays) (callees : List Callee)
     (functions deep : List Costed)
-    (f : List ℕ) (p : ℕ) (b c : Before) : Type 0 where
-  pub fits : judged_at scope p b (call_line callees f) ≡ Ok c
-  pub goes_on : going_of (call_line callees f) ≡ onward
-  pub sum : account.sum_at b (call_line callees f) ≡ most_named functions f
-  pub high : account.high_at b (call_line callees f) ≡ words_kept scope.locals b + most_named deep f
+    (function_name : List ℕ) (place : ℕ) (at_start at_end : Before) : Type 0 where
+  pub fits : judged_at scope place at_start (call_line callees function_name) ≡ Ok at_end
+  pub goes_on : going_of (call_line callees function_name) ≡ onward
+  pub sum : account.sum_at at_start (call_line callees function_name) ≡ most_named functions function_name
+  pub high : account.high_at at_start (call_line callees function_name) ≡ words_kept scope.locals at_start + most_named deep function_name
 
 abbrev pub CallsFit : (scope : Scope) (lines : List Instruction) (pays : Price) → Account scope lines pays → List Callee → List Costed → List Costed
     → Type 0
 CallsFit scope lines pays account callees functions deep =
-    (f : List ℕ) → HasHead (callee_heads callees) f → (p : ℕ) (ls : List ValueKind) (os : List Open)
-    → CallFits scope lines pays account callees functions deep f p (before (reverse (code_kinds (takes_named (callee_heads callees) f)) ++ ls) os)
-    (before (code_kind (result_named (callee_heads callees) f) ∷ ls) os)
+    (function_name : List ℕ) → HasHead (callee_heads callees) function_name → (place : ℕ) (under : List ValueKind) (open_loops : List Open)
+    → CallFits scope lines pays account callees functions deep function_name place
+    (before (reverse (code_kinds (takes_named (callee_heads callees) function_name)) ++ under) open_loops)
+    (before (code_kind (result_named (callee_heads callees) function_name) ∷ under) open_loops)
 
 -- what the code of a declaration is told in: the functions that can be called, with what they cost and how high they stand; the block; and the
 -- account
@@ -47,10 +49,10 @@ pub record Costing : Type 1 where
 
 -- what is before a site, and before one with this operand more
 abbrev pub here : Site → List Open → Before
-here site os = before (code_kinds site.below) os
+here site open_loops = before (code_kinds site.below) open_loops
 
 abbrev pub with_one : Kind → Site → List Open → Before
-with_one kind site os = before (code_kind kind ∷ code_kinds site.below) os
+with_one kind site open_loops = before (code_kind kind ∷ code_kinds site.below) open_loops
 
 abbrev pub names_at : Site → Names
 names_at site = names_in site.scope
@@ -60,61 +62,78 @@ module _ (costing : Costing) where
   heads = callee_heads costing.callees
 
   abbrev pub Leads : List Instruction → ℕ → Before → Before → ℕ → ℕ → Type 0
-  Leads xs p b c s h = Goes costing.scope costing.lines costing.spots_are costing.pays costing.account xs p b c s h
+  Leads first_lines place at_start at_end sum high =
+      Goes costing.scope costing.lines costing.spots_are costing.pays costing.account first_lines place at_start at_end sum high
 
   abbrev pub kept : Before → ℕ
-  kept b = words_kept costing.scope.locals b
+  kept at_start = words_kept costing.scope.locals at_start
 
-  pub seq : {xs ys : List Instruction} {p q s t h g : ℕ} {b c d : Before} → q ≡ p + length xs → Leads xs p b c s h → Leads ys q c d t g
-      → Leads (xs ++ ys) p b d (s + t) (max h g)
-  seq {xs} {ys} {p} {q} {s} {t} {h} {g} {b} {c} {d} e f l =
-      goes_then costing.scope costing.lines costing.spots_are costing.pays costing.account {xs = xs} {ys = ys} {p = p} {q = q} {s = s} {t = t}
-      {h = h} {g = g} {b = b} {c = c} {d = d} e f l
+  pub seq : {first_lines second_lines : List Instruction} {place second_place sum other_sum high other_high : ℕ} {at_start at_middle at_end : Before}
+      → second_place ≡ place + length first_lines → Leads first_lines place at_start at_middle sum high
+      → Leads second_lines second_place at_middle at_end other_sum other_high
+      → Leads (first_lines ++ second_lines) place at_start at_end (sum + other_sum) (max high other_high)
+  seq {first_lines} {second_lines} {place} {second_place} {sum} {other_sum} {high} {other_high} {at_start} {at_middle}
+      {at_end} second_place_is first second =
+      goes_then costing.scope costing.lines costing.spots_are costing.pays costing.account
+      {first_lines = first_lines} {second_lines = second_lines} {place = place} {second_place = second_place} {sum = sum} {other_sum = other_sum}
+      {high = high} {other_high = other_high} {here = at_start} {there = at_middle} {further = at_end} second_place_is first second
 
-  pub told : {xs : List Instruction} {p s t h g : ℕ} {b c : Before} → Leads xs p b c s h → s ≡ t → h ≡ g → Leads xs p b c t g
-  told {xs} {p} {s} {t} {h} {g} {b} {c} way e f =
-      goes_as costing.scope costing.lines costing.spots_are costing.pays costing.account {xs = xs} {p = p} {s = s} {t = t} {h = h} {g = g} {b = b}
-      {c = c} way e f
+  pub told : {first_lines : List Instruction} {place sum other_sum high other_high : ℕ} {at_start at_end : Before}
+      → Leads first_lines place at_start at_end sum high → sum ≡ other_sum → high ≡ other_high
+      → Leads first_lines place at_start at_end other_sum other_high
+  told {first_lines} {place} {sum} {other_sum} {high} {other_high} {at_start} {at_end} way sum_is high_is =
+      goes_as costing.scope costing.lines costing.spots_are costing.pays costing.account
+      {first_lines = first_lines} {place = place} {sum = sum} {other_sum = other_sum}
+      {high = high} {other_high = other_high} {here = at_start} {there = at_end} way sum_is high_is
 
-  pub to : {xs : List Instruction} {p s h : ℕ} {b c d : Before} → c ≡ d → Leads xs p b c s h → Leads xs p b d s h
-  to {xs} {p} {s} {h} {b} {c} {d} e way =
-      goes_to costing.scope costing.lines costing.spots_are costing.pays costing.account {xs = xs} {p = p} {s = s} {h = h} {b = b} {c = c} {d = d} e
-      way
+  pub to : {first_lines : List Instruction} {place sum high : ℕ} {at_start at_end same_end : Before} → at_end ≡ same_end
+      → Leads first_lines place at_start at_end sum high → Leads first_lines place at_start same_end sum high
+  to {first_lines} {place} {sum} {high} {at_start} {at_end} {same_end} there_is way =
+      goes_to costing.scope costing.lines costing.spots_are costing.pays costing.account
+      {first_lines = first_lines} {place = place} {sum = sum} {high = high} {here = at_start} {there = at_end} {further = same_end} there_is way
 
-  pub line : {i : Instruction} {p s : ℕ} {b c : Before} → judged_at costing.scope p b i ≡ Ok c → going_of i ≡ onward → (IsInvoke i → ⊥)
-      → costing.account.sum_at b i ≡ s
-      → Leads (i ∷ []) p b c s (max (words_kept costing.scope.locals b) (words_kept costing.scope.locals c))
-  line {i} {p} {s} {b} {c} j w none e =
-      goes_line costing.scope costing.lines costing.spots_are costing.pays costing.account {i = i} {p = p} {s = s} {b = b} {c = c} j w none e
+  pub line : {instruction : Instruction} {place sum : ℕ} {at_start at_end : Before} → judged_at costing.scope place at_start instruction ≡ Ok at_end
+      → going_of instruction ≡ onward → (IsInvoke instruction → ⊥)
+      → costing.account.sum_at at_start instruction ≡ sum
+      → Leads (instruction ∷ []) place at_start at_end sum (max (words_kept costing.scope.locals at_start) (words_kept costing.scope.locals at_end))
+  line {instruction} {place} {sum} {at_start} {at_end} judged going none sum_is =
+      goes_line costing.scope costing.lines costing.spots_are costing.pays costing.account
+      {line = instruction} {place = place} {sum = sum} {here = at_start} {there = at_end} judged going none sum_is
 
-  pub stores : (p n : ℕ) (k : Kind) (ls : List ValueKind) (os : List Open) → slice_get costing.scope.locals n ≡ Some (code_kind k)
-      → Leads (I.Store n ∷ []) p (before (code_kind k ∷ ls) os) (before ls os) (costing.pays.step (weight k)) (kept (before (code_kind k ∷ ls) os))
-  stores p n k ls os h =
-      told (line (store_fits costing.scope p n (code_kind k) ls os h) refl (λ x. x)
-      (costing.account.prices.store (before (code_kind k ∷ ls) os) n (code_kind k) h ∙ ap costing.pays.step (words_coded k)))
+  pub stores : (place number : ℕ) (kind : Kind) (under : List ValueKind) (open_loops : List Open)
+      → slice_get costing.scope.locals number ≡ Some (code_kind kind)
+      → Leads (I.Store number ∷ []) place (before (code_kind kind ∷ under) open_loops) (before under open_loops) (costing.pays.step (weight kind))
+      (kept (before (code_kind kind ∷ under) open_loops))
+  stores place number kind under open_loops stands =
+      told (line (store_fits costing.scope place number (code_kind kind) under open_loops stands) refl (λ x. x)
+      (costing.account.prices.store (before (code_kind kind ∷ under) open_loops) number (code_kind kind) stands
+      ∙ ap costing.pays.step (words_coded kind)))
       refl (omega arith)
 
-  pub loads : (p n : ℕ) (k : Kind) (ls : List ValueKind) (os : List Open) → slice_get costing.scope.locals n ≡ Some (code_kind k)
-      → Leads (I.Load n ∷ []) p (before ls os) (before (code_kind k ∷ ls) os) (costing.pays.step (weight k)) (kept (before (code_kind k ∷ ls) os))
-  loads p n k ls os h =
-      told (line (load_fits costing.scope p n (code_kind k) ls os h) refl (λ x. x)
-      (costing.account.prices.load (before ls os) n (code_kind k) h ∙ ap costing.pays.step (words_coded k))) refl (omega arith)
+  pub loads : (place number : ℕ) (kind : Kind) (under : List ValueKind) (open_loops : List Open)
+      → slice_get costing.scope.locals number ≡ Some (code_kind kind)
+      → Leads (I.Load number ∷ []) place (before under open_loops) (before (code_kind kind ∷ under) open_loops) (costing.pays.step (weight kind))
+      (kept (before (code_kind kind ∷ under) open_loops))
+  loads place number kind under open_loops stands =
+      told (line (load_fits costing.scope place number (code_kind kind) under open_loops stands) refl (λ x. x)
+      (costing.account.prices.load (before under open_loops) number (code_kind kind) stands ∙ ap costing.pays.step (words_coded kind))) refl
+      (omega arith)
 
   abbrev pub kind_of_code : Site → Tree → Kind
-  kind_of_code site t = tree_kind heads (names_in site.scope) t
+  kind_of_code site expression = tree_kind heads (names_in site.scope) expression
 
   -- the kinds by which a tree is costed are those of its code
-  pub same_kind : (names : Names) (t : Tree) → tree_kind heads names t ≡ tree_kind (costed_heads costing.functions) names t
-  same_kind names t = ap (λ hs. tree_kind hs names t) costing.same_heads
+  pub same_kind : (names : Names) (expression : Tree) → tree_kind heads names expression ≡ tree_kind (costed_heads costing.functions) names expression
+  same_kind names expression = ap (λ heads. tree_kind heads names expression) costing.same_heads
 
-  pub deep_kind : (names : Names) (t : Tree) → tree_kind heads names t ≡ tree_kind (costed_heads costing.deep) names t
-  deep_kind names t = ap (λ hs. tree_kind hs names t) costing.deep_heads
+  pub deep_kind : (names : Names) (expression : Tree) → tree_kind heads names expression ≡ tree_kind (costed_heads costing.deep) names expression
+  deep_kind names expression = ap (λ heads. tree_kind heads names expression) costing.deep_heads
 
   abbrev pub cost : Names → Tree → ℕ
-  cost names t = most costing.pays costing.functions names t
+  cost names expression = most costing.pays costing.functions names expression
 
   abbrev pub tall_of : Names → Tree → ℕ
-  tall_of names t = height costing.deep names t
+  tall_of names expression = height costing.deep names expression
 
   -- what gives an expression the room of its place
   abbrev pub room_cost : Kind → Kind → ℕ
@@ -122,28 +141,30 @@ module _ (costing : Costing) where
 
   -- an expression may stand at a site: it is of the kinds that are asked for, and its names and itself have their locals
   abbrev pub Own : Site → Tree → Type 0
-  Own site t = HasAt costing.scope.locals site.free (code_kinds (local_kinds heads (names_in site.scope) t))
+  Own site expression = HasAt costing.scope.locals site.free (code_kinds (local_kinds heads (names_in site.scope) expression))
 
   abbrev pub Claim : Tree → Type 0
-  Claim t =
-      (site : Site) (os : List Open) → IsKinded costing.scope.basin heads (names_in site.scope) t → Placed costing.scope.locals site.scope
-      → Own site t
-      → Leads (code_of costing.callees site t) site.place (here site os) (with_one (kind_of_code site t) site os)
-      (most costing.pays costing.functions (names_in site.scope) t)
-      (words_kept costing.scope.locals (here site os) + height costing.deep (names_in site.scope) t)
+  Claim expression =
+      (site : Site) (open_loops : List Open) → IsKinded costing.scope.basin heads (names_in site.scope) expression
+      → Placed costing.scope.locals site.scope
+      → Own site expression
+      → Leads (code_of costing.callees site expression) site.place (here site open_loops) (with_one (kind_of_code site expression) site open_loops)
+      (most costing.pays costing.functions (names_in site.scope) expression)
+      (words_kept costing.scope.locals (here site open_loops) + height costing.deep (names_in site.scope) expression)
 
   -- the place behind the code of an expression
-  pub far : (site : Site) (t : Tree) → IsKinded costing.scope.basin heads (names_in site.scope) t
-      → (behind heads t site).place ≡ site.place + length (code_of costing.callees site t)
-  far site t h = ap (λ n. site.place + n) (sym (code-size costing.scope.basin costing.callees site t h))
+  pub far : (site : Site) (expression : Tree) → IsKinded costing.scope.basin heads (names_in site.scope) expression
+      → (behind heads expression site).place ≡ site.place + length (code_of costing.callees site expression)
+  far site expression is_kinded = ap (λ n. site.place + n) (sym (code-size costing.scope.basin costing.callees site expression is_kinded))
 
   -- the locals behind those of an expression
-  pub own_back : (site : Site) (t : Tree) (ks : List Kind)
-      → HasAt costing.scope.locals site.free (code_kinds (local_kinds heads (names_in site.scope) t ++ ks))
-      → HasAt costing.scope.locals (behind heads t site).free (code_kinds ks)
-  own_back site t ks h = kinds_back costing.scope.locals site.free _ (local_kinds heads (names_in site.scope) t) ks
-      (locals_size heads t (names_in site.scope)) h
+  pub own_back : (site : Site) (expression : Tree) (kinds : List Kind)
+      → HasAt costing.scope.locals site.free (code_kinds (local_kinds heads (names_in site.scope) expression ++ kinds))
+      → HasAt costing.scope.locals (behind heads expression site).free (code_kinds kinds)
+  own_back site expression kinds placed = kinds_back costing.scope.locals site.free _ (local_kinds heads (names_in site.scope) expression) kinds
+      (locals_size heads expression (names_in site.scope)) placed
 
-  pub own_front : (site : Site) (t : Tree) (ks : List Kind)
-      → HasAt costing.scope.locals site.free (code_kinds (local_kinds heads (names_in site.scope) t ++ ks)) → Own site t
-  own_front site t ks h = kinds_front costing.scope.locals site.free (local_kinds heads (names_in site.scope) t) ks h
+  pub own_front : (site : Site) (expression : Tree) (kinds : List Kind)
+      → HasAt costing.scope.locals site.free (code_kinds (local_kinds heads (names_in site.scope) expression ++ kinds)) → Own site expression
+  own_front site expression kinds placed =
+      kinds_front costing.scope.locals site.free (local_kinds heads (names_in site.scope) expression) kinds placed

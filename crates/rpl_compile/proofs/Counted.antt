@@ -2,6 +2,6 @@
 use Rattle.rpl_compile.proofs.Common.{List, [], arith, count_of, length, refl, trees_in, ◌∷◌, ◌≡◌}
 use Rattle.rpl_tree.specs.declared.expression.Expr.{Expr}
 
-pub count_is : (es : List Expr) → count_of (trees_in es) ≡ length es
+pub count_is : (expressions : List Expr) → count_of (trees_in expressions) ≡ length expressions
 count_is [] = refl
-count_is (e ∷ es) = let rest = count_is es in omega (arith, rest)
+count_is (first ∷ expressions) = let rest = count_is expressions in omega (arith, rest)

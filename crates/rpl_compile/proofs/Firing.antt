@@ -16,66 +16,68 @@ use Rattle.rpl_compile.proofs.Rulesets.{Found, Over, found}
 -- ---- runs
 
 abbrev IsSettled : {A : Type 0} → Answer A → Type 0
-IsSettled (value x) = Unit {0}
-IsSettled (ended e) = Unit {0}
+IsSettled (value made) = Unit {0}
+IsSettled (ended end) = Unit {0}
 IsSettled stuck = ⊥
 
 module _ (code : List Block) (world : World) where
   -- a run that has come to its end stays as it is, with more steps
-  stays : (n more all : ℕ) (s : State) → n + more ≡ all → IsSettled (run code world n s).answer → run code world all s ≡ run code world n s
-  stays zero more zero [] e h = refl
-  stays zero more (suc all) [] e h = refl
-  stays (suc n) more zero [] e h = refl
-  stays (suc n) more (suc all) [] e h = refl
-  stays zero more all (f ∷ fs) e h = absurd h
-  stays (suc n) more zero (f ∷ fs) e h = absurd (omega (arith, e))
-  stays (suc n) more (suc all) (f ∷ fs) e h = by (step code world f fs).answer (step code world f fs).trail h
-      (λ s settled. stays n more all s (omega (arith, e)) settled)
+  stays : (made more all : ℕ) (state : State) → made + more ≡ all → IsSettled (run code world made state).answer
+      → run code world all state ≡ run code world made state
+  stays zero more zero [] same_place is_settled = refl
+  stays zero more (suc all) [] same_place is_settled = refl
+  stays (suc made) more zero [] same_place is_settled = refl
+  stays (suc made) more (suc all) [] same_place is_settled = refl
+  stays zero more all (f ∷ state) same_place is_settled = absurd is_settled
+  stays (suc made) more zero (f ∷ state) same_place is_settled = absurd (omega (arith, same_place))
+  stays (suc made) more (suc all) (f ∷ state) same_place is_settled = by (step code world f state).answer (step code world f state).trail is_settled
+      (λ s settled. stays made more all s (omega (arith, same_place)) settled)
     where
-      by : (a : Answer State) (t : Trail) → IsSettled (goes_on a t (run code world n)).answer
-          → ((s : State) → IsSettled (run code world n s).answer → run code world all s ≡ run code world n s)
-          → goes_on a t (run code world all) ≡ goes_on a t (run code world n)
-      by (value s) t h later = ap (after t) (later s h)
-      by (ended end) t h later = refl
-      by stuck t h later = refl
+      by : (answer : Answer State) (trail : Trail) → IsSettled (goes_on answer trail (run code world made)).answer
+          → ((some_state : State) → IsSettled (run code world made some_state).answer
+          → run code world all some_state ≡ run code world made some_state)
+          → goes_on answer trail (run code world all) ≡ goes_on answer trail (run code world made)
+      by (value some_state) trail is_settled later = ap (after trail) (later some_state is_settled)
+      by (ended end) trail is_settled later = refl
+      by stuck trail is_settled later = refl
 
   -- what a rule comes to, in so many steps
-  ran : (s : State) (a : Answer (Unit {0})) (t : Trail) → GoesOn code world a t s (Over code world)
-      → IsSettled a × ((n : ℕ) × (run code world n s ≡ record { answer = a; trail = t }))
-  ran s (value done) t g =
-      let o = g.1 in
-      let r = g.2 1 in (
+  ran : (state : State) (answer : Answer (Unit {0})) (trail : Trail) → GoesOn code world answer trail state (Over code world)
+      → IsSettled answer × ((n : ℕ) × (run code world n state ≡ record { answer = answer; trail = trail }))
+  ran state (value made) trail goes =
+      let over = goes.1 in
+      let settles = goes.2 1 in (
         tt,
         (
-          r.0,
-          r.1 ∙ ap (after t) (ap (run code world 1) o.1 ∙ ap (λ m. m >>= run code world 0) o.2 ∙ after_nothing (gives tt 0))
-              ∙ same_outcome (value tt) (joined t (spent 0)) t (nothing_last t),
+          settles.0,
+          settles.1 ∙ ap (after trail) (ap (run code world 1) over.1 ∙ ap (λ m. m >>= run code world 0) over.2 ∙ after_nothing (gives tt 0))
+              ∙ same_outcome (value tt) (joined trail (spent 0)) trail (nothing_last trail),
         ),
       )
-  ran s (ended e) t g = (tt, (g.0, g.1))
-  ran s stuck t g = absurd g
+  ran state (ended end) trail goes = (tt, (goes.0, goes.1))
+  ran state stuck trail goes = absurd goes
 
-fire_settled : (a : Answer (Unit {0})) (t : Trail) (fire : Fire) → fire_of a t ≡ Some fire → IsSettled a
-fire_settled (value done) t fire h = tt
-fire_settled (ended e) t fire h = tt
-fire_settled stuck t fire h = absurd (cc h)
+fire_settled : (answer : Answer (Unit {0})) (trail : Trail) (fire : Fire) → fire_of answer trail ≡ Some fire → IsSettled answer
+fire_settled (value made) trail fire fires_so = tt
+fire_settled (ended end) trail fire fires_so = tt
+fire_settled stuck trail fire fires_so = absurd (cc fires_so)
 
-settled_fires : (a : Answer (Unit {0})) (t : Trail) → IsSettled a → IsSome (fire_of a t)
-settled_fires (value done) t h = refl
-settled_fires (ended e) t h = refl
-settled_fires stuck t h = absurd h
+settled_fires : (answer : Answer (Unit {0})) (trail : Trail) → IsSettled answer → IsSome (fire_of answer trail)
+settled_fires (value made) trail fires_so = refl
+settled_fires (ended end) trail fires_so = refl
+settled_fires stuck trail fires_so = absurd fires_so
 
 -- the blocks that are answered
 abbrev blocks_or : List Block → Result Accepted Refusal → List Block
-blocks_or blocks (Ok a) = a.blocks
+blocks_or blocks (Ok code) = code.blocks
 blocks_or blocks (Err why) = blocks
 
-same_blocks : (basin : Draft) (blocks : List Block) (a : Accepted) → verified basin blocks ≡ Ok a → a.blocks ≡ blocks
-same_blocks basin blocks a h = by (ruling basin blocks) h
+same_blocks : (basin : Draft) (blocks : List Block) (code : Accepted) → verified basin blocks ≡ Ok code → code.blocks ≡ blocks
+same_blocks basin blocks code accepted = by (ruling basin blocks) accepted
   where
-    by : (r : Result (List Budget) Refusal) → with_budgets basin blocks r ≡ Ok a → a.blocks ≡ blocks
-    by (Ok budgets) h = sym (ap (blocks_or blocks) h)
-    by (Err why) h = absurd (cc h)
+    by : (judged : Result (List Budget) Refusal) → with_budgets basin blocks judged ≡ Ok code → code.blocks ≡ blocks
+    by (Ok budgets) accepted = sym (ap (blocks_or blocks) accepted)
+    by (Err why) accepted = absurd (cc accepted)
 
 module _ (basin : Draft) (rules : List Declared) (kinded : AreKinded basin rules) (number step_no : ℕ) (values : Cell → Option ℤ)
     (there : HasRule rules number) where
@@ -107,32 +109,35 @@ module _ (basin : Draft) (rules : List Declared) (kinded : AreKinded basin rules
   pub fires : IsSome (mean rules basin number step_no values)
   fires = settled_fires done.answer done.trail run_ends.0
 
-  runs_on : (n more : ℕ) → run code world n first ≡ done → run code world (n + more) first ≡ done
-  runs_on n more e = stays code world n more (n + more) first refl (subst (λ (m : Outcome (Unit {0})). IsSettled m.answer) (sym e) run_ends.0) ∙ e
+  runs_on : (made more : ℕ) → run code world made first ≡ done → run code world (made + more) first ≡ done
+  runs_on made more steps =
+      stays code world made more (made + more) first refl (subst (λ (outcome : Outcome (Unit {0})). IsSettled outcome.answer) (sym steps) run_ends.0)
+      ∙ steps
 
   pub ends_alike : EndsAlike rules basin number step_no values
   ends_alike = (
     run_ends.1.0,
     λ more.
         ap (fired_in (run_ends.1.0 + more) code world) begins
-        ∙ ap (λ (m : Outcome (Unit {0})). fire_of m.answer m.trail) (runs_on run_ends.1.0 more run_ends.1.1),
+        ∙ ap (λ (outcome : Outcome (Unit {0})). fire_of outcome.answer outcome.trail) (runs_on run_ends.1.0 more run_ends.1.1),
   )
 
-  pub fires_alike : (a : Accepted) → verified basin code ≡ Ok a → FiresAlike rules basin number step_no values
-  fires_alike a h = by run_ends.1.0 run_ends.1.1 most_steps (is_safe.fires)
+  pub fires_alike : (its_code : Accepted) → verified basin code ≡ Ok its_code → FiresAlike rules basin number step_no values
+  fires_alike its_code verified_so = by run_ends.1.0 run_ends.1.1 most_steps (is_safe.fires)
     where
-      accepted : AreSafe basin code a.budgets
-      accepted = subst (λ blocks. AreSafe basin blocks a.budgets) (same_blocks basin code a h)
-          (safe basin a.blocks a.budgets (answered basin code a h))
+      accepted : AreSafe basin code its_code.budgets
+      accepted = subst (λ blocks. AreSafe basin blocks its_code.budgets) (same_blocks basin code its_code verified_so)
+          (safe basin its_code.blocks its_code.budgets (answered basin code its_code verified_so))
 
       is_safe : IsSafe code basin number step_no values (accepted number the_rule.at step_no values the_rule.rule_is).0
       is_safe = (accepted number the_rule.at step_no values the_rule.rule_is).2
 
-      by : (n : ℕ) → run code world n first ≡ done → (most : ℕ) → fired_in most code world (first_frame code number) ≡ Some is_safe.fire
+      by : (made : ℕ) → run code world made first ≡ done → (most : ℕ) → fired_in most code world (first_frame code number) ≡ Some is_safe.fire
           → fired_in most code world (first_frame code number) ≡ mean rules basin number step_no values
-      by n e most fires =
+      by made steps most fires =
           let settled = fire_settled (run code world most first).answer (run code world most first).trail is_safe.fire
           (sym (ap (fired_in most code world) begins) ∙ fires) in
-          let z : most + n ≡ n + most = omega arith in
+          let same_place : most + made ≡ made + most = omega arith in
           ap (fired_in most code world) begins
-          ∙ ap (λ (m : Outcome (Unit {0})). fire_of m.answer m.trail) (sym (stays code world most n (n + most) first z settled) ∙ runs_on n most e)
+          ∙ ap (λ (outcome : Outcome (Unit {0})). fire_of outcome.answer outcome.trail)
+          (sym (stays code world most made (made + most) first same_place settled) ∙ runs_on made most steps)

@@ -18,31 +18,35 @@ use Rattle.rpl_compile.proofs.BlockWays.{function_goes, rule_goes}
 module _ (scope : Scope) (lines : List Instruction) where
   -- from a place on each place gets what it asks for
   abbrev pub Fitted : ℕ → Before → Type 0
-  Fitted p b = (bs : List Before) × (befores scope p b (drop p lines) ≡ Ok bs)
+  Fitted place here = (befores_there : List Before) × (befores scope place here (drop place lines) ≡ Ok befores_there)
 
   abbrev pub Back : ℕ → Before → ℕ → Before → Type 0
-  Back p b q c = Fitted q c → Fitted p b
+  Back place here second_place there = Fitted second_place there → Fitted place here
 
-  pub back_one : (p : ℕ) (b c : Before) (i : Instruction) → slice_get lines p ≡ Some i → judged_at scope p b i ≡ Ok c → Back p b (suc p) c
-  back_one p b c i g j h = (
-    b ∷ h.0,
-    ap (befores scope p b) (drop_at lines p i g)
-        ∙ ap (λ (r : Result Before VerifyKind). at_place p r (λ c. then_do (befores scope (suc p) c (drop (suc p) lines)) (λ bs. Ok (b ∷ bs)))) j
-        ∙ ap (λ (r : Result (List Before) Misplaced). then_do r (λ bs. Ok (b ∷ bs))) h.1,
+  pub back_one : (place : ℕ) (here there : Before) (line : Instruction) → slice_get lines place ≡ Some line
+      → judged_at scope place here line ≡ Ok there → Back place here (suc place) there
+  back_one place here there line stands judged fitted = (
+    here ∷ fitted.0,
+    ap (befores scope place here) (drop_at lines place line stands)
+        ∙ ap (λ (r : Result Before VerifyKind).
+        at_place place r (λ c. then_do (befores scope (suc place) c (drop (suc place) lines)) (λ befores_there. Ok (here ∷ befores_there))))
+        judged
+        ∙ ap (λ (r : Result (List Before) Misplaced). then_do r (λ befores_there. Ok (here ∷ befores_there))) fitted.1,
   )
 
-  pub back_then : (p q r : ℕ) (b c d : Before) → Back p b q c → Back q c r d → Back p b r d
-  back_then p q r b c d f g h = f (g h)
+  pub back_then : (place second_place third_place : ℕ) (here there further : Before) → Back place here second_place there
+      → Back second_place there third_place further → Back place here third_place further
+  back_then place second_place third_place here there further first second fitted = first (second fitted)
 
-  pub back_none : (p : ℕ) (b : Before) → Back p b p b
-  back_none p b h = h
+  pub back_none : (place : ℕ) (here : Before) → Back place here place here
+  back_none place here fitted = fitted
 
-  pub fitted_end : (p : ℕ) → p ≡ length lines → Fitted p (before (end_kinds scope.head) [])
-  fitted_end p e =
-      let b : Before = before (end_kinds scope.head) [] in (
-        b ∷ [],
-        ap (befores scope p b) (ap (λ n. drop n lines) e ∙ drop_all (length lines) lines (omega arith))
-            ∙ ap (λ (r : Result Before VerifyKind). at_place p r (λ c. Ok (c ∷ []))) (carries scope (end_kinds scope.head) []),
+  pub fitted_end : (place : ℕ) → place ≡ length lines → Fitted place (before (end_kinds scope.head) [])
+  fitted_end place place_is =
+      let here : Before = before (end_kinds scope.head) [] in (
+        here ∷ [],
+        ap (befores scope place here) (ap (λ n. drop n lines) place_is ∙ drop_all (length lines) lines (omega arith))
+            ∙ ap (λ (judged : Result Before VerifyKind). at_place place judged (λ c. Ok (c ∷ []))) (carries scope (end_kinds scope.head) []),
       )
 
 -- ---- an account that tells nothing else
@@ -52,97 +56,116 @@ no_price = record { step = λ n. 0; look = 0; put = 0 }
 
 module _ (scope : Scope) (lines : List Instruction) where
   abbrev back : ℕ → Before → ℕ → Before → Type 0
-  back p b q c = Back scope lines p b q c
+  back place here second_place there = Back scope lines place here second_place there
 
-  back_choice : (p q jump_at to r last : ℕ) (ks ls : List ValueKind) (b c d : Before) → suc p ≡ q → suc jump_at ≡ to → suc to ≡ r
-      → slice_get lines p ≡ Some (I.Branch to) → judged_at scope p b (I.Branch to) ≡ Ok c → back q c jump_at d
-      → slice_get lines jump_at ≡ Some (I.Jump last) → judged_at scope jump_at d (I.Jump last) ≡ Ok c
-      → slice_get lines to ≡ Some (I.Target ks) → judged_at scope to c (I.Target ks) ≡ Ok c → back r c last d
-      → slice_get lines last ≡ Some (I.Target ls) → judged_at scope last d (I.Target ls) ≡ Ok d → back p b (suc last) d
-  back_choice p q jump_at to r last ks ls b c d e1 e2 e3 a1 j1 f a2 j2 a3 j3 g a4 j4 end =
-      let t4 = back_one scope lines last d d (I.Target ls) a4 j4 end in
-      let t3 = back_one scope lines to c c (I.Target ks) a3 j3 (subst (λ n. Fitted scope lines n c) (sym e3) (g t4)) in
-      let t2 = back_one scope lines jump_at d c (I.Jump last) a2 j2 (subst (λ n. Fitted scope lines n c) (sym e2) t3) in
-      back_one scope lines p b c (I.Branch to) a1 j1 (subst (λ n. Fitted scope lines n c) (sym e1) (f t2))
+  back_choice : (place second_place jump_at to third_place last : ℕ) (middle_kinds last_kinds : List ValueKind) (here there further : Before)
+      → suc place ≡ second_place → suc jump_at ≡ to → suc to ≡ third_place
+      → slice_get lines place ≡ Some (I.Branch to) → judged_at scope place here (I.Branch to) ≡ Ok there → back second_place there jump_at further
+      → slice_get lines jump_at ≡ Some (I.Jump last) → judged_at scope jump_at further (I.Jump last) ≡ Ok there
+      → slice_get lines to ≡ Some (I.Target middle_kinds) → judged_at scope to there (I.Target middle_kinds) ≡ Ok there
+      → back third_place there last further
+      → slice_get lines last ≡ Some (I.Target last_kinds) → judged_at scope last further (I.Target last_kinds) ≡ Ok further
+      → back place here (suc last) further
+  back_choice place second_place jump_at to third_place last middle_kinds last_kinds here there further second_is to_is third_is branch_stands
+      branch_judged first_back jump_stands jump_judged target_stands target_judged second_back end_stands end_judged end =
+      let from_end = back_one scope lines last further further (I.Target last_kinds) end_stands end_judged end in
+      let from_target =
+      back_one scope lines to there there (I.Target middle_kinds) target_stands target_judged
+      (subst (λ n. Fitted scope lines n there) (sym third_is) (second_back from_end)) in
+      let from_jump =
+      back_one scope lines jump_at further there (I.Jump last) jump_stands jump_judged
+      (subst (λ n. Fitted scope lines n there) (sym to_is) from_target) in
+      back_one scope lines place here there (I.Branch to) branch_stands branch_judged
+      (subst (λ n. Fitted scope lines n there) (sym second_is) (first_back from_jump))
 
   pub fitting_account : Account scope lines no_price
   fitting_account = record {
-    F = λ p b s h q c. Back scope lines p b q c;
-    sum_at = λ b i. 0;
-    high_at = λ b i. words_kept scope.locals b;
+    Way = λ place here _ _ second_place there. Back scope lines place here second_place there;
+    sum_at = λ _ _. 0;
+    high_at = λ here _. words_kept scope.locals here;
     prices = record {
-      adds = λ m n. omega arith;
-      unit = λ b i u. refl;
-      load = λ b n k e. refl;
-      store = λ b n k e. refl;
-      listed = λ b n. refl;
-      appended = λ b. refl;
-      widened = λ b n. refl;
-      read = λ b. refl;
-      known = λ b. refl;
-      put = λ b o s n. refl;
+      adds = λ _ _. omega arith;
+      unit = λ _ _ _. refl;
+      load = λ _ _ _ _. refl;
+      store = λ _ _ _ _. refl;
+      listed = λ _ _. refl;
+      appended = λ _. refl;
+      widened = λ _ _. refl;
+      read = λ _. refl;
+      known = λ _. refl;
+      put = λ _ _ _ _. refl;
     };
-    high_is = λ b i none. refl;
-    one = λ p b c i at j w. back_one scope lines p b c i at j;
-    next = λ p q r s h t g b c d f l. back_then scope lines p q r b c d f l;
-    none = λ p b. back_none scope lines p b;
-    choice = λ p q jump_at to r last s h t g ks ls b c d e1 e2 e3 lt1 lt2 a1 j1 f a2 j2 a3 j3 l a4 j4 k1 k2 k3.
-        back_choice p q jump_at to r last ks ls b c d e1 e2 e3 a1 j1 f a2 j2 a3 j3 l a4 j4;
-    loop = λ p q last room s h i j o b c d e z far at enters w u room_is inside start opened at_last leaves v y k end.
-        back_one scope lines p b c i at enters
-        (subst (λ n. Fitted scope lines n c) (sym z) (inside (back_one scope lines last d e j at_last leaves end)));
+    high_is = λ _ _ _. refl;
+    one = λ place here there line at judged _. back_one scope lines place here there line at judged;
+    next = λ place second_place third_place _ _ _ _ here there further first_back second_back.
+        back_then scope lines place second_place third_place here there further first_back second_back;
+    none = λ place here. back_none scope lines place here;
+    choice = λ place second_place jump_at to third_place last _ _ _ _ middle_kinds last_kinds here there further second_is to_is third_is _ _
+        branch_stands branch_judged first_back jump_stands jump_judged target_stands target_judged second_back end_stands end_judged _ _ _.
+        back_choice place second_place jump_at to third_place last middle_kinds last_kinds here there further second_is to_is third_is branch_stands
+        branch_judged first_back jump_stands jump_judged target_stands target_judged second_back end_stands end_judged;
+    loop = λ place second_place last _ _ _ line end_line _ here there further outside second_is _ at enters _ _ _ inside _ _ at_last leaves _ _ _ end.
+        back_one scope lines place here there line at enters
+        (subst (λ n. Fitted scope lines n there) (sym second_is) (inside (back_one scope lines last further outside end_line at_last leaves end)));
   }
 
 -- functions that cost nothing
 abbrev free_functions : List Callee → List Costed
-free_functions callees = map (λ (c : Callee). record { head = c.head; most = 0 }) callees
+free_functions callees = map (λ (callee : Callee). record { head = callee.head; most = 0 }) callees
 
 free_heads : (callees : List Callee) → callee_heads callees ≡ costed_heads (free_functions callees)
 free_heads [] = refl
-free_heads (c ∷ callees) = ap (λ hs. c.head ∷ hs) (free_heads callees)
+free_heads (callee ∷ callees) = ap (λ heads. callee.head ∷ heads) (free_heads callees)
 
-costs_nothing : (callees : List Callee) (f : List ℕ) → 0 ≡ most_named (free_functions callees) f
-costs_nothing [] f = refl
-costs_nothing (c ∷ callees) f = cond_both _ _ _ (λ n. 0 ≡ n) (λ e. refl) (λ e. costs_nothing callees f)
+costs_nothing : (callees : List Callee) (function_name : List ℕ) → 0 ≡ most_named (free_functions callees) function_name
+costs_nothing [] function_name = refl
+costs_nothing (callee ∷ callees) function_name = cond_both _ _ _ (λ n. 0 ≡ n) (λ e. refl) (λ e. costs_nothing callees function_name)
 
 free_calls : (scope : Scope) (lines : List Instruction) (callees : List Callee) → LinesFit scope callees
     → CallsFit scope lines no_price (fitting_account scope lines) callees (free_functions callees) (free_functions callees)
 unfolding fitting_account
-free_calls scope lines callees fit f has p ls os =
-    let none = costs_nothing callees f in
-    record { fits = fit f has p ls os; goes_on = call_onward callees f; sum = none; high = omega (arith, none) }
+free_calls scope lines callees fit function_name has place under open_loops =
+    let none = costs_nothing callees function_name in
+    record {
+      fits = fit function_name has place under open_loops;
+      goes_on = call_onward callees function_name;
+      sum = none;
+      high = omega (arith, none);
+    }
 
 -- ---- blocks
 
 -- a block fits at a number among all blocks
 abbrev pub BlockFits : Draft → List Block → ℕ → Block → Type 0
-BlockFits basin all number block = (bs : List Before) × (befores (scope_of basin all number block) 0 (before [] []) block.lines ≡ Ok bs)
+BlockFits basin all number block = (befores_there : List Before)
+    × (befores (scope_of basin all number block) 0 (before [] []) block.lines ≡ Ok befores_there)
 
 module _ (basin : Draft) (all : List Block) (number : ℕ) (callees : List Callee) where
   pub rule_fits : (body : Acts) → LinesFit (scope_of basin all number (rule_block callees body)) callees
       → AreKindedActs basin (callee_heads callees) [] body
       → BlockFits basin all number (rule_block callees body)
   unfolding fitting_account
-  rule_fits body calls h =
+  rule_fits body calls are_kinded_acts =
       let block : Block = rule_block callees body in
       let scope : Scope = scope_of basin all number block in
       let free : List Costed = free_functions callees in
-      let w = rule_goes basin all number callees free free (free_heads callees) (free_heads callees) no_price body (fitting_account scope block.lines)
-      (free_calls scope block.lines callees calls) h in
-      let z : 0 + length block.lines ≡ length block.lines = omega arith in
-      (w.go (has_all block.lines) refl).0 (fitted_end scope block.lines (0 + length block.lines) z)
+      let way = rule_goes basin all number callees free free (free_heads callees) (free_heads callees) no_price body
+      (fitting_account scope block.lines)
+      (free_calls scope block.lines callees calls) are_kinded_acts in
+      let same_place : 0 + length block.lines ≡ length block.lines = omega arith in
+      (way.go (has_all block.lines) refl).0 (fitted_end scope block.lines (0 + length block.lines) same_place)
 
-  pub function_fits : (params : List Parameter) (result : Kind) (body : Tree)
-      → LinesFit (scope_of basin all number (function_block callees params result body)) callees
-      → IsKindedBody basin (callee_heads callees) (param_names params) result body
-      → BlockFits basin all number (function_block callees params result body)
+  pub function_fits : (parameters : List Parameter) (result : Kind) (body : Tree)
+      → LinesFit (scope_of basin all number (function_block callees parameters result body)) callees
+      → IsKindedBody basin (callee_heads callees) (param_names parameters) result body
+      → BlockFits basin all number (function_block callees parameters result body)
   unfolding fitting_account
-  function_fits params result body calls h =
-      let block : Block = function_block callees params result body in
+  function_fits parameters result body calls is_kinded_body =
+      let block : Block = function_block callees parameters result body in
       let scope : Scope = scope_of basin all number block in
       let free : List Costed = free_functions callees in
-      let w = function_goes basin all number callees free free (free_heads callees) (free_heads callees) no_price params result body
+      let way = function_goes basin all number callees free free (free_heads callees) (free_heads callees) no_price parameters result body
       (fitting_account scope block.lines)
-      (free_calls scope block.lines callees calls) h in
-      let z : 0 + length block.lines ≡ length block.lines = omega arith in
-      (w.go (has_all block.lines) refl).0 (fitted_end scope block.lines (0 + length block.lines) z)
+      (free_calls scope block.lines callees calls) is_kinded_body in
+      let same_place : 0 + length block.lines ≡ length block.lines = omega arith in
+      (way.go (has_all block.lines) refl).0 (fitted_end scope block.lines (0 + length block.lines) same_place)

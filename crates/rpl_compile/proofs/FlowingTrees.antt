@@ -26,151 +26,171 @@ module _ (costing : Costing) where
   -- ---- several expressions
 
   abbrev ClaimAll : Trees → Type 0
-  ClaimAll ts =
-      (site : Site) (os : List Open) (kind : Kind) → words_of (code_kind kind) ≡ 1
-      → AreOfKind costing.scope.basin (heads costing) (names_in site.scope) kind ts → Placed costing.scope.locals site.scope
-      → HasAt costing.scope.locals site.free (code_kinds (all_local_kinds (heads costing) (names_in site.scope) ts))
-      → Leads costing (all_code costing.callees site ts) site.place (here site os)
-      (before (replicate (count_of ts) (code_kind kind) ++ code_kinds site.below) os)
-      (most_of costing.pays costing.functions (names_in site.scope) ts)
-      (words_kept costing.scope.locals (here site os) + height_of_all costing.deep (names_in site.scope) ts)
+  ClaimAll expressions =
+      (site : Site) (open_loops : List Open) (kind : Kind) → words_of (code_kind kind) ≡ 1
+      → AreOfKind costing.scope.basin (heads costing) (names_in site.scope) kind expressions → Placed costing.scope.locals site.scope
+      → HasAt costing.scope.locals site.free (code_kinds (all_local_kinds (heads costing) (names_in site.scope) expressions))
+      → Leads costing (all_code costing.callees site expressions) site.place (here site open_loops)
+      (before (replicate (count_of expressions) (code_kind kind) ++ code_kinds site.below) open_loops)
+      (most_of costing.pays costing.functions (names_in site.scope) expressions)
+      (words_kept costing.scope.locals (here site open_loops) + height_of_all costing.deep (names_in site.scope) expressions)
 
   flow_no : ClaimAll no_trees
-  flow_no site os kind w h pl lo =
-      told costing (goes_none costing.scope costing.lines costing.spots_are costing.pays costing.account site.place (here site os)) refl (omega arith)
+  flow_no site open_loops kind one_word are_of_kind placed own_locals =
+      told costing (goes_none costing.scope costing.lines costing.spots_are costing.pays costing.account site.place (here site open_loops)) refl
+      (omega arith)
 
-  flow_more : (t : Tree) (ts : Trees) → Claim costing t → ClaimAll ts → ClaimAll (tree t ts)
-  flow_more t ts first rest site os kind w h pl lo =
+  flow_more : (expression : Tree) (expressions : Trees) → Claim costing expression → ClaimAll expressions → ClaimAll (tree expression expressions)
+  flow_more expression expressions claim_of_expression claim_of_expressions site open_loops kind one_word are_of_kind placed own_locals =
       let names : Names = names_in site.scope in
-      let above : Site = over (kind_of_code costing site t) (behind (heads costing) t site) in
-      let ls : List ValueKind = code_kinds site.below in
-      let one : words_of (code_kind (kind_of_code costing site t)) ≡ 1 = ap (λ k. words_of (code_kind k)) h.1 ∙ w in
-      told costing (seq costing (far costing site t h.0)
-      (first site os h.0 pl (own_front costing site t (all_local_kinds (heads costing) names ts) lo))
-      (to costing (ap (λ k. before (replicate (count_of ts) (code_kind kind) ++ (code_kind k ∷ ls)) os) h.1
-      ∙ ap (λ ks. before ks os) (again (count_of ts) (code_kind kind) ls))
-      (rest above os kind w h.2 pl (own_back costing site t (all_local_kinds (heads costing) names ts) lo)))) refl (omega (arith, one))
+      let above : Site = over (kind_of_code costing site expression) (behind (heads costing) expression site) in
+      let under : List ValueKind = code_kinds site.below in
+      let one : words_of (code_kind (kind_of_code costing site expression)) ≡ 1 = ap (λ k. words_of (code_kind k)) are_of_kind.1 ∙ one_word in
+      told costing (seq costing (far costing site expression are_of_kind.0)
+      (claim_of_expression site open_loops are_of_kind.0 placed
+      (own_front costing site expression (all_local_kinds (heads costing) names expressions) own_locals))
+      (to costing (ap (λ k. before (replicate (count_of expressions) (code_kind kind) ++ (code_kind k ∷ under)) open_loops) are_of_kind.1
+      ∙ ap (λ kinds. before kinds open_loops) (again (count_of expressions) (code_kind kind) under))
+      (claim_of_expressions above open_loops kind one_word are_of_kind.2 placed
+      (own_back costing site expression (all_local_kinds (heads costing) names expressions) own_locals)))) refl (omega (arith, one))
 
-  flow_list : (ts : Trees) → ClaimAll ts → Claim costing (list ts)
-  flow_list ts all site os h pl lo =
+  flow_list : (expressions : Trees) → ClaimAll expressions → Claim costing (list expressions)
+  flow_list expressions claim_of_expressions site open_loops is_kinded placed own_locals =
       let names : Names = names_in site.scope in
-      let kind : Kind = first_kind (heads costing) names ts in
-      let n : ℕ = count_of ts in
-      let q : ℕ = site.place + sizes (heads costing) names ts in
-      let w = element_words n kind h.2 in
-      let way = all site os kind w.0 h.3 pl lo in
+      let kind : Kind = first_kind (heads costing) names expressions in
+      let count : ℕ = count_of expressions in
+      let list_place : ℕ = site.place + sizes (heads costing) names expressions in
+      let words = element_words count kind is_kinded.2 in
+      let way = claim_of_expressions site open_loops kind words.0 is_kinded.3 placed own_locals in
       let low = way.tall in
-      let long = w.1 in
-      told costing (seq costing {q = q} (ap (λ n. site.place + n) (sym (all-size costing.scope.basin costing.callees site kind ts h.3))) way
-      (line costing (list_fits costing.scope q n kind (code_kinds site.below) os h.0 h.2) refl (λ x. x)
-      (costing.account.prices.listed (before (replicate n (code_kind kind) ++ code_kinds site.below) os) n)))
+      let long = words.1 in
+      told costing
+      (seq costing {second_place = list_place}
+      (ap (λ n. site.place + n) (sym (all-size costing.scope.basin costing.callees site kind expressions is_kinded.3))) way
+      (line costing (list_fits costing.scope list_place count kind (code_kinds site.below) open_loops is_kinded.0 is_kinded.2) refl (λ x. x)
+      (costing.account.prices.listed (before (replicate count (code_kind kind) ++ code_kinds site.below) open_loops) count)))
       refl (omega (arith, low, long))
 
   abbrev ClaimArguments : Trees → Type 0
-  ClaimArguments ts =
-      (site : Site) (os : List Open) (kinds : List Kind) → AreArguments costing.scope.basin (heads costing) (names_in site.scope) kinds ts
+  ClaimArguments expressions =
+      (site : Site) (open_loops : List Open) (kinds : List Kind)
+      → AreArguments costing.scope.basin (heads costing) (names_in site.scope) kinds expressions
       → Placed costing.scope.locals site.scope
-      → HasAt costing.scope.locals site.free (code_kinds (all_local_kinds (heads costing) (names_in site.scope) ts))
-      → Leads costing (arguments_code costing.callees site kinds ts) site.place (here site os)
-      (before (reverse (code_kinds kinds) ++ code_kinds site.below) os)
-      (most_arguments costing.pays costing.functions (names_in site.scope) kinds ts)
-      (words_kept costing.scope.locals (here site os) + height_of_arguments costing.deep (names_in site.scope) kinds ts)
+      → HasAt costing.scope.locals site.free (code_kinds (all_local_kinds (heads costing) (names_in site.scope) expressions))
+      → Leads costing (arguments_code costing.callees site kinds expressions) site.place (here site open_loops)
+      (before (reverse (code_kinds kinds) ++ code_kinds site.below) open_loops)
+      (most_arguments costing.pays costing.functions (names_in site.scope) kinds expressions)
+      (words_kept costing.scope.locals (here site open_loops) + height_of_arguments costing.deep (names_in site.scope) kinds expressions)
 
   flow_no_arguments : ClaimArguments no_trees
-  flow_no_arguments site os [] h pl lo =
-      told costing (goes_none costing.scope costing.lines costing.spots_are costing.pays costing.account site.place (here site os)) refl (omega arith)
-  flow_no_arguments site os (kind ∷ kinds) h pl lo = absurd h
+  flow_no_arguments site open_loops [] are_arguments placed own_locals =
+      told costing (goes_none costing.scope costing.lines costing.spots_are costing.pays costing.account site.place (here site open_loops)) refl
+      (omega arith)
+  flow_no_arguments site open_loops (kind ∷ kinds) are_arguments placed own_locals = absurd are_arguments
 
-  flow_argument : (t : Tree) (ts : Trees) → Claim costing t → ClaimArguments ts → ClaimArguments (tree t ts)
-  flow_argument t ts first rest site os [] h pl lo = absurd h
-  flow_argument t ts first rest site os (kind ∷ kinds) h pl lo =
+  flow_argument : (expression : Tree) (expressions : Trees) → Claim costing expression → ClaimArguments expressions
+      → ClaimArguments (tree expression expressions)
+  flow_argument expression expressions claim_of_expression claim_of_expressions site open_loops [] are_arguments placed own_locals =
+      absurd are_arguments
+  flow_argument expression expressions claim_of_expression claim_of_expressions site open_loops (kind ∷ kinds) are_arguments placed own_locals =
       let names : Names = names_in site.scope in
-      let ls : List ValueKind = code_kinds site.below in
-      let q : ℕ = (behind (heads costing) t site).place in
-      let above : Site = over kind (on (widening_size kind (kind_of_code costing site t)) (behind (heads costing) t site)) in
-      let way = first site os h.0 pl (own_front costing site t (all_local_kinds (heads costing) names ts) lo) in
+      let under : List ValueKind = code_kinds site.below in
+      let room_place : ℕ = (behind (heads costing) expression site).place in
+      let above : Site = over kind (on (widening_size kind (kind_of_code costing site expression)) (behind (heads costing) expression site)) in
+      let way = claim_of_expression site open_loops are_arguments.0 placed
+      (own_front costing site expression (all_local_kinds (heads costing) names expressions) own_locals) in
       let low = way.tall in
-      let w = words_coded kind in
-      let sum : room_cost costing kind (kind_of_code costing site t) ≡ room_cost costing kind (tree_kind (costed_heads costing.functions) names t) =
-      ap (room_cost costing kind) (same_kind costing names t) in
-      told costing (seq costing (far costing site t h.0) way
-      (seq costing (ap (λ n. q + n) (sym (widening-size kind (kind_of_code costing site t))))
-      (widen_goes costing.scope costing.lines costing.spots_are costing.pays costing.account kind (kind_of_code costing site t) h.1 q ls os)
-      (to costing (ap (λ ks. before ks os) (turned (code_kind kind) (code_kinds kinds) ls))
-      (rest above os kinds h.2 pl (own_back costing site t (all_local_kinds (heads costing) names ts) lo))))) (omega (arith, sum))
-      (omega (arith, low, w))
+      let place_words = words_coded kind in
+      let sum : room_cost costing kind (kind_of_code costing site expression)
+      ≡ room_cost costing kind (tree_kind (costed_heads costing.functions) names expression) =
+      ap (room_cost costing kind) (same_kind costing names expression) in
+      told costing (seq costing (far costing site expression are_arguments.0) way
+      (seq costing (ap (λ n. room_place + n) (sym (widening-size kind (kind_of_code costing site expression))))
+      (widen_goes costing.scope costing.lines costing.spots_are costing.pays costing.account kind
+      (kind_of_code costing site expression) are_arguments.1 room_place under open_loops)
+      (to costing (ap (λ ks. before ks open_loops) (turned (code_kind kind) (code_kinds kinds) under))
+      (claim_of_expressions above open_loops kinds are_arguments.2 placed
+      (own_back costing site expression (all_local_kinds (heads costing) names expressions) own_locals))))) (omega (arith, sum))
+      (omega (arith, low, place_words))
 
   abbrev call_height : Names → List ℕ → Trees → List Head → ℕ
-  call_height names f ts hs =
-      max (height_of_arguments costing.deep names (takes_named hs f) ts)
-      (max (weights (takes_named hs f) + most_named costing.deep f) (weight (result_named hs f)))
+  call_height names function_name expressions by_heads =
+      max (height_of_arguments costing.deep names (takes_named by_heads function_name) expressions)
+      (max (weights (takes_named by_heads function_name) + most_named costing.deep function_name) (weight (result_named by_heads function_name)))
 
-  flow_call : (f : List ℕ) (ts : Trees) → ClaimArguments ts → Claim costing (call f ts)
-  flow_call f ts all site os h pl lo =
+  flow_call : (function_name : List ℕ) (expressions : Trees) → ClaimArguments expressions → Claim costing (call function_name expressions)
+  flow_call function_name expressions claim_of_expressions site open_loops is_kinded placed own_locals =
       let names : Names = names_in site.scope in
-      let kinds : List Kind = takes_named (heads costing) f in
-      let q : ℕ = site.place + sizes_of_arguments (heads costing) names kinds ts in
-      let ls : List ValueKind = code_kinds site.below in
-      let c = costing.calls f h.0 q ls os in
-      let b : Before = before (reverse (code_kinds kinds) ++ ls) os in
-      let result : Kind = result_named (heads costing) f in
-      let way = all site os kinds h.1 pl lo in
+      let kinds : List Kind = takes_named (heads costing) function_name in
+      let call_place : ℕ = site.place + sizes_of_arguments (heads costing) names kinds expressions in
+      let under : List ValueKind = code_kinds site.below in
+      let call_so = costing.calls function_name is_kinded.0 call_place under open_loops in
+      let before_call : Before = before (reverse (code_kinds kinds) ++ under) open_loops in
+      let result : Kind = result_named (heads costing) function_name in
+      let way = claim_of_expressions site open_loops kinds is_kinded.1 placed own_locals in
       let low = way.tall in
-      let turned_words = words_turned kinds ls in
-      let w = words_coded result in
-      let sum : most_arguments costing.pays costing.functions names kinds ts
-      ≡ most_arguments costing.pays costing.functions names (takes_named (costed_heads costing.functions) f) ts =
-      ap (λ hs. most_arguments costing.pays costing.functions names (takes_named hs f) ts) costing.same_heads in
-      let high : call_height names f ts (heads costing) ≡ call_height names f ts (costed_heads costing.deep) =
-      ap (call_height names f ts) costing.deep_heads in
-      told costing (seq costing {q = q} (ap (λ n. site.place + n) (sym (arguments-size costing.scope.basin costing.callees site kinds ts h.1))) way
-      (told costing (goes_one costing.scope costing.lines costing.spots_are costing.pays costing.account q b (before (code_kind result ∷ ls) os)
-      (call_line costing.callees f) c.fits c.goes_on) c.sum
-      (ap (λ n. max n (kept costing (before (code_kind result ∷ ls) os))) c.high))) (omega (arith, sum)) (omega (arith, low, turned_words, w, high))
+      let turned_words = words_turned kinds under in
+      let result_words = words_coded result in
+      let sum : most_arguments costing.pays costing.functions names kinds expressions
+      ≡ most_arguments costing.pays costing.functions names (takes_named (costed_heads costing.functions) function_name) expressions =
+      ap (λ heads. most_arguments costing.pays costing.functions names (takes_named heads function_name) expressions) costing.same_heads in
+      let high : call_height names function_name expressions (heads costing)
+      ≡ call_height names function_name expressions (costed_heads costing.deep) =
+      ap (call_height names function_name expressions) costing.deep_heads in
+      told costing
+      (seq costing {second_place = call_place}
+      (ap (λ n. site.place + n) (sym (arguments-size costing.scope.basin costing.callees site kinds expressions is_kinded.1))) way
+      (told costing
+      (goes_one costing.scope costing.lines costing.spots_are costing.pays costing.account call_place before_call
+      (before (code_kind result ∷ under) open_loops)
+      (call_line costing.callees function_name) call_so.fits call_so.goes_on) call_so.sum
+      (ap (λ n. max n (kept costing (before (code_kind result ∷ under) open_loops))) call_so.high))) (omega (arith, sum))
+      (omega (arith, low, turned_words, result_words, high))
 
   -- ---- all forms
 
   mutual
-    pub flows : (t : Tree) → Claim costing t
-    flows (literal n unit) = λ site os h pl lo.
-        leaf costing (number_line n unit) K.N site os refl
-        (takes_kinds costing.scope (number_line n unit) [] (K.N ∷ []) (code_kinds site.below) os refl) refl (λ x. x) tt
-    flows (truth b) = λ site os h pl lo. leaf costing (I.Bool b) K.B site os refl
-        (takes_kinds costing.scope (I.Bool b) [] (K.B ∷ []) (code_kinds site.below) os refl) refl (λ x. x) tt
-    flows now = λ site os h pl lo. leaf costing I.Now K.D site os refl
-        (takes_kinds costing.scope I.Now [] (K.D ∷ []) (code_kinds site.below) os refl) refl (λ x. x) tt
-    flows (slot o s) = λ site os h pl lo. leaf costing (I.Slot o s) K.S site os refl
-        (slot_fits costing.scope site.place o s (code_kinds site.below) os h) refl (λ x. x) tt
-    flows (name x) = λ site os h pl lo.
-        let kind : Kind = kind_named (names_in site.scope) x in
-        let w = words_coded kind in
-        told costing (loads costing site.place (local_named site.scope x) kind (code_kinds site.below) os
-        (placed_name costing.scope.locals site.scope x pl h)) refl (omega (arith, w))
-    flows (call f ts) = flow_call f ts (flows_arguments ts)
-    flows (brackets t) = λ site os h pl lo. flows t site os h pl lo
-    flows (list ts) = flow_list ts (flows_all ts)
-    flows (choice c y n) = flow_choice costing c y n (flows c) (flows y) (flows n)
-    flows (bind x e b) = flow_bind costing x e b (flows e) (flows b)
-    flows (each x l a f b) = flow_each costing x l a f b (flows l) (flows f) (flows b)
-    flows (mapped x l b) = flow_mapped costing x l b (flows l) (flows b)
-    flows (one Known (at s d)) = flow_known costing s d (flows s) (flows d)
-    flows (one Known e) = λ site os h pl lo. absurd h.1
-    flows (one Not e) = flow_plain costing Not e tt (flows e)
-    flows (one Minus e) = flow_plain costing Minus e tt (flows e)
-    flows (one Length e) = flow_plain costing Length e tt (flows e)
-    flows (one Month e) = flow_plain costing Month e tt (flows e)
-    flows (one Day e) = flow_plain costing Day e tt (flows e)
-    flows (one Year e) = flow_plain costing Year e tt (flows e)
-    flows (two Or l r) = flow_or costing l r (flows l) (flows r)
-    flows (two And l r) = flow_and costing l r (flows l) (flows r)
-    flows (two word l r) = flow_two costing word l r _ (flows l) (flows r)
-    flows (convert word o e) = flow_convert costing word o e (flows e)
-    flows (at s d) = flow_at costing s d (flows s) (flows d)
+    pub flows : (expression : Tree) → Claim costing expression
+    flows (literal number unit) = λ site open_loops is_kinded placed own_locals.
+        leaf costing (number_line number unit) K.N site open_loops refl
+        (takes_kinds costing.scope (number_line number unit) [] (K.N ∷ []) (code_kinds site.below) open_loops refl) refl (λ x. x) tt
+    flows (truth is_so) = λ site open_loops is_kinded placed own_locals. leaf costing (I.Bool is_so) K.B site open_loops refl
+        (takes_kinds costing.scope (I.Bool is_so) [] (K.B ∷ []) (code_kinds site.below) open_loops refl) refl (λ x. x) tt
+    flows now = λ site open_loops is_kinded placed own_locals. leaf costing I.Now K.D site open_loops refl
+        (takes_kinds costing.scope I.Now [] (K.D ∷ []) (code_kinds site.below) open_loops refl) refl (λ x. x) tt
+    flows (slot object slot_name) = λ site open_loops is_kinded placed own_locals. leaf costing (I.Slot object slot_name) K.S site open_loops refl
+        (slot_fits costing.scope site.place object slot_name (code_kinds site.below) open_loops is_kinded) refl (λ x. x) tt
+    flows (name sought) = λ site open_loops is_kinded placed own_locals.
+        let kind : Kind = kind_named (names_in site.scope) sought in
+        let words = words_coded kind in
+        told costing (loads costing site.place (local_named site.scope sought) kind (code_kinds site.below) open_loops
+        (placed_name costing.scope.locals site.scope sought placed is_kinded)) refl (omega (arith, words))
+    flows (call function_name arguments) = flow_call function_name arguments (flows_arguments arguments)
+    flows (brackets inside) = λ site open_loops is_kinded placed own_locals. flows inside site open_loops is_kinded placed own_locals
+    flows (list items) = flow_list items (flows_all items)
+    flows (choice condition if_true if_false) = flow_choice costing condition if_true if_false (flows condition) (flows if_true) (flows if_false)
+    flows (bind new_name value_tree body) = flow_bind costing new_name value_tree body (flows value_tree) (flows body)
+    flows (each item_name source total_name initial body) =
+        flow_each costing item_name source total_name initial body (flows source) (flows initial) (flows body)
+    flows (mapped item_name source body) = flow_mapped costing item_name source body (flows source) (flows body)
+    flows (one Known (at slot_tree date)) = flow_known costing slot_tree date (flows slot_tree) (flows date)
+    flows (one Known operand) = λ site open_loops is_kinded placed own_locals. absurd is_kinded.1
+    flows (one Not operand) = flow_plain costing Not operand tt (flows operand)
+    flows (one Minus operand) = flow_plain costing Minus operand tt (flows operand)
+    flows (one Length operand) = flow_plain costing Length operand tt (flows operand)
+    flows (one Month operand) = flow_plain costing Month operand tt (flows operand)
+    flows (one Day operand) = flow_plain costing Day operand tt (flows operand)
+    flows (one Year operand) = flow_plain costing Year operand tt (flows operand)
+    flows (two Or left right) = flow_or costing left right (flows left) (flows right)
+    flows (two And left right) = flow_and costing left right (flows left) (flows right)
+    flows (two word left right) = flow_two costing word left right _ (flows left) (flows right)
+    flows (convert word object operand) = flow_convert costing word object operand (flows operand)
+    flows (at slot_tree date) = flow_at costing slot_tree date (flows slot_tree) (flows date)
 
-    pub flows_all : (ts : Trees) → ClaimAll ts
+    pub flows_all : (expressions : Trees) → ClaimAll expressions
     flows_all no_trees = flow_no
-    flows_all (tree t ts) = flow_more t ts (flows t) (flows_all ts)
+    flows_all (tree first others) = flow_more first others (flows first) (flows_all others)
 
-    pub flows_arguments : (ts : Trees) → ClaimArguments ts
+    pub flows_arguments : (expressions : Trees) → ClaimArguments expressions
     flows_arguments no_trees = flow_no_arguments
-    flows_arguments (tree t ts) = flow_argument t ts (flows t) (flows_arguments ts)
+    flows_arguments (tree first others) = flow_argument first others (flows first) (flows_arguments others)

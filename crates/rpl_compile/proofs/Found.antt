@@ -1,60 +1,62 @@
 -- Of the functions that have a name, the last of a list is the first of the list in reverse. The local of a name.
-use Rattle.rpl_compile.proofs.Common.{B, Bool, Callee, Kind, List, N, Option, Some, ValueKind, [], ap, bytes_eq, callee_named, code_kind, code_kinds}
-use Rattle.rpl_compile.proofs.Common.{false, if◌then◌else◌, kind_named, kind_seen, kinds_seen, length, length-map, local_named, map, names_in}
-use Rattle.rpl_compile.proofs.Common.{no_callee, parameter_of, refl, reverse, reverse-append, scope_seen, sym, true, unwrap_or, ℕ, ◌++◌, ◌∙◌, ◌∷◌}
-use Rattle.rpl_compile.proofs.Common.{◌≡◌}
+use Rattle.rpl_compile.proofs.Common.{B, Bool, Callee, IsSome, IsSomeAnd, Kind, List, N, None, Option, Some, ValueKind, [], ap, bytes_eq}
+use Rattle.rpl_compile.proofs.Common.{callee_named, code_kind, code_kinds, false, if◌then◌else◌, kind_named, kind_seen, kinds_seen, length}
+use Rattle.rpl_compile.proofs.Common.{length-map, local_named, map, names_in, no_callee, parameter_of, refl, reverse, reverse-append, scope_seen, sym}
+use Rattle.rpl_compile.proofs.Common.{true, unwrap_or, ℕ, ◌++◌, ◌∙◌, ◌∷◌, ◌≡◌}
 use Rattle.rpl_scope.specs.Scope.{first_named as first_found}
 use Rattle.rpl_tree.specs.declared.rules.Param.{Param}
 use Rattle.rpl_compile.specs.declared.writing.Local.{Local}
 
-module _ (x : List ℕ) where
+module _ (sought : List ℕ) where
   abbrev pub last_named : Callee → List Callee → Callee
   last_named otherwise [] = otherwise
-  last_named otherwise (c ∷ cs) = last_named (if bytes_eq c.head.name x then c else otherwise) cs
+  last_named otherwise (callee ∷ callees) = last_named (if bytes_eq callee.head.name sought then callee else otherwise) callees
 
   abbrev first_named : Callee → List Callee → Callee
   first_named otherwise [] = otherwise
-  first_named otherwise (c ∷ cs) = if bytes_eq c.head.name x then c else first_named otherwise cs
+  first_named otherwise (callee ∷ callees) = if bytes_eq callee.head.name sought then callee else first_named otherwise callees
 
-  one_behind : (otherwise : Callee) (cs : List Callee) (c : Callee)
-      → first_named (if bytes_eq c.head.name x then c else otherwise) cs ≡ first_named otherwise (cs ++ c ∷ [])
-  one_behind otherwise [] c = refl
-  one_behind otherwise (d ∷ ds) c = ap (λ found. if bytes_eq d.head.name x then d else found) (one_behind otherwise ds c)
+  one_behind : (otherwise : Callee) (callees : List Callee) (callee : Callee)
+      → first_named (if bytes_eq callee.head.name sought then callee else otherwise) callees ≡ first_named otherwise (callees ++ callee ∷ [])
+  one_behind otherwise [] callee = refl
+  one_behind otherwise (first ∷ others) callee =
+      ap (λ found. if bytes_eq first.head.name sought then first else found) (one_behind otherwise others callee)
 
-  last_is_first : (otherwise : Callee) (cs : List Callee) → last_named otherwise cs ≡ first_named otherwise (reverse cs)
+  last_is_first : (otherwise : Callee) (callees : List Callee) → last_named otherwise callees ≡ first_named otherwise (reverse callees)
   last_is_first otherwise [] = refl
-  last_is_first otherwise (c ∷ cs) =
-      last_is_first (if bytes_eq c.head.name x then c else otherwise) cs ∙ one_behind otherwise (reverse cs) c
-      ∙ ap (first_named otherwise) (sym (reverse-append (c ∷ []) cs))
+  last_is_first otherwise (callee ∷ callees) =
+      last_is_first (if bytes_eq callee.head.name sought then callee else otherwise) callees ∙ one_behind otherwise (reverse callees) callee
+      ∙ ap (first_named otherwise) (sym (reverse-append (callee ∷ []) callees))
 
-  first_is : (cs : List Callee) → first_named no_callee cs ≡ callee_named cs x
+  first_is : (callees : List Callee) → first_named no_callee callees ≡ callee_named callees sought
   first_is [] = refl
-  first_is (c ∷ cs) = ap (λ found. if bytes_eq c.head.name x then c else found) (first_is cs)
+  first_is (callee ∷ callees) = ap (λ found. if bytes_eq callee.head.name sought then callee else found) (first_is callees)
 
-  pub function_found : (cs : List Callee) → last_named no_callee cs ≡ callee_named (reverse cs) x
-  function_found cs = last_is_first no_callee cs ∙ first_is (reverse cs)
+  pub function_found : (callees : List Callee) → last_named no_callee callees ≡ callee_named (reverse callees) sought
+  function_found callees = last_is_first no_callee callees ∙ first_is (reverse callees)
 
 -- ---- names
 
-pub by_test : {A B : Type 0} (f : A → B) (b : Bool) (a other : A) (y : B) → f other ≡ y → f (if b then a else other) ≡ (if b then f a else y)
+pub by_test : {A B : Type 0} (f : A → B) (test : Bool) (a other : A) (y : B) → f other ≡ y → f (if test then a else other) ≡ (if test then f a else y)
 by_test f true a other y same = refl
 by_test f false a other y same = same
 
-module _ (x : List ℕ) where
+module _ (sought : List ℕ) where
   abbrev nothing : Local
   nothing = record { kind = N; number = 0 }
 
-  pub kind_found : (names : List (List ℕ × Local)) → kind_seen (unwrap_or (first_found names x) nothing).kind ≡ kind_named (names_in
-      (scope_seen names)) x
+  pub kind_found : (names : List (List ℕ × Local)) → kind_seen (unwrap_or (first_found names sought) nothing).kind ≡ kind_named (names_in
+      (scope_seen names)) sought
   kind_found [] = refl
   kind_found (entry ∷ names) =
-      by_test (λ (found : Option Local). kind_seen (unwrap_or found nothing).kind) (bytes_eq entry.0 x) (Some entry.1) (first_found names x) _
+      by_test (λ (found : Option Local). kind_seen (unwrap_or found nothing).kind) (bytes_eq entry.0 sought) (Some entry.1)
+      (first_found names sought) _
       (kind_found names)
 
-  pub number_found : (names : List (List ℕ × Local)) → (unwrap_or (first_found names x) nothing).number ≡ local_named (scope_seen names) x
+  pub number_found : (names : List (List ℕ × Local)) → (unwrap_or (first_found names sought) nothing).number ≡ local_named (scope_seen names) sought
   number_found [] = refl
   number_found (entry ∷ names) =
-      by_test (λ (found : Option Local). (unwrap_or found nothing).number) (bytes_eq entry.0 x) (Some entry.1) (first_found names x) _
+      by_test (λ (found : Option Local). (unwrap_or found nothing).number) (bytes_eq entry.0 sought) (Some entry.1) (first_found names sought) _
       (number_found names)
 
 -- ---- kinds
@@ -68,7 +70,11 @@ codes_of_seen [] = refl
 codes_of_seen (kind ∷ kinds) = λ i. code_of_seen kind i ∷ codes_of_seen kinds i
 
 pub codes_seen : (kinds : List ValueKind) (seen : List Kind) → kinds_seen kinds ≡ seen → kinds ≡ code_kinds seen
-codes_seen kinds seen e = sym (codes_of_seen kinds) ∙ ap code_kinds e
+codes_seen kinds seen same = sym (codes_of_seen kinds) ∙ ap code_kinds same
 
-pub params_length : (params : List Param) → length (map parameter_of params) ≡ length params
-params_length params = length-map params parameter_of
+pub params_length : (parameters : List Param) → length (map parameter_of parameters) ≡ length parameters
+params_length parameters = length-map parameters parameter_of
+
+pub is_there : (found : Option ℕ) (P : ℕ → Type 0) → IsSomeAnd found P → IsSome found
+is_there None P holds = absurd holds
+is_there (Some n) P holds = refl

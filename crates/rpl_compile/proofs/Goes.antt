@@ -1,4 +1,5 @@
--- The machine does what an outcome says.
+-- The machine does what an outcome says: from a state it comes, with the outcome's trail, to a state where what is wanted of the value holds, or
+-- to the outcome's end (`Goes`). Such facts are put together here, step by step and one behind another.
 use Rattle.rpl_compile.proofs.Common.{Answer, Block, Cell, Frame, List, Outcome, State, Trail, World, after, ap, append-nil, append_assoc, arith}
 use Rattle.rpl_compile.proofs.Common.{ended, gives, goes_on, joined, refl, run, spent, step, stuck, suc, sym, value, ℕ, ◌>>=◌, ◌∙◌, ◌∷◌, ◌≡◌}
 use Rattle.rw_firing.specs.declared.fire.FireEnd.{FireEnd}
@@ -6,128 +7,163 @@ use Rattle.rw_firing.specs.declared.fire.RulePut.{RulePut}
 
 -- ---- trails
 
-pub same_trail : (a b : List Cell) (c d : List RulePut) (m n : ℕ) → a ≡ b → c ≡ d → m ≡ n
-    → ◌≡◌ {A = Trail} (record { looked = a; puts = c; count = m }) (record { looked = b; puts = d; count = n })
-same_trail a b c d m n p q r = λ i. record { looked = p i; puts = q i; count = r i }
+pub same_trail : (looked other_looked : List Cell) (puts other_puts : List RulePut) (count other_count : ℕ) → looked ≡ other_looked
+    → puts ≡ other_puts → count ≡ other_count
+    → ◌≡◌ {A = Trail} (record { looked = looked; puts = puts; count = count })
+    (record { looked = other_looked; puts = other_puts; count = other_count })
+same_trail looked other_looked puts other_puts count other_count looked_is puts_are counts_are =
+    λ i. record { looked = looked_is i; puts = puts_are i; count = counts_are i }
 
-pub joined_assoc : (t u w : Trail) → joined (joined t u) w ≡ joined t (joined u w)
-joined_assoc t u w = same_trail _ _ _ _ _ _ (append_assoc t.looked u.looked w.looked) (append_assoc t.puts u.puts w.puts) (omega arith)
+pub joined_assoc : (trail further_trail last_trail : Trail)
+    → joined (joined trail further_trail) last_trail ≡ joined trail (joined further_trail last_trail)
+joined_assoc trail further_trail last_trail =
+    same_trail _ _ _ _ _ _ (append_assoc trail.looked further_trail.looked last_trail.looked)
+    (append_assoc trail.puts further_trail.puts last_trail.puts) (omega arith)
 
-pub nothing_first : (t : Trail) → joined (spent 0) t ≡ t
-nothing_first t = same_trail _ _ _ _ _ _ refl refl (omega arith)
+pub nothing_first : (trail : Trail) → joined (spent 0) trail ≡ trail
+nothing_first trail = same_trail _ _ _ _ _ _ refl refl (omega arith)
 
-pub nothing_last : (t : Trail) → joined t (spent 0) ≡ t
-nothing_last t = same_trail _ _ _ _ _ _ (append-nil t.looked) (append-nil t.puts) (omega arith)
+pub nothing_last : (trail : Trail) → joined trail (spent 0) ≡ trail
+nothing_last trail = same_trail _ _ _ _ _ _ (append-nil trail.looked) (append-nil trail.puts) (omega arith)
 
-pub same_outcome : {A : Type 0} (a : Answer A) (t u : Trail) → t ≡ u
-    → ◌≡◌ {A = Outcome A} (record { answer = a; trail = t }) (record { answer = a; trail = u })
-same_outcome a t u p = λ i. record { answer = a; trail = p i }
+pub same_outcome : {A : Type 0} (answer : Answer A) (trail further_trail : Trail) → trail ≡ further_trail
+    → ◌≡◌ {A = Outcome A} (record { answer = answer; trail = trail }) (record { answer = answer; trail = further_trail })
+same_outcome answer trail further_trail trail_is = λ i. record { answer = answer; trail = trail_is i }
 
-pub after_after : {A : Type 0} (t u : Trail) (r : Outcome A) → after t (after u r) ≡ after (joined t u) r
-after_after t u r = same_outcome r.answer _ _ (sym (joined_assoc t u r.trail))
+pub after_after : {A : Type 0} (trail further_trail : Trail) (outcome : Outcome A)
+    → after trail (after further_trail outcome) ≡ after (joined trail further_trail) outcome
+after_after trail further_trail outcome = same_outcome outcome.answer _ _ (sym (joined_assoc trail further_trail outcome.trail))
 
-pub after_nothing : {A : Type 0} (r : Outcome A) → after (spent 0) r ≡ r
-after_nothing r = same_outcome r.answer _ _ (nothing_first r.trail)
+pub after_nothing : {A : Type 0} (outcome : Outcome A) → after (spent 0) outcome ≡ outcome
+after_nothing outcome = same_outcome outcome.answer _ _ (nothing_first outcome.trail)
 
 -- an outcome that isn't stuck, and whose value is so
 abbrev pub Made : {A : Type 0} → Answer A → (A → Type 0) → Type 0
-Made (value v) P = P v
-Made (ended e) P = Unit {0}
-Made stuck P = ⊥
+Made (value made) Wanted = Wanted made
+Made (ended end) Wanted = Unit {0}
+Made stuck Wanted = ⊥
 
 -- ---- an outcome, from a state
 
 module _ (code : List Block) (world : World) where
   -- so many steps more from the second state are as many as are wanted from the first, with a trail before
   abbrev pub Leads : State → Trail → State → Type 0
-  Leads s t s1 = (k : ℕ) → (j : ℕ) × (run code world j s ≡ after t (run code world k s1))
+  Leads state trail next_state = (further : ℕ) → (enough : ℕ) × (run code world enough state ≡ after trail (run code world further next_state))
 
   abbrev pub GoesOn : {A : Type 0} → Answer A → Trail → State → (A → State → Type 0) → Type 0
-  GoesOn (value v) t s P = (s1 : State) × P v s1 × Leads s t s1
-  GoesOn (ended e) t s P = (j : ℕ) × (run code world j s ≡ record { answer = ended e; trail = t })
-  GoesOn stuck t s P = ⊥
+  GoesOn (value made) trail state Wanted = (next_state : State) × Wanted made next_state × Leads state trail next_state
+  GoesOn (ended end) trail state Wanted = (enough : ℕ) × (run code world enough state ≡ record { answer = ended end; trail = trail })
+  GoesOn stuck trail state Wanted = ⊥
 
-  -- from a state the machine comes to where P holds of the value, with this trail, or to this end; and the outcome isn't stuck
+  -- from a state the machine comes to where what is wanted of the value holds, with this trail, or to this end; and the outcome isn't stuck
   abbrev pub Goes : {A : Type 0} → State → Outcome A → (A → State → Type 0) → Type 0
-  Goes s m P = GoesOn m.answer m.trail s P
+  Goes state outcome Wanted = GoesOn outcome.answer outcome.trail state Wanted
 
-  then_goes : {C : Type 0} (s s1 : State) (t u : Trail) (b : Answer C) (Q : C → State → Type 0) → Leads s t s1 → GoesOn b u s1 Q
-      → GoesOn b (joined t u) s Q
-  then_goes s s1 t u (value w) Q h g =
-      (g.0, g.1, λ k. let x = g.2 k in let y = h x.0 in (y.0, y.1 ∙ ap (after t) x.1 ∙ after_after t u (run code world k g.0)))
-  then_goes s s1 t u (ended e) Q h g = let y = h g.0 in (y.0, y.1 ∙ ap (after t) g.1)
-  then_goes s s1 t u stuck Q h g = g
+  then_goes : {C : Type 0} (state next_state : State) (trail further_trail : Trail) (further_answer : Answer C) (Wanted : C → State → Type 0)
+      → Leads state trail next_state → GoesOn further_answer further_trail next_state Wanted
+      → GoesOn further_answer (joined trail further_trail) state Wanted
+  then_goes state next_state trail further_trail (value made) Wanted leads_so goes = (
+    goes.0,
+    goes.1,
+    λ further. let far = goes.2 further in let near = leads_so far.0 in
+        (near.0, near.1 ∙ ap (after trail) far.1 ∙ after_after trail further_trail (run code world further goes.0)),
+  )
+  then_goes state next_state trail further_trail (ended end) Wanted leads_so goes = let near = leads_so goes.0 in
+      (near.0, near.1 ∙ ap (after trail) goes.1)
+  then_goes state next_state trail further_trail stuck Wanted leads_so goes = goes
 
-  bind_on : {A C : Type 0} (s : State) (a : Answer A) (t : Trail) (f : A → Outcome C) (P : A → State → Type 0) (Q : C → State → Type 0)
-      → GoesOn a t s P → ((v : A) (s1 : State) → P v s1 → Goes s1 (f v) Q) → Goes s (goes_on a t f) Q
-  bind_on s (value v) t f P Q h g = then_goes s h.0 t (f v).trail (f v).answer Q h.2 (g v h.0 h.1)
-  bind_on s (ended e) t f P Q h g = h
-  bind_on s stuck t f P Q h g = h
+  bind_on : {A C : Type 0} (state : State) (answer : Answer A) (trail : Trail) (next : A → Outcome C) (Halfway : A → State → Type 0)
+      (Wanted : C → State → Type 0)
+      → GoesOn answer trail state Halfway → ((made : A) (next_state : State) → Halfway made next_state → Goes next_state (next made) Wanted)
+      → Goes state (goes_on answer trail next) Wanted
+  bind_on state (value made) trail next Halfway Wanted goes goes_then =
+      then_goes state goes.0 trail (next made).trail (next made).answer Wanted goes.2 (goes_then made goes.0 goes.1)
+  bind_on state (ended end) trail next Halfway Wanted goes goes_then = goes
+  bind_on state stuck trail next Halfway Wanted goes goes_then = goes
 
-  pub goes_bind : {A C : Type 0} (s : State) (m : Outcome A) (f : A → Outcome C) (P : A → State → Type 0) (Q : C → State → Type 0)
-      → Goes s m P → ((v : A) (s1 : State) → P v s1 → Goes s1 (f v) Q) → Goes s (m >>= f) Q
-  goes_bind s m f P Q h g = bind_on s m.answer m.trail f P Q h g
+  pub goes_bind : {A C : Type 0} (state : State) (outcome : Outcome A) (next : A → Outcome C) (Halfway : A → State → Type 0)
+      (Wanted : C → State → Type 0)
+      → Goes state outcome Halfway → ((made : A) (next_state : State) → Halfway made next_state → Goes next_state (next made) Wanted)
+      → Goes state (outcome >>= next) Wanted
+  goes_bind state outcome next Halfway Wanted goes goes_then = bind_on state outcome.answer outcome.trail next Halfway Wanted goes goes_then
 
-  weaker_on : {A : Type 0} (s : State) (a : Answer A) (t : Trail) (P Q : A → State → Type 0) → ((v : A) (s1 : State) → P v s1 → Q v s1)
-      → GoesOn a t s P → GoesOn a t s Q
-  weaker_on s (value v) t P Q f g = (g.0, f v g.0 g.1, g.2)
-  weaker_on s (ended e) t P Q f g = g
-  weaker_on s stuck t P Q f g = g
+  weaker_on : {A : Type 0} (state : State) (answer : Answer A) (trail : Trail) (Stronger Wanted : A → State → Type 0)
+      → ((made : A) (next_state : State) → Stronger made next_state → Wanted made next_state)
+      → GoesOn answer trail state Stronger → GoesOn answer trail state Wanted
+  weaker_on state (value made) trail Stronger Wanted weaker goes = (goes.0, weaker made goes.0 goes.1, goes.2)
+  weaker_on state (ended end) trail Stronger Wanted weaker goes = goes
+  weaker_on state stuck trail Stronger Wanted weaker goes = goes
 
   -- the same, of more
-  pub goes_weaker : {A : Type 0} (s : State) (m : Outcome A) (P Q : A → State → Type 0) → ((v : A) (s1 : State) → P v s1 → Q v s1) → Goes s m P
-      → Goes s m Q
-  goes_weaker s m P Q f g = weaker_on s m.answer m.trail P Q f g
+  pub goes_weaker : {A : Type 0} (state : State) (outcome : Outcome A) (Stronger Wanted : A → State → Type 0)
+      → ((made : A) (next_state : State) → Stronger made next_state → Wanted made next_state) → Goes state outcome Stronger
+      → Goes state outcome Wanted
+  goes_weaker state outcome Stronger Wanted weaker goes = weaker_on state outcome.answer outcome.trail Stronger Wanted weaker goes
 
   -- ---- steps
 
-  one_step : (f : Frame) (fs : List Frame) (s1 : State) (t : Trail) → step code world f fs ≡ record { answer = value s1; trail = t }
-      → Leads (f ∷ fs) t s1
-  one_step f fs s1 t h k = (suc k, ap (λ m. m >>= run code world k) h)
+  one_step : (frame : Frame) (callers : List Frame) (next_state : State) (trail : Trail)
+      → step code world frame callers ≡ record { answer = value next_state; trail = trail }
+      → Leads (frame ∷ callers) trail next_state
+  one_step frame callers next_state trail steps further = (suc further, ap (λ m. m >>= run code world further) steps)
 
-  pub goes_first : {A : Type 0} (f : Frame) (fs : List Frame) (s1 : State) (t : Trail) (m : Outcome A) (P : A → State → Type 0)
-      → step code world f fs ≡ record { answer = value s1; trail = t } → Goes s1 m P → Goes (f ∷ fs) (after t m) P
-  goes_first f fs s1 t m P h g = then_goes (f ∷ fs) s1 t m.trail m.answer P (one_step f fs s1 t h) g
+  pub goes_first : {A : Type 0} (frame : Frame) (callers : List Frame) (next_state : State) (trail : Trail) (outcome : Outcome A)
+      (Wanted : A → State → Type 0)
+      → step code world frame callers ≡ record { answer = value next_state; trail = trail } → Goes next_state outcome Wanted
+      → Goes (frame ∷ callers) (after trail outcome) Wanted
+  goes_first frame callers next_state trail outcome Wanted steps goes =
+      then_goes (frame ∷ callers) next_state trail outcome.trail outcome.answer Wanted (one_step frame callers next_state trail steps) goes
 
   -- nothing has to be done
-  pub goes_none : {A : Type 0} (s : State) (v : A) (P : A → State → Type 0) → P v s → Goes s (gives v 0) P
-  goes_none s v P p = (s, p, λ k. (k, sym (after_nothing (run code world k s))))
+  pub goes_none : {A : Type 0} (state : State) (made : A) (Wanted : A → State → Type 0) → Wanted made state → Goes state (gives made 0) Wanted
+  goes_none state made Wanted holds = (state, holds, λ k. (k, sym (after_nothing (run code world k state))))
 
-  pub goes_one : {A : Type 0} (f : Frame) (fs : List Frame) (s1 : State) (t : Trail) (v : A) (P : A → State → Type 0)
-      → step code world f fs ≡ record { answer = value s1; trail = t } → P v s1 → Goes (f ∷ fs) (record { answer = value v; trail = t }) P
-  goes_one f fs s1 t v P h p = (s1, p, one_step f fs s1 t h)
+  pub goes_one : {A : Type 0} (frame : Frame) (callers : List Frame) (next_state : State) (trail : Trail) (made : A) (Wanted : A → State → Type 0)
+      → step code world frame callers ≡ record { answer = value next_state; trail = trail } → Wanted made next_state
+      → Goes (frame ∷ callers) (record { answer = value made; trail = trail }) Wanted
+  goes_one frame callers next_state trail made Wanted steps holds = (next_state, holds, one_step frame callers next_state trail steps)
 
-  pub goes_end : {A : Type 0} (f : Frame) (fs : List Frame) (e : FireEnd) (t : Trail) (P : A → State → Type 0)
-      → step code world f fs ≡ record { answer = ended e; trail = t } → GoesOn (ended e) t (f ∷ fs) P
-  goes_end f fs e t P h = (1, ap (λ m. m >>= run code world 0) h)
+  pub goes_end : {A : Type 0} (frame : Frame) (callers : List Frame) (end : FireEnd) (trail : Trail) (Wanted : A → State → Type 0)
+      → step code world frame callers ≡ record { answer = ended end; trail = trail } → GoesOn (ended end) trail (frame ∷ callers) Wanted
+  goes_end frame callers end trail Wanted steps = (1, ap (λ m. m >>= run code world 0) steps)
 
-  as_on : {A : Type 0} (f : Frame) (fs : List Frame) (a : Answer A) (t : Trail) (go : A → State) (P : A → State → Type 0)
-      → step code world f fs ≡ goes_on a t (λ v. gives (go v) 0) → Made a (λ v. P v (go v)) → GoesOn a t (f ∷ fs) P
-  as_on f fs (value v) t go P h m = goes_one f fs (go v) t v P (h ∙ same_outcome (value (go v)) _ _ (nothing_last t)) m
-  as_on f fs (ended e) t go P h m = goes_end f fs e t P h
-  as_on f fs stuck t go P h m = m
+  as_on : {A : Type 0} (frame : Frame) (callers : List Frame) (answer : Answer A) (trail : Trail) (go : A → State) (Wanted : A → State → Type 0)
+      → step code world frame callers ≡ goes_on answer trail (λ made. gives (go made) 0) → Made answer (λ made. Wanted made (go made))
+      → GoesOn answer trail (frame ∷ callers) Wanted
+  as_on frame callers (value made) trail go Wanted steps made_so =
+      goes_one frame callers (go made) trail made Wanted (steps ∙ same_outcome (value (go made)) _ _ (nothing_last trail)) made_so
+  as_on frame callers (ended end) trail go Wanted steps made_so = goes_end frame callers end trail Wanted steps
+  as_on frame callers stuck trail go Wanted steps made_so = made_so
 
   -- one step, which does what the outcome says
-  pub goes_as : {A : Type 0} (f : Frame) (fs : List Frame) (m : Outcome A) (go : A → State) (P : A → State → Type 0)
-      → step code world f fs ≡ (m >>= (λ v. gives (go v) 0)) → Made m.answer (λ v. P v (go v)) → Goes (f ∷ fs) m P
-  goes_as f fs m go P h g = as_on f fs m.answer m.trail go P h g
+  pub goes_as : {A : Type 0} (frame : Frame) (callers : List Frame) (outcome : Outcome A) (go : A → State) (Wanted : A → State → Type 0)
+      → step code world frame callers ≡ (outcome >>= (λ made. gives (go made) 0)) → Made outcome.answer (λ made. Wanted made (go made))
+      → Goes (frame ∷ callers) outcome Wanted
+  goes_as frame callers outcome go Wanted steps made_so = as_on frame callers outcome.answer outcome.trail go Wanted steps made_so
 
-  free_on : {A : Type 0} (s : State) (a : Answer A) (t : Trail) (P Q : A → State → Type 0) → GoesOn a t s P
-      → ((v : A) (s1 : State) → P v s1 → (f : Frame) × (fs : List Frame) × (s2 : State) × (s1 ≡ f ∷ fs) × (step code world f fs ≡ gives s2 0)
-      × Q v s2) → GoesOn a t s Q
-  free_on s (value v) t P Q g h =
-      let q = h v g.0 g.1 in (
-        q.2,
-        q.5,
-        λ k.
-            let y = g.2 (suc k) in
-            (y.0, y.1 ∙ ap (after t) (ap (run code world (suc k)) q.3 ∙ ap (λ m. m >>= run code world k) q.4 ∙ after_nothing (run code world k q.2))),
+  free_on : {A : Type 0} (state : State) (answer : Answer A) (trail : Trail) (Halfway Wanted : A → State → Type 0) → GoesOn answer trail state Halfway
+      → ((made : A) (next_state : State) → Halfway made next_state → (frame : Frame) × (callers : List Frame) × (last_state : State)
+      × (next_state ≡ frame ∷ callers) × (step code world frame callers ≡ gives last_state 0)
+      × Wanted made last_state) → GoesOn answer trail state Wanted
+  free_on state (value made) trail Halfway Wanted goes free =
+      let found = free made goes.0 goes.1 in (
+        found.2,
+        found.5,
+        λ further.
+            let near = goes.2 (suc further) in (
+              near.0,
+              near.1
+                  ∙ ap (after trail)
+                  (ap (run code world (suc further)) found.3 ∙ ap (λ m. m >>= run code world further) found.4
+                  ∙ after_nothing (run code world further found.2)),
+            ),
       )
-  free_on s (ended e) t P Q g h = g
-  free_on s stuck t P Q g h = g
+  free_on state (ended end) trail Halfway Wanted goes free = goes
+  free_on state stuck trail Halfway Wanted goes free = goes
 
   -- a step that counts nothing comes after
-  pub goes_free : {A : Type 0} (s : State) (m : Outcome A) (P Q : A → State → Type 0) → Goes s m P
-      → ((v : A) (s1 : State) → P v s1 → (f : Frame) × (fs : List Frame) × (s2 : State) × (s1 ≡ f ∷ fs) × (step code world f fs ≡ gives s2 0)
-      × Q v s2) → Goes s m Q
-  goes_free s m P Q g h = free_on s m.answer m.trail P Q g h
+  pub goes_free : {A : Type 0} (state : State) (outcome : Outcome A) (Halfway Wanted : A → State → Type 0) → Goes state outcome Halfway
+      → ((made : A) (next_state : State) → Halfway made next_state → (frame : Frame) × (callers : List Frame) × (last_state : State)
+      × (next_state ≡ frame ∷ callers) × (step code world frame callers ≡ gives last_state 0)
+      × Wanted made last_state) → Goes state outcome Wanted
+  goes_free state outcome Halfway Wanted goes free = free_on state outcome.answer outcome.trail Halfway Wanted goes free

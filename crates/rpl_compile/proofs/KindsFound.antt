@@ -7,36 +7,41 @@ use Rattle.rpl_compile.proofs.Plain.{result_is, short_is}
 
 -- ---- kinds
 
-room_by : (a b : Kind) (m : ℕ) → AreBoth (numbers_kind m) number_kind a b ⊎ AreBoth (slots_kind m) slot_kind a b → room_of a ≡ m
-room_by a b m (inl h) = ap room_of h.0
-room_by a b m (inr h) = ap room_of h.0
+room_by : (left_kind right_kind : Kind) (room : ℕ) → AreBoth (numbers_kind room) number_kind left_kind right_kind
+    ⊎ AreBoth (slots_kind room) slot_kind left_kind right_kind → room_of left_kind ≡ room
+room_by left_kind right_kind room (inl h) = ap room_of h.0
+room_by left_kind right_kind room (inr h) = ap room_of h.0
 
-appended : (a b : Kind) → CanAppend a b → list_kind (short (room_of a + 1)) b ≡ list_kind (room_of a + 1) b
-appended a b h =
-    let room = room_by a b h.0 h.2 in
-    ap (λ n. list_kind n b) (short_is (room_of a + 1) (let lt = h.1 in omega (arith, lt, room)))
+appended : (left_kind right_kind : Kind) → CanAppend left_kind right_kind
+    → list_kind (short (room_of left_kind + 1)) right_kind ≡ list_kind (room_of left_kind + 1) right_kind
+appended left_kind right_kind can_append =
+    let room = room_by left_kind right_kind can_append.0 can_append.2 in
+    ap (λ n. list_kind n right_kind) (short_is (room_of left_kind + 1) (let lt = can_append.1 in omega (arith, lt, room)))
 
-pub kind_of_two_is : (word : TwoWord) (a b : Kind) → TwoTakes word a b → kind_of_two word a b ≡ two_kind word a b
-kind_of_two_is Append a b h = appended a b h
-kind_of_two_is word a b h = refl
+pub kind_of_two_is : (word : TwoWord) (left_kind right_kind : Kind) → TwoTakes word left_kind right_kind
+    → kind_of_two word left_kind right_kind ≡ two_kind word left_kind right_kind
+kind_of_two_is Append left_kind right_kind two_takes = appended left_kind right_kind two_takes
+kind_of_two_is word left_kind right_kind two_takes = refl
 
 module _ (basin : Draft) (callees : List Callee) where
   mutual
-    pub ahead_is : (names : Names) (t : Tree) → IsKinded basin (callee_heads callees) names t
-        → kind_ahead callees names t ≡ tree_kind (callee_heads callees) names t
-    ahead_is names (call f ts) h = result_is callees f
-    ahead_is names (brackets t) h = ahead_is names t h
-    ahead_is names (list ts) h = λ i. list_kind (short_is (count_of ts) h.1 i) (first_is names _ ts h.3 i)
-    ahead_is names (choice c y n) h = λ i. join (ahead_is names y h.2 i) (ahead_is names n h.4 i)
-    ahead_is names (bind x e b) h = ap (λ (k : Kind). kind_ahead callees ((x, k) ∷ names) b) (ahead_is names e h.0) ∙ ahead_is _ b h.1
-    ahead_is names (each x l a f b) h = ahead_is names f h.2
-    ahead_is names (mapped x l b) h = ap (λ (k : Kind). numbers_kind (room_of k)) (ahead_is names l h.0)
-    ahead_is names (two word l r) h =
-        (λ i. kind_of_two word (ahead_is names l h.0 i) (ahead_is names r h.1 i))
-        ∙ kind_of_two_is word (tree_kind (callee_heads callees) names l) (tree_kind (callee_heads callees) names r) h.2
-    ahead_is names t h = refl
+    pub ahead_is : (names : Names) (expression : Tree) → IsKinded basin (callee_heads callees) names expression
+        → kind_ahead callees names expression ≡ tree_kind (callee_heads callees) names expression
+    ahead_is names (call function_name arguments) is_kinded = result_is callees function_name
+    ahead_is names (brackets inside) is_kinded = ahead_is names inside is_kinded
+    ahead_is names (list items) is_kinded = λ i. list_kind (short_is (count_of items) is_kinded.1 i) (first_is names _ items is_kinded.3 i)
+    ahead_is names (choice condition if_true if_false) is_kinded =
+        λ i. join (ahead_is names if_true is_kinded.2 i) (ahead_is names if_false is_kinded.4 i)
+    ahead_is names (bind new_name value_tree body) is_kinded =
+        ap (λ (kind : Kind). kind_ahead callees ((new_name, kind) ∷ names) body) (ahead_is names value_tree is_kinded.0) ∙ ahead_is _ body is_kinded.1
+    ahead_is names (each item_name source total_name initial body) is_kinded = ahead_is names initial is_kinded.2
+    ahead_is names (mapped item_name source body) is_kinded = ap (λ (kind : Kind). numbers_kind (room_of kind)) (ahead_is names source is_kinded.0)
+    ahead_is names (two word left right) is_kinded =
+        (λ i. kind_of_two word (ahead_is names left is_kinded.0 i) (ahead_is names right is_kinded.1 i))
+        ∙ kind_of_two_is word (tree_kind (callee_heads callees) names left) (tree_kind (callee_heads callees) names right) is_kinded.2
+    ahead_is names expression is_kinded = refl
 
-    pub first_is : (names : Names) (kind : Kind) (ts : Trees) → AreOfKind basin (callee_heads callees) names kind ts
-        → first_ahead callees names ts ≡ first_kind (callee_heads callees) names ts
-    first_is names kind no_trees h = refl
-    first_is names kind (tree t ts) h = ahead_is names t h.0
+    pub first_is : (names : Names) (kind : Kind) (expressions : Trees) → AreOfKind basin (callee_heads callees) names kind expressions
+        → first_ahead callees names expressions ≡ first_kind (callee_heads callees) names expressions
+    first_is names kind no_trees are_of_kind = refl
+    first_is names kind (tree first others) are_of_kind = ahead_is names first are_of_kind.0

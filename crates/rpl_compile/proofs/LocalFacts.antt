@@ -7,42 +7,48 @@ use Rattle.rpl_compile.proofs.Placing.{HasAt}
 
 -- ---- locals of these kinds, from one on
 
-pub kinds_front : (locals : List ValueKind) (n : ℕ) (ks ls : List Kind) → HasAt locals n (code_kinds (ks ++ ls)) → HasAt locals n (code_kinds ks)
-kinds_front locals n [] ls h = tt
-kinds_front locals n (k ∷ ks) ls h = (h.0, kinds_front locals (suc n) ks ls h.1)
+pub kinds_front : (locals : List ValueKind) (place : ℕ) (kinds other_kinds : List Kind) → HasAt locals place (code_kinds (kinds ++ other_kinds))
+    → HasAt locals place (code_kinds kinds)
+kinds_front locals place [] other_kinds placed = tt
+kinds_front locals place (kind ∷ kinds) other_kinds placed = (placed.0, kinds_front locals (suc place) kinds other_kinds placed.1)
 
-pub kinds_back : (locals : List ValueKind) (n m : ℕ) (ks ls : List Kind) → length ks ≡ m → HasAt locals n (code_kinds (ks ++ ls))
-    → HasAt locals (n + m) (code_kinds ls)
-kinds_back locals n m [] ls e h = let z : n ≡ n + m = omega (arith, e) in subst (λ k. HasAt locals k (code_kinds ls)) z h
-kinds_back locals n zero (k ∷ ks) ls e h = absurd (cc e)
-kinds_back locals n (suc m) (k ∷ ks) ls e h =
-    let z : suc n + m ≡ n + suc m = omega arith in
-    let few : length ks ≡ m = omega (arith, e) in
-    subst (λ k. HasAt locals k (code_kinds ls)) z (kinds_back locals (suc n) m ks ls few h.1)
+pub kinds_back : (locals : List ValueKind) (place many : ℕ) (kinds other_kinds : List Kind) → length kinds ≡ many
+    → HasAt locals place (code_kinds (kinds ++ other_kinds))
+    → HasAt locals (place + many) (code_kinds other_kinds)
+kinds_back locals place many [] other_kinds kinds_counted placed = let n_is : place ≡ place + many = omega (arith, kinds_counted) in
+    subst (λ k. HasAt locals k (code_kinds other_kinds)) n_is placed
+kinds_back locals place zero (kind ∷ kinds) other_kinds kinds_counted placed = absurd (cc kinds_counted)
+kinds_back locals place (suc many) (kind ∷ kinds) other_kinds kinds_counted placed =
+    let same_place : suc place + many ≡ place + suc many = omega arith in
+    let few : length kinds ≡ many = omega (arith, kinds_counted) in
+    subst (λ k. HasAt locals k (code_kinds other_kinds)) same_place (kinds_back locals (suc place) many kinds other_kinds few placed.1)
 
 -- ---- the locals of names
 
 abbrev pub Placed : List ValueKind → List BoundName → Type 0
 Placed locals [] = Unit {0}
-Placed locals (b ∷ scope) = (slice_get locals b.local ≡ Some (code_kind b.kind)) × Placed locals scope
+Placed locals (bound_name ∷ scope) = (slice_get locals bound_name.local ≡ Some (code_kind bound_name.kind)) × Placed locals scope
 
-pub placed_name : (locals : List ValueKind) (scope : List BoundName) (x : List ℕ) → Placed locals scope → HasName (names_in scope) x
-    → slice_get locals (local_named scope x) ≡ Some (code_kind (kind_named (names_in scope) x))
-placed_name locals [] x pl h = absurd (cc h)
-placed_name locals (b ∷ scope) x pl h = by (bytes_eq b.name x) h (λ g. placed_name locals scope x pl.1 g)
+pub placed_name : (locals : List ValueKind) (scope : List BoundName) (sought : List ℕ) → Placed locals scope → HasName (names_in scope) sought
+    → slice_get locals (local_named scope sought) ≡ Some (code_kind (kind_named (names_in scope) sought))
+placed_name locals [] sought placed has_name = absurd (cc has_name)
+placed_name locals (bound_name ∷ scope) sought placed has_name =
+    by (bytes_eq bound_name.name sought) has_name (λ g. placed_name locals scope sought placed.1 g)
   where
-    by : (t : Bool) → IsTrue (t || list_any (λ (entry : List ℕ × Kind). bytes_eq entry.0 x) (names_in scope))
-        → (HasName (names_in scope) x → slice_get locals (local_named scope x) ≡ Some (code_kind (kind_named (names_in scope) x)))
-        → slice_get locals (if t then b.local else local_named scope x) ≡ Some (code_kind (if t then b.kind else kind_named (names_in scope) x))
-    by true h later = pl.0
-    by false h later = later h
+    by : (test : Bool) → IsTrue (test || list_any (λ (entry : List ℕ × Kind). bytes_eq entry.0 sought) (names_in scope))
+        → (HasName (names_in scope) sought → slice_get locals (local_named scope sought) ≡ Some (code_kind (kind_named (names_in scope) sought)))
+        → slice_get locals (if test then bound_name.local else local_named scope sought)
+        ≡ Some (code_kind (if test then bound_name.kind else kind_named (names_in scope) sought))
+    by true is_true later = placed.0
+    by false is_true later = later is_true
 
 -- ---- parameters
 
-pub parameter_names : (n : ℕ) (ps : List Parameter) → names_in (parameters_from n ps) ≡ param_names ps
-parameter_names n [] = refl
-parameter_names n (p ∷ ps) = ap (λ (names : Names). (p.name, kind_of_type p.of_type) ∷ names) (parameter_names (n + 1) ps)
+pub parameter_names : (number : ℕ) (parameters : List Parameter) → names_in (parameters_from number parameters) ≡ param_names parameters
+parameter_names number [] = refl
+parameter_names number (parameter ∷ parameters) =
+    ap (λ (names : Names). (parameter.name, kind_of_type parameter.of_type) ∷ names) (parameter_names (number + 1) parameters)
 
-pub many_params : (params : List Parameter) → length (param_kinds params) ≡ length params
+pub many_params : (parameters : List Parameter) → length (param_kinds parameters) ≡ length parameters
 many_params [] = refl
-many_params (p ∷ ps) = ap suc (many_params ps)
+many_params (parameter ∷ parameters) = ap suc (many_params parameters)

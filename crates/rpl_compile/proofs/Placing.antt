@@ -1,4 +1,4 @@
--- What stands from a place of a block on: its instructions, which loops are open, and where a jump may go.
+-- What stands from a place of a block on (`HasAt`): its instructions, which loops are open, and where a jump may go.
 use Rattle.rpl_compile.proofs.Common.{BackwardJump, Before, Bool, Bracket, Err, Instruction, JumpOutside, List, Loop, Ok, Open, Opener, Scope, Some}
 use Rattle.rpl_compile.proofs.Common.{Spot, ValueKind, [], ap, ap₂, arith, bracket, closed, closing, declared_by, found, if◌then◌else◌, innermost}
 use Rattle.rpl_compile.proofs.Common.{is_same_loop, is_same_place, judged_at, landing, length, level, map, nat_lt, nat_tests, openers_behind, opening}
@@ -12,21 +12,21 @@ use Rattle.rpl_verify.proofs.Judged.{OpenRel, rel_of, same_loop_refl}
 
 -- these stand there from that place on
 abbrev pub HasAt : {A : Type 0} → List A → ℕ → List A → Type 0
-HasAt xs p [] = Unit {0}
-HasAt xs p (y ∷ ys) = (slice_get xs p ≡ Some y) × HasAt xs (suc p) ys
+HasAt xs place [] = Unit {0}
+HasAt xs place (y ∷ ys) = (slice_get xs place ≡ Some y) × HasAt xs (suc place) ys
 
-pub has_front : {A : Type 0} (xs : List A) (p : ℕ) (ys zs : List A) → HasAt xs p (ys ++ zs) → HasAt xs p ys
-has_front xs p [] zs h = tt
-has_front xs p (y ∷ ys) zs h = (h.0, has_front xs (suc p) ys zs h.1)
+pub has_front : {A : Type 0} (xs : List A) (place : ℕ) (ys zs : List A) → HasAt xs place (ys ++ zs) → HasAt xs place ys
+has_front xs place [] zs placed = tt
+has_front xs place (y ∷ ys) zs placed = (placed.0, has_front xs (suc place) ys zs placed.1)
 
-pub has_back : {A : Type 0} (xs : List A) (p : ℕ) (ys zs : List A) → HasAt xs p (ys ++ zs) → HasAt xs (p + length ys) zs
-has_back xs p [] zs h = let z : p ≡ p + 0 = omega arith in subst (λ n. HasAt xs n zs) z h
-has_back xs p (y ∷ ys) zs h = let z : suc p + length ys ≡ p + suc (length ys) =
-    omega arith in subst (λ n. HasAt xs n zs) z (has_back xs (suc p) ys zs h.1)
+pub has_back : {A : Type 0} (xs : List A) (place : ℕ) (ys zs : List A) → HasAt xs place (ys ++ zs) → HasAt xs (place + length ys) zs
+has_back xs place [] zs placed = let place_is : place ≡ place + 0 = omega arith in subst (λ n. HasAt xs n zs) place_is placed
+has_back xs place (y ∷ ys) zs placed = let same_place : suc place + length ys ≡ place + suc (length ys) =
+    omega arith in subst (λ n. HasAt xs n zs) same_place (has_back xs (suc place) ys zs placed.1)
 
-later_at : {A : Type 0} (x : A) (xs : List A) (p : ℕ) (ys : List A) → HasAt xs p ys → HasAt (x ∷ xs) (suc p) ys
-later_at x xs p [] h = tt
-later_at x xs p (y ∷ ys) h = (h.0, later_at x xs (suc p) ys h.1)
+later_at : {A : Type 0} (x : A) (xs : List A) (place : ℕ) (ys : List A) → HasAt xs place ys → HasAt (x ∷ xs) (suc place) ys
+later_at x xs place [] placed = tt
+later_at x xs place (y ∷ ys) placed = (placed.0, later_at x xs (suc place) ys placed.1)
 
 pub has_all : {A : Type 0} (xs : List A) → HasAt xs 0 xs
 has_all [] = tt
@@ -39,78 +39,88 @@ has_behind (x ∷ xs) ys = later_at x (xs ++ ys) (length xs) ys (has_behind xs y
 -- ---- open loops
 
 abbrev pub opener_of : Open → Opener
-opener_of o = record { start = o.start; loop = o.loop }
+opener_of open_loop = record { start = open_loop.start; loop = open_loop.loop }
 
 abbrev pub openers_of : List Open → List Opener
-openers_of os = map opener_of os
+openers_of open_loops = map opener_of open_loops
 
-openers_go : (p : ℕ) (b : Bracket) (os : List Open) (c : Before) → OpenRel p b os c → openers_behind b p (openers_of os) ≡ openers_of c.loops
-openers_go p (opening loop) os c h =
-    ap₂ (λ (s : ℕ) (l : Loop). record { start = s; loop = l } ∷ openers_of os) (sym h.3) (sym h.4) ∙ sym (ap openers_of h.1)
-openers_go p (closing loop) os c h =
-    ap (λ (os : List Open). closed loop (openers_of os)) h.1
-    ∙ ap (λ (t : Bool). if t then openers_of c.loops else opener_of h.0 ∷ openers_of c.loops) (ap (is_same_loop loop) h.3 ∙ same_loop_refl loop)
-openers_go p level os c h = ap openers_of (sym h)
+openers_go : (place : ℕ) (of_bracket : Bracket) (open_loops : List Open) (there : Before) → OpenRel place of_bracket open_loops there
+    → openers_behind of_bracket place (openers_of open_loops) ≡ openers_of there.loops
+openers_go place (opening loop) open_loops there open_rel =
+    ap₂ (λ (start : ℕ) (l : Loop). record { start = start; loop = l } ∷ openers_of open_loops) (sym open_rel.3) (sym open_rel.4)
+    ∙ sym (ap openers_of open_rel.1)
+openers_go place (closing loop) open_loops there open_rel =
+    ap (λ (open_loops : List Open). closed loop (openers_of open_loops)) open_rel.1
+    ∙ ap (λ (test : Bool). if test then openers_of there.loops else opener_of open_rel.0 ∷ openers_of there.loops)
+    (ap (is_same_loop loop) open_rel.3 ∙ same_loop_refl loop)
+openers_go place level open_loops there open_rel = ap openers_of (sym open_rel)
 
 -- the openers before a place
 abbrev pub openers_at : ℕ → List Opener → List Instruction → ℕ → List Opener
-openers_at place os is zero = os
-openers_at place os [] (suc n) = os
-openers_at place os (i ∷ is) (suc n) = openers_at (suc place) (openers_behind (bracket i) place os) is n
+openers_at place openers lines zero = openers
+openers_at place openers [] (suc n) = openers
+openers_at place openers (line ∷ lines) (suc n) = openers_at (suc place) (openers_behind (bracket line) place openers) lines n
 
-openers_next : (place : ℕ) (os : List Opener) (is : List Instruction) (n : ℕ) (i : Instruction) → slice_get is n ≡ Some i
-    → openers_at place os is (suc n) ≡ openers_behind (bracket i) (place + n) (openers_at place os is n)
-openers_next place os [] n i h = absurd (cc h)
-openers_next place os (j ∷ is) zero i h =
-    let e : j ≡ i = cc h in let z : place ≡ place + 0 = omega arith in ap₂ (λ (i : Instruction) n. openers_behind (bracket i) n os) e z
-openers_next place os (j ∷ is) (suc n) i h =
-    let z : suc place + n ≡ place + suc n = omega arith in
-    let here = openers_behind (bracket j) place os in
-    openers_next (suc place) here is n i h ∙ ap (λ m. openers_behind (bracket i) m (openers_at (suc place) here is n)) z
+openers_next : (place : ℕ) (openers : List Opener) (lines : List Instruction) (n : ℕ) (line : Instruction) → slice_get lines n ≡ Some line
+    → openers_at place openers lines (suc n) ≡ openers_behind (bracket line) (place + n) (openers_at place openers lines n)
+openers_next place openers [] n line stands = absurd (cc stands)
+openers_next place openers (first ∷ lines) zero line stands =
+    let line_is : first ≡ line = cc stands in let place_is : place ≡ place + 0 = omega arith in
+    ap₂ (λ (line : Instruction) n. openers_behind (bracket line) n openers) line_is place_is
+openers_next place openers (first ∷ lines) (suc n) line stands =
+    let same_place : suc place + n ≡ place + suc n = omega arith in
+    let here = openers_behind (bracket first) place openers in
+    openers_next (suc place) here lines n line stands ∙ ap (λ m. openers_behind (bracket line) m (openers_at (suc place) here lines n)) same_place
 
-spot_there : (place : ℕ) (os : List Opener) (is : List Instruction) (n : ℕ) (i : Instruction) → slice_get is n ≡ Some i
-    → slice_get (spots_from place os is) n ≡ Some (record { innermost = start_of (top_of (openers_at place os is n)); declares = declared_by i })
-spot_there place os [] n i h = absurd (cc h)
-spot_there place os (j ∷ is) zero i h =
-    let e : j ≡ i = cc h in ap (λ (i : Instruction). Some (record { innermost = start_of (top_of os); declares = declared_by i })) e
-spot_there place os (j ∷ is) (suc n) i h = spot_there (suc place) (openers_behind (bracket j) place os) is n i h
+spot_there : (place : ℕ) (openers : List Opener) (lines : List Instruction) (n : ℕ) (line : Instruction) → slice_get lines n ≡ Some line
+    → slice_get (spots_from place openers lines) n
+    ≡ Some (record { innermost = start_of (top_of (openers_at place openers lines n)); declares = declared_by line })
+spot_there place openers [] n line stands = absurd (cc stands)
+spot_there place openers (first ∷ lines) zero line stands =
+    let line_is : first ≡ line = cc stands in
+    ap (λ (line : Instruction). Some (record { innermost = start_of (top_of openers); declares = declared_by line })) line_is
+spot_there place openers (first ∷ lines) (suc n) line stands =
+    spot_there (suc place) (openers_behind (bracket first) place openers) lines n line stands
 
-same_innermost : (os : List Open) → is_same_place (innermost os) (start_of (top_of (openers_of os))) ≡ true
+same_innermost : (open_loops : List Open) → is_same_place (innermost open_loops) (start_of (top_of (openers_of open_loops))) ≡ true
 same_innermost [] = refl
-same_innermost (o ∷ os) = grind (arith, nat_tests)
+same_innermost (open_loop ∷ open_loops) = grind (arith, nat_tests)
 
 -- in a block of these lines
 abbrev pub openers_before : List Instruction → ℕ → List Opener
-openers_before lines p = openers_at 0 [] lines p
+openers_before lines place = openers_at 0 [] lines place
 
-pub level_on : (lines : List Instruction) (p : ℕ) (i : Instruction) → slice_get lines p ≡ Some i → bracket i ≡ level
-    → openers_before lines (suc p) ≡ openers_before lines p
-level_on lines p i h e = openers_next 0 [] lines p i h ∙ ap (λ b. openers_behind b (0 + p) (openers_before lines p)) e
+pub level_on : (lines : List Instruction) (place : ℕ) (line : Instruction) → slice_get lines place ≡ Some line → bracket line ≡ level
+    → openers_before lines (suc place) ≡ openers_before lines place
+level_on lines place line stands is_level = openers_next 0 [] lines place line stands
+    ∙ ap (λ b. openers_behind b (0 + place) (openers_before lines place)) is_level
 
 module _ (scope : Scope) (lines : List Instruction) (spots_are : scope.spots ≡ spots lines) where
   -- an instruction that fits leads from the loops that are open to those that are open behind it
-  pub opens_on : (p : ℕ) (b c : Before) (i : Instruction) → slice_get lines p ≡ Some i → judged_at scope p b i ≡ Ok c
-      → openers_before lines p ≡ openers_of b.loops
-      → openers_before lines (suc p) ≡ openers_of c.loops
-  opens_on p b c i h j e =
-      let z : 0 + p ≡ p = omega arith in
-      openers_next 0 [] lines p i h ∙ ap₂ (λ n os. openers_behind (bracket i) n os) z e ∙ openers_go p (bracket i) b.loops c (rel_of scope p b i c j)
+  pub opens_on : (place : ℕ) (here there : Before) (line : Instruction) → slice_get lines place ≡ Some line
+      → judged_at scope place here line ≡ Ok there
+      → openers_before lines place ≡ openers_of here.loops
+      → openers_before lines (suc place) ≡ openers_of there.loops
+  opens_on place here there line stands judged same =
+      let same_place : 0 + place ≡ place = omega arith in
+      openers_next 0 [] lines place line stands ∙ ap₂ (λ n open_loops. openers_behind (bracket line) n open_loops) same_place same
+      ∙ openers_go place (bracket line) here.loops there (rel_of scope place here line there judged)
 
   -- a jump to a target in the same loop lands there
-  pub lands : (p to : ℕ) (b : Before) (kinds : List ValueKind) → p < to → slice_get lines to ≡ Some (I.Target (reverse kinds))
-      → openers_before lines to ≡ openers_of b.loops
-      → found scope p to b ≡ Ok kinds
-  lands p to b kinds lt h e =
-      let forward : nat_lt p to ≡ true = grind (arith, nat_tests, lt) in
-      let spot : slice_get scope.spots to ≡ Some (record { innermost = start_of (top_of (openers_of b.loops)); declares = Some kinds }) =
-      ap (λ (s : List Spot). slice_get s to) spots_are ∙ spot_there 0 [] lines to (I.Target (reverse kinds)) h
-      ∙ ap₂ (λ (os : List Opener) ks. Some (record { innermost = start_of (top_of os); declares = Some ks })) e (reverse-reverse kinds) in
-      ap (λ t. if t then landing (innermost b.loops) (slice_get scope.spots to) else Err BackwardJump) forward
-      ∙ ap (landing (innermost b.loops)) spot ∙ ap (λ t. if t then Ok kinds else Err JumpOutside) (same_innermost b.loops)
+  pub lands : (place to : ℕ) (here : Before) (kinds : List ValueKind) → place < to → slice_get lines to ≡ Some (I.Target (reverse kinds))
+      → openers_before lines to ≡ openers_of here.loops
+      → found scope place to here ≡ Ok kinds
+  lands place to here kinds less stands same =
+      let forward : nat_lt place to ≡ true = grind (arith, nat_tests, less) in
+      let spot : slice_get scope.spots to ≡ Some (record { innermost = start_of (top_of (openers_of here.loops)); declares = Some kinds }) =
+      ap (λ (spots_there : List Spot). slice_get spots_there to) spots_are ∙ spot_there 0 [] lines to (I.Target (reverse kinds)) stands
+      ∙ ap₂ (λ (os : List Opener) ks. Some (record { innermost = start_of (top_of os); declares = Some ks })) same (reverse-reverse kinds) in
+      ap (λ t. if t then landing (innermost here.loops) (slice_get scope.spots to) else Err BackwardJump) forward
+      ∙ ap (landing (innermost here.loops)) spot ∙ ap (λ t. if t then Ok kinds else Err JumpOutside) (same_innermost here.loops)
 
   -- what is declared at a place
-  pub declares_at : (p : ℕ) (kinds : List ValueKind) → slice_get lines p ≡ Some (I.Target (reverse kinds))
-      → slice_get scope.spots p ≡ Some (record { innermost = start_of (top_of (openers_before lines p)); declares = Some kinds })
-  declares_at p kinds h =
-      ap (λ (s : List Spot). slice_get s p) spots_are ∙ spot_there 0 [] lines p (I.Target (reverse kinds)) h
-      ∙ ap (λ ks. Some (record { innermost = start_of (top_of (openers_before lines p)); declares = Some ks })) (reverse-reverse kinds)
+  pub declares_at : (place : ℕ) (kinds : List ValueKind) → slice_get lines place ≡ Some (I.Target (reverse kinds))
+      → slice_get scope.spots place ≡ Some (record { innermost = start_of (top_of (openers_before lines place)); declares = Some kinds })
+  declares_at place kinds stands =
+      ap (λ (spots_there : List Spot). slice_get spots_there place) spots_are ∙ spot_there 0 [] lines place (I.Target (reverse kinds)) stands
+      ∙ ap (λ ks. Some (record { innermost = start_of (top_of (openers_before lines place)); declares = Some ks })) (reverse-reverse kinds)

@@ -27,213 +27,262 @@ module _ (basin : Draft) (valid : IsBasin basin) (callees : List Callee) (called
   HasLocals site own = site.free + own ≤ locals
 
   abbrev pub IsKindedAt : Site → Tree → Type 0
-  IsKindedAt site t = IsKinded basin (callee_heads callees) (names_in site.scope) t
+  IsKindedAt site expression = IsKinded basin (callee_heads callees) (names_in site.scope) expression
 
   abbrev pub lines_at : Site → Tree → ℕ
-  lines_at site t = size (callee_heads callees) (names_in site.scope) t
+  lines_at site expression = size (callee_heads callees) (names_in site.scope) expression
 
   place_spelt : (n : ℕ) → n ≤ places → IsNumber n
-  place_spelt n le = below_bound n places le few_places
+  place_spelt n at_most = below_bound n places at_most few_places
 
   free_spelt : (n : ℕ) → n ≤ locals → IsNumber n
-  free_spelt n le = below_bound n locals le few_locals
+  free_spelt n at_most = below_bound n locals at_most few_locals
 
-  of_tree : (site : Site) (t : Tree) → IsSiteSpelt site → IsKindedAt site t → IsSpelt (kind_of_tree callees site t)
-  of_tree site t s h = tree_spelt basin (callee_heads callees) (callees_known callees called) (names_in site.scope) t (names_known site.scope s.0) h
+  of_tree : (site : Site) (expression : Tree) → IsSiteSpelt site → IsKindedAt site expression → IsSpelt (kind_of_tree callees site expression)
+  of_tree site expression is_site_spelt is_kinded_at =
+      tree_spelt basin (callee_heads callees) (callees_known callees called) (names_in site.scope) expression
+      (names_known site.scope is_site_spelt.0) is_kinded_at
 
   abbrev pub SpellsTree : Tree → Type 0
-  SpellsTree t = (site : Site) → IsSiteSpelt site → IsKindedAt site t
-      → HasPlaces site (lines_at site t) → HasLocals site (local_count t) → AreLines (code_of callees site t)
+  SpellsTree expression = (site : Site) → IsSiteSpelt site → IsKindedAt site expression
+      → HasPlaces site (lines_at site expression) → HasLocals site (local_count expression) → AreLines (code_of callees site expression)
 
-  on_list : (ts : Trees) (site : Site) → IsKindedAt site (list ts) → AreLines (all_code callees site ts) → AreLines (code_of callees site (list ts))
-  on_list ts site h a = behind (all_code callees site ts) _ a ((h.0, h.1), tt)
+  on_list : (expressions : Trees) (site : Site) → IsKindedAt site (list expressions) → AreLines (all_code callees site expressions)
+      → AreLines (code_of callees site (list expressions))
+  on_list expressions site is_kinded_at are_lines = behind (all_code callees site expressions) _ are_lines ((is_kinded_at.0, is_kinded_at.1), tt)
 
-  on_choice : (c y n : Tree) → SpellsTree c → SpellsTree y → SpellsTree n → SpellsTree (choice c y n)
-  on_choice c y n on_c on_y on_n site s h p l =
-      let kind = kind_of_tree callees site (choice c y n) in
-      let first = on 1 (after_tree callees c site) in
-      let middle = after_room callees kind first y in
+  on_choice : (condition if_true if_false : Tree) → SpellsTree condition → SpellsTree if_true → SpellsTree if_false
+      → SpellsTree (choice condition if_true if_false)
+  on_choice condition if_true if_false spells_condition spells_true spells_false site is_site_spelt is_kinded_at has_places has_locals =
+      let kind = kind_of_tree callees site (choice condition if_true if_false) in
+      let first = on 1 (after_tree callees condition site) in
+      let middle = after_room callees kind first if_true in
       let second = on 2 middle in
-      let own : IsSpelt kind = of_tree site (choice c y n) s h in
-      choice_spelt middle (after_room callees kind second n) (kind ∷ site.below) (code_of callees site c)
-      (code_of callees first y ++ room_lines callees kind first y) (code_of callees second n ++ room_lines callees kind second n)
-      (on_c site s h.0 (omega (arith, p)) (omega (arith, l)))
-      (behind (code_of callees first y) _ (on_y first s h.2 (omega (arith, p)) (omega (arith, l)))
-      (widening_spelt kind (kind_of_tree callees first y) h.3 own))
-      (behind (code_of callees second n) _ (on_n second s h.4 (omega (arith, p)) (omega (arith, l)))
-      (widening_spelt kind (kind_of_tree callees second n) h.5 own))
-      (place_spelt _ (omega (arith, p))) (place_spelt _ (omega (arith, p))) s.1 (own, s.1)
+      let own : IsSpelt kind = of_tree site (choice condition if_true if_false) is_site_spelt is_kinded_at in
+      choice_spelt middle (after_room callees kind second if_false) (kind ∷ site.below) (code_of callees site condition)
+      (code_of callees first if_true ++ room_lines callees kind first if_true)
+      (code_of callees second if_false ++ room_lines callees kind second if_false)
+      (spells_condition site is_site_spelt is_kinded_at.0 (omega (arith, has_places)) (omega (arith, has_locals)))
+      (behind (code_of callees first if_true) _
+      (spells_true first is_site_spelt is_kinded_at.2 (omega (arith, has_places)) (omega (arith, has_locals)))
+      (widening_spelt kind (kind_of_tree callees first if_true) is_kinded_at.3 own))
+      (behind (code_of callees second if_false) _
+      (spells_false second is_site_spelt is_kinded_at.4 (omega (arith, has_places)) (omega (arith, has_locals)))
+      (widening_spelt kind (kind_of_tree callees second if_false) is_kinded_at.5 own))
+      (place_spelt _ (omega (arith, has_places))) (place_spelt _ (omega (arith, has_places))) is_site_spelt.1 (own, is_site_spelt.1)
 
-  on_bind : (x : List ℕ) (e b : Tree) → SpellsTree e → SpellsTree b → SpellsTree (bind x e b)
-  on_bind x e b on_e on_b site s h p l =
+  on_bind : (new_name : List ℕ) (value_tree body : Tree) → SpellsTree value_tree → SpellsTree body → SpellsTree (bind new_name value_tree body)
+  on_bind new_name value_tree body spells_value spells_body site is_site_spelt is_kinded_at has_places has_locals =
       let value = keeping 1 site in
-      let own : IsSpelt (kind_of_tree callees site e) = of_tree site e s h.0 in
-      let inside = knowing (bound x (kind_of_tree callees site e) site.free) (on 1 (after_tree callees e value)) in
-      let local : IsNumber site.free = free_spelt site.free (omega (arith, l)) in
-      behind (code_of callees value e) _ (on_e value s h.0 (omega (arith, p)) (omega (arith, l)))
-      (local, on_b inside ((own, local, s.0), s.1) h.1 (omega (arith, p)) (omega (arith, l)))
+      let own : IsSpelt (kind_of_tree callees site value_tree) = of_tree site value_tree is_site_spelt is_kinded_at.0 in
+      let inside = knowing (bound new_name (kind_of_tree callees site value_tree) site.free) (on 1 (after_tree callees value_tree value)) in
+      let local : IsNumber site.free = free_spelt site.free (omega (arith, has_locals)) in
+      behind (code_of callees value value_tree) _
+      (spells_value value is_site_spelt is_kinded_at.0 (omega (arith, has_places)) (omega (arith, has_locals))) (
+        local,
+        spells_body inside ((own, local, is_site_spelt.0), is_site_spelt.1) is_kinded_at.1 (omega (arith, has_places))
+            (omega (arith, has_locals)),
+      )
 
-  on_each : (x : List ℕ) (l : Tree) (a : List ℕ) (f b : Tree) → SpellsTree l → SpellsTree f → SpellsTree b → SpellsTree (each x l a f b)
-  on_each x l a f b on_l on_f on_b site s h p q =
-      let element = element_of (kind_of_tree callees site l) in
-      let total = kind_of_tree callees site f in
+  on_each : (item_name : List ℕ) (source : Tree) (total_name : List ℕ) (initial body : Tree) → SpellsTree source → SpellsTree initial
+      → SpellsTree body → SpellsTree (each item_name source total_name initial body)
+  on_each item_name source total_name initial body spells_source spells_initial spells_body site is_site_spelt is_kinded_at has_places has_locals =
+      let element = element_of (kind_of_tree callees site source) in
+      let total = kind_of_tree callees site initial in
       let items = keeping 2 site in
-      let first = over (kind_of_tree callees site l) (after_tree callees l items) in
-      let turn = on 2 (after_tree callees f (after_tree callees l items)) in
-      let inside = knowing (bound a total (site.free + 1)) (knowing (bound x element site.free) turn) in
-      let own : IsSpelt total = of_tree site f s h.2 in
-      let item : IsNumber site.free = free_spelt site.free (omega (arith, q)) in
-      let last : IsNumber (site.free + 1) = free_spelt (site.free + 1) (omega (arith, q)) in
-      behind (code_of callees items l) _ (on_l items s h.0 (omega (arith, p)) (omega (arith, q)))
-      (behind (code_of callees first f) _ (on_f first (s.0, (of_tree site l s h.0, s.1)) h.2 (omega (arith, p)) (omega (arith, q))) (
+      let first = over (kind_of_tree callees site source) (after_tree callees source items) in
+      let turn = on 2 (after_tree callees initial (after_tree callees source items)) in
+      let inside = knowing (bound total_name total (site.free + 1)) (knowing (bound item_name element site.free) turn) in
+      let own : IsSpelt total = of_tree site initial is_site_spelt is_kinded_at.2 in
+      let item : IsNumber site.free = free_spelt site.free (omega (arith, has_locals)) in
+      let last : IsNumber (site.free + 1) = free_spelt (site.free + 1) (omega (arith, has_locals)) in
+      behind (code_of callees items source) _
+      (spells_source items is_site_spelt is_kinded_at.0 (omega (arith, has_places)) (omega (arith, has_locals)))
+      (behind (code_of callees first initial) _
+      (spells_initial first (is_site_spelt.0, (of_tree site source is_site_spelt is_kinded_at.0, is_site_spelt.1)) is_kinded_at.2
+      (omega (arith, has_places)) (omega (arith, has_locals))) (
         last,
         (
           item,
-          behind (code_of callees inside b) _
-              (on_b inside ((own, last, (element_spelt (kind_of_tree callees site l), item, s.0)), s.1) h.3 (omega (arith, p)) (omega (arith, q)))
-              (behind (room_lines callees total inside b) _ (widening_spelt total (kind_of_tree callees inside b) h.4 own) (last, (tt, (last, tt)))),
+          behind (code_of callees inside body) _
+              (spells_body inside
+              ((own, last, (element_spelt (kind_of_tree callees site source), item, is_site_spelt.0)), is_site_spelt.1) is_kinded_at.3
+              (omega (arith, has_places)) (omega (arith, has_locals)))
+              (behind (room_lines callees total inside body) _ (widening_spelt total (kind_of_tree callees inside body) is_kinded_at.4 own)
+              (last, (tt, (last, tt)))),
         ),
       ))
 
-  on_mapped : (x : List ℕ) (l b : Tree) → SpellsTree l → SpellsTree b → SpellsTree (mapped x l b)
-  on_mapped x l b on_l on_b site s h p q =
+  on_mapped : (item_name : List ℕ) (source body : Tree) → SpellsTree source → SpellsTree body → SpellsTree (mapped item_name source body)
+  on_mapped item_name source body spells_source spells_body site is_site_spelt is_kinded_at has_places has_locals =
       let items = keeping 1 site in
-      let inside = knowing (bound x (element_of (kind_of_tree callees site l)) site.free) (on 1 (after_tree callees l items)) in
-      let item : IsNumber site.free = free_spelt site.free (omega (arith, q)) in
-      behind (code_of callees items l) _ (on_l items s h.0 (omega (arith, p)) (omega (arith, q))) (
+      let inside = knowing (bound item_name (element_of (kind_of_tree callees site source)) site.free) (on 1 (after_tree callees source items)) in
+      let item : IsNumber site.free = free_spelt site.free (omega (arith, has_locals)) in
+      behind (code_of callees items source) _
+      (spells_source items is_site_spelt is_kinded_at.0 (omega (arith, has_places)) (omega (arith, has_locals))) (
         item,
-        behind (code_of callees inside b) _
-            (on_b inside ((element_spelt (kind_of_tree callees site l), item, s.0), s.1) h.2 (omega (arith, p)) (omega (arith, q))) (tt, tt),
+        behind (code_of callees inside body) _
+            (spells_body inside ((element_spelt (kind_of_tree callees site source), item, is_site_spelt.0), is_site_spelt.1) is_kinded_at.2
+            (omega (arith, has_places)) (omega (arith, has_locals))) (tt, tt),
       )
 
   -- one after the other
-  on_two : (l r : Tree) → SpellsTree l → SpellsTree r → (site : Site) → IsSiteSpelt site → IsKindedAt site l
-      → IsKindedAt site r
-      → HasPlaces site (lines_at site l + lines_at site r) → HasLocals site (local_count l + local_count r)
-      → AreLines (code_of callees site l) × AreLines (code_of callees (over (kind_of_tree callees site l) (after_tree callees l site)) r)
-  on_two l r on_l on_r site s h g p q = (
-    on_l site s h (omega (arith, p)) (omega (arith, q)),
-    on_r (over (kind_of_tree callees site l) (after_tree callees l site)) (s.0, (of_tree site l s h, s.1)) g (omega (arith, p)) (omega (arith, q)),
+  on_two : (left right : Tree) → SpellsTree left → SpellsTree right → (site : Site) → IsSiteSpelt site → IsKindedAt site left
+      → IsKindedAt site right
+      → HasPlaces site (lines_at site left + lines_at site right) → HasLocals site (local_count left + local_count right)
+      → AreLines (code_of callees site left) × AreLines (code_of callees (over (kind_of_tree callees site left) (after_tree callees left site)) right)
+  on_two left right spells_left spells_right site is_site_spelt left_kinded right_kinded has_places has_locals = (
+    spells_left site is_site_spelt left_kinded (omega (arith, has_places)) (omega (arith, has_locals)),
+    spells_right (over (kind_of_tree callees site left) (after_tree callees left site))
+        (is_site_spelt.0, (of_tree site left is_site_spelt left_kinded, is_site_spelt.1)) right_kinded (omega (arith, has_places))
+        (omega (arith, has_locals)),
   )
 
-  on_or : (l r : Tree) → SpellsTree l → SpellsTree r → SpellsTree (two Or l r)
-  on_or l r on_l on_r site s h p q =
-      let middle = on 1 (on 1 (after_tree callees l site)) in
+  on_or : (left right : Tree) → SpellsTree left → SpellsTree right → SpellsTree (two Or left right)
+  on_or left right spells_left spells_right site is_site_spelt is_kinded_at has_places has_locals =
+      let middle = on 1 (on 1 (after_tree callees left site)) in
       let second = on 2 middle in
-      choice_spelt middle (after_tree callees r second) (truth_kind ∷ site.below)
-      (code_of callees site l) (I.Bool true ∷ []) (code_of callees second r)
-      (on_l site s h.0 (omega (arith, p)) (omega (arith, q))) (tt, tt) (on_r second s h.1 (omega (arith, p)) (omega (arith, q)))
-      (place_spelt _ (omega (arith, p))) (place_spelt _ (omega (arith, p))) s.1 (tt, s.1)
+      choice_spelt middle (after_tree callees right second) (truth_kind ∷ site.below)
+      (code_of callees site left) (I.Bool true ∷ []) (code_of callees second right)
+      (spells_left site is_site_spelt is_kinded_at.0 (omega (arith, has_places)) (omega (arith, has_locals))) (tt, tt)
+      (spells_right second is_site_spelt is_kinded_at.1 (omega (arith, has_places)) (omega (arith, has_locals)))
+      (place_spelt _ (omega (arith, has_places))) (place_spelt _ (omega (arith, has_places))) is_site_spelt.1 (tt, is_site_spelt.1)
 
-  on_and : (l r : Tree) → SpellsTree l → SpellsTree r → SpellsTree (two And l r)
-  on_and l r on_l on_r site s h p q =
-      let first = on 1 (after_tree callees l site) in
-      let middle = after_tree callees r first in
-      choice_spelt middle (on 3 middle) (truth_kind ∷ site.below) (code_of callees site l) (code_of callees first r) (I.Bool false ∷ [])
-      (on_l site s h.0 (omega (arith, p)) (omega (arith, q))) (on_r first s h.1 (omega (arith, p)) (omega (arith, q))) (tt, tt)
-      (place_spelt _ (omega (arith, p))) (place_spelt _ (omega (arith, p))) s.1 (tt, s.1)
+  on_and : (left right : Tree) → SpellsTree left → SpellsTree right → SpellsTree (two And left right)
+  on_and left right spells_left spells_right site is_site_spelt is_kinded_at has_places has_locals =
+      let first = on 1 (after_tree callees left site) in
+      let middle = after_tree callees right first in
+      choice_spelt middle (on 3 middle) (truth_kind ∷ site.below) (code_of callees site left) (code_of callees first right) (I.Bool false ∷ [])
+      (spells_left site is_site_spelt is_kinded_at.0 (omega (arith, has_places)) (omega (arith, has_locals)))
+      (spells_right first is_site_spelt is_kinded_at.1 (omega (arith, has_places)) (omega (arith, has_locals))) (tt, tt)
+      (place_spelt _ (omega (arith, has_places))) (place_spelt _ (omega (arith, has_places))) is_site_spelt.1 (tt, is_site_spelt.1)
 
   mutual
-    pub code_spelt : (t : Tree) → SpellsTree t
-    code_spelt (literal n unit) = λ site s h p q. (number_spelt n unit h, tt)
-    code_spelt (truth b) = λ site s h p q. (tt, tt)
-    code_spelt now = λ site s h p q. (tt, tt)
-    code_spelt (slot o s) = λ site known h p q. (slot_found basin valid o s h, tt)
-    code_spelt (name x) = λ site s h p q. (local_spelt site.scope x s.0, tt)
-    code_spelt (call f ts) = λ site s h p q.
-        let takes = takes_named (callee_heads callees) f in
-        behind (arguments_code callees site takes ts) _
-        (arguments_spelt site takes ts s (takes_spelt (callee_heads callees) f (callees_known callees called)) h.1
-        (omega (arith, p)) (omega (arith, q)))
-        (call_spelt callees f called h.0, tt)
-    code_spelt (brackets t) = λ site s h p q. code_spelt t site s h p q
-    code_spelt (list ts) = λ site s h p q.
-        on_list ts site h (all_spelt site (first_kind (callee_heads callees) (names_in site.scope) ts) ts s h.3 (omega (arith, p)) (omega (arith, q)))
-    code_spelt (choice c y n) = on_choice c y n (code_spelt c) (code_spelt y) (code_spelt n)
-    code_spelt (bind x e b) = on_bind x e b (code_spelt e) (code_spelt b)
-    code_spelt (each x l a f b) = on_each x l a f b (code_spelt l) (code_spelt f) (code_spelt b)
-    code_spelt (mapped x l b) = on_mapped x l b (code_spelt l) (code_spelt b)
-    code_spelt (one Known (at s d)) = λ site known h p q.
-        let both = on_two s d (code_spelt s) (code_spelt d) site known h.0.0 h.0.2 (omega (arith, p)) (omega (arith, q)) in
-        behind (asked_code callees site (at s d)) _ (behind (code_of callees site s) _ both.0 both.1) (tt, tt)
-    code_spelt (one Known e) = λ site s h p q. absurd h.1
-    code_spelt (one word e) = λ site s h p q.
-        behind (code_of callees site e) _ (code_spelt e site s h.0 (omega (arith, p)) (omega (arith, q))) (one_line_spelt word, tt)
-    code_spelt (two Or l r) = on_or l r (code_spelt l) (code_spelt r)
-    code_spelt (two And l r) = on_and l r (code_spelt l) (code_spelt r)
-    code_spelt (two word l r) = λ site s h p q.
-        let both = on_two l r (code_spelt l) (code_spelt r) site s h.0 h.1 (omega (arith, p)) (omega (arith, q)) in
-        behind (code_of callees site l) _ both.0 (behind (code_of callees _ r) _ both.1
-        (two_lines_spelt word (kind_of_tree callees site l) (kind_of_tree callees site r)))
-    code_spelt (convert word o e) = λ site s h p q.
-        behind (code_of callees site e) _ (code_spelt e site s h.1 (omega (arith, p)) (omega (arith, q)))
-        (convert_spelt word o (table_found basin valid o h.0), tt)
-    code_spelt (at s d) = λ site known h p q.
-        let both = on_two s d (code_spelt s) (code_spelt d) site known h.0 h.2 (omega (arith, p)) (omega (arith, q)) in
-        behind (code_of callees site s) _ both.0 (behind (code_of callees _ d) _ both.1 (tt, tt))
+    pub code_spelt : (expression : Tree) → SpellsTree expression
+    code_spelt (literal number unit) = λ site is_site_spelt is_kinded_at has_places has_locals. (number_spelt number unit is_kinded_at, tt)
+    code_spelt (truth is_so) = λ site is_site_spelt is_kinded_at has_places has_locals. (tt, tt)
+    code_spelt now = λ site is_site_spelt is_kinded_at has_places has_locals. (tt, tt)
+    code_spelt (slot object slot_name) = λ site known is_kinded_at has_places has_locals. (slot_found basin valid object slot_name is_kinded_at, tt)
+    code_spelt (name sought) = λ site is_site_spelt is_kinded_at has_places has_locals. (local_spelt site.scope sought is_site_spelt.0, tt)
+    code_spelt (call function_name arguments) = λ site is_site_spelt is_kinded_at has_places has_locals.
+        let takes = takes_named (callee_heads callees) function_name in
+        behind (arguments_code callees site takes arguments) _
+        (arguments_spelt site takes arguments is_site_spelt
+        (takes_spelt (callee_heads callees) function_name (callees_known callees called)) is_kinded_at.1
+        (omega (arith, has_places)) (omega (arith, has_locals)))
+        (call_spelt callees function_name called is_kinded_at.0, tt)
+    code_spelt (brackets inside) =
+        λ site is_site_spelt is_kinded_at has_places has_locals. code_spelt inside site is_site_spelt is_kinded_at has_places has_locals
+    code_spelt (list items) = λ site is_site_spelt is_kinded_at has_places has_locals.
+        on_list items site is_kinded_at
+        (all_spelt site (first_kind (callee_heads callees) (names_in site.scope) items) items is_site_spelt is_kinded_at.3
+        (omega (arith, has_places)) (omega (arith, has_locals)))
+    code_spelt (choice condition if_true if_false) =
+        on_choice condition if_true if_false (code_spelt condition) (code_spelt if_true) (code_spelt if_false)
+    code_spelt (bind new_name value_tree body) = on_bind new_name value_tree body (code_spelt value_tree) (code_spelt body)
+    code_spelt (each item_name source total_name initial body) =
+        on_each item_name source total_name initial body (code_spelt source) (code_spelt initial) (code_spelt body)
+    code_spelt (mapped item_name source body) = on_mapped item_name source body (code_spelt source) (code_spelt body)
+    code_spelt (one Known (at slot_tree date)) = λ site known is_kinded_at has_places has_locals.
+        let both = on_two slot_tree date (code_spelt slot_tree) (code_spelt date) site known is_kinded_at.0.0 is_kinded_at.0.2
+        (omega (arith, has_places)) (omega (arith, has_locals)) in
+        behind (asked_code callees site (at slot_tree date)) _ (behind (code_of callees site slot_tree) _ both.0 both.1) (tt, tt)
+    code_spelt (one Known operand) = λ site is_site_spelt is_kinded_at has_places has_locals. absurd is_kinded_at.1
+    code_spelt (one word operand) = λ site is_site_spelt is_kinded_at has_places has_locals.
+        behind (code_of callees site operand) _
+        (code_spelt operand site is_site_spelt is_kinded_at.0 (omega (arith, has_places)) (omega (arith, has_locals))) (one_line_spelt word, tt)
+    code_spelt (two Or left right) = on_or left right (code_spelt left) (code_spelt right)
+    code_spelt (two And left right) = on_and left right (code_spelt left) (code_spelt right)
+    code_spelt (two word left right) = λ site is_site_spelt is_kinded_at has_places has_locals.
+        let both = on_two left right (code_spelt left) (code_spelt right) site is_site_spelt is_kinded_at.0 is_kinded_at.1 (omega (arith, has_places))
+        (omega (arith, has_locals)) in
+        behind (code_of callees site left) _ both.0 (behind (code_of callees _ right) _ both.1
+        (two_lines_spelt word (kind_of_tree callees site left) (kind_of_tree callees site right)))
+    code_spelt (convert word object operand) = λ site is_site_spelt is_kinded_at has_places has_locals.
+        behind (code_of callees site operand) _
+        (code_spelt operand site is_site_spelt is_kinded_at.1 (omega (arith, has_places)) (omega (arith, has_locals)))
+        (convert_spelt word object (table_found basin valid object is_kinded_at.0), tt)
+    code_spelt (at slot_tree date) = λ site known is_kinded_at has_places has_locals.
+        let both = on_two slot_tree date (code_spelt slot_tree) (code_spelt date) site known is_kinded_at.0 is_kinded_at.2 (omega (arith, has_places))
+        (omega (arith, has_locals)) in
+        behind (code_of callees site slot_tree) _ both.0 (behind (code_of callees _ date) _ both.1 (tt, tt))
 
-    all_spelt : (site : Site) (kind : Kind) (ts : Trees) → IsSiteSpelt site → AreOfKind basin (callee_heads callees) (names_in site.scope) kind ts
-        → HasPlaces site (sizes (callee_heads callees) (names_in site.scope) ts) → HasLocals site (local_counts ts)
-        → AreLines (all_code callees site ts)
-    all_spelt site kind no_trees s h p q = tt
-    all_spelt site kind (tree t ts) s h p q =
-        behind (code_of callees site t) _ (code_spelt t site s h.0 (omega (arith, p)) (omega (arith, q)))
-        (all_spelt (over (kind_of_tree callees site t) (after_tree callees t site)) kind ts (s.0, (of_tree site t s h.0, s.1)) h.2
-        (omega (arith, p)) (omega (arith, q)))
+    all_spelt : (site : Site) (kind : Kind) (expressions : Trees) → IsSiteSpelt site
+        → AreOfKind basin (callee_heads callees) (names_in site.scope) kind expressions
+        → HasPlaces site (sizes (callee_heads callees) (names_in site.scope) expressions) → HasLocals site (local_counts expressions)
+        → AreLines (all_code callees site expressions)
+    all_spelt site kind no_trees is_site_spelt are_of_kind has_places has_locals = tt
+    all_spelt site kind (tree first others) is_site_spelt are_of_kind has_places has_locals =
+        behind (code_of callees site first) _
+        (code_spelt first site is_site_spelt are_of_kind.0 (omega (arith, has_places)) (omega (arith, has_locals)))
+        (all_spelt (over (kind_of_tree callees site first) (after_tree callees first site)) kind others
+        (is_site_spelt.0, (of_tree site first is_site_spelt are_of_kind.0, is_site_spelt.1)) are_of_kind.2
+        (omega (arith, has_places)) (omega (arith, has_locals)))
 
-    arguments_spelt : (site : Site) (kinds : List Kind) (ts : Trees) → IsSiteSpelt site → AreSpelt kinds
-        → AreArguments basin (callee_heads callees) (names_in site.scope) kinds ts
-        → HasPlaces site (sizes_of_arguments (callee_heads callees) (names_in site.scope) kinds ts) → HasLocals site (local_counts ts)
-        → AreLines (arguments_code callees site kinds ts)
-    arguments_spelt site [] no_trees s k h p q = tt
-    arguments_spelt site [] (tree t ts) s k h p q = absurd h
-    arguments_spelt site (kind ∷ kinds) no_trees s k h p q = absurd h
-    arguments_spelt site (kind ∷ kinds) (tree t ts) s k h p q =
-        behind (code_of callees site t) _ (code_spelt t site s h.0 (omega (arith, p)) (omega (arith, q)))
-        (behind (room_lines callees kind site t) _ (widening_spelt kind (kind_of_tree callees site t) h.1 k.0)
-        (arguments_spelt (over kind (after_room callees kind site t)) kinds ts (s.0, (k.0, s.1)) k.1 h.2 (omega (arith, p)) (omega (arith, q))))
+    arguments_spelt : (site : Site) (kinds : List Kind) (expressions : Trees) → IsSiteSpelt site → AreSpelt kinds
+        → AreArguments basin (callee_heads callees) (names_in site.scope) kinds expressions
+        → HasPlaces site (sizes_of_arguments (callee_heads callees) (names_in site.scope) kinds expressions)
+        → HasLocals site (local_counts expressions)
+        → AreLines (arguments_code callees site kinds expressions)
+    arguments_spelt site [] no_trees is_site_spelt are_spelt are_arguments has_places has_locals = tt
+    arguments_spelt site [] (tree first others) is_site_spelt are_spelt are_arguments has_places has_locals = absurd are_arguments
+    arguments_spelt site (kind ∷ kinds) no_trees is_site_spelt are_spelt are_arguments has_places has_locals = absurd are_arguments
+    arguments_spelt site (kind ∷ kinds) (tree first others) is_site_spelt are_spelt are_arguments has_places has_locals =
+        behind (code_of callees site first) _
+        (code_spelt first site is_site_spelt are_arguments.0 (omega (arith, has_places)) (omega (arith, has_locals)))
+        (behind (room_lines callees kind site first) _ (widening_spelt kind (kind_of_tree callees site first) are_arguments.1 are_spelt.0)
+        (arguments_spelt (over kind (after_room callees kind site first)) kinds others
+        (is_site_spelt.0, (are_spelt.0, is_site_spelt.1)) are_spelt.1 are_arguments.2 (omega (arith, has_places)) (omega (arith, has_locals))))
 
   -- ---- statements
 
   abbrev pub SpellsActs : Acts → Type 0
-  SpellsActs acts = (site : Site) → IsSiteSpelt site → AreKindedActs basin (callee_heads callees) (names_in site.scope) acts
-      → HasPlaces site (size_of_acts (callee_heads callees) (names_in site.scope) acts) → HasLocals site (acts_locals acts)
-      → AreLines (acts_code callees site acts)
+  SpellsActs statements = (site : Site) → IsSiteSpelt site → AreKindedActs basin (callee_heads callees) (names_in site.scope) statements
+      → HasPlaces site (size_of_acts (callee_heads callees) (names_in site.scope) statements) → HasLocals site (acts_locals statements)
+      → AreLines (acts_code callees site statements)
 
   abbrev SpellsAct : Act → Type 0
-  SpellsAct a = (site : Site) → IsSiteSpelt site → IsKindedAct basin (callee_heads callees) (names_in site.scope) a
-      → HasPlaces site (size_of_act (callee_heads callees) (names_in site.scope) a) → HasLocals site (act_locals a)
-      → AreLines (act_code callees site a)
+  SpellsAct statement = (site : Site) → IsSiteSpelt site → IsKindedAct basin (callee_heads callees) (names_in site.scope) statement
+      → HasPlaces site (size_of_act (callee_heads callees) (names_in site.scope) statement) → HasLocals site (act_locals statement)
+      → AreLines (act_code callees site statement)
 
-  on_branch : (c : Tree) (first second : Acts) → SpellsActs first → SpellsActs second → SpellsAct (branch c first second)
-  on_branch c first second on_first on_second site s h p q =
-      let ahead = on 1 (after_tree callees c site) in
+  on_branch : (condition : Tree) (first second : Acts) → SpellsActs first → SpellsActs second → SpellsAct (branch condition first second)
+  on_branch condition first second spells_first spells_second site is_site_spelt is_kinded_act has_places has_locals =
+      let ahead = on 1 (after_tree callees condition site) in
       let middle = after_acts callees first ahead in
       let last = on 2 middle in
       choice_spelt middle (after_acts callees second last) site.below
-      (code_of callees site c) (acts_code callees ahead first) (acts_code callees last second)
-      (code_spelt c site s h.0 (omega (arith, p)) (omega (arith, q))) (on_first ahead s h.2 (omega (arith, p)) (omega (arith, q)))
-      (on_second last s h.3 (omega (arith, p)) (omega (arith, q))) (place_spelt _ (omega (arith, p))) (place_spelt _ (omega (arith, p))) s.1 s.1
+      (code_of callees site condition) (acts_code callees ahead first) (acts_code callees last second)
+      (code_spelt condition site is_site_spelt is_kinded_act.0 (omega (arith, has_places)) (omega (arith, has_locals)))
+      (spells_first ahead is_site_spelt is_kinded_act.2 (omega (arith, has_places)) (omega (arith, has_locals)))
+      (spells_second last is_site_spelt is_kinded_act.3 (omega (arith, has_places)) (omega (arith, has_locals)))
+      (place_spelt _ (omega (arith, has_places))) (place_spelt _ (omega (arith, has_places))) is_site_spelt.1 is_site_spelt.1
 
-  on_with : (x : List ℕ) (e : Tree) (body : Acts) → SpellsActs body → SpellsAct (with_name x e body)
-  on_with x e body on_body site s h p q =
+  on_with : (new_name : List ℕ) (value_tree : Tree) (body : Acts) → SpellsActs body → SpellsAct (with_name new_name value_tree body)
+  on_with new_name value_tree body spells_body site is_site_spelt is_kinded_act has_places has_locals =
       let value = keeping 1 site in
-      let own : IsSpelt (kind_of_tree callees site e) = of_tree site e s h.0 in
-      let inside = knowing (bound x (kind_of_tree callees site e) site.free) (on 1 (after_tree callees e value)) in
-      let local : IsNumber site.free = free_spelt site.free (omega (arith, q)) in
-      behind (code_of callees value e) _ (code_spelt e value s h.0 (omega (arith, p)) (omega (arith, q)))
-      (local, on_body inside ((own, local, s.0), s.1) h.1 (omega (arith, p)) (omega (arith, q)))
+      let own : IsSpelt (kind_of_tree callees site value_tree) = of_tree site value_tree is_site_spelt is_kinded_act.0 in
+      let inside = knowing (bound new_name (kind_of_tree callees site value_tree) site.free) (on 1 (after_tree callees value_tree value)) in
+      let local : IsNumber site.free = free_spelt site.free (omega (arith, has_locals)) in
+      behind (code_of callees value value_tree) _
+      (code_spelt value_tree value is_site_spelt is_kinded_act.0 (omega (arith, has_places)) (omega (arith, has_locals))) (
+        local,
+        spells_body inside ((own, local, is_site_spelt.0), is_site_spelt.1) is_kinded_act.1 (omega (arith, has_places))
+            (omega (arith, has_locals)),
+      )
 
   mutual
-    act_spelt : (a : Act) → SpellsAct a
-    act_spelt (assign o p ahead e) = λ site s h lines own.
-        behind (code_of callees site e) _ (code_spelt e site s h.0 (omega (arith, lines)) (omega (arith, own)))
-        (put_spelt basin o p ahead valid h.2, tt)
-    act_spelt (branch c first second) = on_branch c first second (acts_spelt first) (acts_spelt second)
-    act_spelt (with_name x e body) = on_with x e body (acts_spelt body)
+    act_spelt : (statement : Act) → SpellsAct statement
+    act_spelt (assign object slot_name ahead value_tree) = λ site is_site_spelt is_kinded_act lines own.
+        behind (code_of callees site value_tree) _
+        (code_spelt value_tree site is_site_spelt is_kinded_act.0 (omega (arith, lines)) (omega (arith, own)))
+        (put_spelt basin object slot_name ahead valid is_kinded_act.2, tt)
+    act_spelt (branch condition first second) = on_branch condition first second (acts_spelt first) (acts_spelt second)
+    act_spelt (with_name new_name value_tree body) = on_with new_name value_tree body (acts_spelt body)
 
-    pub acts_spelt : (acts : Acts) → SpellsActs acts
-    acts_spelt no_acts = λ site s h p q. tt
-    acts_spelt (act a rest) = λ site s h p q.
-        behind (act_code callees site a) _ (act_spelt a site s h.0 (omega (arith, p)) (omega (arith, q)))
-        (acts_spelt rest (after_act callees a site) s h.1 (omega (arith, p)) (omega (arith, q)))
+    pub acts_spelt : (statements : Acts) → SpellsActs statements
+    acts_spelt no_acts = λ site is_site_spelt are_kinded_acts has_places has_locals. tt
+    acts_spelt (act first others) = λ site is_site_spelt are_kinded_acts has_places has_locals.
+        behind (act_code callees site first) _
+        (act_spelt first site is_site_spelt are_kinded_acts.0 (omega (arith, has_places)) (omega (arith, has_locals)))
+        (acts_spelt others (after_act callees first site) is_site_spelt are_kinded_acts.1 (omega (arith, has_places)) (omega (arith, has_locals)))

@@ -10,24 +10,25 @@ abbrev pub CanBeSpelt : List ℕ → Type 0
 CanBeSpelt name = C.is_code_name name ≡ true
 
 plain_spelt : (name : List ℕ) → IsPlain name → CanBeSpelt name
-plain_spelt [] h = h
-plain_spelt (b ∷ bs) h = h
+plain_spelt [] is_plain = is_plain
+plain_spelt (byte ∷ bytes) is_plain = is_plain
 
 module _ (basin : Draft) (valid : IsBasin basin) where
   -- of the slot, and of its object
-  pub slot_found : (o s : List ℕ) → IsSome (slot_named basin.objects o s) → CanBeSpelt o × CanBeSpelt s
-  slot_found o s h = let plain = Texts.slot_found basin valid o s h in (plain_spelt o plain.0, plain_spelt s plain.1)
+  pub slot_found : (object slot_name : List ℕ) → IsSome (slot_named basin.objects object slot_name) → CanBeSpelt object × CanBeSpelt slot_name
+  slot_found object slot_name has = let plain = Texts.slot_found basin valid object slot_name has in
+      (plain_spelt object plain.0, plain_spelt slot_name plain.1)
 
   -- of a table
-  pub table_object : (o : List ℕ) → IsSome (table_named basin o) → IsSome (object_named basin.objects o)
-  table_object o h = by (object_named basin.objects o) h
+  pub table_object : (object : List ℕ) → IsSome (table_named basin object) → IsSome (object_named basin.objects object)
+  table_object object has = by (object_named basin.objects object) has
     where
       by : (found : Option ℕ)
           → IsSome (option_and_then (λ (object : Object). table_in object.kind) (option_and_then (λ number. object_at basin.objects number) found))
           → IsSome found
-      by None h = absurd (cc h)
-      by (Some owner) h = refl
+      by None has = absurd (cc has)
+      by (Some owner) has = refl
 
   -- of a reservoir with a table
-  pub table_found : (o : List ℕ) → IsSome (table_named basin o) → CanBeSpelt o
-  table_found o h = plain_spelt o (object_found basin valid o (table_object o h))
+  pub table_found : (object : List ℕ) → IsSome (table_named basin object) → CanBeSpelt object
+  table_found object has = plain_spelt object (object_found basin valid object (table_object object has))

@@ -11,187 +11,250 @@ use Rattle.rpl_compile.proofs.Goes.{Goes, Made, goes_as, goes_bind, goes_none, g
 use Rattle.rpl_compile.proofs.OfKind.{At, HasKind, at_back, at_front, at_head, number_is}
 use Rattle.rpl_compile.proofs.Sizes.{act-size, acts-size, code-size}
 use Rattle.rpl_compile.proofs.LocalSizes.{act_locals_size, acts_locals_size, locals_size}
-use Rattle.rpl_compile.proofs.Setting.{H, Here, Kept, Setting, fr, here_on, part, same_kept, then_kept}
+use Rattle.rpl_compile.proofs.Setting.{Here, Kept, Setting, frame_at, heads_in, here_on, part, same_kept, then_kept}
 use Rattle.rpl_compile.proofs.Steps.{step_does, two_binds}
 use Rattle.rpl_compile.proofs.Choices.{EndsAt, choice_at, chosen_goes}
 use Rattle.rpl_compile.proofs.Bindings.{binds, bound_at}
 use Rattle.rpl_compile.proofs.Trees.{tree_goes}
 
-module _ (g : Setting) where
+module _ (setting : Setting) where
   -- what statements leave: the place behind them, and the operands as they were
-  pub record Behind (free q : ℕ) (ls ops : List Value) (lo : List Running) (rest : List Frame) (done : Unit {0}) (s1 : State) : Type 0 where
-    pub locals1 : List Value
-    pub is : s1 ≡ fr g q locals1 ops lo ∷ rest
-    pub kept : Kept free ls locals1
+  pub record Behind (free end : ℕ) (locals operands : List Value) (loops : List Running) (callers : List Frame) (done : Unit {0})
+      (next_state : State) : Type 0 where
+    pub locals_behind : List Value
+    pub is : next_state ≡ frame_at setting end locals_behind operands loops ∷ callers
+    pub kept : Kept free locals locals_behind
 
   abbrev pub ClaimAct : Act → Type 0
-  ClaimAct a = (site : Site) (env : Env) (ls ops : List Value) (lo : List Running) (rest : List Frame)
-      → At g.block.lines site.place (act_code g.callees site a) → At g.kinds site.free (act_local_kinds (H g) (names_in site.scope) a)
-      → IsKindedAct g.world.basin (H g) (names_in site.scope) a → Here g site env ls ops
-      → Goes g.code g.world (fr g site.place ls ops lo ∷ rest) (act_done g.world g.functions env a)
-      (Behind site.free (site.place + size_of_act (H g) (names_in site.scope) a) ls ops lo rest)
+  ClaimAct statement = (site : Site) (environment : Env) (locals operands : List Value) (loops : List Running) (callers : List Frame)
+      → At setting.block.lines site.place (act_code setting.callees site statement)
+      → At setting.kinds site.free (act_local_kinds (heads_in setting) (names_in site.scope) statement)
+      → IsKindedAct setting.world.basin (heads_in setting) (names_in site.scope) statement → Here setting site environment locals operands
+      → Goes setting.code setting.world (frame_at setting site.place locals operands loops ∷ callers)
+      (act_done setting.world setting.functions environment statement)
+      (Behind site.free (site.place + size_of_act (heads_in setting) (names_in site.scope) statement) locals operands loops callers)
 
   abbrev pub ClaimActs : Acts → Type 0
-  ClaimActs acts = (site : Site) (env : Env) (ls ops : List Value) (lo : List Running) (rest : List Frame)
-      → At g.block.lines site.place (acts_code g.callees site acts) → At g.kinds site.free (acts_local_kinds (H g) (names_in site.scope) acts)
-      → AreKindedActs g.world.basin (H g) (names_in site.scope) acts → Here g site env ls ops
-      → Goes g.code g.world (fr g site.place ls ops lo ∷ rest) (acts_done g.world g.functions env acts)
-      (Behind site.free (site.place + size_of_acts (H g) (names_in site.scope) acts) ls ops lo rest)
+  ClaimActs statements = (site : Site) (environment : Env) (locals operands : List Value) (loops : List Running) (callers : List Frame)
+      → At setting.block.lines site.place (acts_code setting.callees site statements)
+      → At setting.kinds site.free (acts_local_kinds (heads_in setting) (names_in site.scope) statements)
+      → AreKindedActs setting.world.basin (heads_in setting) (names_in site.scope) statements → Here setting site environment locals operands
+      → Goes setting.code setting.world (frame_at setting site.place locals operands loops ∷ callers)
+      (acts_done setting.world setting.functions environment statements)
+      (Behind site.free (site.place + size_of_acts (heads_in setting) (names_in site.scope) statements) locals operands loops callers)
 
-  behind : (free more q r : ℕ) (ls us ops : List Value) (lo : List Running) (rest : List Frame) (s : State) (m : Outcome (Unit {0}))
-      → q ≡ r → free ≤ more → Kept free ls us → Goes g.code g.world s m (Behind more q us ops lo rest)
-      → Goes g.code g.world s m (Behind free r ls ops lo rest)
-  behind free more q r ls us ops lo rest s m e le k go =
-      goes_weaker g.code g.world s m (Behind more q us ops lo rest) (Behind free r ls ops lo rest)
-      (λ d s1 w. record {
-        locals1 = w.locals1;
-        is = w.is ∙ ap (λ n. fr g n w.locals1 ops lo ∷ rest) e;
-        kept = then_kept free more ls us w.locals1 le k w.kept;
-      }) go
+  behind : (free more end same_end : ℕ) (locals locals_now operands : List Value) (loops : List Running) (callers : List Frame) (state : State)
+      (outcome : Outcome (Unit {0}))
+      → end ≡ same_end → free ≤ more → Kept free locals locals_now
+      → Goes setting.code setting.world state outcome (Behind more end locals_now operands loops callers)
+      → Goes setting.code setting.world state outcome (Behind free same_end locals operands loops callers)
+  behind free more end same_end locals locals_now operands loops callers state outcome end_is at_most kept goes =
+      goes_weaker setting.code setting.world state outcome (Behind more end locals_now operands loops callers)
+      (Behind free same_end locals operands loops callers)
+      (λ done next_state leaves. record {
+        locals_behind = leaves.locals_behind;
+        is = leaves.is ∙ ap (λ n. frame_at setting n leaves.locals_behind operands loops ∷ callers) end_is;
+        kept = then_kept free more locals locals_now leaves.locals_behind at_most kept leaves.kept;
+      }) goes
 
   -- ---- a put
 
-  put_made : (P : Unit {0} → Type 0) (found : Option ℕ) (ahead : ℤ) (z : ℤ) → IsTarget g.world.basin (H g) found ahead → P tt
-      → Made (put_of g.world.basin found ahead (a_number z)).answer P
-  put_made P None ahead z t p = absurd t.0
-  put_made P (Some s) ahead z t p =
-      subst (λ (b : Bool). Made (if b then within_or_end (is_within (bounds_at g.world.basin s) z) s (unsigned_abs ahead) z else is_stuck).answer P)
-      (sym (ap₂ (λ p q. p && q) t.0 t.1))
-      (by (is_within (bounds_at g.world.basin s) z))
+  put_made : (Wanted : Unit {0} → Type 0) (found : Option ℕ) (ahead : ℤ) (quantity : ℤ) → IsTarget setting.world.basin (heads_in setting) found ahead
+      → Wanted tt
+      → Made (put_of setting.world.basin found ahead (a_number quantity)).answer Wanted
+  put_made Wanted None ahead quantity is_target wanted = absurd is_target.0
+  put_made Wanted (Some s) ahead quantity is_target wanted =
+      subst (λ (test : Bool).
+      Made (if test then within_or_end (is_within (bounds_at setting.world.basin s) quantity) s
+      (unsigned_abs ahead) quantity else is_stuck).answer Wanted)
+      (sym (ap₂ (λ wanted q. wanted && q) is_target.0 is_target.1))
+      (by (is_within (bounds_at setting.world.basin s) quantity))
     where
-      by : (b : Bool) → Made (within_or_end b s (unsigned_abs ahead) z).answer P
-      by true = p
+      by : (test : Bool) → Made (within_or_end test s (unsigned_abs ahead) quantity).answer Wanted
+      by true = wanted
       by false = tt
 
-  on_assign : (o s : List ℕ) (ahead : ℤ) (e : Tree) → ClaimAct (assign o s ahead e)
-  on_assign o s ahead e site env ls ops lo rest placed loc kinded h =
-      let n = size (H g) (names_in site.scope) e in
-      let q : ℕ = site.place + n in
-      let past : ℕ = site.place + (n + 1) in
-      let found = slot_named g.world.basin.objects o s in
-      let i : Instruction = I.Put o s (unsigned_abs ahead) in
-      let Q = Behind site.free past ls ops lo rest in
-      part g (kind_at (H g) site e) site.free q ls ops lo rest (fr g site.place ls ops lo ∷ rest) (value_of g.world g.functions env e)
-      (put_of g.world.basin found ahead) Q
-      (tree_goes g e site env ls ops lo rest (at_front g.block.lines site.place (code_of g.callees site e) (i ∷ []) placed, loc, kinded.0) h)
-      (λ v us hv ku.
-      let z = number_is v (subst (λ k. HasKind k v) kinded.1 hv) in
-      subst (λ v. Goes g.code g.world (fr g q us (v ∷ ops) lo ∷ rest) (put_of g.world.basin found ahead v) Q) (sym z.1)
-      (goes_as g.code g.world (fr g q us (a_number z.0 ∷ ops) lo) rest (put_of g.world.basin found ahead (a_number z.0))
-      (λ d. fr g (suc q) us ops lo ∷ rest) Q
-      (step_does g q us (a_number z.0 ∷ []) ops lo rest i []
-      (at_head g.block.lines q i [] (at_back g.block.lines site.place n (code_of g.callees site e) (i ∷ [])
-      (code-size g.world.basin g.callees site e kinded.0) placed)) refl refl
-      ∙ ap (λ d. put_of g.world.basin found d (a_number z.0) >>= (λ (u : Unit {0}). gives (fr g (suc q) us ops lo) 0) >>=
-      (λ (f : Frame). gives (f ∷ rest) 0)) (never_behind g.world.basin ahead kinded.2.1)
-      ∙ two_binds (put_of g.world.basin found ahead (a_number z.0)) (λ d. fr g (suc q) us ops lo) (λ (f : Frame). f ∷ rest))
-      (put_made (λ d. Q d (fr g (suc q) us ops lo ∷ rest)) found ahead z.0 kinded.2
-      (record { locals1 = us; is = (let y : suc q ≡ past = omega arith in ap (λ n. fr g n us ops lo ∷ rest) y); kept = ku }))))
+  on_assign : (object slot_name : List ℕ) (ahead : ℤ) (value_tree : Tree) → ClaimAct (assign object slot_name ahead value_tree)
+  on_assign object slot_name ahead value_tree site environment locals operands loops callers placed locals_at kinded here =
+      let own_size = size (heads_in setting) (names_in site.scope) value_tree in
+      let end : ℕ = site.place + own_size in
+      let past : ℕ = site.place + (own_size + 1) in
+      let found = slot_named setting.world.basin.objects object slot_name in
+      let put_line : Instruction = I.Put object slot_name (unsigned_abs ahead) in
+      let Wanted = Behind site.free past locals operands loops callers in
+      part setting (kind_at (heads_in setting) site value_tree) site.free end locals operands loops callers
+      (frame_at setting site.place locals operands loops ∷ callers) (value_of setting.world setting.functions environment value_tree)
+      (put_of setting.world.basin found ahead) Wanted
+      (tree_goes setting value_tree site environment locals operands loops callers
+      (at_front setting.block.lines site.place (code_of setting.callees site value_tree) (put_line ∷ []) placed, locals_at, kinded.0) here)
+      (λ a_value locals_now has_kind kept_so.
+      let number_so = number_is a_value (subst (λ k. HasKind k a_value) kinded.1 has_kind) in
+      subst (λ a_value.
+      Goes setting.code setting.world (frame_at setting end locals_now (a_value ∷ operands) loops ∷ callers)
+      (put_of setting.world.basin found ahead a_value) Wanted) (sym number_so.1)
+      (goes_as setting.code setting.world (frame_at setting end locals_now (a_number number_so.0 ∷ operands) loops) callers
+      (put_of setting.world.basin found ahead (a_number number_so.0))
+      (λ d. frame_at setting (suc end) locals_now operands loops ∷ callers) Wanted
+      (step_does setting end locals_now (a_number number_so.0 ∷ []) operands loops callers put_line []
+      (at_head setting.block.lines end put_line []
+      (at_back setting.block.lines site.place own_size (code_of setting.callees site value_tree) (put_line ∷ [])
+      (code-size setting.world.basin setting.callees site value_tree kinded.0) placed)) refl refl
+      ∙ ap (λ d. put_of setting.world.basin found d (a_number number_so.0)
+      >>= (λ (u : Unit {0}). gives (frame_at setting (suc end) locals_now operands loops) 0) >>=
+      (λ (frame : Frame). gives (frame ∷ callers) 0)) (never_behind setting.world.basin ahead kinded.2.1)
+      ∙ two_binds (put_of setting.world.basin found ahead (a_number number_so.0)) (λ d. frame_at setting (suc end) locals_now operands loops)
+      (λ (frame : Frame). frame ∷ callers))
+      (put_made (λ d. Wanted d (frame_at setting (suc end) locals_now operands loops ∷ callers)) found ahead number_so.0 kinded.2
+      (record {
+        locals_behind = locals_now;
+        is = (let same_place : suc end ≡ past = omega arith in
+            ap (λ own_size. frame_at setting own_size locals_now operands loops ∷ callers) same_place);
+        kept = kept_so;
+      }))))
 
   -- ---- an IF
 
-  ends_at : (below : List Kind) (free more q mid last r : ℕ) (ls us ops : List Value) (lo : List Running) (rest : List Frame) (s : State)
-      (m : Outcome (Unit {0}))
-      → q ≡ mid → suc last ≡ r → free ≤ more → Kept free ls us → kinds_of ops ≡ code_kinds below
-      → Goes g.code g.world s m (Behind more q us ops lo rest)
-      → Goes g.code g.world s m (EndsAt g mid (suc last) below lo rest (Behind free r ls ops lo rest))
-  ends_at below free more q mid last r ls us ops lo rest s m e f le k h go =
-      goes_weaker g.code g.world s m (Behind more q us ops lo rest) (EndsAt g mid (suc last) below lo rest (Behind free r ls ops lo rest))
-      (λ d s1 w. (
-        w.locals1,
-        ops,
-        w.is ∙ ap (λ n. fr g n w.locals1 ops lo ∷ rest) e,
-        h,
-        record { locals1 = w.locals1; is = ap (λ n. fr g n w.locals1 ops lo ∷ rest) f; kept = then_kept free more ls us w.locals1 le k w.kept },
-      )) go
+  ends_at : (below : List Kind) (free more end middle_place last past : ℕ) (locals locals_now operands : List Value) (loops : List Running)
+      (callers : List Frame) (state : State)
+      (outcome : Outcome (Unit {0}))
+      → end ≡ middle_place → suc last ≡ past → free ≤ more → Kept free locals locals_now → kinds_of operands ≡ code_kinds below
+      → Goes setting.code setting.world state outcome (Behind more end locals_now operands loops callers)
+      → Goes setting.code setting.world state outcome
+      (EndsAt setting middle_place (suc last) below loops callers (Behind free past locals operands loops callers))
+  ends_at below free more end middle_place last past locals locals_now operands loops callers state outcome end_is past_is at_most kept kinds_below
+      goes =
+      goes_weaker setting.code setting.world state outcome (Behind more end locals_now operands loops callers)
+      (EndsAt setting middle_place (suc last) below loops callers (Behind free past locals operands loops callers))
+      (λ done next_state leaves. (
+        leaves.locals_behind,
+        operands,
+        leaves.is ∙ ap (λ n. frame_at setting n leaves.locals_behind operands loops ∷ callers) end_is,
+        kinds_below,
+        record {
+          locals_behind = leaves.locals_behind;
+          is = ap (λ n. frame_at setting n leaves.locals_behind operands loops ∷ callers) past_is;
+          kept = then_kept free more locals locals_now leaves.locals_behind at_most kept leaves.kept;
+        },
+      )) goes
 
-  on_branch : (c : Tree) (first second : Acts) → ClaimActs first → ClaimActs second → ClaimAct (branch c first second)
-  on_branch c first second cf cs site env ls ops lo rest placed loc kinded h =
+  on_branch : (condition : Tree) (first second : Acts) → ClaimActs first → ClaimActs second → ClaimAct (branch condition first second)
+  on_branch condition first second claim_of_first claim_of_second site environment locals operands loops callers placed locals_at kinded here =
       let names = names_in site.scope in
-      let sc = size (H g) names c in
-      let sf = size_of_acts (H g) names first in
-      let ss = size_of_acts (H g) names second in
-      let ahead : Site = on 1 (after_tree g.callees c site) in
-      let middle : Site = after_acts g.callees first ahead in
+      let condition_size = size (heads_in setting) names condition in
+      let first_size = size_of_acts (heads_in setting) names first in
+      let second_size = size_of_acts (heads_in setting) names second in
+      let ahead : Site = on 1 (after_tree setting.callees condition site) in
+      let middle : Site = after_acts setting.callees first ahead in
       let other : Site = on 2 middle in
-      let last : Site = after_acts g.callees second other in
-      let past : ℕ = site.place + size_of_act (H g) names (branch c first second) in
-      let a = choice_at g site.place sc sf ss middle last site.below (code_of g.callees site c) (acts_code g.callees ahead first)
-      (acts_code g.callees other second)
-      (code-size g.world.basin g.callees site c kinded.0) (acts-size g.world.basin g.callees ahead first kinded.2)
-      (acts-size g.world.basin g.callees other second kinded.3) refl refl placed in
-      let lc = local_kinds (H g) names c in
-      let lf = acts_local_kinds (H g) names first in
-      let lr = acts_local_kinds (H g) names second in
-      let b1 = at_back g.kinds site.free (local_count c) lc (lf ++ lr) (locals_size (H g) c names) loc in
-      let b2 = at_back g.kinds ahead.free (acts_locals first) lf lr (acts_locals_size (H g) first names) b1 in
-      let Q = Behind site.free past ls ops lo rest in
-      part g (kind_at (H g) site c) site.free (site.place + sc) ls ops lo rest (fr g site.place ls ops lo ∷ rest) (value_of g.world g.functions env c)
-      (λ x. chosen x (acts_done g.world g.functions env first) (acts_done g.world g.functions env second)) Q
-      (tree_goes g c site env ls ops lo rest (a.cond, at_front g.kinds site.free lc (lf ++ lr) loc, kinded.0) h)
-      (λ x us hx ku.
-      let there = here_on g site env ls us ops (local_count c) h ku in
-      chosen_goes g (site.place + sc) middle.place last.place site.below site.below x us ops lo rest (acts_done g.world g.functions env first)
-      (acts_done g.world g.functions env second) Q
-      a.forks a.jump a.landing a.end h.2 (subst (λ k. HasKind k x) kinded.1 hx)
-      (ends_at site.below site.free ahead.free (ahead.place + sf) middle.place last.place past ls us ops lo rest (fr g ahead.place us ops lo ∷ rest)
-      (acts_done g.world g.functions env first) refl (omega arith) (omega arith) ku h.2
-      (cf ahead env us ops lo rest a.first_at (at_front g.kinds ahead.free lf lr b1) kinded.2 there))
-      (ends_at site.below site.free other.free (other.place + ss) last.place last.place past ls us ops lo rest (fr g other.place us ops lo ∷ rest)
-      (acts_done g.world g.functions env second) refl (omega arith) (omega arith) ku h.2
-      (cs other env us ops lo rest a.second_at b2 kinded.3
-      (here_on g (keeping (local_count c) site) env us us ops (acts_locals first) there (same_kept ahead.free us)))))
+      let last : Site = after_acts setting.callees second other in
+      let past : ℕ = site.place + size_of_act (heads_in setting) names (branch condition first second) in
+      let choice_so =
+      choice_at setting site.place condition_size first_size second_size middle last site.below (code_of setting.callees site condition)
+      (acts_code setting.callees ahead first)
+      (acts_code setting.callees other second)
+      (code-size setting.world.basin setting.callees site condition kinded.0) (acts-size setting.world.basin setting.callees ahead first kinded.2)
+      (acts-size setting.world.basin setting.callees other second kinded.3) refl refl placed in
+      let condition_locals = local_kinds (heads_in setting) names condition in
+      let first_locals = acts_local_kinds (heads_in setting) names first in
+      let second_locals = acts_local_kinds (heads_in setting) names second in
+      let behind_condition =
+      at_back setting.kinds site.free (local_count condition) condition_locals (first_locals ++ second_locals)
+      (locals_size (heads_in setting) condition names) locals_at in
+      let behind_first =
+      at_back setting.kinds ahead.free (acts_locals first) first_locals second_locals
+      (acts_locals_size (heads_in setting) first names) behind_condition in
+      let Wanted = Behind site.free past locals operands loops callers in
+      part setting (kind_at (heads_in setting) site condition) site.free (site.place + condition_size) locals operands loops callers
+      (frame_at setting site.place locals operands loops ∷ callers) (value_of setting.world setting.functions environment condition)
+      (λ truth_value.
+      chosen truth_value (acts_done setting.world setting.functions environment first)
+      (acts_done setting.world setting.functions environment second)) Wanted
+      (tree_goes setting condition site environment locals operands loops callers
+      (choice_so.condition_at, at_front setting.kinds site.free condition_locals (first_locals ++ second_locals) locals_at, kinded.0) here)
+      (λ truth_value locals_now has_kind kept_so.
+      let there = here_on setting site environment locals locals_now operands (local_count condition) here kept_so in
+      chosen_goes setting (site.place + condition_size) middle.place last.place site.below site.below truth_value locals_now operands loops callers
+      (acts_done setting.world setting.functions environment first)
+      (acts_done setting.world setting.functions environment second) Wanted
+      choice_so.forks choice_so.jump choice_so.landing choice_so.end here.2 (subst (λ k. HasKind k truth_value) kinded.1 has_kind)
+      (ends_at site.below site.free ahead.free (ahead.place + first_size) middle.place last.place past locals locals_now operands loops callers
+      (frame_at setting ahead.place locals_now operands loops ∷ callers)
+      (acts_done setting.world setting.functions environment first) refl (omega arith) (omega arith) kept_so here.2
+      (claim_of_first ahead environment locals_now operands loops callers choice_so.first_at
+      (at_front setting.kinds ahead.free first_locals second_locals behind_condition) kinded.2 there))
+      (ends_at site.below site.free other.free (other.place + second_size) last.place last.place past locals locals_now operands loops callers
+      (frame_at setting other.place locals_now operands loops ∷ callers)
+      (acts_done setting.world setting.functions environment second) refl (omega arith) (omega arith) kept_so here.2
+      (claim_of_second other environment locals_now operands loops callers choice_so.second_at behind_first kinded.3
+      (here_on setting (keeping (local_count condition) site) environment locals_now locals_now operands (acts_locals first) there
+      (same_kept ahead.free locals_now)))))
 
   -- ---- a name, and several statements
 
-  on_with : (x : List ℕ) (e : Tree) (body : Acts) → ClaimActs body → ClaimAct (with_name x e body)
-  on_with x e body cb site env ls ops lo rest placed loc kinded h =
-      let inside : Site = knowing (bound x (kind_at (H g) site e) site.free) (on 1 (after_tree g.callees e (keeping 1 site))) in
-      let past : ℕ = site.place + size_of_act (H g) (names_in site.scope) (with_name x e body) in
-      let lb = acts_local_kinds (H g) (names_in inside.scope) body in
-      let a = bound_at g e site (acts_code g.callees inside body) lb kinded.0 placed loc in
-      binds g x e site env ls ops lo rest (acts_code g.callees inside body) lb (λ v. acts_done g.world g.functions ((x, v) ∷ env) body)
-      (Behind site.free past ls ops lo rest) (tree_goes g e) kinded.0 h a
-      (λ v us ku there.
-      behind site.free inside.free (inside.place + size_of_acts (H g) (names_in inside.scope) body) past ls us ops lo rest
-      (fr g inside.place us ops lo ∷ rest) (acts_done g.world g.functions ((x, v) ∷ env) body) (omega arith) (omega arith) ku
-      (cb inside ((x, v) ∷ env) us ops lo rest a.behind a.others kinded.1 there))
+  on_with : (new_name : List ℕ) (value_tree : Tree) (body : Acts) → ClaimActs body → ClaimAct (with_name new_name value_tree body)
+  on_with new_name value_tree body claim_of_body site environment locals operands loops callers placed locals_at kinded here =
+      let inside : Site =
+      knowing (bound new_name (kind_at (heads_in setting) site value_tree) site.free)
+      (on 1 (after_tree setting.callees value_tree (keeping 1 site))) in
+      let past : ℕ = site.place + size_of_act (heads_in setting) (names_in site.scope) (with_name new_name value_tree body) in
+      let body_locals = acts_local_kinds (heads_in setting) (names_in inside.scope) body in
+      let bound_so = bound_at setting value_tree site (acts_code setting.callees inside body) body_locals kinded.0 placed locals_at in
+      binds setting new_name value_tree site environment locals operands loops callers (acts_code setting.callees inside body) body_locals
+      (λ a_value. acts_done setting.world setting.functions ((new_name, a_value) ∷ environment) body)
+      (Behind site.free past locals operands loops callers) (tree_goes setting value_tree) kinded.0 here bound_so
+      (λ a_value locals_now kept_so there.
+      behind site.free inside.free
+      (inside.place + size_of_acts (heads_in setting) (names_in inside.scope) body) past locals locals_now operands loops callers
+      (frame_at setting inside.place locals_now operands loops ∷ callers)
+      (acts_done setting.world setting.functions ((new_name, a_value) ∷ environment) body) (omega arith) (omega arith) kept_so
+      (claim_of_body inside ((new_name, a_value) ∷ environment) locals_now operands loops callers bound_so.behind bound_so.others kinded.1 there))
 
   none_done : ClaimActs no_acts
-  none_done site env ls ops lo rest placed loc kinded h =
-      let z : site.place ≡ site.place + 0 = omega arith in
-      goes_none g.code g.world (fr g site.place ls ops lo ∷ rest) tt (Behind site.free (site.place + 0) ls ops lo rest)
-      (record { locals1 = ls; is = ap (λ n. fr g n ls ops lo ∷ rest) z; kept = same_kept site.free ls })
+  none_done site environment locals operands loops callers placed locals_at kinded here =
+      let place_is : site.place ≡ site.place + 0 = omega arith in
+      goes_none setting.code setting.world (frame_at setting site.place locals operands loops ∷ callers) tt
+      (Behind site.free (site.place + 0) locals operands loops callers)
+      (record {
+        locals_behind = locals;
+        is = ap (λ n. frame_at setting n locals operands loops ∷ callers) place_is;
+        kept = same_kept site.free locals;
+      })
 
-  more_done : (a : Act) (acts : Acts) → ClaimAct a → ClaimActs acts → ClaimActs (act a acts)
-  more_done a acts ca cs site env ls ops lo rest placed loc kinded h =
+  more_done : (statement : Act) (statements : Acts) → ClaimAct statement → ClaimActs statements → ClaimActs (act statement statements)
+  more_done statement statements claim_of_statement claim_of_statements site environment locals operands loops callers placed locals_at kinded here =
       let names = names_in site.scope in
-      let n = size_of_act (H g) names a in
-      let second : Site = after_act g.callees a site in
-      let past : ℕ = site.place + size_of_acts (H g) names (act a acts) in
-      let c = act_code g.callees site a in
-      let cr = acts_code g.callees second acts in
-      let la = act_local_kinds (H g) names a in
-      let lr = acts_local_kinds (H g) names acts in
-      let Q = Behind site.free past ls ops lo rest in
-      goes_bind g.code g.world (fr g site.place ls ops lo ∷ rest) (act_done g.world g.functions env a) (λ d. acts_done g.world g.functions env acts)
-      (Behind site.free (site.place + n) ls ops lo rest) Q
-      (ca site env ls ops lo rest (at_front g.block.lines site.place c cr placed) (at_front g.kinds site.free la lr loc) kinded.0 h)
-      (λ d s1 w.
-      let us = w.locals1 in
-      subst (λ s. Goes g.code g.world s (acts_done g.world g.functions env acts) Q) (sym w.is)
-      (behind site.free second.free (second.place + size_of_acts (H g) names acts) past ls us ops lo rest (fr g second.place us ops lo ∷ rest)
-      (acts_done g.world g.functions env acts) (omega arith) (omega arith) w.kept
-      (cs second env us ops lo rest (at_back g.block.lines site.place n c cr (act-size g.world.basin g.callees site a kinded.0) placed)
-      (at_back g.kinds site.free (act_locals a) la lr (act_locals_size (H g) a names) loc) kinded.1
-      (here_on g site env ls us ops (act_locals a) h w.kept))))
+      let own_size = size_of_act (heads_in setting) names statement in
+      let second : Site = after_act setting.callees statement site in
+      let past : ℕ = site.place + size_of_acts (heads_in setting) names (act statement statements) in
+      let own_code = act_code setting.callees site statement in
+      let other_code = acts_code setting.callees second statements in
+      let own_locals = act_local_kinds (heads_in setting) names statement in
+      let other_locals = acts_local_kinds (heads_in setting) names statements in
+      let Wanted = Behind site.free past locals operands loops callers in
+      goes_bind setting.code setting.world (frame_at setting site.place locals operands loops ∷ callers)
+      (act_done setting.world setting.functions environment statement) (λ done. acts_done setting.world setting.functions environment statements)
+      (Behind site.free (site.place + own_size) locals operands loops callers) Wanted
+      (claim_of_statement site environment locals operands loops callers (at_front setting.block.lines site.place own_code other_code placed)
+      (at_front setting.kinds site.free own_locals other_locals locals_at) kinded.0 here)
+      (λ done next_state leaves.
+      let locals_now = leaves.locals_behind in
+      subst (λ s. Goes setting.code setting.world s (acts_done setting.world setting.functions environment statements) Wanted) (sym leaves.is)
+      (behind site.free second.free (second.place + size_of_acts (heads_in setting) names statements) past locals locals_now operands loops callers
+      (frame_at setting second.place locals_now operands loops ∷ callers)
+      (acts_done setting.world setting.functions environment statements) (omega arith) (omega arith) leaves.kept
+      (claim_of_statements second environment locals_now operands loops callers
+      (at_back setting.block.lines site.place own_size own_code other_code
+      (act-size setting.world.basin setting.callees site statement kinded.0) placed)
+      (at_back setting.kinds site.free (act_locals statement) own_locals other_locals (act_locals_size (heads_in setting) statement names) locals_at)
+      kinded.1
+      (here_on setting site environment locals locals_now operands (act_locals statement) here leaves.kept))))
 
   mutual
-    pub act_goes : (a : Act) → ClaimAct a
-    act_goes (assign o s ahead e) = on_assign o s ahead e
-    act_goes (branch c first second) = on_branch c first second (acts_go first) (acts_go second)
-    act_goes (with_name x e body) = on_with x e body (acts_go body)
+    pub act_goes : (statement : Act) → ClaimAct statement
+    act_goes (assign object slot_name ahead value_tree) = on_assign object slot_name ahead value_tree
+    act_goes (branch condition first second) = on_branch condition first second (acts_go first) (acts_go second)
+    act_goes (with_name new_name value_tree body) = on_with new_name value_tree body (acts_go body)
 
-    pub acts_go : (acts : Acts) → ClaimActs acts
+    pub acts_go : (statements : Acts) → ClaimActs statements
     acts_go no_acts = none_done
-    acts_go (act a acts) = more_done a acts (act_goes a) (acts_go acts)
+    acts_go (act first others) = more_done first others (act_goes first) (acts_go others)

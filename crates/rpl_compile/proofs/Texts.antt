@@ -2,8 +2,8 @@
 use Rattle.rpl_compile.proofs.Common.{Bool, IsUtf8, IsUtf8-from_is_utf8, List, [], ap, cases_Bool, false, if◌then◌else◌, inl, inr, is_utf8}
 use Rattle.rpl_compile.proofs.Common.{is_utf8-from_IsUtf8, refl, spelt_name, sym, true, ℕ, ◌∙◌, ◌≡◌}
 
-spelt_by : (b : Bool) (word left : List ℕ) → is_utf8 word ≡ b → left ≡ (if b then word else []) → left ≡ spelt_name word
-spelt_by b word left e h = h ∙ ap (λ (t : Bool). if t then word else []) (sym e)
+spelt_by : (test : Bool) (word left : List ℕ) → is_utf8 word ≡ test → left ≡ (if test then word else []) → left ≡ spelt_name word
+spelt_by test word left same left_is = left_is ∙ ap (λ (t : Bool). if t then word else []) (sym same)
 
 pub spelt_text : (word : List ℕ) → IsUtf8 word → word ≡ spelt_name word
 spelt_text word h = spelt_by true word word (is_utf8-from_IsUtf8 word h) refl

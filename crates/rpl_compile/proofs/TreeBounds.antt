@@ -9,156 +9,162 @@ use Rattle.rpl_compile.proofs.Common.{◌≤◌}
 pub widening_few : (place kind : Kind) → widening_size place kind ≤ 1
 widening_few place kind = cond_both (is_same_kind place kind) 0 1 (λ n. n ≤ 1) (λ e. omega arith) (λ e. omega arith)
 
-one_few : (word : OneWord) (e nodes : ℕ) → e + 2 ≤ 8 * nodes → one_size word e + 2 ≤ 8 * (nodes + 1)
-one_few Known e nodes h = omega (arith, h)
-one_few word e nodes h = omega (arith, h)
+one_few : (word : OneWord) (lines nodes : ℕ) → lines + 2 ≤ 8 * nodes → one_size word lines + 2 ≤ 8 * (nodes + 1)
+one_few Known lines nodes few = omega (arith, few)
+one_few word lines nodes few = omega (arith, few)
 
-two_few : (word : TwoWord) (l r m n : ℕ) → l + 2 ≤ 8 * m → r + 2 ≤ 8 * n → two_size word l r + 2 ≤ 8 * (m + n + 1)
-two_few Or l r m n h g = omega (arith, h, g)
-two_few And l r m n h g = omega (arith, h, g)
-two_few Unequal l r m n h g = omega (arith, h, g)
-two_few Greater l r m n h g = omega (arith, h, g)
-two_few GreaterEqual l r m n h g = omega (arith, h, g)
-two_few word l r m n h g = omega (arith, h, g)
+two_few : (word : TwoWord) (left right left_nodes right_nodes : ℕ) → left + 2 ≤ 8 * left_nodes → right + 2 ≤ 8 * right_nodes
+    → two_size word left right + 2 ≤ 8 * (left_nodes + right_nodes + 1)
+two_few Or left right left_nodes right_nodes left_few right_few = omega (arith, left_few, right_few)
+two_few And left right left_nodes right_nodes left_few right_few = omega (arith, left_few, right_few)
+two_few Unequal left right left_nodes right_nodes left_few right_few = omega (arith, left_few, right_few)
+two_few Greater left right left_nodes right_nodes left_few right_few = omega (arith, left_few, right_few)
+two_few GreaterEqual left right left_nodes right_nodes left_few right_few = omega (arith, left_few, right_few)
+two_few word left right left_nodes right_nodes left_few right_few = omega (arith, left_few, right_few)
 
 module _ (heads : List Head) where
   mutual
     -- one line is left for a list that is widened
-    pub few_lines : (names : Names) (t : Tree) → size heads names t + 2 ≤ 8 * node_count t
-    few_lines names (call f ts) = let h = few_for_arguments names (takes_named heads f) ts in omega (arith, h)
-    few_lines names (brackets t) = let h = few_lines names t in omega (arith, h)
-    few_lines names (list ts) = let h = few_for_all names ts in omega (arith, h)
-    few_lines names (choice c y n) =
-        let kind = tree_kind heads names (choice c y n) in
-        let h = few_lines names c in
-        let g = few_lines names y in
-        let k = few_lines names n in
-        let first = widening_few kind (tree_kind heads names y) in
-        let second = widening_few kind (tree_kind heads names n) in
-        omega (arith, h, g, k, first, second)
-    few_lines names (bind x e b) =
-        let h = few_lines names e in
-        let g = few_lines ((x, tree_kind heads names e) ∷ names) b in
-        omega (arith, h, g)
-    few_lines names (each x l a f b) =
-        let total = tree_kind heads names f in
-        let inside : Names = (a, total) ∷ (x, element_of (tree_kind heads names l)) ∷ names in
-        let h = few_lines names l in
-        let g = few_lines names f in
-        let k = few_lines inside b in
-        let last = widening_few total (tree_kind heads inside b) in
-        omega (arith, h, g, k, last)
-    few_lines names (mapped x l b) =
-        let h = few_lines names l in
-        let g = few_lines ((x, element_of (tree_kind heads names l)) ∷ names) b in
-        omega (arith, h, g)
-    few_lines names (one word e) = let h = one_few word (size heads names e) (node_count e) (few_lines names e) in omega (arith, h)
-    few_lines names (two word l r) =
-        let h = two_few word (size heads names l) (size heads names r) (node_count l) (node_count r) (few_lines names l) (few_lines names r) in
-        omega (arith, h)
-    few_lines names (convert word o e) = let h = few_lines names e in omega (arith, h)
-    few_lines names (at s d) =
-        let h = few_lines names s in
-        let g = few_lines names d in
-        omega (arith, h, g)
-    few_lines names t = omega arith
+    pub few_lines : (names : Names) (expression : Tree) → size heads names expression + 2 ≤ 8 * node_count expression
+    few_lines names (call function_name arguments) = let first_few = few_for_arguments names (takes_named heads function_name) arguments in
+        omega (arith, first_few)
+    few_lines names (brackets inside) = let first_few = few_lines names inside in omega (arith, first_few)
+    few_lines names (list items) = let first_few = few_for_all names items in omega (arith, first_few)
+    few_lines names (choice condition if_true if_false) =
+        let kind = tree_kind heads names (choice condition if_true if_false) in
+        let first_few = few_lines names condition in
+        let second_few = few_lines names if_true in
+        let third_few = few_lines names if_false in
+        let first = widening_few kind (tree_kind heads names if_true) in
+        let second = widening_few kind (tree_kind heads names if_false) in
+        omega (arith, first_few, second_few, third_few, first, second)
+    few_lines names (bind new_name value_tree body) =
+        let first_few = few_lines names value_tree in
+        let second_few = few_lines ((new_name, tree_kind heads names value_tree) ∷ names) body in
+        omega (arith, first_few, second_few)
+    few_lines names (each item_name source total_name initial body) =
+        let total = tree_kind heads names initial in
+        let inside : Names = (total_name, total) ∷ (item_name, element_of (tree_kind heads names source)) ∷ names in
+        let first_few = few_lines names source in
+        let second_few = few_lines names initial in
+        let third_few = few_lines inside body in
+        let last = widening_few total (tree_kind heads inside body) in
+        omega (arith, first_few, second_few, third_few, last)
+    few_lines names (mapped item_name source body) =
+        let first_few = few_lines names source in
+        let second_few = few_lines ((item_name, element_of (tree_kind heads names source)) ∷ names) body in
+        omega (arith, first_few, second_few)
+    few_lines names (one word operand) = let first_few = one_few word (size heads names operand) (node_count operand) (few_lines names operand) in
+        omega (arith, first_few)
+    few_lines names (two word left right) =
+        let first_few =
+        two_few word (size heads names left) (size heads names right) (node_count left) (node_count right) (few_lines names left)
+        (few_lines names right) in
+        omega (arith, first_few)
+    few_lines names (convert word object operand) = let first_few = few_lines names operand in omega (arith, first_few)
+    few_lines names (at slot_tree date) =
+        let first_few = few_lines names slot_tree in
+        let second_few = few_lines names date in
+        omega (arith, first_few, second_few)
+    few_lines names expression = omega arith
 
-    few_for_all : (names : Names) (ts : Trees) → sizes heads names ts ≤ 8 * node_counts ts
+    few_for_all : (names : Names) (expressions : Trees) → sizes heads names expressions ≤ 8 * node_counts expressions
     few_for_all names no_trees = omega arith
-    few_for_all names (tree t ts) =
-        let h = few_lines names t in
-        let g = few_for_all names ts in
-        omega (arith, h, g)
+    few_for_all names (tree first others) =
+        let first_few = few_lines names first in
+        let second_few = few_for_all names others in
+        omega (arith, first_few, second_few)
 
-    few_for_arguments : (names : Names) (kinds : List Kind) (ts : Trees) → sizes_of_arguments heads names kinds ts ≤ 8 * node_counts ts
-    few_for_arguments names [] ts = omega arith
+    few_for_arguments : (names : Names) (kinds : List Kind) (expressions : Trees)
+        → sizes_of_arguments heads names kinds expressions ≤ 8 * node_counts expressions
+    few_for_arguments names [] expressions = omega arith
     few_for_arguments names (kind ∷ kinds) no_trees = omega arith
-    few_for_arguments names (kind ∷ kinds) (tree t ts) =
-        let h = few_lines names t in
-        let g = few_for_arguments names kinds ts in
-        let own = widening_few kind (tree_kind heads names t) in
-        omega (arith, h, g, own)
+    few_for_arguments names (kind ∷ kinds) (tree first others) =
+        let first_few = few_lines names first in
+        let second_few = few_for_arguments names kinds others in
+        let own = widening_few kind (tree_kind heads names first) in
+        omega (arith, first_few, second_few, own)
 
   mutual
-    few_for_act : (names : Names) (a : Act) → size_of_act heads names a ≤ 8 * act_nodes a
-    few_for_act names (assign o s ahead e) = let h = few_lines names e in omega (arith, h)
-    few_for_act names (branch c first second) =
-        let h = few_lines names c in
-        let g = few_for_acts names first in
-        let k = few_for_acts names second in
-        omega (arith, h, g, k)
-    few_for_act names (with_name x e body) =
-        let h = few_lines names e in
-        let g = few_for_acts ((x, tree_kind heads names e) ∷ names) body in
-        omega (arith, h, g)
+    few_for_act : (names : Names) (statement : Act) → size_of_act heads names statement ≤ 8 * act_nodes statement
+    few_for_act names (assign object slot_name ahead value_tree) = let first_few = few_lines names value_tree in omega (arith, first_few)
+    few_for_act names (branch condition first second) =
+        let first_few = few_lines names condition in
+        let second_few = few_for_acts names first in
+        let third_few = few_for_acts names second in
+        omega (arith, first_few, second_few, third_few)
+    few_for_act names (with_name new_name value_tree body) =
+        let first_few = few_lines names value_tree in
+        let second_few = few_for_acts ((new_name, tree_kind heads names value_tree) ∷ names) body in
+        omega (arith, first_few, second_few)
 
-    pub few_for_acts : (names : Names) (acts : Acts) → size_of_acts heads names acts ≤ 8 * acts_nodes acts
+    pub few_for_acts : (names : Names) (statements : Acts) → size_of_acts heads names statements ≤ 8 * acts_nodes statements
     few_for_acts names no_acts = omega arith
-    few_for_acts names (act a rest) =
-        let h = few_for_act names a in
-        let g = few_for_acts names rest in
-        omega (arith, h, g)
+    few_for_acts names (act first others) =
+        let first_few = few_for_act names first in
+        let second_few = few_for_acts names others in
+        omega (arith, first_few, second_few)
 
 -- ---- locals
 
 mutual
-  pub few_locals : (t : Tree) → local_count t ≤ 2 * node_count t
-  few_locals (call f ts) = let h = few_locals_of ts in omega (arith, h)
-  few_locals (brackets t) = let h = few_locals t in omega (arith, h)
-  few_locals (list ts) = let h = few_locals_of ts in omega (arith, h)
-  few_locals (choice c y n) =
-      let h = few_locals c in
-      let g = few_locals y in
-      let k = few_locals n in
-      omega (arith, h, g, k)
-  few_locals (bind x e b) =
-      let h = few_locals e in
-      let g = few_locals b in
-      omega (arith, h, g)
-  few_locals (each x l a f b) =
-      let h = few_locals l in
-      let g = few_locals f in
-      let k = few_locals b in
-      omega (arith, h, g, k)
-  few_locals (mapped x l b) =
-      let h = few_locals l in
-      let g = few_locals b in
-      omega (arith, h, g)
-  few_locals (one word e) = let h = few_locals e in omega (arith, h)
-  few_locals (two word l r) =
-      let h = few_locals l in
-      let g = few_locals r in
-      omega (arith, h, g)
-  few_locals (convert word o e) = let h = few_locals e in omega (arith, h)
-  few_locals (at s d) =
-      let h = few_locals s in
-      let g = few_locals d in
-      omega (arith, h, g)
-  few_locals t = omega arith
+  pub few_locals : (expression : Tree) → local_count expression ≤ 2 * node_count expression
+  few_locals (call function_name arguments) = let first_few = few_locals_of arguments in omega (arith, first_few)
+  few_locals (brackets inside) = let first_few = few_locals inside in omega (arith, first_few)
+  few_locals (list items) = let first_few = few_locals_of items in omega (arith, first_few)
+  few_locals (choice condition if_true if_false) =
+      let first_few = few_locals condition in
+      let second_few = few_locals if_true in
+      let third_few = few_locals if_false in
+      omega (arith, first_few, second_few, third_few)
+  few_locals (bind new_name value_tree body) =
+      let first_few = few_locals value_tree in
+      let second_few = few_locals body in
+      omega (arith, first_few, second_few)
+  few_locals (each item_name source total_name initial body) =
+      let first_few = few_locals source in
+      let second_few = few_locals initial in
+      let third_few = few_locals body in
+      omega (arith, first_few, second_few, third_few)
+  few_locals (mapped item_name source body) =
+      let first_few = few_locals source in
+      let second_few = few_locals body in
+      omega (arith, first_few, second_few)
+  few_locals (one word operand) = let first_few = few_locals operand in omega (arith, first_few)
+  few_locals (two word left right) =
+      let first_few = few_locals left in
+      let second_few = few_locals right in
+      omega (arith, first_few, second_few)
+  few_locals (convert word object operand) = let first_few = few_locals operand in omega (arith, first_few)
+  few_locals (at slot_tree date) =
+      let first_few = few_locals slot_tree in
+      let second_few = few_locals date in
+      omega (arith, first_few, second_few)
+  few_locals expression = omega arith
 
-  few_locals_of : (ts : Trees) → local_counts ts ≤ 2 * node_counts ts
+  few_locals_of : (expressions : Trees) → local_counts expressions ≤ 2 * node_counts expressions
   few_locals_of no_trees = omega arith
-  few_locals_of (tree t ts) =
-      let h = few_locals t in
-      let g = few_locals_of ts in
-      omega (arith, h, g)
+  few_locals_of (tree first others) =
+      let first_few = few_locals first in
+      let second_few = few_locals_of others in
+      omega (arith, first_few, second_few)
 
 mutual
-  few_act_locals : (a : Act) → act_locals a ≤ 2 * act_nodes a
-  few_act_locals (assign o s ahead e) = let h = few_locals e in omega (arith, h)
-  few_act_locals (branch c first second) =
-      let h = few_locals c in
-      let g = few_acts_locals first in
-      let k = few_acts_locals second in
-      omega (arith, h, g, k)
-  few_act_locals (with_name x e body) =
-      let h = few_locals e in
-      let g = few_acts_locals body in
-      omega (arith, h, g)
+  few_act_locals : (statement : Act) → act_locals statement ≤ 2 * act_nodes statement
+  few_act_locals (assign object slot_name ahead value_tree) = let first_few = few_locals value_tree in omega (arith, first_few)
+  few_act_locals (branch condition first second) =
+      let first_few = few_locals condition in
+      let second_few = few_acts_locals first in
+      let third_few = few_acts_locals second in
+      omega (arith, first_few, second_few, third_few)
+  few_act_locals (with_name new_name value_tree body) =
+      let first_few = few_locals value_tree in
+      let second_few = few_acts_locals body in
+      omega (arith, first_few, second_few)
 
-  pub few_acts_locals : (acts : Acts) → acts_locals acts ≤ 2 * acts_nodes acts
+  pub few_acts_locals : (statements : Acts) → acts_locals statements ≤ 2 * acts_nodes statements
   few_acts_locals no_acts = omega arith
-  few_acts_locals (act a rest) =
-      let h = few_act_locals a in
-      let g = few_acts_locals rest in
-      omega (arith, h, g)
+  few_acts_locals (act first others) =
+      let first_few = few_act_locals first in
+      let second_few = few_acts_locals others in
+      omega (arith, first_few, second_few)

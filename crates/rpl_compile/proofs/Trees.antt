@@ -1,4 +1,4 @@
--- The code of each tree does what the tree means.
+-- The code of each tree does what the tree means: the claims of all forms, by recursion on the tree.
 use Rattle.rpl_compile.proofs.Common.{And, Or, Tree, Trees, TwoWord, at, bind, brackets, call, choice, convert, each, list, literal, mapped, name}
 use Rattle.rpl_compile.proofs.Common.{no_trees, now, one, slot, tree, truth, two}
 use Rattle.rpl_compile.proofs.Setting.{Claim, Setting}
@@ -10,39 +10,41 @@ use Rattle.rpl_compile.proofs.Rows.{ClaimAll, ClaimArguments, more_arguments, mo
 use Rattle.rpl_compile.proofs.Visits.{on_each}
 use Rattle.rpl_compile.proofs.Mappings.{on_mapped}
 
-module _ (g : Setting) where
-  on_operator : (word : TwoWord) (l r : Tree) → Claim g l → Claim g r → Claim g (two word l r)
-  on_operator Or l r cl cr = on_or g l r cl cr
-  on_operator And l r cl cr = on_and g l r cl cr
-  on_operator word l r cl cr = on_two_trees g word l r tt cl cr
+module _ (setting : Setting) where
+  on_operator : (word : TwoWord) (left right : Tree) → Claim setting left → Claim setting right → Claim setting (two word left right)
+  on_operator Or left right claim_of_left claim_of_right = on_or setting left right claim_of_left claim_of_right
+  on_operator And left right claim_of_left claim_of_right = on_and setting left right claim_of_left claim_of_right
+  on_operator word left right claim_of_left claim_of_right = on_two_trees setting word left right tt claim_of_left claim_of_right
 
   mutual
-    pub tree_goes : (t : Tree) → Claim g t
-    tree_goes (literal n unit) = on_literal g n unit
-    tree_goes (truth b) = on_truth g b
-    tree_goes now = on_now g
-    tree_goes (slot o s) = on_slot g o s
-    tree_goes (name x) = on_name g x
-    tree_goes (call f ts) = on_call g f ts (arguments_go ts)
-    tree_goes (brackets t) = on_brackets g t (tree_goes t)
-    tree_goes (list ts) = on_list g ts (all_go ts)
-    tree_goes (choice c y n) = on_choice g c y n (tree_goes c) (tree_goes y) (tree_goes n)
-    tree_goes (bind x e b) = on_bind g x e b (tree_goes e) (tree_goes b)
-    tree_goes (each x l a f b) = on_each g x l a f b (tree_goes l) (tree_goes f) (tree_goes b)
-    tree_goes (mapped x l b) = on_mapped g x l b (tree_goes l) (tree_goes b)
-    tree_goes (one word e) = on_word g word e (tree_goes e) (asked_goes e)
-    tree_goes (two word l r) = on_operator word l r (tree_goes l) (tree_goes r)
-    tree_goes (convert word o e) = on_convert g word o e (tree_goes e)
-    tree_goes (at s d) = on_at g s d (tree_goes s) (tree_goes d)
+    pub tree_goes : (expression : Tree) → Claim setting expression
+    tree_goes (literal number unit) = on_literal setting number unit
+    tree_goes (truth is_so) = on_truth setting is_so
+    tree_goes now = on_now setting
+    tree_goes (slot object slot_name) = on_slot setting object slot_name
+    tree_goes (name sought) = on_name setting sought
+    tree_goes (call function_name arguments) = on_call setting function_name arguments (arguments_go arguments)
+    tree_goes (brackets inside) = on_brackets setting inside (tree_goes inside)
+    tree_goes (list items) = on_list setting items (all_go items)
+    tree_goes (choice condition if_true if_false) =
+        on_choice setting condition if_true if_false (tree_goes condition) (tree_goes if_true) (tree_goes if_false)
+    tree_goes (bind new_name value_tree body) = on_bind setting new_name value_tree body (tree_goes value_tree) (tree_goes body)
+    tree_goes (each item_name source total_name initial body) =
+        on_each setting item_name source total_name initial body (tree_goes source) (tree_goes initial) (tree_goes body)
+    tree_goes (mapped item_name source body) = on_mapped setting item_name source body (tree_goes source) (tree_goes body)
+    tree_goes (one word operand) = on_word setting word operand (tree_goes operand) (asked_goes operand)
+    tree_goes (two word left right) = on_operator word left right (tree_goes left) (tree_goes right)
+    tree_goes (convert word object operand) = on_convert setting word object operand (tree_goes operand)
+    tree_goes (at slot_tree date) = on_at setting slot_tree date (tree_goes slot_tree) (tree_goes date)
 
-    asked_goes : (t : Tree) → Asks g t
-    asked_goes (at s d) = asks_at g s d (tree_goes s) (tree_goes d)
-    asked_goes t = λ site env ls ops lo rest asked placed loc kinded h. absurd asked
+    asked_goes : (expression : Tree) → Asks setting expression
+    asked_goes (at slot_tree date) = asks_at setting slot_tree date (tree_goes slot_tree) (tree_goes date)
+    asked_goes expression = λ site environment locals operands loops callers asked placed locals_at kinded here. absurd asked
 
-    all_go : (ts : Trees) → ClaimAll g ts
-    all_go no_trees = no_elements g
-    all_go (tree t ts) = more_elements g t ts (tree_goes t) (all_go ts)
+    all_go : (expressions : Trees) → ClaimAll setting expressions
+    all_go no_trees = no_elements setting
+    all_go (tree first others) = more_elements setting first others (tree_goes first) (all_go others)
 
-    arguments_go : (ts : Trees) → ClaimArguments g ts
-    arguments_go no_trees = no_arguments g
-    arguments_go (tree t ts) = more_arguments g t ts (tree_goes t) (arguments_go ts)
+    arguments_go : (expressions : Trees) → ClaimArguments setting expressions
+    arguments_go no_trees = no_arguments setting
+    arguments_go (tree first others) = more_arguments setting first others (tree_goes first) (arguments_go others)

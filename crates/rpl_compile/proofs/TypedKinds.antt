@@ -20,299 +20,348 @@ use Rattle.rpl_compile.proofs.CallKinds.{FitTypes, Matches, call_takes, fresh, m
 
 -- ---- leaves
 
-literal_found : (n : ℤ) (unit : Option (Dimension × ℤ)) (t : RplType) → literal_in_unit n unit ≡ Ok t
-    → (number_kind ≡ kind_of_rpl_type t) × IsLiteral n unit
-literal_found n None t h = absurd (cc h)
-literal_found n (Some unit) t h = by (is_quantity (n *ℤ unit.1)) h
+literal_found : (number : ℤ) (unit : Option (Dimension × ℤ)) (its_type : RplType) → literal_in_unit number unit ≡ Ok its_type
+    → (number_kind ≡ kind_of_rpl_type its_type) × IsLiteral number unit
+literal_found number None its_type accepted = absurd (cc accepted)
+literal_found number (Some unit) its_type accepted = by (is_quantity (number *ℤ unit.1)) accepted
   where
-    by : (test : Bool) → (if test then typed (Numeric unit.0) else Err LiteralRange) ≡ Ok t → (number_kind ≡ kind_of_rpl_type t) × IsTrue test
-    by true h = (same_kind (Numeric unit.0) t h, refl)
-    by false h = absurd (cc h)
+    by : (test : Bool) → (if test then typed (Numeric unit.0) else Err LiteralRange) ≡ Ok its_type → (number_kind ≡ kind_of_rpl_type its_type)
+        × IsTrue test
+    by true accepted = (same_kind (Numeric unit.0) its_type accepted, refl)
+    by false accepted = absurd (cc accepted)
 
-slot_found : (basin : Draft) (found : Option ℕ) (t : RplType) → found_slot_type basin found ≡ Ok t → (slot_kind ≡ kind_of_rpl_type t) × IsSome found
-slot_found basin None t h = absurd (cc h)
-slot_found basin (Some s) t h = (same_kind (Slot (dim_of basin.objects s)) t h, refl)
+slot_found : (basin : Draft) (found : Option ℕ) (its_type : RplType) → found_slot_type basin found ≡ Ok its_type
+    → (slot_kind ≡ kind_of_rpl_type its_type) × IsSome found
+slot_found basin None its_type accepted = absurd (cc accepted)
+slot_found basin (Some s) its_type accepted = (same_kind (Slot (dim_of basin.objects s)) its_type accepted, refl)
 
-name_found : (scope : TypeScope) (x : List ℕ) (t : RplType) → name_type scope x ≡ Ok t
-    → (kind_named (type_names scope) x ≡ kind_of_rpl_type t) × HasName (type_names scope) x
-name_found [] x t h = absurd (cc h)
-name_found (variable ∷ scope) x t h = by (bytes_eq variable.0 x) h (λ g. name_found scope x t g)
+name_found : (scope : TypeScope) (sought : List ℕ) (its_type : RplType) → name_type scope sought ≡ Ok its_type
+    → (kind_named (type_names scope) sought ≡ kind_of_rpl_type its_type) × HasName (type_names scope) sought
+name_found [] sought its_type accepted = absurd (cc accepted)
+name_found (variable ∷ scope) sought its_type accepted = by (bytes_eq variable.0 sought) accepted (λ g. name_found scope sought its_type g)
   where
-    by : (test : Bool) → (if test then Ok variable.1 else name_type scope x) ≡ Ok t
-        → (name_type scope x ≡ Ok t → (kind_named (type_names scope) x ≡ kind_of_rpl_type t) × HasName (type_names scope) x)
-        → ((if test then kind_of_rpl_type variable.1 else kind_named (type_names scope) x) ≡ kind_of_rpl_type t)
-        × IsTrue (test || list_any (λ (entry : List ℕ × Kind). bytes_eq entry.0 x) (type_names scope))
-    by true h later = (same_kind variable.1 t h, refl)
-    by false h later = later h
+    by : (test : Bool) → (if test then Ok variable.1 else name_type scope sought) ≡ Ok its_type
+        → (name_type scope sought ≡ Ok its_type → (kind_named (type_names scope) sought ≡ kind_of_rpl_type its_type)
+        × HasName (type_names scope) sought)
+        → ((if test then kind_of_rpl_type variable.1 else kind_named (type_names scope) sought) ≡ kind_of_rpl_type its_type)
+        × IsTrue (test || list_any (λ (entry : List ℕ × Kind). bytes_eq entry.0 sought) (type_names scope))
+    by true accepted later = (same_kind variable.1 its_type accepted, refl)
+    by false accepted later = later accepted
 
-target_found : (basin : Draft) (found : Option ℕ) (ahead : ℤ) (t : RplType) → found_target_misfit basin found ahead t ≡ None
-    → (kind_of_rpl_type t ≡ number_kind) × IsSomeAnd found (λ s. IsTrue (can_set basin s)) × IsTrue (can_put_ahead basin ahead)
-target_found basin None ahead t h = absurd (cc h)
-target_found basin (Some s) ahead t h = by (can_set basin s) (can_put_ahead basin ahead) h
+target_found : (basin : Draft) (found : Option ℕ) (ahead : ℤ) (its_type : RplType) → found_target_misfit basin found ahead its_type ≡ None
+    → (kind_of_rpl_type its_type ≡ number_kind) × IsSomeAnd found (λ s. IsTrue (can_set basin s)) × IsTrue (can_put_ahead basin ahead)
+target_found basin None ahead its_type none = absurd (cc none)
+target_found basin (Some s) ahead its_type none = by (can_set basin s) (can_put_ahead basin ahead) none
   where
     by : (settable near : Bool)
-        → (if settable then (if near then misfit t (Numeric (dim_of basin.objects s)) else Some TargetStep) else Some NotSettable) ≡ None
-        → (kind_of_rpl_type t ≡ number_kind) × IsTrue settable × IsTrue near
-    by true true h = (measured_number t (dim_of basin.objects s) h, refl, refl)
-    by true false h = absurd (cc h)
-    by false near h = absurd (cc h)
+        → (if settable then (if near then misfit its_type (Numeric (dim_of basin.objects s)) else Some TargetStep) else Some NotSettable) ≡ None
+        → (kind_of_rpl_type its_type ≡ number_kind) × IsTrue settable × IsTrue near
+    by true true none = (measured_number its_type (dim_of basin.objects s) none, refl, refl)
+    by true false none = absurd (cc none)
+    by false near none = absurd (cc none)
 
 -- ---- words
 
-asked_always : (word : OneWord) (e : Tree) → IsPlain word → IsAsked word e
-asked_always Known e h = absurd h
-asked_always _ e h = tt
+asked_always : (word : OneWord) (expression : Tree) → IsPlain word → IsAsked word expression
+asked_always Known expression is_plain = absurd is_plain
+asked_always _ expression is_plain = tt
 
-fit_first : (a b c d : Kind) → a ≡ c → b ≡ d → FitsIn (join c d) c → FitsIn (join a b) a
-fit_first a b c d e f h = subst (λ x. FitsIn (join x b) x) (sym e) (subst (λ y. FitsIn (join c y) c) (sym f) h)
+fit_first : (left_kind right_kind left_known right_known : Kind) → left_kind ≡ left_known → right_kind ≡ right_known
+    → FitsIn (join left_known right_known) left_known → FitsIn (join left_kind right_kind) left_kind
+fit_first left_kind right_kind left_known right_known left_kind_is right_kind_is fits_in =
+    subst (λ x. FitsIn (join x right_kind) x) (sym left_kind_is) (subst (λ y. FitsIn (join left_known y) left_known) (sym right_kind_is) fits_in)
 
-fit_second : (a b c d : Kind) → a ≡ c → b ≡ d → FitsIn (join c d) d → FitsIn (join a b) b
-fit_second a b c d e f h = subst (λ x. FitsIn (join x b) b) (sym e) (subst (λ y. FitsIn (join c y) y) (sym f) h)
+fit_second : (left_kind right_kind left_known right_known : Kind) → left_kind ≡ left_known → right_kind ≡ right_known
+    → FitsIn (join left_known right_known) right_known → FitsIn (join left_kind right_kind) right_kind
+fit_second left_kind right_kind left_known right_known left_kind_is right_kind_is fits_in =
+    subst (λ x. FitsIn (join x right_kind) right_kind) (sym left_kind_is) (subst (λ y. FitsIn (join left_known y) y) (sym right_kind_is) fits_in)
 
 module _ (basin : Draft) (callable : Callable) (heads : List Head) (matches : Matches callable.earlier heads) where
   -- an expression has the kind of its type, and is of the kinds that are asked for
   abbrev Kinded : Names → Tree → Kind → Type 0
-  Kinded names e kind = (tree_kind heads names e ≡ kind) × IsKinded basin heads names e
+  Kinded names expression kind = (tree_kind heads names expression ≡ kind) × IsKinded basin heads names expression
 
   abbrev Claim : Tree → Type 0
-  Claim e = (scope : TypeScope) (t : RplType) → HasType basin callable scope e t → Kinded (type_names scope) e (kind_of_rpl_type t)
+  Claim expression = (scope : TypeScope) (its_type : RplType) → HasType basin callable scope expression its_type
+      → Kinded (type_names scope) expression (kind_of_rpl_type its_type)
 
   abbrev AllKinded : TypeScope → Trees → List RplType → Type 0
-  AllKinded scope no_trees ts = ts ≡ []
-  AllKinded scope (tree e es) ts =
-      (first : RplType) × (rest : List RplType) × (ts ≡ first ∷ rest) × Kinded (type_names scope) e (kind_of_rpl_type first) × AllKinded scope es rest
+  AllKinded scope no_trees types = types ≡ []
+  AllKinded scope (tree head others) types =
+      (first : RplType) × (rest : List RplType) × (types ≡ first ∷ rest) × Kinded (type_names scope) head (kind_of_rpl_type first)
+      × AllKinded scope others rest
 
   abbrev ClaimAll : Trees → Type 0
-  ClaimAll es = (scope : TypeScope) (ts : List RplType) → HaveTypes basin callable scope es ts → AllKinded scope es ts
+  ClaimAll expressions = (scope : TypeScope) (types : List RplType) → HaveTypes basin callable scope expressions types
+      → AllKinded scope expressions types
 
-  looked : (e : Tree) (names : Names) → is_look e ≡ true → IsAsked Known e × (tree_kind heads names e ≡ number_kind)
-  looked (at s d) names h = (tt, refl)
-  looked _ names h = absurd (cc h)
+  looked : (expression : Tree) (names : Names) → is_look expression ≡ true → IsAsked Known expression
+      × (tree_kind heads names expression ≡ number_kind)
+  looked (at slot_tree date) names holds = (tt, refl)
+  looked _ names holds = absurd (cc holds)
 
-  of_kind : (scope : TypeScope) (es : Trees) (ts : List RplType) (kind : Kind) → AllKinded scope es ts → AreAlike kind ts
-      → AreOfKind basin heads (type_names scope) kind es
-  of_kind scope no_trees ts kind h a = tt
-  of_kind scope (tree e es) ts kind h a = let b = subst (AreAlike kind) h.2 a in (h.3.1, h.3.0 ∙ b.0, of_kind scope es h.1 kind h.4 b.1)
+  of_kind : (scope : TypeScope) (expressions : Trees) (types : List RplType) (kind : Kind) → AllKinded scope expressions types → AreAlike kind types
+      → AreOfKind basin heads (type_names scope) kind expressions
+  of_kind scope no_trees types kind all_kinded are_alike = tt
+  of_kind scope (tree first others) types kind all_kinded are_alike = let alike_so = subst (AreAlike kind) all_kinded.2 are_alike in
+      (all_kinded.3.1, all_kinded.3.0 ∙ alike_so.0, of_kind scope others all_kinded.1 kind all_kinded.4 alike_so.1)
 
-  count_is : (scope : TypeScope) (es : Trees) (ts : List RplType) → AllKinded scope es ts → count_of es ≡ length ts
-  count_is scope no_trees ts h = ap length (sym h)
-  count_is scope (tree e es) ts h = let c = count_is scope es h.1 h.4 in let n = ap length h.2 in omega (arith, c, n)
+  count_is : (scope : TypeScope) (expressions : Trees) (types : List RplType) → AllKinded scope expressions types
+      → count_of expressions ≡ length types
+  count_is scope no_trees types all_kinded = ap length (sym all_kinded)
+  count_is scope (tree first others) types all_kinded = let others_counted = count_is scope others all_kinded.1 all_kinded.4 in
+      let counted = ap length all_kinded.2 in omega (arith, others_counted, counted)
 
-  arguments : (scope : TypeScope) (es : Trees) (ts : List RplType) (kinds : List Kind) → AllKinded scope es ts → FitTypes kinds ts
-      → AreArguments basin heads (type_names scope) kinds es
-  arguments scope no_trees ts [] h f = tt
-  arguments scope no_trees ts (k ∷ kinds) h f = absurd (subst (FitTypes (k ∷ kinds)) h f)
-  arguments scope (tree e es) ts [] h f = absurd (subst (FitTypes []) h.2 f)
-  arguments scope (tree e es) ts (k ∷ kinds) h f =
-      let b = subst (FitTypes (k ∷ kinds)) h.2 f in (h.3.1, subst (FitsIn k) (sym h.3.0) b.0, arguments scope es h.1 kinds h.4 b.1)
+  arguments : (scope : TypeScope) (expressions : Trees) (types : List RplType) (kinds : List Kind) → AllKinded scope expressions types
+      → FitTypes kinds types
+      → AreArguments basin heads (type_names scope) kinds expressions
+  arguments scope no_trees types [] all_kinded fit_types = tt
+  arguments scope no_trees types (kind ∷ kinds) all_kinded fit_types = absurd (subst (FitTypes (kind ∷ kinds)) all_kinded fit_types)
+  arguments scope (tree first others) types [] all_kinded fit_types = absurd (subst (FitTypes []) all_kinded.2 fit_types)
+  arguments scope (tree first others) types (kind ∷ kinds) all_kinded fit_types =
+      let fit_so = subst (FitTypes (kind ∷ kinds)) all_kinded.2 fit_types in
+      (all_kinded.3.1, subst (FitsIn kind) (sym all_kinded.3.0) fit_so.0, arguments scope others all_kinded.1 kinds all_kinded.4 fit_so.1)
 
-  on_call : (f : List ℕ) (es : Trees) → ClaimAll es → Claim (call f es)
-  on_call f es all scope t h =
-      let c = call_takes callable heads f h.0 t matches h.2 in
-      (c.result_is, (c.has, arguments scope es h.0 (takes_named heads f) (all scope h.0 h.1) c.fit))
-
-  listed : (scope : TypeScope) (es : Trees) (ts : List RplType) (t : RplType) → AllKinded scope es ts → Listed ts t
-      → Kinded (type_names scope) (list es) (kind_of_rpl_type t)
-  listed scope no_trees ts t h l = absurd (cc (h, l.are))
-  listed scope (tree e es) ts t h l =
-      let names : Names = type_names scope in
-      let one : h.0 ∷ h.1 ≡ l.first ∷ l.rest = sym h.2 ∙ l.are in
-      let first : h.0 ≡ l.first = cc one in
-      let rest : l.rest ≡ h.1 = cc one in
-      let kind : tree_kind heads names e ≡ kind_of_rpl_type l.first = h.3.0 ∙ ap kind_of_rpl_type first in
-      let count : count_of es ≡ length l.rest = count_is scope es h.1 h.4 ∙ ap length (sym rest) in
-      let same = of_kind scope es h.1 (kind_of_rpl_type l.first) h.4 (subst (AreAlike (kind_of_rpl_type l.first)) rest l.alike) in (
-        ap₂ (λ n k. list_kind (n + 1) k) count kind ∙ l.whole,
+  on_call : (function_name : List ℕ) (expressions : Trees) → ClaimAll expressions → Claim (call function_name expressions)
+  on_call function_name expressions claim_of_expressions scope its_type has_type =
+      let call_so = call_takes callable heads function_name has_type.0 its_type matches has_type.2 in (
+        call_so.result_is,
         (
-          omega arith,
-          omega (arith, count, l.short),
-          subst IsElement (sym kind) l.element,
-          (h.3.1, refl, subst (λ k. AreOfKind basin heads names k es) (sym kind) same),
+          call_so.has,
+          arguments scope expressions has_type.0 (takes_named heads function_name) (claim_of_expressions scope has_type.0 has_type.1) call_so.fit,
         ),
       )
 
-  on_list : (es : Trees) → ClaimAll es → Claim (list es)
-  on_list es all scope t h = listed scope es h.0 t (all scope h.0 h.1) (list_takes h.0 t h.2)
-
-  on_choice : (c y n : Tree) → Claim c → Claim y → Claim n → Claim (choice c y n)
-  on_choice c y n test first second scope t h =
+  listed : (scope : TypeScope) (expressions : Trees) (types : List RplType) (its_type : RplType) → AllKinded scope expressions types
+      → Listed types its_type
+      → Kinded (type_names scope) (list expressions) (kind_of_rpl_type its_type)
+  listed scope no_trees types its_type all_kinded listed_so = absurd (cc (all_kinded, listed_so.are))
+  listed scope (tree head others) types its_type all_kinded listed_so =
       let names : Names = type_names scope in
-      let a = test scope Boolean h.0 in
-      let b = first scope h.1 h.3 in
-      let d = second scope h.2 h.4 in
-      let j = kinds_join h.1 h.2 t h.5 in
-      let ky = tree_kind heads names y in
-      let kn = tree_kind heads names n in (
-        ap₂ join b.0 d.0 ∙ j.0,
+      let one : all_kinded.0 ∷ all_kinded.1 ≡ listed_so.first ∷ listed_so.rest = sym all_kinded.2 ∙ listed_so.are in
+      let first : all_kinded.0 ≡ listed_so.first = cc one in
+      let rest : listed_so.rest ≡ all_kinded.1 = cc one in
+      let kind : tree_kind heads names head ≡ kind_of_rpl_type listed_so.first = all_kinded.3.0 ∙ ap kind_of_rpl_type first in
+      let count : count_of others ≡ length listed_so.rest = count_is scope others all_kinded.1 all_kinded.4 ∙ ap length (sym rest) in
+      let same = of_kind scope others all_kinded.1 (kind_of_rpl_type listed_so.first) all_kinded.4
+      (subst (AreAlike (kind_of_rpl_type listed_so.first)) rest listed_so.alike) in (
+        ap₂ (λ n k. list_kind (n + 1) k) count kind ∙ listed_so.whole,
         (
-          a.1,
-          a.0,
-          b.1,
-          fit_first ky kn (kind_of_rpl_type h.1) (kind_of_rpl_type h.2) b.0 d.0 j.1,
-          d.1,
-          fit_second ky kn (kind_of_rpl_type h.1) (kind_of_rpl_type h.2) b.0 d.0 j.2,
+          omega arith,
+          omega (arith, count, listed_so.short),
+          subst IsElement (sym kind) listed_so.element,
+          (all_kinded.3.1, refl, subst (λ k. AreOfKind basin heads names k others) (sym kind) same),
+        ),
+      )
+
+  on_list : (expressions : Trees) → ClaimAll expressions → Claim (list expressions)
+  on_list expressions claim_of_expressions scope its_type has_type =
+      listed scope expressions has_type.0 its_type (claim_of_expressions scope has_type.0 has_type.1) (list_takes has_type.0 its_type has_type.2)
+
+  on_choice : (condition if_true if_false : Tree) → Claim condition → Claim if_true → Claim if_false → Claim (choice condition if_true if_false)
+  on_choice condition if_true if_false claim_of_condition claim_of_true claim_of_false scope its_type has_type =
+      let names : Names = type_names scope in
+      let condition_so = claim_of_condition scope Boolean has_type.0 in
+      let true_so = claim_of_true scope has_type.1 has_type.3 in
+      let false_so = claim_of_false scope has_type.2 has_type.4 in
+      let joins = kinds_join has_type.1 has_type.2 its_type has_type.5 in
+      let true_kind = tree_kind heads names if_true in
+      let false_kind = tree_kind heads names if_false in (
+        ap₂ join true_so.0 false_so.0 ∙ joins.0,
+        (
+          condition_so.1,
+          condition_so.0,
+          true_so.1,
+          fit_first true_kind false_kind (kind_of_rpl_type has_type.1) (kind_of_rpl_type has_type.2) true_so.0 false_so.0 joins.1,
+          false_so.1,
+          fit_second true_kind false_kind (kind_of_rpl_type has_type.1) (kind_of_rpl_type has_type.2) true_so.0 false_so.0 joins.2,
         ),
       )
 
   -- an expression that knows a name more
-  inside : (x : List ℕ) (k l kind : Kind) (names : Names) (b : Tree) → k ≡ l → Kinded ((x, l) ∷ names) b kind → Kinded ((x, k) ∷ names) b kind
-  inside x k l kind names b e h = subst (λ k. Kinded ((x, k) ∷ names) b kind) (sym e) h
+  inside : (item_name : List ℕ) (own_kind known_kind kind : Kind) (names : Names) (body : Tree) → own_kind ≡ known_kind
+      → Kinded ((item_name, known_kind) ∷ names) body kind → Kinded ((item_name, own_kind) ∷ names) body kind
+  inside item_name own_kind known_kind kind names body kind_is kinded = subst (λ k. Kinded ((item_name, k) ∷ names) body kind) (sym kind_is) kinded
 
-  on_bind : (x : List ℕ) (e b : Tree) → Claim e → Claim b → Claim (bind x e b)
-  on_bind x e b value body scope t h =
-      let a = value scope h.0 h.1 in
-      let d = inside x _ _ _ (type_names scope) b a.0 (body ((x, h.0) ∷ scope) t h.2) in
-      (d.0, (a.1, d.1))
+  on_bind : (new_name : List ℕ) (value_tree body : Tree) → Claim value_tree → Claim body → Claim (bind new_name value_tree body)
+  on_bind new_name value_tree body claim_of_value claim_of_body scope its_type has_type =
+      let value_so = claim_of_value scope has_type.0 has_type.1 in
+      let body_so = inside new_name _ _ _ (type_names scope) body value_so.0 (claim_of_body ((new_name, has_type.0) ∷ scope) its_type has_type.2) in
+      (body_so.0, (value_so.1, body_so.1))
 
-  on_each : (x : List ℕ) (l : Tree) (y : List ℕ) (f b : Tree) → Claim l → Claim f → Claim b → Claim (each x l y f b)
-  on_each x l y f b items first body scope t h =
+  on_each : (item_name : List ℕ) (source : Tree) (total_name : List ℕ) (initial body : Tree) → Claim source → Claim initial → Claim body
+      → Claim (each item_name source total_name initial body)
+  on_each item_name source total_name initial body claim_of_source claim_of_initial claim_of_body scope its_type has_type =
       let names : Names = type_names scope in
-      let a = items scope h.0 h.3 in
-      let el = element_is h.0 h.1 h.4 in
-      let d = first scope t h.5 in
-      let item : element_of (tree_kind heads names l) ≡ kind_of_rpl_type h.1 = ap element_of a.0 ∙ el.1 in
-      let turn = body ((y, t) ∷ (x, h.1) ∷ scope) h.2 h.6 in
-      let z = subst (λ k. Kinded ((y, tree_kind heads names f) ∷ (x, k) ∷ names) b (kind_of_rpl_type h.2)) (sym item)
-      (inside y _ _ _ ((x, kind_of_rpl_type h.1) ∷ names) b d.0 turn) in
-      let fit = kinds_fit h.2 t h.7 in (
-        d.0,
+      let source_so = claim_of_source scope has_type.0 has_type.3 in
+      let elements = element_is has_type.0 has_type.1 has_type.4 in
+      let initial_so = claim_of_initial scope its_type has_type.5 in
+      let item : element_of (tree_kind heads names source) ≡ kind_of_rpl_type has_type.1 = ap element_of source_so.0 ∙ elements.1 in
+      let turn = claim_of_body ((total_name, its_type) ∷ (item_name, has_type.1) ∷ scope) has_type.2 has_type.6 in
+      let body_so =
+      subst (λ k. Kinded ((total_name, tree_kind heads names initial) ∷ (item_name, k) ∷ names) body (kind_of_rpl_type has_type.2)) (sym item)
+      (inside total_name _ _ _ ((item_name, kind_of_rpl_type has_type.1) ∷ names) body initial_so.0 turn) in
+      let fit = kinds_fit has_type.2 its_type has_type.7 in (
+        initial_so.0,
         (
-          a.1,
-          subst IsAnyList (sym a.0) el.0,
-          d.1,
-          z.1,
-          subst (FitsIn (tree_kind heads names f)) (sym z.0) (subst (λ k. FitsIn k (kind_of_rpl_type h.2)) (sym d.0) fit),
+          source_so.1,
+          subst IsAnyList (sym source_so.0) elements.0,
+          initial_so.1,
+          body_so.1,
+          subst (FitsIn (tree_kind heads names initial)) (sym body_so.0) (subst (λ k. FitsIn k (kind_of_rpl_type has_type.2)) (sym initial_so.0) fit),
         ),
       )
 
-  on_mapped : (x : List ℕ) (l b : Tree) → Claim l → Claim b → Claim (mapped x l b)
-  on_mapped x l b items body scope t h =
+  on_mapped : (item_name : List ℕ) (source body : Tree) → Claim source → Claim body → Claim (mapped item_name source body)
+  on_mapped item_name source body claim_of_source claim_of_body scope its_type has_type =
       let names : Names = type_names scope in
-      let a = items scope h.0 h.3 in
-      let el = element_is h.0 h.1 h.4 in
-      let item : element_of (tree_kind heads names l) ≡ kind_of_rpl_type h.1 = ap element_of a.0 ∙ el.1 in
-      let z = inside x _ _ _ names b item (body ((x, h.1) ∷ scope) h.2 h.5) in
-      let m = mapped_takes h.0 h.2 t h.6 in
-      (ap (λ k. numbers_kind (room_of k)) a.0 ∙ m.0, (a.1, subst IsAnyList (sym a.0) el.0, z.1, z.0 ∙ m.1))
+      let source_so = claim_of_source scope has_type.0 has_type.3 in
+      let elements = element_is has_type.0 has_type.1 has_type.4 in
+      let item : element_of (tree_kind heads names source) ≡ kind_of_rpl_type has_type.1 = ap element_of source_so.0 ∙ elements.1 in
+      let body_so = inside item_name _ _ _ names body item (claim_of_body ((item_name, has_type.1) ∷ scope) has_type.2 has_type.5) in
+      let mapped_so = mapped_takes has_type.0 has_type.2 its_type has_type.6 in (
+        ap (λ k. numbers_kind (room_of k)) source_so.0
+            ∙ mapped_so.0,
+        (source_so.1, subst IsAnyList (sym source_so.0) elements.0, body_so.1, body_so.0 ∙ mapped_so.1),
+      )
 
-  on_known : (e : Tree) → Claim e → Claim (one Known e)
-  on_known e part scope t h =
-      let q = known_takes (is_look e) h.0 t h.2 in
-      let asked = looked e (type_names scope) q.0 in
-      (q.1, ((part scope h.0 h.1).1, asked.0, asked.1))
+  on_known : (operand : Tree) → Claim operand → Claim (one Known operand)
+  on_known operand claim_of_operand scope its_type has_type =
+      let known_so = known_takes (is_look operand) has_type.0 its_type has_type.2 in
+      let asked = looked operand (type_names scope) known_so.0 in
+      (known_so.1, ((claim_of_operand scope has_type.0 has_type.1).1, asked.0, asked.1))
 
-  on_one : (word : OneWord) (e : Tree) → IsPlain word → Claim e → Claim (one word e)
-  on_one word e plain part scope t h =
-      let a = part scope h.0 h.1 in
-      let q = one_takes word (is_look e) h.0 t plain h.2 in
-      (q.0, (a.1, asked_always word e plain, subst (OneTakes word) (sym a.0) q.1))
+  on_one : (word : OneWord) (operand : Tree) → IsPlain word → Claim operand → Claim (one word operand)
+  on_one word operand plain claim_of_operand scope its_type has_type =
+      let operand_so = claim_of_operand scope has_type.0 has_type.1 in
+      let one_so = one_takes word (is_look operand) has_type.0 its_type plain has_type.2 in
+      (one_so.0, (operand_so.1, asked_always word operand plain, subst (OneTakes word) (sym operand_so.0) one_so.1))
 
-  on_two : (word : TwoWord) (l r : Tree) → Claim l → Claim r → Claim (two word l r)
-  on_two word l r left right scope t h =
-      let a = left scope h.0 h.2 in
-      let b = right scope h.1 h.3 in
-      let q = two_takes word h.0 h.1 t h.4 in (
-        ap₂ (two_kind word) a.0 b.0 ∙ q.0,
+  on_two : (word : TwoWord) (left right : Tree) → Claim left → Claim right → Claim (two word left right)
+  on_two word left right claim_of_left claim_of_right scope its_type has_type =
+      let left_so = claim_of_left scope has_type.0 has_type.2 in
+      let right_so = claim_of_right scope has_type.1 has_type.3 in
+      let two_so = two_takes word has_type.0 has_type.1 its_type has_type.4 in (
+        ap₂ (two_kind word) left_so.0 right_so.0 ∙ two_so.0,
         (
-          a.1,
-          b.1,
-          subst (λ k. TwoTakes word k (tree_kind heads (type_names scope) r)) (sym a.0)
-              (subst (TwoTakes word (kind_of_rpl_type h.0)) (sym b.0) q.1),
+          left_so.1,
+          right_so.1,
+          subst (λ k. TwoTakes word k (tree_kind heads (type_names scope) right)) (sym left_so.0)
+              (subst (TwoTakes word (kind_of_rpl_type has_type.0)) (sym right_so.0) two_so.1),
         ),
       )
 
-  on_convert : (word : ConvertWord) (o : List ℕ) (e : Tree) → Claim e → Claim (convert word o e)
-  on_convert word o e part scope t h =
-      let a = part scope h.0 h.1 in
-      let q = convert_takes word (is_some (object_named basin.objects o)) (is_some (table_named basin o)) h.0 t h.2 in
-      (q.0, (q.1, a.1, a.0 ∙ q.2))
+  on_convert : (word : ConvertWord) (object : List ℕ) (operand : Tree) → Claim operand → Claim (convert word object operand)
+  on_convert word object operand claim_of_operand scope its_type has_type =
+      let operand_so = claim_of_operand scope has_type.0 has_type.1 in
+      let convert_so =
+      convert_takes word (is_some (object_named basin.objects object)) (is_some (table_named basin object)) has_type.0 its_type has_type.2 in
+      (convert_so.0, (convert_so.1, operand_so.1, operand_so.0 ∙ convert_so.2))
 
-  on_at : (s d : Tree) → Claim s → Claim d → Claim (at s d)
-  on_at s d place date scope t h =
-      let a = place scope h.0 h.2 in
-      let b = date scope h.1 h.3 in
-      let q = look_takes h.0 h.1 t h.4 in
-      (q.0, (a.1, a.0 ∙ q.1, b.1, b.0 ∙ q.2))
+  on_at : (slot_tree date : Tree) → Claim slot_tree → Claim date → Claim (at slot_tree date)
+  on_at slot_tree date claim_of_slot claim_of_date scope its_type has_type =
+      let slot_so = claim_of_slot scope has_type.0 has_type.2 in
+      let date_so = claim_of_date scope has_type.1 has_type.3 in
+      let look_so = look_takes has_type.0 has_type.1 its_type has_type.4 in
+      (look_so.0, (slot_so.1, slot_so.0 ∙ look_so.1, date_so.1, date_so.0 ∙ look_so.2))
 
   mutual
-    pub tree_kinded : (e : Tree) → Claim e
-    tree_kinded (literal n unit) = λ scope t h. literal_found n (unit_in units (unwrap_or unit [])) t h
-    tree_kinded (truth b) = λ scope t h. (ap kind_of_rpl_type (sym h), tt)
-    tree_kinded now = λ scope t h. (ap kind_of_rpl_type (sym h), tt)
-    tree_kinded (slot o s) = λ scope t h. slot_found basin (slot_named basin.objects o s) t h
-    tree_kinded (name x) = λ scope t h. name_found scope x t h
-    tree_kinded (call f es) = on_call f es (trees_kinded es)
-    tree_kinded (brackets e) = λ scope t h. tree_kinded e scope t h
-    tree_kinded (list es) = on_list es (trees_kinded es)
-    tree_kinded (choice c y n) = on_choice c y n (tree_kinded c) (tree_kinded y) (tree_kinded n)
-    tree_kinded (bind x e b) = on_bind x e b (tree_kinded e) (tree_kinded b)
-    tree_kinded (each x l y f b) = on_each x l y f b (tree_kinded l) (tree_kinded f) (tree_kinded b)
-    tree_kinded (mapped x l b) = on_mapped x l b (tree_kinded l) (tree_kinded b)
-    tree_kinded (one Known e) = on_known e (tree_kinded e)
-    tree_kinded (one Not e) = on_one Not e tt (tree_kinded e)
-    tree_kinded (one Minus e) = on_one Minus e tt (tree_kinded e)
-    tree_kinded (one Length e) = on_one Length e tt (tree_kinded e)
-    tree_kinded (one Month e) = on_one Month e tt (tree_kinded e)
-    tree_kinded (one Day e) = on_one Day e tt (tree_kinded e)
-    tree_kinded (one Year e) = on_one Year e tt (tree_kinded e)
-    tree_kinded (two word l r) = on_two word l r (tree_kinded l) (tree_kinded r)
-    tree_kinded (convert word o e) = on_convert word o e (tree_kinded e)
-    tree_kinded (at s d) = on_at s d (tree_kinded s) (tree_kinded d)
+    pub tree_kinded : (value_tree : Tree) → Claim value_tree
+    tree_kinded (literal number unit) = λ scope its_type has_type. literal_found number (unit_in units (unwrap_or unit [])) its_type has_type
+    tree_kinded (truth is_so) = λ scope its_type has_type. (ap kind_of_rpl_type (sym has_type), tt)
+    tree_kinded now = λ scope its_type has_type. (ap kind_of_rpl_type (sym has_type), tt)
+    tree_kinded (slot object slot_name) = λ scope its_type has_type. slot_found basin (slot_named basin.objects object slot_name) its_type has_type
+    tree_kinded (name sought) = λ scope its_type has_type. name_found scope sought its_type has_type
+    tree_kinded (call function_name arguments) = on_call function_name arguments (trees_kinded arguments)
+    tree_kinded (brackets inside) = λ scope its_type has_type. tree_kinded inside scope its_type has_type
+    tree_kinded (list items) = on_list items (trees_kinded items)
+    tree_kinded (choice condition if_true if_false) =
+        on_choice condition if_true if_false (tree_kinded condition) (tree_kinded if_true) (tree_kinded if_false)
+    tree_kinded (bind new_name value_tree body) = on_bind new_name value_tree body (tree_kinded value_tree) (tree_kinded body)
+    tree_kinded (each item_name source total_name initial body) =
+        on_each item_name source total_name initial body (tree_kinded source) (tree_kinded initial) (tree_kinded body)
+    tree_kinded (mapped item_name source body) = on_mapped item_name source body (tree_kinded source) (tree_kinded body)
+    tree_kinded (one Known operand) = on_known operand (tree_kinded operand)
+    tree_kinded (one Not operand) = on_one Not operand tt (tree_kinded operand)
+    tree_kinded (one Minus operand) = on_one Minus operand tt (tree_kinded operand)
+    tree_kinded (one Length operand) = on_one Length operand tt (tree_kinded operand)
+    tree_kinded (one Month operand) = on_one Month operand tt (tree_kinded operand)
+    tree_kinded (one Day operand) = on_one Day operand tt (tree_kinded operand)
+    tree_kinded (one Year operand) = on_one Year operand tt (tree_kinded operand)
+    tree_kinded (two word left right) = on_two word left right (tree_kinded left) (tree_kinded right)
+    tree_kinded (convert word object operand) = on_convert word object operand (tree_kinded operand)
+    tree_kinded (at slot_tree date) = on_at slot_tree date (tree_kinded slot_tree) (tree_kinded date)
 
-    trees_kinded : (es : Trees) → ClaimAll es
-    trees_kinded no_trees = λ scope ts h. h
-    trees_kinded (tree e es) = λ scope ts h. (h.0, h.1, h.2, tree_kinded e scope h.0 h.3, trees_kinded es scope h.1 h.4)
+    trees_kinded : (expressions : Trees) → ClaimAll expressions
+    trees_kinded no_trees = λ scope types have_types. have_types
+    trees_kinded (tree first others) =
+        λ scope types have_types. (
+          have_types.0,
+          have_types.1,
+          have_types.2,
+          tree_kinded first scope have_types.0 have_types.3,
+          trees_kinded others scope have_types.1 have_types.4,
+        )
 
   -- ---- statements
 
   abbrev ClaimAct : Act → Type 0
-  ClaimAct a = (scope : TypeScope) → Stands basin callable scope a → IsKindedAct basin heads (type_names scope) a
+  ClaimAct statement = (scope : TypeScope) → Stands basin callable scope statement → IsKindedAct basin heads (type_names scope) statement
 
   abbrev ClaimActs : Acts → Type 0
-  ClaimActs acts = (scope : TypeScope) → AllStand basin callable scope acts → AreKindedActs basin heads (type_names scope) acts
+  ClaimActs statements = (scope : TypeScope) → AllStand basin callable scope statements → AreKindedActs basin heads (type_names scope) statements
 
-  on_assign : (o s : List ℕ) (ahead : ℤ) (e : Tree) → ClaimAct (assign o s ahead e)
-  on_assign o s ahead e scope h =
-      let a = tree_kinded e scope h.0 h.1 in
-      let q = target_found basin (slot_named basin.objects o s) ahead h.0 h.2 in
-      (a.1, a.0 ∙ q.0, (q.1, q.2))
+  on_assign : (object slot_name : List ℕ) (ahead : ℤ) (value_tree : Tree) → ClaimAct (assign object slot_name ahead value_tree)
+  on_assign object slot_name ahead value_tree scope stands =
+      let value_so = tree_kinded value_tree scope stands.0 stands.1 in
+      let target_so = target_found basin (slot_named basin.objects object slot_name) ahead stands.0 stands.2 in
+      (value_so.1, value_so.0 ∙ target_so.0, (target_so.1, target_so.2))
 
-  on_with : (x : List ℕ) (e : Tree) (body : Acts) → ClaimActs body → ClaimAct (with_name x e body)
-  on_with x e body rest scope h =
-      let a = tree_kinded e scope h.0 h.1 in
-      (a.1, subst (λ k. AreKindedActs basin heads ((x, k) ∷ type_names scope) body) (sym a.0) (rest ((x, h.0) ∷ scope) h.2))
+  on_with : (new_name : List ℕ) (value_tree : Tree) (body : Acts) → ClaimActs body → ClaimAct (with_name new_name value_tree body)
+  on_with new_name value_tree body claim_of_body scope stands =
+      let value_so = tree_kinded value_tree scope stands.0 stands.1 in (
+        value_so.1,
+        subst (λ k. AreKindedActs basin heads ((new_name, k) ∷ type_names scope) body) (sym value_so.0)
+            (claim_of_body ((new_name, stands.0) ∷ scope) stands.2),
+      )
 
   mutual
-    act_kinded : (a : Act) → ClaimAct a
-    act_kinded (assign o s ahead e) = on_assign o s ahead e
-    act_kinded (branch c first second) = λ scope h.
-        let a = tree_kinded c scope Boolean h.0 in (a.1, a.0, acts_kinded first scope h.1, acts_kinded second scope h.2)
-    act_kinded (with_name x e body) = on_with x e body (acts_kinded body)
+    act_kinded : (statement : Act) → ClaimAct statement
+    act_kinded (assign object slot_name ahead value_tree) = on_assign object slot_name ahead value_tree
+    act_kinded (branch condition first second) = λ scope stands.
+        let condition_so = tree_kinded condition scope Boolean stands.0 in
+        (condition_so.1, condition_so.0, acts_kinded first scope stands.1, acts_kinded second scope stands.2)
+    act_kinded (with_name new_name value_tree body) = on_with new_name value_tree body (acts_kinded body)
 
-    pub acts_kinded : (acts : Acts) → ClaimActs acts
-    acts_kinded no_acts = λ scope h. tt
-    acts_kinded (act a rest) = λ scope h. (act_kinded a scope h.0, acts_kinded rest scope h.1)
+    pub acts_kinded : (statements : Acts) → ClaimActs statements
+    acts_kinded no_acts = λ scope all_stand. tt
+    acts_kinded (act first others) = λ scope all_stand. (act_kinded first scope all_stand.0, acts_kinded others scope all_stand.1)
 
 -- ---- rulesets
 
-kinded_from : (basin : Draft) (rules : List Declared) (k : ℕ) (earlier : List Signature) (heads : List Head) (ds : List Declared)
+kinded_from : (basin : Draft) (rules : List Declared) (number : ℕ) (earlier : List Signature) (heads : List Head) (declarations : List Declared)
     → Matches earlier heads
-    → AreDeclared basin rules k earlier ds → AreKindedFrom basin heads ds
-kinded_from basin rules k earlier heads [] m h = tt
-kinded_from basin rules k earlier heads (rule f body ∷ ds) m h =
-    let callable : Callable = record { earlier = earlier; later = function_names (rule f body ∷ ds) } in
-    (acts_kinded basin callable heads m body [] h.0, kinded_from basin rules (k + 1) earlier heads ds m h.2)
-kinded_from basin rules k earlier heads (function f ps result body ∷ ds) m h =
-    let callable : Callable = record { earlier = earlier; later = function_names (function f ps result body ∷ ds) } in
-    let own = h.0 in
-    let new = fresh earlier f ps result own.0 in
-    let b = tree_kinded basin callable heads m body (param_scope ps) own.1 own.2 in
+    → AreDeclared basin rules number earlier declarations → AreKindedFrom basin heads declarations
+kinded_from basin rules number earlier heads [] matches are_declared = tt
+kinded_from basin rules number earlier heads (rule called_so body ∷ declarations) matches are_declared =
+    let callable : Callable = record { earlier = earlier; later = function_names (rule called_so body ∷ declarations) } in (
+      acts_kinded basin callable heads matches body [] are_declared.0,
+      kinded_from basin rules (number + 1) earlier heads declarations matches are_declared.2,
+    )
+kinded_from basin rules number earlier heads (function called_so parameters result body ∷ declarations) matches are_declared =
+    let callable : Callable = record { earlier = earlier; later = function_names (function called_so parameters result body ∷ declarations) } in
+    let own = are_declared.0 in
+    let new = fresh earlier called_so parameters result own.0 in
+    let body_so = tree_kinded basin callable heads matches body (param_scope parameters) own.1 own.2 in
     let fit = kinds_fit own.1 (type_here result) own.3 in
-    let typed_body : IsKindedBody basin heads (type_names (param_scope ps)) (kind_of_type result) body =
-    (b.1, subst (FitsIn (kind_of_type result)) (sym b.0) (subst (λ k. FitsIn k (kind_of_rpl_type own.1)) new.kinds.result_is fit)) in (
+    let typed_body : IsKindedBody basin heads (type_names (param_scope parameters)) (kind_of_type result) body = (
+      body_so.1,
+      subst (FitsIn (kind_of_type result)) (sym body_so.0) (subst (λ number. FitsIn number (kind_of_rpl_type own.1)) new.kinds.result_is fit),
+    ) in (
       subst (λ names. IsKindedBody basin heads names (kind_of_type result) body) new.kinds.names typed_body,
-      kinded_from basin rules (k + 1) (and_function (function f ps result body) earlier) _ ds (with_function earlier heads f ps result m new) h.2,
+      kinded_from basin rules (number + 1) (and_function (function called_so parameters result body) earlier) _ declarations
+          (with_function earlier heads called_so parameters result matches new) are_declared.2,
     )
 
 pub typed_is_kinded : (basin : Draft) (rules : List Declared) → IsTyped basin rules → AreKinded basin rules
-typed_is_kinded basin rules h = kinded_from basin rules 1 [] (function_heads predefined_functions) rules matches_none h
+typed_is_kinded basin rules is_typed = kinded_from basin rules 1 [] (function_heads predefined_functions) rules matches_none is_typed

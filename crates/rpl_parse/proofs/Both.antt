@@ -17,220 +17,264 @@ use Rattle.rpl_parse.specs.ReadingDeclared.{read_parameter, ParametersRead, para
 use Rattle.rpl_parse.specs.ReadingDeclared.{parameters, if_all, rule_behind, body_behind, function_behind, read_declared}
 use Rattle.rpl_parse.proofs.Sound.{some_one, and_then, found, behind_sound, name_sound, sound}
 use Rattle.rpl_parse.proofs.SoundActs.{number_sound, acts_sound}
-use Rattle.rpl_parse.proofs.Complete.{Shrinks, one_shrinks, shrinks_then, mark_then, Closes, behind_here, name_here, not_here}
+use Rattle.rpl_parse.proofs.Beginnings.{Shrinks, one_shrinks, shrinks_then, mark_then, behind_here, name_here, not_here}
+use Rattle.rpl_parse.proofs.Complete.{Closes}
 use Rattle.rpl_parse.proofs.TurnsParameters.{more_stops, more_turn}
 use Rattle.rpl_parse.proofs.CompleteActs.{acts_complete, ActsRead, mark_ends, acts_back, value_reads}
 
-text_sound : (ts : List Tok) (t : Named) → behind_text ts ≡ Some t → ts ≡ text t.called ∷ t.next
-text_sound [] t e = absurd (cc e)
-text_sound (mark n ∷ vs) t e = absurd (cc e)
-text_sound (word n ∷ vs) t e = absurd (cc e)
-text_sound (digits z ∷ vs) t e = absurd (cc e)
-text_sound (text s ∷ vs) t e = subst (λ (y : Named). text s ∷ vs ≡ text y.called ∷ y.next) (some_one _ t e) refl
+text_sound : (tokens_here : List Tok) (named_so : Named) → behind_text tokens_here ≡ Some named_so
+    → tokens_here ≡ text named_so.called ∷ named_so.next
+text_sound [] named_so reads = absurd (cc reads)
+text_sound (mark other_mark ∷ left_over) named_so reads = absurd (cc reads)
+text_sound (word its_name ∷ left_over) named_so reads = absurd (cc reads)
+text_sound (digits its_number ∷ left_over) named_so reads = absurd (cc reads)
+text_sound (text its_text ∷ left_over) named_so reads =
+    subst (λ (any_name : Named). text its_text ∷ left_over ≡ text any_name.called ∷ any_name.next) (some_one _ named_so reads) refl
 
-text_here : (s : List ℕ) (ts us : List Tok) → ts ≡ text s ∷ us → behind_text ts ≡ Some (record { called = s; next = us })
-text_here s ts us e = rw e refl
+text_here : (slot_name : List ℕ) (tokens_here further : List Tok) → tokens_here ≡ text slot_name ∷ further
+    → behind_text tokens_here ≡ Some (record { called = slot_name; next = further })
+text_here slot_name tokens_here further tokens_here_is = rw tokens_here_is refl
 
 -- Types.
 
 abbrev IsTyped : List Tok → TypeRead → Type 0
-IsTyped ts k = SpellsType k.of_type ts k.next
+IsTyped tokens_here type_here = SpellsType type_here.of_type tokens_here type_here.next
 
 -- a type in a unit, behind its words
-unit_sound : (f : List ℕ → TypeName) (ts : List Tok) (k : TypeRead) → in_unit f ts ≡ Some k
-    → (u : List ℕ) × (ts ≡ text u ∷ k.next) × (k ≡ typed (f u) k.next)
-unit_sound f ts k e =
-    let u = and_then (behind_text ts) _ k e in
-    let same : typed (f u.0.called) u.0.next ≡ k = some_one _ k u.2 in (
-      u.0.called,
-      subst (λ (y : TypeRead). ts ≡ text u.0.called ∷ y.next) same (text_sound ts u.0 u.1),
-      subst (λ (y : TypeRead). y ≡ typed (f u.0.called) y.next) same refl,
+unit_sound : (made : List ℕ → TypeName) (tokens_here : List Tok) (type_here : TypeRead) → in_unit made tokens_here ≡ Some type_here
+    → (unit : List ℕ) × (tokens_here ≡ text unit ∷ type_here.next) × (type_here ≡ typed (made unit) type_here.next)
+unit_sound made tokens_here type_here reads =
+    let unit_so = and_then (behind_text tokens_here) _ type_here reads in
+    let same : typed (made unit_so.0.called) unit_so.0.next ≡ type_here = some_one _ type_here unit_so.2 in (
+      unit_so.0.called,
+      subst (λ (any_type : TypeRead). tokens_here ≡ text unit_so.0.called ∷ any_type.next) same (text_sound tokens_here unit_so.0 unit_so.1),
+      subst (λ (any_type : TypeRead). any_type ≡ typed (made unit_so.0.called) any_type.next) same refl,
     )
 
-list_type_sound : (ts : List Tok) (k : TypeRead) → list_type_read ts ≡ Some k → IsTyped (mark M.List ∷ ts) k
-list_type_sound ts k e =
-    let m = and_then (behind_number ts) _ k e in
-    let o = and_then (behind M.Of m.0.next) (element m.0.value) k m.2 in
-    let n = number_sound ts m.0 m.1 in
-    let b = behind_sound M.Of m.0.next o.0 o.1 in
-    found (behind M.Numeric o.0) _ _ k o.2
+list_type_sound : (tokens_here : List Tok) (type_here : TypeRead) → list_type_read tokens_here ≡ Some type_here
+    → IsTyped (mark M.List ∷ tokens_here) type_here
+list_type_sound tokens_here type_here reads =
+    let room_so = and_then (behind_number tokens_here) _ type_here reads in
+    let of_so = and_then (behind M.Of room_so.0.next) (element room_so.0.value) type_here room_so.2 in
+    let room_sound = number_sound tokens_here room_so.0 room_so.1 in
+    let of_sound = behind_sound M.Of room_so.0.next of_so.0 of_so.1 in
+    found (behind M.Numeric of_so.0) _ _ type_here of_so.2
     (λ none go.
-    let p = and_then (behind M.Slot o.0) (in_unit (slot_list m.0.value)) k go in
-    let u = unit_sound (slot_list m.0.value) p.0 k p.2 in
-    subst (IsTyped (mark M.List ∷ ts)) (sym u.2) (ts, refl, (m.0.next, n, (o.0, b, (p.0, behind_sound M.Slot o.0 p.0 p.1, u.1)))))
-    (λ us is go.
-    let u = unit_sound (numeric_list m.0.value) us k go in
-    subst (IsTyped (mark M.List ∷ ts)) (sym u.2) (ts, refl, (m.0.next, n, (o.0, b, (us, behind_sound M.Numeric o.0 us is, u.1)))))
+    let slot_so = and_then (behind M.Slot of_so.0) (in_unit (slot_list room_so.0.value)) type_here go in
+    let unit_so = unit_sound (slot_list room_so.0.value) slot_so.0 type_here slot_so.2 in
+    subst (IsTyped (mark M.List ∷ tokens_here)) (sym unit_so.2) (
+      tokens_here,
+      refl,
+      (room_so.0.next, room_sound, (of_so.0, of_sound, (slot_so.0, behind_sound M.Slot of_so.0 slot_so.0 slot_so.1, unit_so.1))),
+    ))
+    (λ further stands go.
+    let unit_so = unit_sound (numeric_list room_so.0.value) further type_here go in
+    subst (IsTyped (mark M.List ∷ tokens_here)) (sym unit_so.2)
+    (tokens_here, refl, (room_so.0.next, room_sound, (of_so.0, of_sound, (further, behind_sound M.Numeric of_so.0 further stands, unit_so.1)))))
 
-type_by_sound : (m : Mark) (ts : List Tok) (k : TypeRead) → type_by m ts ≡ Some k → IsTyped (mark m ∷ ts) k
-type_by_sound M.Numeric ts k e = let u = unit_sound numeric ts k e in subst (IsTyped (mark M.Numeric ∷ ts)) (sym u.2) (ts, refl, u.1)
-type_by_sound M.Boolean ts k e = subst (IsTyped (mark M.Boolean ∷ ts)) (some_one (typed boolean ts) k e) refl
-type_by_sound M.Datetime ts k e = subst (IsTyped (mark M.Datetime ∷ ts)) (some_one (typed datetime ts) k e) refl
-type_by_sound M.Slot ts k e = let u = unit_sound slot_type ts k e in subst (IsTyped (mark M.Slot ∷ ts)) (sym u.2) (ts, refl, u.1)
-type_by_sound M.List ts k e = list_type_sound ts k e
-type_by_sound _ ts k e = absurd (cc e)
+type_by_sound : (a_mark : Mark) (tokens_here : List Tok) (type_here : TypeRead) → type_by a_mark tokens_here ≡ Some type_here
+    → IsTyped (mark a_mark ∷ tokens_here) type_here
+type_by_sound M.Numeric tokens_here type_here reads = let unit_so = unit_sound numeric tokens_here type_here reads in
+    subst (IsTyped (mark M.Numeric ∷ tokens_here)) (sym unit_so.2) (tokens_here, refl, unit_so.1)
+type_by_sound M.Boolean tokens_here type_here reads =
+    subst (IsTyped (mark M.Boolean ∷ tokens_here)) (some_one (typed boolean tokens_here) type_here reads) refl
+type_by_sound M.Datetime tokens_here type_here reads =
+    subst (IsTyped (mark M.Datetime ∷ tokens_here)) (some_one (typed datetime tokens_here) type_here reads) refl
+type_by_sound M.Slot tokens_here type_here reads = let unit_so = unit_sound slot_type tokens_here type_here reads in
+    subst (IsTyped (mark M.Slot ∷ tokens_here)) (sym unit_so.2) (tokens_here, refl, unit_so.1)
+type_by_sound M.List tokens_here type_here reads = list_type_sound tokens_here type_here reads
+type_by_sound _ tokens_here type_here reads = absurd (cc reads)
 
-type_sound : (ts : List Tok) (k : TypeRead) → read_type ts ≡ Some k → IsTyped ts k
-type_sound [] k e = absurd (cc e)
-type_sound (mark m ∷ ts) k e = type_by_sound m ts k e
-type_sound (word n ∷ ts) k e = absurd (cc e)
-type_sound (digits z ∷ ts) k e = absurd (cc e)
-type_sound (text s ∷ ts) k e = absurd (cc e)
+type_sound : (tokens_here : List Tok) (type_here : TypeRead) → read_type tokens_here ≡ Some type_here → IsTyped tokens_here type_here
+type_sound [] type_here reads = absurd (cc reads)
+type_sound (mark other_mark ∷ tokens_here) type_here reads = type_by_sound other_mark tokens_here type_here reads
+type_sound (word its_name ∷ tokens_here) type_here reads = absurd (cc reads)
+type_sound (digits its_number ∷ tokens_here) type_here reads = absurd (cc reads)
+type_sound (text its_text ∷ tokens_here) type_here reads = absurd (cc reads)
 
-type_reads : (k : TypeName) (ts rest : List Tok) → SpellsType k ts rest → read_type ts ≡ Some (typed k rest)
-type_reads (numeric u) ts rest h = rw (h.1, h.2) refl
-type_reads boolean ts rest h = rw h refl
-type_reads datetime ts rest h = rw h refl
-type_reads (slot_type u) ts rest h = rw (h.1, h.2) refl
-type_reads (numeric_list m u) ts rest h = rw (h.1, h.2.1, h.2.2.1, h.2.2.2.1, h.2.2.2.2) refl
-type_reads (slot_list m u) ts rest h = rw (h.1, h.2.1, h.2.2.1, h.2.2.2.1, h.2.2.2.2) refl
+type_reads : (type_name : TypeName) (tokens_here rest : List Tok) → SpellsType type_name tokens_here rest
+    → read_type tokens_here ≡ Some (typed type_name rest)
+type_reads (numeric unit) tokens_here rest spells_type = rw (spells_type.1, spells_type.2) refl
+type_reads boolean tokens_here rest spells_type = rw spells_type refl
+type_reads datetime tokens_here rest spells_type = rw spells_type refl
+type_reads (slot_type unit) tokens_here rest spells_type = rw (spells_type.1, spells_type.2) refl
+type_reads (numeric_list room unit) tokens_here rest spells_type =
+    rw (spells_type.1, spells_type.2.1, spells_type.2.2.1, spells_type.2.2.2.1, spells_type.2.2.2.2) refl
+type_reads (slot_list room unit) tokens_here rest spells_type =
+    rw (spells_type.1, spells_type.2.1, spells_type.2.2.1, spells_type.2.2.2.1, spells_type.2.2.2.2) refl
 
-pub type_shrinks : (k : TypeName) → Shrinks (SpellsType k)
-type_shrinks (numeric u) = mark_then (mark M.Numeric) _ (one_shrinks (text u))
+pub type_shrinks : (type_name : TypeName) → Shrinks (SpellsType type_name)
+type_shrinks (numeric unit) = mark_then (mark M.Numeric) _ (one_shrinks (text unit))
 type_shrinks boolean = one_shrinks (mark M.Boolean)
 type_shrinks datetime = one_shrinks (mark M.Datetime)
-type_shrinks (slot_type u) = mark_then (mark M.Slot) _ (one_shrinks (text u))
-type_shrinks (numeric_list m u) =
-    mark_then (mark M.List) _ (mark_then (digits m) _ (mark_then (mark M.Of) _ (mark_then (mark M.Numeric) _ (one_shrinks (text u)))))
-type_shrinks (slot_list m u) =
-    mark_then (mark M.List) _ (mark_then (digits m) _ (mark_then (mark M.Of) _ (mark_then (mark M.Slot) _ (one_shrinks (text u)))))
+type_shrinks (slot_type unit) = mark_then (mark M.Slot) _ (one_shrinks (text unit))
+type_shrinks (numeric_list room unit) =
+    mark_then (mark M.List) _ (mark_then (digits room) _ (mark_then (mark M.Of) _ (mark_then (mark M.Numeric) _ (one_shrinks (text unit)))))
+type_shrinks (slot_list room unit) =
+    mark_then (mark M.List) _ (mark_then (digits room) _ (mark_then (mark M.Of) _ (mark_then (mark M.Slot) _ (one_shrinks (text unit)))))
 
 -- no type begins with a bracket
-type_first : (k : TypeName) (ts rest : List Tok) → SpellsType k ts rest → behind M.RightParen ts ≡ None
-type_first (numeric u) ts rest h = not_here M.RightParen M.Numeric ts h.0 refl h.1
-type_first boolean ts rest h = not_here M.RightParen M.Boolean ts rest refl h
-type_first datetime ts rest h = not_here M.RightParen M.Datetime ts rest refl h
-type_first (slot_type u) ts rest h = not_here M.RightParen M.Slot ts h.0 refl h.1
-type_first (numeric_list m u) ts rest h = not_here M.RightParen M.List ts h.0 refl h.1
-type_first (slot_list m u) ts rest h = not_here M.RightParen M.List ts h.0 refl h.1
+type_first : (type_name : TypeName) (tokens_here rest : List Tok) → SpellsType type_name tokens_here rest → behind M.RightParen tokens_here ≡ None
+type_first (numeric unit) tokens_here rest spells_type = not_here M.RightParen M.Numeric tokens_here spells_type.0 refl spells_type.1
+type_first boolean tokens_here rest spells_type = not_here M.RightParen M.Boolean tokens_here rest refl spells_type
+type_first datetime tokens_here rest spells_type = not_here M.RightParen M.Datetime tokens_here rest refl spells_type
+type_first (slot_type unit) tokens_here rest spells_type = not_here M.RightParen M.Slot tokens_here spells_type.0 refl spells_type.1
+type_first (numeric_list room unit) tokens_here rest spells_type = not_here M.RightParen M.List tokens_here spells_type.0 refl spells_type.1
+type_first (slot_list room unit) tokens_here rest spells_type = not_here M.RightParen M.List tokens_here spells_type.0 refl spells_type.1
 
 -- Parameters.
 
 abbrev IsGiven : List Tok → Given → Type 0
-IsGiven ts p = SpellsParameter p.it ts p.next
+IsGiven tokens_here given_here = SpellsParameter given_here.it tokens_here given_here.next
 
-parameter_sound : (ts : List Tok) (p : Given) → read_parameter ts ≡ Some p → IsGiven ts p
-parameter_sound ts p e =
-    let k = and_then (read_type ts) _ p e in
-    let x = and_then (behind_name k.0.next) _ p k.2 in
-    subst (IsGiven ts) (some_one (parameter_read k.0.of_type x.0.called x.0.next) p x.2)
-    (k.0.next, type_sound ts k.0 k.1, name_sound k.0.next x.0 x.1)
+parameter_sound : (tokens_here : List Tok) (given_here : Given) → read_parameter tokens_here ≡ Some given_here → IsGiven tokens_here given_here
+parameter_sound tokens_here given_here reads =
+    let type_so = and_then (read_type tokens_here) _ given_here reads in
+    let name_so = and_then (behind_name type_so.0.next) _ given_here type_so.2 in
+    subst (IsGiven tokens_here) (some_one (parameter_read type_so.0.of_type name_so.0.called name_so.0.next) given_here name_so.2)
+    (type_so.0.next, type_sound tokens_here type_so.0 type_so.1, name_sound type_so.0.next name_so.0 name_so.1)
 
-parameter_reads : (p : Parameter) (ts rest : List Tok) → SpellsParameter p ts rest → read_parameter ts ≡ Some (record { it = p; next = rest })
-parameter_reads p ts rest h = rw (type_reads p.of_type ts h.0 h.1, name_here p.name h.0 rest h.2) refl
+parameter_reads : (parameter : Parameter) (tokens_here rest : List Tok) → SpellsParameter parameter tokens_here rest
+    → read_parameter tokens_here ≡ Some (record { it = parameter; next = rest })
+parameter_reads parameter tokens_here rest spells_parameter =
+    rw (
+      type_reads parameter.of_type tokens_here spells_parameter.0 spells_parameter.1,
+      name_here parameter.name spells_parameter.0 rest spells_parameter.2,
+    ) refl
 
-parameter_shrinks : (p : Parameter) → Shrinks (SpellsParameter p)
-parameter_shrinks p = shrinks_then (SpellsType p.of_type) _ (type_shrinks p.of_type) (one_shrinks (word p.name))
+parameter_shrinks : (parameter : Parameter) → Shrinks (SpellsParameter parameter)
+parameter_shrinks parameter = shrinks_then (SpellsType parameter.of_type) _ (type_shrinks parameter.of_type) (one_shrinks (word parameter.name))
 
-more_shrink : (ps : List Parameter) → Shrinks (SpellsMoreParameters ps)
-more_shrink [] = λ ts rest e. let f : length ts ≡ length rest = ap length e in omega arith
-more_shrink (p ∷ ps) = mark_then (mark M.Comma) _ (shrinks_then (SpellsParameter p) _ (parameter_shrinks p) (more_shrink ps))
+more_shrink : (taken : List Parameter) → Shrinks (SpellsMoreParameters taken)
+more_shrink [] = λ tokens_here rest tokens_are. let counted : length tokens_here ≡ length rest = ap length tokens_are in omega arith
+more_shrink (parameter ∷ taken) =
+    mark_then (mark M.Comma) _ (shrinks_then (SpellsParameter parameter) _ (parameter_shrinks parameter) (more_shrink taken))
 
-pub parameters_shrink : (ps : List Parameter) → Shrinks (SpellsParameters ps)
-parameters_shrink [] = λ ts rest e. let f : length ts ≡ length rest = ap length e in omega arith
-parameters_shrink (p ∷ ps) = shrinks_then (SpellsParameter p) _ (parameter_shrinks p) (more_shrink ps)
+pub parameters_shrink : (taken : List Parameter) → Shrinks (SpellsParameters taken)
+parameters_shrink [] = λ tokens_here rest tokens_are. let counted : length tokens_here ≡ length rest = ap length tokens_are in omega arith
+parameters_shrink (parameter ∷ taken) = shrinks_then (SpellsParameter parameter) _ (parameter_shrinks parameter) (more_shrink taken)
 
-record IsTaken (a b : ParametersRead) : Type 0 where
+record IsTaken (so_far all_parameters : ParametersRead) : Type 0 where
   others : List Parameter
-  params : b.params ≡ a.params ++ others
-  spells : SpellsMoreParameters others a.left b.left
+  params : all_parameters.params ≡ so_far.params ++ others
+  spells : SpellsMoreParameters others so_far.left all_parameters.left
 
-more_sound : (n : ℕ) (a b : ParametersRead) → more_parameters n a ≡ Some b → IsTaken a b
+more_sound : (turns : ℕ) (so_far all_parameters : ParametersRead) → more_parameters turns so_far ≡ Some all_parameters → IsTaken so_far all_parameters
 unfolding more_parameters
-more_sound zero a b e = subst (IsTaken a) (some_one a b e) (record { others = []; params = sym (append-nil a.params); spells = refl })
-more_sound (suc n) a b e = found (behind M.Comma a.left) (Some a) _ b e
-    (λ none same. subst (IsTaken a) (some_one a b same) (record { others = []; params = sym (append-nil a.params); spells = refl }))
-    (λ us is go.
-    let p = and_then (read_parameter us) _ b go in
-    let h = parameter_sound us p.0 p.1 in
-    let r = more_sound n (params_read (a.params ++ p.0.it ∷ []) p.0.next) b p.2 in
+more_sound zero so_far all_parameters reads =
+    subst (IsTaken so_far) (some_one so_far all_parameters reads) (record { others = []; params = sym (append-nil so_far.params); spells = refl })
+more_sound (suc turns) so_far all_parameters reads = found (behind M.Comma so_far.left) (Some so_far) _ all_parameters reads
+    (λ none same.
+    subst (IsTaken so_far) (some_one so_far all_parameters same) (record { others = []; params = sym (append-nil so_far.params); spells = refl }))
+    (λ further stands go.
+    let first_so = and_then (read_parameter further) _ all_parameters go in
+    let first_sound = parameter_sound further first_so.0 first_so.1 in
+    let others_so = more_sound turns (params_read (so_far.params ++ first_so.0.it ∷ []) first_so.0.next) all_parameters first_so.2 in
     record {
-      others = p.0.it ∷ r.others;
-      params = r.params ∙ append_assoc a.params (p.0.it ∷ []) r.others;
-      spells = (us, behind_sound M.Comma a.left us is, (p.0.next, h, r.spells));
+      others = first_so.0.it ∷ others_so.others;
+      params = others_so.params ∙ append_assoc so_far.params (first_so.0.it ∷ []) others_so.others;
+      spells = (further, behind_sound M.Comma so_far.left further stands, (first_so.0.next, first_sound, others_so.spells));
     })
 
-count_within : (ps : List Parameter) (ts rest : List Tok) → SpellsMoreParameters ps ts rest → length ps ≤ length ts
-count_within [] ts rest h = omega arith
-count_within (p ∷ ps) ts rest h =
-    let f : length ts ≡ suc (length h.0) = ap length h.1 in
-    let a = parameter_shrinks p h.0 h.2.0 h.2.1 in
-    let b = count_within ps h.2.0 rest h.2.2 in
+count_within : (taken : List Parameter) (tokens_here rest : List Tok) → SpellsMoreParameters taken tokens_here rest
+    → length taken ≤ length tokens_here
+count_within [] tokens_here rest spells_more_parameters = omega arith
+count_within (parameter ∷ taken) tokens_here rest spells_more_parameters =
+    let counted : length tokens_here ≡ suc (length spells_more_parameters.0) = ap length spells_more_parameters.1 in
+    let first_shorter = parameter_shrinks parameter spells_more_parameters.0 spells_more_parameters.2.0 spells_more_parameters.2.1 in
+    let others_fit = count_within taken spells_more_parameters.2.0 rest spells_more_parameters.2.2 in
     omega arith
 
-more_reads : (ps : List Parameter) (n : ℕ) (a : ParametersRead) (mid rest : List Tok) → SpellsMoreParameters ps a.left mid
-    → mid ≡ mark M.RightParen ∷ rest → length ps ≤ n → more_parameters n a ≡ Some (params_read (a.params ++ ps) mid)
-more_reads [] n a mid rest h e le = more_stops n a (not_here M.Comma M.RightParen a.left rest refl (h ∙ e)) ∙ rw (append-nil a.params, ← h) refl
-more_reads (p ∷ ps) zero a mid rest h e le = absurd (omega arith)
-more_reads (p ∷ ps) (suc n) a mid rest h e le =
-    more_turn n a h.0 (record { it = p; next = h.2.0 }) (behind_here M.Comma a.left h.0 h.1) (parameter_reads p h.0 h.2.0 h.2.1)
-    ∙ more_reads ps n (params_read (a.params ++ p ∷ []) h.2.0) mid rest h.2.2 e (omega arith)
-    ∙ ap (λ l. Some (params_read l mid)) (append_assoc a.params (p ∷ []) ps)
+more_reads : (taken : List Parameter) (turns : ℕ) (so_far : ParametersRead) (middle rest : List Tok) → SpellsMoreParameters taken so_far.left middle
+    → middle ≡ mark M.RightParen ∷ rest → length taken ≤ turns → more_parameters turns so_far ≡ Some (params_read (so_far.params ++ taken) middle)
+more_reads [] turns so_far middle rest spells_more_parameters closes no_more =
+    more_stops turns so_far (not_here M.Comma M.RightParen so_far.left rest refl (spells_more_parameters ∙ closes))
+    ∙ rw (append-nil so_far.params, ← spells_more_parameters) refl
+more_reads (parameter ∷ taken) zero so_far middle rest spells_more_parameters closes no_more = absurd (omega arith)
+more_reads (parameter ∷ taken) (suc turns) so_far middle rest spells_more_parameters closes no_more =
+    more_turn turns so_far spells_more_parameters.0 (record { it = parameter; next = spells_more_parameters.2.0 })
+    (behind_here M.Comma so_far.left spells_more_parameters.0 spells_more_parameters.1)
+    (parameter_reads parameter spells_more_parameters.0 spells_more_parameters.2.0 spells_more_parameters.2.1)
+    ∙ more_reads taken turns (params_read (so_far.params ++ parameter ∷ []) spells_more_parameters.2.0) middle rest spells_more_parameters.2.2 closes
+    (omega arith)
+    ∙ ap (λ l. Some (params_read l middle)) (append_assoc so_far.params (parameter ∷ []) taken)
 
 abbrev IsTakes : List Tok → ParametersRead → Type 0
-IsTakes ts a = (SpellsParameters a.params ⨾ sign M.RightParen) ts a.left
+IsTakes tokens_here so_far = (SpellsParameters so_far.params ⨾ sign M.RightParen) tokens_here so_far.left
 
-closed_sound : (a b : ParametersRead) → closed_parameters a ≡ Some b → (a.left ≡ mark M.RightParen ∷ b.left) × (b ≡ params_read a.params b.left)
-closed_sound a b e =
-    let t = and_then (behind M.RightParen a.left) _ b e in
-    subst (λ (y : ParametersRead). (a.left ≡ mark M.RightParen ∷ y.left) × (y ≡ params_read a.params y.left))
-    (some_one (params_read a.params t.0) b t.2) (behind_sound M.RightParen a.left t.0 t.1, refl)
+closed_sound : (so_far all_parameters : ParametersRead) → closed_parameters so_far ≡ Some all_parameters
+    → (so_far.left ≡ mark M.RightParen ∷ all_parameters.left) × (all_parameters ≡ params_read so_far.params all_parameters.left)
+closed_sound so_far all_parameters reads =
+    let closed_so = and_then (behind M.RightParen so_far.left) _ all_parameters reads in
+    subst (λ (any_parameters : ParametersRead). (so_far.left ≡ mark M.RightParen ∷ any_parameters.left)
+    × (any_parameters ≡ params_read so_far.params any_parameters.left))
+    (some_one (params_read so_far.params closed_so.0) all_parameters closed_so.2)
+    (behind_sound M.RightParen so_far.left closed_so.0 closed_so.1, refl)
 
-parameters_sound : (ts : List Tok) (b : ParametersRead) → parameters ts ≡ Some b → IsTakes ts b
-parameters_sound ts b e = found (behind M.RightParen ts) _ _ b e
+parameters_sound : (tokens_here : List Tok) (all_parameters : ParametersRead) → parameters tokens_here ≡ Some all_parameters
+    → IsTakes tokens_here all_parameters
+parameters_sound tokens_here all_parameters reads = found (behind M.RightParen tokens_here) _ _ all_parameters reads
     (λ none go.
-    let a = and_then (some_parameters ts) closed_parameters b go in
-    let p = and_then (read_parameter ts) _ a.0 a.1 in
-    let h = parameter_sound ts p.0 p.1 in
-    let m = more_sound (length p.0.next) (params_read (p.0.it ∷ []) p.0.next) a.0 p.2 in
-    let c = closed_sound a.0 b a.2 in
-    subst (IsTakes ts) (sym c.1)
-    (subst (λ l. (SpellsParameters l ⨾ sign M.RightParen) ts b.left) (sym m.params) (a.0.left, (p.0.next, h, m.spells), c.0)))
-    (λ us is go. subst (IsTakes ts) (some_one (params_read [] us) b go) (ts, refl, behind_sound M.RightParen ts us is))
+    let closed_so = and_then (some_parameters tokens_here) closed_parameters all_parameters go in
+    let first_so = and_then (read_parameter tokens_here) _ closed_so.0 closed_so.1 in
+    let first_sound = parameter_sound tokens_here first_so.0 first_so.1 in
+    let more_so = more_sound (length first_so.0.next) (params_read (first_so.0.it ∷ []) first_so.0.next) closed_so.0 first_so.2 in
+    let close_sound = closed_sound closed_so.0 all_parameters closed_so.2 in
+    subst (IsTakes tokens_here) (sym close_sound.1)
+    (subst (λ l. (SpellsParameters l ⨾ sign M.RightParen) tokens_here all_parameters.left) (sym more_so.params)
+    (closed_so.0.left, (first_so.0.next, first_sound, more_so.spells), close_sound.0)))
+    (λ further stands go.
+    subst (IsTakes tokens_here) (some_one (params_read [] further) all_parameters go)
+    (tokens_here, refl, behind_sound M.RightParen tokens_here further stands))
 
-parameters_read : (ps : List Parameter) (ts mid rest : List Tok) → SpellsParameters ps ts mid → mid ≡ mark M.RightParen ∷ rest
-    → parameters ts ≡ Some (params_read ps rest)
-parameters_read [] ts mid rest h e = rw (h ∙ e) refl
-parameters_read (p ∷ ps) ts mid rest h e =
-    let none : behind M.RightParen ts ≡ None = type_first p.of_type ts h.1.0 h.1.1 in
+parameters_read : (taken : List Parameter) (tokens_here middle rest : List Tok) → SpellsParameters taken tokens_here middle
+    → middle ≡ mark M.RightParen ∷ rest
+    → parameters tokens_here ≡ Some (params_read taken rest)
+parameters_read [] tokens_here middle rest spells_parameters closes = rw (spells_parameters ∙ closes) refl
+parameters_read (parameter ∷ taken) tokens_here middle rest spells_parameters closes =
+    let none : behind M.RightParen tokens_here ≡ None = type_first parameter.of_type tokens_here spells_parameters.1.0 spells_parameters.1.1 in
     rw (
       none,
-      parameter_reads p ts h.0 h.1,
-      more_reads ps (length h.0) (params_read (p ∷ []) h.0) mid rest h.2 e (count_within ps h.0 mid h.2),
-      behind_here M.RightParen mid rest e,
+      parameter_reads parameter tokens_here spells_parameters.0 spells_parameters.1,
+      more_reads taken (length spells_parameters.0) (params_read (parameter ∷ []) spells_parameters.0) middle rest spells_parameters.2 closes
+          (count_within taken spells_parameters.0 middle spells_parameters.2),
+      behind_here M.RightParen middle rest closes,
     ) refl
 
 -- Declarations.
 
-all_one : (ts : List Tok) (d q : Declared) → if_all ts d ≡ Some q → (ts ≡ []) × (d ≡ q)
-all_one [] d q e = (refl, some_one d q e)
-all_one (t ∷ ts) d q e = absurd (cc e)
+all_one : (more_tokens : List Tok) (declaration other_declaration : Declared) → if_all more_tokens declaration ≡ Some other_declaration
+    → (more_tokens ≡ []) × (declaration ≡ other_declaration)
+all_one [] declaration other_declaration reads = (refl, some_one declaration other_declaration reads)
+all_one (a_token ∷ more_tokens) declaration other_declaration reads = absurd (cc reads)
 
-rule_sound : (ts us : List Tok) (d : Declared) → ts ≡ mark M.Rule ∷ us → rule_behind us ≡ Some d → IsDeclaration ts d
-rule_sound ts us d front e =
-    let t = and_then (behind_text us) _ d e in
-    let b = and_then (behind M.Colon t.0.next >>= read_acts 100) _ d t.2 in
-    let u = and_then (behind M.Colon t.0.next) (read_acts 100) b.0 b.1 in
-    let v = and_then (behind M.EndRule b.0.left) _ d b.2 in
-    let w = all_one v.0 _ d v.2 in
-    let h = acts_sound 100 u.0 b.0 u.2 in
-    let all : b.0.acts ≡ h.more = h.acts in
-    let most : acts_depth (acts_of b.0.acts) ≤ 100 =
-    subst (λ l. acts_depth (acts_of l) ≤ 100) (sym all) (let x = h.most in let y = h.within (omega arith) in omega arith) in
-    subst (IsDeclaration ts) w.1 (
+rule_sound : (tokens_here further : List Tok) (declaration : Declared) → tokens_here ≡ mark M.Rule ∷ further → rule_behind further ≡ Some declaration
+    → IsDeclaration tokens_here declaration
+rule_sound tokens_here further declaration front reads =
+    let text_so = and_then (behind_text further) _ declaration reads in
+    let body_so = and_then (behind M.Colon text_so.0.next >>= read_acts 100) _ declaration text_so.2 in
+    let colon_so = and_then (behind M.Colon text_so.0.next) (read_acts 100) body_so.0 body_so.1 in
+    let end_so = and_then (behind M.EndRule body_so.0.left) _ declaration body_so.2 in
+    let ends_so = all_one end_so.0 _ declaration end_so.2 in
+    let body_sound = acts_sound 100 colon_so.0 body_so.0 colon_so.2 in
+    let all : body_so.0.acts ≡ body_sound.more = body_sound.acts in
+    let most : acts_depth (acts_of body_so.0.acts) ≤ 100 =
+    subst (λ l. acts_depth (acts_of l) ≤ 100) (sym all)
+    (let most_there = body_sound.most in let within_there = body_sound.within (omega arith) in omega arith) in
+    subst (IsDeclaration tokens_here) ends_so.1 (
       (
-        us,
+        further,
         front,
         (
-          t.0.next,
-          text_sound us t.0 t.1,
+          text_so.0.next,
+          text_sound further text_so.0 text_so.1,
           (
-            u.0,
-            behind_sound M.Colon t.0.next u.0 u.1,
+            colon_so.0,
+            behind_sound M.Colon text_so.0.next colon_so.0 colon_so.1,
             (
-              b.0.left,
-              subst (λ l. SpellsActs (acts_of l) u.0 b.0.left) (sym all) h.spells,
-              behind_sound M.EndRule b.0.left v.0 v.1 ∙ ap (λ l. mark M.EndRule ∷ l) w.0,
+              body_so.0.left,
+              subst (λ l. SpellsActs (acts_of l) colon_so.0 body_so.0.left) (sym all) body_sound.spells,
+              behind_sound M.EndRule body_so.0.left end_so.0 end_so.1 ∙ ap (λ l. mark M.EndRule ∷ l) ends_so.0,
             ),
           ),
         ),
@@ -238,109 +282,143 @@ rule_sound ts us d front e =
       most,
     )
 
-rule_complete : (called : List ℕ) (body : Acts) (us : List Tok) → acts_depth body ≤ 100
-    → (token (text called) ⨾ sign M.Colon ⨾ SpellsActs body ⨾ sign M.EndRule) us [] → rule_behind us ≡ Some (rule called body)
+rule_complete : (called : List ℕ) (body : Acts) (further : List Tok) → acts_depth body ≤ 100
+    → (token (text called) ⨾ sign M.Colon ⨾ SpellsActs body ⨾ sign M.EndRule) further [] → rule_behind further ≡ Some (rule called body)
 unfolding ActsRead
-rule_complete called body us le h =
-    let k = h.2.2 in
+rule_complete called body further shallow spells =
+    let behind_colon = spells.2.2 in
     rw (
-      text_here called us h.0 h.1,
-      behind_here M.Colon h.0 h.2.0 h.2.1,
-      acts_complete 100 body h.2.0 k.0 le k.1 (mark_ends M.EndRule k.0 [] refl refl (λ ts. refl) k.2),
-      behind_here M.EndRule k.0 [] k.2,
+      text_here called further spells.0 spells.1,
+      behind_here M.Colon spells.0 spells.2.0 spells.2.1,
+      acts_complete 100 body spells.2.0 behind_colon.0 shallow behind_colon.1
+          (mark_ends M.EndRule behind_colon.0 [] refl refl (λ tokens_here. refl) behind_colon.2),
+      behind_here M.EndRule behind_colon.0 [] behind_colon.2,
       acts_back body,
     ) refl
 
-body_sound : (x : List ℕ) (ps : List Parameter) (ts : List Tok) (d : Declared) → body_behind x ps ts ≡ Some d
-    → (k : TypeName) × (b : Tree) × (d ≡ function x ps k b) × (depth b ≤ 100)
-    × (sign M.Colon ⨾ SpellsType k ⨾ sign M.Is ⨾ Spells b ⨾ sign M.EndFunction) ts []
-body_sound x ps ts d e =
-    let k = and_then (behind M.Colon ts >>= read_type) _ d e in
-    let c = and_then (behind M.Colon ts) read_type k.0 k.1 in
-    let b = and_then (behind M.Is k.0.next >>= read_tree 100 7 >>= closed_by_mark M.EndFunction) _ d k.2 in
-    let g = and_then (behind M.Is k.0.next >>= read_tree 100 7) (closed_by_mark M.EndFunction) b.0 b.1 in
-    let i = and_then (behind M.Is k.0.next) (read_tree 100 7) g.0 g.1 in
-    let v = and_then (behind M.EndFunction g.0.rest) _ b.0 g.2 in
-    let w = all_one b.0.rest _ d b.2 in
-    let h = sound 100 7 i.0 g.0 i.2 in
-    let same : got g.0.tree g.0.deep v.0 ≡ b.0 = some_one _ b.0 v.2 in
-    let none : v.0 ≡ [] = ap (λ (y : Got). y.rest) same ∙ w.0 in
-    let one : g.0.tree ≡ b.0.tree = ap (λ (y : Got). y.tree) same in (
-      k.0.of_type,
-      g.0.tree,
-      sym w.1 ∙ ap (function x ps k.0.of_type) (sym one),
-      (let z = h.within in let y = h.deep in omega arith),
+body_sound : (called_so : List ℕ) (taken : List Parameter) (tokens_here : List Tok) (declaration : Declared)
+    → body_behind called_so taken tokens_here ≡ Some declaration
+    → (type_name : TypeName) × (body : Tree) × (declaration ≡ function called_so taken type_name body) × (depth body ≤ 100)
+    × (sign M.Colon ⨾ SpellsType type_name ⨾ sign M.Is ⨾ Spells body ⨾ sign M.EndFunction) tokens_here []
+body_sound called_so taken tokens_here declaration reads =
+    let type_so = and_then (behind M.Colon tokens_here >>= read_type) _ declaration reads in
+    let colon_so = and_then (behind M.Colon tokens_here) read_type type_so.0 type_so.1 in
+    let body_so = and_then (behind M.Is type_so.0.next >>= read_tree 100 7 >>= closed_by_mark M.EndFunction) _ declaration type_so.2 in
+    let value_so = and_then (behind M.Is type_so.0.next >>= read_tree 100 7) (closed_by_mark M.EndFunction) body_so.0 body_so.1 in
+    let is_so = and_then (behind M.Is type_so.0.next) (read_tree 100 7) value_so.0 value_so.1 in
+    let end_so = and_then (behind M.EndFunction value_so.0.rest) _ body_so.0 value_so.2 in
+    let ends_so = all_one body_so.0.rest _ declaration body_so.2 in
+    let value_sound = sound 100 7 is_so.0 value_so.0 is_so.2 in
+    let same : got value_so.0.tree value_so.0.deep end_so.0 ≡ body_so.0 = some_one _ body_so.0 end_so.2 in
+    let none : end_so.0 ≡ [] = ap (λ (deep_there : Got). deep_there.rest) same ∙ ends_so.0 in
+    let one : value_so.0.tree ≡ body_so.0.tree = ap (λ (deep_there : Got). deep_there.tree) same in (
+      type_so.0.of_type,
+      value_so.0.tree,
+      sym ends_so.1 ∙ ap (function called_so taken type_so.0.of_type) (sym one),
+      (let within_there = value_sound.within in let deep_there = value_sound.deep in omega arith),
       (
-        c.0,
-        behind_sound M.Colon ts c.0 c.1,
+        colon_so.0,
+        behind_sound M.Colon tokens_here colon_so.0 colon_so.1,
         (
-          k.0.next,
-          type_sound c.0 k.0 c.2,
+          type_so.0.next,
+          type_sound colon_so.0 type_so.0 colon_so.2,
           (
-            i.0,
-            behind_sound M.Is k.0.next i.0 i.1,
-            (g.0.rest, h.spells, behind_sound M.EndFunction g.0.rest v.0 v.1 ∙ ap (λ l. mark M.EndFunction ∷ l) none),
+            is_so.0,
+            behind_sound M.Is type_so.0.next is_so.0 is_so.1,
+            (
+              value_so.0.rest,
+              value_sound.spells,
+              behind_sound M.EndFunction value_so.0.rest end_so.0 end_so.1
+                  ∙ ap (λ l. mark M.EndFunction ∷ l) none,
+            ),
           ),
         ),
       ),
     )
 
-function_sound : (ts us : List Tok) (d : Declared) → ts ≡ mark M.Function ∷ us → function_behind us ≡ Some d → IsDeclaration ts d
-function_sound ts us d front e =
-    let x = and_then (behind_name us) _ d e in
-    let a = and_then (behind M.LeftParen x.0.next >>= parameters) _ d x.2 in
-    let l = and_then (behind M.LeftParen x.0.next) parameters a.0 a.1 in
-    let h = parameters_sound l.0 a.0 l.2 in
-    let b = body_sound x.0.called a.0.params a.0.left d a.2 in
-    subst (IsDeclaration ts) (sym b.2)
-    ((us, front, (x.0.next, name_sound us x.0 x.1, (l.0, behind_sound M.LeftParen x.0.next l.0 l.1, (h.0, h.1, (a.0.left, h.2, b.4))))), b.3)
+function_sound : (tokens_here further : List Tok) (declaration : Declared) → tokens_here ≡ mark M.Function ∷ further
+    → function_behind further ≡ Some declaration → IsDeclaration tokens_here declaration
+function_sound tokens_here further declaration front reads =
+    let name_so = and_then (behind_name further) _ declaration reads in
+    let parameters_so = and_then (behind M.LeftParen name_so.0.next >>= parameters) _ declaration name_so.2 in
+    let paren_so = and_then (behind M.LeftParen name_so.0.next) parameters parameters_so.0 parameters_so.1 in
+    let parameters_sound_so = parameters_sound paren_so.0 parameters_so.0 paren_so.2 in
+    let body_so = body_sound name_so.0.called parameters_so.0.params parameters_so.0.left declaration parameters_so.2 in
+    subst (IsDeclaration tokens_here) (sym body_so.2) (
+      (
+        further,
+        front,
+        (
+          name_so.0.next,
+          name_sound further name_so.0 name_so.1,
+          (
+            paren_so.0,
+            behind_sound M.LeftParen name_so.0.next paren_so.0 paren_so.1,
+            (parameters_sound_so.0, parameters_sound_so.1, (parameters_so.0.left, parameters_sound_so.2, body_so.4)),
+          ),
+        ),
+      ),
+      body_so.3,
+    )
 
 ends_function : Closes M.EndFunction
 ends_function = record { paren = refl; bracket = refl; dot = refl; no_operator = refl }
 
-function_complete : (x : List ℕ) (ps : List Parameter) (k : TypeName) (b : Tree) (us : List Tok) → depth b ≤ 100
-    → (token (word x) ⨾ sign M.LeftParen ⨾ SpellsParameters ps ⨾ sign M.RightParen ⨾ sign M.Colon ⨾ SpellsType k ⨾ sign M.Is ⨾ Spells b ⨾ sign
-    M.EndFunction) us []
-    → function_behind us ≡ Some (function x ps k b)
-function_complete x ps k b us le h =
-    let p = h.2.2 in
-    let q = p.2.2 in
-    let r = q.2.2 in
+function_complete : (called_so : List ℕ) (taken : List Parameter) (type_name : TypeName) (body : Tree) (further : List Tok) → depth body ≤ 100
+    → (token (word called_so) ⨾ sign M.LeftParen ⨾ SpellsParameters taken ⨾ sign M.RightParen ⨾ sign M.Colon ⨾ SpellsType type_name ⨾ sign M.Is
+    ⨾ Spells body ⨾ sign M.EndFunction) further []
+    → function_behind further ≡ Some (function called_so taken type_name body)
+function_complete called_so taken type_name body further shallow spells =
+    let parameters_part = spells.2.2 in
+    let type_part = parameters_part.2.2 in
+    let body_part = type_part.2.2 in
     rw (
-      name_here x us h.0 h.1,
-      behind_here M.LeftParen h.0 h.2.0 h.2.1,
-      parameters_read ps h.2.0 p.0 p.2.0 p.1 p.2.1,
-      behind_here M.Colon p.2.0 q.0 q.1,
-      type_reads k q.0 q.2.0 q.2.1,
-      behind_here M.Is q.2.0 r.0 r.1,
-      value_reads 100 M.EndFunction b r.0 r.2.0 [] le r.2.1 r.2.2 ends_function,
+      name_here called_so further spells.0 spells.1,
+      behind_here M.LeftParen spells.0 spells.2.0 spells.2.1,
+      parameters_read taken spells.2.0 parameters_part.0 parameters_part.2.0 parameters_part.1 parameters_part.2.1,
+      behind_here M.Colon parameters_part.2.0 type_part.0 type_part.1,
+      type_reads type_name type_part.0 type_part.2.0 type_part.2.1,
+      behind_here M.Is type_part.2.0 body_part.0 body_part.1,
+      value_reads 100 M.EndFunction body body_part.0 body_part.2.0 [] shallow body_part.2.1 body_part.2.2 ends_function,
     ) refl
 
 -- what is read is a declaration
-pub declared_sound : (ts : List Tok) (d : Declared) → read_declared ts ≡ Some d → IsDeclaration ts d
-declared_sound ts d e = found (behind M.Rule ts) _ _ d e
+pub declared_sound : (tokens_here : List Tok) (declaration : Declared) → read_declared tokens_here ≡ Some declaration
+    → IsDeclaration tokens_here declaration
+declared_sound tokens_here declaration reads = found (behind M.Rule tokens_here) _ _ declaration reads
     (λ none go.
-    let p = and_then (behind M.Function ts) function_behind d go in
-    function_sound ts p.0 d (behind_sound M.Function ts p.0 p.1) p.2)
-    (λ us is go. rule_sound ts us d (behind_sound M.Rule ts us is) go)
+    let function_so = and_then (behind M.Function tokens_here) function_behind declaration go in
+    function_sound tokens_here function_so.0 declaration (behind_sound M.Function tokens_here function_so.0 function_so.1) function_so.2)
+    (λ further stands go. rule_sound tokens_here further declaration (behind_sound M.Rule tokens_here further stands) go)
 
 -- a declaration is read
-pub declared_complete : (ts : List Tok) (d : Declared) → IsDeclaration ts d → read_declared ts ≡ Some d
-declared_complete ts (rule called body) h = rw (behind_here M.Rule ts h.0.0 h.0.1) (rule_complete called body h.0.0 h.1 h.0.2)
-declared_complete ts (function x ps k b) h =
-    let none : behind M.Rule ts ≡ None = not_here M.Rule M.Function ts h.0.0 refl h.0.1 in
-    rw (none, behind_here M.Function ts h.0.0 h.0.1) (function_complete x ps k b h.0.0 h.1 h.0.2)
+pub declared_complete : (tokens_here : List Tok) (declaration : Declared) → IsDeclaration tokens_here declaration
+    → read_declared tokens_here ≡ Some declaration
+declared_complete tokens_here (rule called_so body) is_declaration =
+    rw (behind_here M.Rule tokens_here is_declaration.0.0 is_declaration.0.1)
+    (rule_complete called_so body is_declaration.0.0 is_declaration.1 is_declaration.0.2)
+declared_complete tokens_here (function called_so taken type_name body) is_declaration =
+    let none : behind M.Rule tokens_here ≡ None = not_here M.Rule M.Function tokens_here is_declaration.0.0 refl is_declaration.0.1 in
+    rw (none, behind_here M.Function tokens_here is_declaration.0.0 is_declaration.0.1)
+    (function_complete called_so taken type_name body is_declaration.0.0 is_declaration.1 is_declaration.0.2)
 
-pub one_declaration : (ts : List Tok) (d q : Declared) → IsDeclaration ts d → IsDeclaration ts q → d ≡ q
-one_declaration ts d q a b = some_one d q (sym (declared_complete ts d a) ∙ declared_complete ts q b)
+pub one_declaration : (tokens_here : List Tok) (declaration other_declaration : Declared) → IsDeclaration tokens_here declaration
+    → IsDeclaration tokens_here other_declaration → declaration ≡ other_declaration
+one_declaration tokens_here declaration other_declaration first_is second_is =
+    some_one declaration other_declaration
+    (sym (declared_complete tokens_here declaration first_is) ∙ declared_complete tokens_here other_declaration second_is)
 
-pub no_declaration : (ts : List Tok) → read_declared ts ≡ None → (d : Declared) → IsDeclaration ts d → ⊥
-no_declaration ts e d h = cc (sym e ∙ declared_complete ts d h)
+pub no_declaration : (tokens_here : List Tok) → read_declared tokens_here ≡ None → (declaration : Declared) → IsDeclaration tokens_here declaration
+    → ⊥
+no_declaration tokens_here reads_none declaration is_declaration = cc (sym reads_none ∙ declared_complete tokens_here declaration is_declaration)
 
 -- tokens that are left behind a function
-pub function_over : (source x : List ℕ) (ps : List Parameter) (ts us vs : List Tok) (k : TypeRead) (t : Tree) (deep : ℕ) (left : List TokenAt)
-    → Some us ≡ behind M.Colon ts → read_type us ≡ Some k → Some vs ≡ behind M.Is k.next
-    → (read_tree 100 7 vs >>= closed_by_mark M.EndFunction) ≡ Some (got t deep (toks source left)) → 0 < length left
-    → body_behind x ps ts ≡ None
-function_over source x ps ts us vs k t deep [] a b c d lt = absurd (omega arith)
-function_over source x ps ts us vs k t deep (y ∷ ys) a b c d lt = rw (← a, b, ← c, d) refl
+pub function_over : (source called_so : List ℕ) (taken : List Parameter) (tokens_here further left_over : List Tok) (type_here : TypeRead)
+    (expression : Tree) (deep : ℕ) (left : List TokenAt)
+    → Some further ≡ behind M.Colon tokens_here → read_type further ≡ Some type_here → Some left_over ≡ behind M.Is type_here.next
+    → (read_tree 100 7 left_over >>= closed_by_mark M.EndFunction) ≡ Some (got expression deep (toks source left)) → 0 < length left
+    → body_behind called_so taken tokens_here ≡ None
+function_over source called_so taken tokens_here further left_over type_here expression deep [] colon_stands type_reads_so is_stands body_reads less =
+    absurd (omega arith)
+function_over source called_so taken tokens_here further left_over type_here expression deep
+    (a_token ∷ more_tokens) colon_stands type_reads_so is_stands body_reads less = rw (← colon_stands, type_reads_so, ← is_stands, body_reads) refl

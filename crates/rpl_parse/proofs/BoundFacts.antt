@@ -12,68 +12,102 @@ use Rattle.rpl_parse.proofs.NodeFacts.{nodes_within, tokens_few, ArePieces, piec
 
 -- one more at the end
 
-rules_end : (ds : List Declared) (d : Declared) → rule_count (ds ++ d ∷ []) ≡ rule_count ds + rule_count (d ∷ [])
-rules_end [] d = let e : 0 + rule_count (d ∷ []) ≡ rule_count (d ∷ []) = omega arith in sym e
-rules_end (rule x body ∷ ds) d = let h = rules_end ds d in omega (arith, h)
-rules_end (function x ps k b ∷ ds) d = rules_end ds d
+rules_end : (declarations : List Declared) (declaration : Declared)
+    → rule_count (declarations ++ declaration ∷ []) ≡ rule_count declarations + rule_count (declaration ∷ [])
+rules_end [] declaration = let counted : 0 + rule_count (declaration ∷ []) ≡ rule_count (declaration ∷ []) = omega arith in sym counted
+rules_end (rule called_so body ∷ declarations) declaration = let others_counted = rules_end declarations declaration in omega (arith, others_counted)
+rules_end (function called_so taken type_name body ∷ declarations) declaration = rules_end declarations declaration
 
-functions_end : (ds : List Declared) (d : Declared) → function_count (ds ++ d ∷ []) ≡ function_count ds + function_count (d ∷ [])
-functions_end [] d = let e : 0 + function_count (d ∷ []) ≡ function_count (d ∷ []) = omega arith in sym e
-functions_end (rule x body ∷ ds) d = functions_end ds d
-functions_end (function x ps k b ∷ ds) d = let h = functions_end ds d in omega (arith, h)
+functions_end : (declarations : List Declared) (declaration : Declared)
+    → function_count (declarations ++ declaration ∷ []) ≡ function_count declarations + function_count (declaration ∷ [])
+functions_end [] declaration = let counted : 0 + function_count (declaration ∷ []) ≡ function_count (declaration ∷ []) = omega arith in sym counted
+functions_end (rule called_so body ∷ declarations) declaration = functions_end declarations declaration
+functions_end (function called_so taken type_name body ∷ declarations) declaration = let others_counted = functions_end declarations declaration in
+    omega (arith, others_counted)
 
-within_end : (much : Declared → ℕ) (most : ℕ) (ds : List Declared) (d : Declared) → AreWithin much most ds → much d ≤ most
-    → AreWithin much most (ds ++ d ∷ [])
-within_end much most [] d h le = (le, tt)
-within_end much most (x ∷ ds) d h le = (h.0, within_end much most ds d h.1 le)
+within_end : (much : Declared → ℕ) (most : ℕ) (declarations : List Declared) (declaration : Declared) → AreWithin much most declarations
+    → much declaration ≤ most
+    → AreWithin much most (declarations ++ declaration ∷ [])
+within_end much most [] declaration are_within no_more = (no_more, tt)
+within_end much most (first ∷ declarations) declaration are_within no_more =
+    (are_within.0, within_end much most declarations declaration are_within.1 no_more)
 
 -- the first token tells what is declared
-record Begins (ts : List Tok) (d : Declared) (r f : ℕ) : Type 0 where
-  rules : one_more_if (begins_rule ts) r ≡ r + rule_count (d ∷ [])
-  functions : one_more_if (begins_function ts) f ≡ f + function_count (d ∷ [])
-  rules_left : is_full ts r f ≡ false → r ≤ 200 → r + rule_count (d ∷ []) ≤ 200
-  functions_left : is_full ts r f ≡ false → f ≤ 200 → f + function_count (d ∷ []) ≤ 200
+record Begins (tokens_here : List Tok) (declaration : Declared) (rules_before functions_before : ℕ) : Type 0 where
+  rules : one_more_if (begins_rule tokens_here) rules_before ≡ rules_before + rule_count (declaration ∷ [])
+  functions : one_more_if (begins_function tokens_here) functions_before ≡ functions_before + function_count (declaration ∷ [])
+  rules_left : is_full tokens_here rules_before functions_before ≡ false → rules_before ≤ 200 → rules_before + rule_count (declaration ∷ []) ≤ 200
+  functions_left : is_full tokens_here rules_before functions_before ≡ false → functions_before ≤ 200
+      → functions_before + function_count (declaration ∷ []) ≤ 200
 
-not_so_many : (n : ℕ) → (n == 200) ≡ false → n ≤ 200 → n + 1 ≤ 200
-not_so_many n e le = grind (arith, e, le)
+not_so_many : (count : ℕ) → (count == 200) ≡ false → count ≤ 200 → count + 1 ≤ 200
+not_so_many count not_full no_more = grind (arith, not_full, no_more)
 
-begins : (ts : List Tok) (d : Declared) (r f : ℕ) → IsDeclaration ts d → Begins ts d r f
-begins ts (rule x body) r f h =
-    rw h.0.1 (record { rules = refl; functions = omega arith; rules_left = λ e le. not_so_many r e le; functions_left = λ e le. omega arith })
-begins ts (function x ps k b) r f h =
-    rw h.0.1 (record { rules = omega arith; functions = refl; rules_left = λ e le. omega arith; functions_left = λ e le. not_so_many f e le })
+begins : (tokens_here : List Tok) (declaration : Declared) (rules_before functions_before : ℕ) → IsDeclaration tokens_here declaration
+    → Begins tokens_here declaration rules_before functions_before
+begins tokens_here (rule called_so body) rules_before functions_before is_declaration =
+    rw is_declaration.0.1
+    (record {
+      rules = refl;
+      functions = omega arith;
+      rules_left = λ not_full no_more. not_so_many rules_before not_full no_more;
+      functions_left = λ not_full no_more. omega arith;
+    })
+begins tokens_here (function called_so taken type_name body) rules_before functions_before is_declaration =
+    rw is_declaration.0.1
+    (record {
+      rules = omega arith;
+      functions = refl;
+      rules_left = λ not_full no_more. omega arith;
+      functions_left = λ not_full no_more. not_so_many functions_before not_full no_more;
+    })
 
 listed : Due → List Declared
-listed (Ok ds) = ds
+listed (Ok declarations) = declarations
 listed (Err why) = []
 
-bounded : (k r f : ℕ) (before : List Declared) (ps : List Piece) (ds : List Declared) → IsDue k r f before ps (Ok ds)
-    → (most : ℕ) → most ≤ 16777216 → ArePieces most ps → AreWithin declared_depth 100 before → AreWithin nodes_of 16777216 before
-    → rule_count before ≡ r → function_count before ≡ f → r ≤ 200 → f ≤ 200 → AreLimited ds
+bounded : (number rules_before functions_before : ℕ) (before : List Declared) (more_pieces : List Piece) (declarations : List Declared)
+    → IsDue number rules_before functions_before before more_pieces (Ok declarations)
+    → (most : ℕ) → most ≤ 16777216 → ArePieces most more_pieces → AreWithin declared_depth 100 before → AreWithin nodes_of 16777216 before
+    → rule_count before ≡ rules_before → function_count before ≡ functions_before → rules_before ≤ 200 → functions_before ≤ 200
+    → AreLimited declarations
 unfolding listed
-bounded k r f before [] ds due most few small deep nodes er ef lr lf =
-    subst AreLimited (sym (ap listed due)) (record { depth = deep; nodes = nodes; rules = omega (arith, er); functions = omega (arith, ef) })
-bounded k r f before (p ∷ ps) ds (inl h) most few small deep nodes er ef lr lf = absurd (cc h.1)
-bounded k r f before (p ∷ ps) ds (inr (inl h)) most few small deep nodes er ef lr lf = absurd (cc h.2)
-bounded k r f before (p ∷ ps) ds (inr (inr h)) most few small deep nodes er ef lr lf =
-    let d = h.1.0 in
-    let b = begins p.toks d r f h.1.1 in
-    let br = b.rules in
-    let bf = b.functions in
-    let lr2 = b.rules_left h.0 lr in
-    let lf2 = b.functions_left h.0 lf in
-    let nr = rules_end before d in
-    let nf = functions_end before d in
-    bounded (k + 1) (one_more_if (begins_rule p.toks) r) (one_more_if (begins_function p.toks) f) (before ++ d ∷ []) ps ds h.1.2
+bounded number rules_before functions_before before
+    [] declarations due most few small deep nodes rules_counted functions_counted rules_few functions_few =
+    subst AreLimited (sym (ap listed due))
+    (record { depth = deep; nodes = nodes; rules = omega (arith, rules_counted); functions = omega (arith, functions_counted) })
+bounded number rules_before functions_before before (a_piece ∷ more_pieces) declarations
+    (inl due_so) most few small deep nodes rules_counted functions_counted rules_few functions_few = absurd (cc due_so.1)
+bounded number rules_before functions_before before (a_piece ∷ more_pieces) declarations
+    (inr (inl due_so)) most few small deep nodes rules_counted functions_counted rules_few functions_few = absurd (cc due_so.2)
+bounded number rules_before functions_before before (a_piece ∷ more_pieces) declarations
+    (inr (inr due_so)) most few small deep nodes rules_counted functions_counted rules_few functions_few =
+    let declaration = due_so.1.0 in
+    let begun = begins a_piece.toks declaration rules_before functions_before due_so.1.1 in
+    let rule_more = begun.rules in
+    let function_more = begun.functions in
+    let rules_still = begun.rules_left due_so.0 rules_few in
+    let functions_still = begun.functions_left due_so.0 functions_few in
+    let rules_there = rules_end before declaration in
+    let functions_there = functions_end before declaration in
+    bounded (number + 1) (one_more_if (begins_rule a_piece.toks) rules_before) (one_more_if (begins_function a_piece.toks) functions_before)
+    (before ++ declaration ∷ []) more_pieces declarations due_so.1.2
     most few small.1
-    (within_end declared_depth 100 before d deep (let a = h.1.1 in a.1))
-    (within_end nodes_of 16777216 before d nodes (let a = nodes_within p.toks d h.1.1 in let l = small.0 in omega arith)) (omega (arith, nr, er, br))
-    (omega (arith, nf, ef, bf)) (omega (arith, br, lr2)) (omega (arith, bf, lf2))
+    (within_end declared_depth 100 before declaration deep (let is_one = due_so.1.1 in is_one.1))
+    (within_end nodes_of 16777216 before declaration nodes
+    (let is_one = nodes_within a_piece.toks declaration due_so.1.1 in let piece_small = small.0 in omega arith))
+    (omega (arith, rules_there, rules_counted, rule_more))
+    (omega (arith, functions_there, functions_counted, function_more)) (omega (arith, rule_more, rules_still))
+    (omega (arith, function_more, functions_still))
 
-of_scanned : (s : Scanned) (ds : List Declared) → IsDueOf s (Ok ds) → ((ts : List Lined) → s ≡ all ts → length ts ≤ 16777216) → AreLimited ds
-of_scanned (all ts) ds h few =
-    bounded 1 0 0 [] (pieces ts) ds h (length ts) (few ts refl) (pieces_within ts) tt tt refl refl (omega arith) (omega arith)
-of_scanned (bad_at line) ds h few = absurd (cc h)
+of_scanned : (scanned : Scanned) (declarations : List Declared) → IsDueOf scanned (Ok declarations)
+    → ((lined_tokens : List Lined) → scanned ≡ all lined_tokens → length lined_tokens ≤ 16777216) → AreLimited declarations
+of_scanned (all further_lined) declarations is_due_of few =
+    bounded 1 0 0 [] (pieces further_lined) declarations is_due_of (length further_lined) (few further_lined refl)
+    (pieces_within further_lined) tt tt refl refl (omega arith) (omega arith)
+of_scanned (bad_at bad_line) declarations is_due_of few = absurd (cc is_due_of)
 
 pub bounds_hold : (rules : ParsedRules) → IsRuleset rules → AreLimited (rules_of rules)
-bounds_hold rules h = of_scanned (tokens h.0) (rules_of rules) h.2 (λ ts e. let a = tokens_few h.0 ts e in let b = h.1 in omega arith)
+bounds_hold rules is_ruleset =
+    of_scanned (tokens is_ruleset.0) (rules_of rules) is_ruleset.2
+    (λ tokens_here e. let few_tokens = tokens_few is_ruleset.0 tokens_here e in let source_few = is_ruleset.1 in omega arith)

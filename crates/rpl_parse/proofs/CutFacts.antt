@@ -12,129 +12,176 @@ use Rattle.rpl_parse.specs.ReadingDeclared.{read_declared}
 use Rattle.rpl_parse.proofs.Both.{one_declaration, no_declaration, declared_sound}
 
 abbrev pub lineds : List ℕ → List TokenAt → List Lined
-lineds source ts = map (lined_of source) ts
+lineds source tokens_there = map (lined_of source) tokens_there
 
 -- the tokens of the first declaration, and the pieces behind it
 abbrev Cut : List ℕ → TokenAt → List TokenAt → ℕ → List Piece
-Cut source x more n = piece (toks source (take n (x ∷ more))) x.line ∷ pieces (lineds source (drop n (x ∷ more)))
+Cut source a_token more size_there =
+    piece (toks source (take size_there (a_token ∷ more))) a_token.line ∷ pieces (lineds source (drop size_there (a_token ∷ more)))
 
-pub first_piece : (source : List ℕ) (x : TokenAt) (more : List TokenAt)
-    → pieces (lineds source (x ∷ more)) ≡ Cut source x more (size (toks source (x ∷ more)))
-first_piece source x [] = alone (is_end (token_seen source x.token))
+pub first_piece : (source : List ℕ) (a_token : TokenAt) (more : List TokenAt)
+    → pieces (lineds source (a_token ∷ more)) ≡ Cut source a_token more (size (toks source (a_token ∷ more)))
+first_piece source a_token [] = alone (is_end (token_seen source a_token.token))
   where
-    alone : (b : Bool) → (if b then piece (token_seen source x.token ∷ []) x.line ∷ [] else token_joined (lined_of source x) [])
-        ≡ Cut source x [] (if b then 1 else suc 0)
+    alone : (test : Bool)
+        → (if test then piece (token_seen source a_token.token ∷ []) a_token.line ∷ [] else token_joined (lined_of source a_token) [])
+        ≡ Cut source a_token [] (if test then 1 else suc 0)
     alone true = refl
     alone false = refl
-first_piece source x (y ∷ ys) = by_end (is_end (token_seen source x.token)) (first_piece source y ys)
+first_piece source a_token (next_token ∷ more_tokens) = by_end (is_end (token_seen source a_token.token)) (first_piece source next_token more_tokens)
   where
-    by_end : (b : Bool) → pieces (lineds source (y ∷ ys)) ≡ Cut source y ys (size (toks source (y ∷ ys)))
-        → (if b then piece (token_seen source x.token ∷ []) x.line
-        ∷ pieces (lineds source (y ∷ ys)) else token_joined (lined_of source x) (pieces (lineds source (y ∷ ys))))
-        ≡ Cut source x (y ∷ ys) (if b then 1 else suc (size (toks source (y ∷ ys))))
-    by_end true h = refl
-    by_end false h = ap (token_joined (lined_of source x)) h
+    by_end : (test : Bool)
+        → pieces (lineds source (next_token ∷ more_tokens)) ≡ Cut source next_token more_tokens (size (toks source (next_token ∷ more_tokens)))
+        → (if test then piece (token_seen source a_token.token ∷ []) a_token.line
+        ∷ pieces (lineds source (next_token ∷ more_tokens)) else token_joined (lined_of source a_token)
+        (pieces (lineds source (next_token ∷ more_tokens))))
+        ≡ Cut source a_token (next_token ∷ more_tokens) (if test then 1 else suc (size (toks source (next_token ∷ more_tokens))))
+    by_end true agree = refl
+    by_end false agree = ap (token_joined (lined_of source a_token)) agree
 
 -- What is due at the first declaration, which has these tokens.
-module _ (source : List ℕ) (k r f : ℕ) (before : List Declared) where
+module _ (source : List ℕ) (number rules_before functions_before : ℕ) (before : List Declared) where
   abbrev pub First : List TokenAt → List Tok
-  First xs = toks source (take (size (toks source xs)) xs)
+  First tokens_there = toks source (take (size (toks source tokens_there)) tokens_there)
 
-  pub due_full : (xs : List TokenAt) → 0 < length xs → is_full (First xs) r f ≡ true
-      → IsDue k r f before (pieces (lineds source xs)) (Err (too_many k))
-  due_full [] lt e = absurd (omega arith)
-  due_full (x ∷ more) lt e = subst (λ ps. IsDue k r f before ps (Err (too_many k))) (sym (first_piece source x more)) (inl (e, refl))
+  pub due_full : (tokens_there : List TokenAt) → 0 < length tokens_there → is_full (First tokens_there) rules_before functions_before ≡ true
+      → IsDue number rules_before functions_before before (pieces (lineds source tokens_there)) (Err (too_many number))
+  due_full [] some_left fits_so = absurd (omega arith)
+  due_full (a_token ∷ more) some_left fits_so =
+      subst (λ ps. IsDue number rules_before functions_before before ps (Err (too_many number))) (sym (first_piece source a_token more))
+      (inl (fits_so, refl))
 
-  pub due_bad : (other : TokenAt) (xs : List TokenAt) → 0 < length xs → is_full (First xs) r f ≡ false → read_declared (First xs) ≡ None
-      → IsDue k r f before (pieces (lineds source xs)) (Err (bad_declaration k (slice_index_or xs 0 other).line))
-  due_bad other [] lt e g = absurd (omega arith)
-  due_bad other (y ∷ more) lt e g =
-      subst (λ ps. IsDue k r f before ps (Err (bad_declaration k y.line))) (sym (first_piece source y more))
-      (inr (inl (e, no_declaration (First (y ∷ more)) g, refl)))
+  pub due_bad : (other : TokenAt) (tokens_there : List TokenAt) → 0 < length tokens_there
+      → is_full (First tokens_there) rules_before functions_before ≡ false → read_declared (First tokens_there) ≡ None
+      → IsDue number rules_before functions_before before (pieces (lineds source tokens_there))
+      (Err (bad_declaration number (slice_index_or tokens_there 0 other).line))
+  due_bad other [] some_left fits_so reads_so = absurd (omega arith)
+  due_bad other (a_token ∷ more) some_left fits_so reads_so =
+      subst (λ ps. IsDue number rules_before functions_before before ps (Err (bad_declaration number a_token.line)))
+      (sym (first_piece source a_token more))
+      (inr (inl (fits_so, no_declaration (First (a_token ∷ more)) reads_so, refl)))
 
-  pub due_later : (xs : List TokenAt) (d : Declared) (due : Due) → 0 < length xs → is_full (First xs) r f ≡ false → read_declared (First xs) ≡ Some d
-      → IsDue (k + 1) (one_more_if (begins_rule (First xs)) r) (one_more_if (begins_function (First xs)) f) (before ++ d ∷ [])
-      (pieces (lineds source (drop (size (toks source xs)) xs))) due
-      → IsDue k r f before (pieces (lineds source xs)) due
-  due_later [] d due lt e g h = absurd (omega arith)
-  due_later (x ∷ more) d due lt e g h =
-      subst (λ ps. IsDue k r f before ps due) (sym (first_piece source x more)) (inr (inr (e, (d, declared_sound (First (x ∷ more)) d g, h))))
+  pub due_later : (tokens_there : List TokenAt) (declaration : Declared) (due : Due) → 0 < length tokens_there
+      → is_full (First tokens_there) rules_before functions_before ≡ false → read_declared (First tokens_there) ≡ Some declaration
+      → IsDue (number + 1) (one_more_if (begins_rule (First tokens_there)) rules_before)
+      (one_more_if (begins_function (First tokens_there)) functions_before) (before ++ declaration ∷ [])
+      (pieces (lineds source (drop (size (toks source tokens_there)) tokens_there))) due
+      → IsDue number rules_before functions_before before (pieces (lineds source tokens_there)) due
+  due_later [] declaration due some_left fits_so reads_so due_so = absurd (omega arith)
+  due_later (a_token ∷ more) declaration due some_left fits_so reads_so due_so =
+      subst (λ ps. IsDue number rules_before functions_before before ps due) (sym (first_piece source a_token more))
+      (inr (inr (fits_so, (declaration, declared_sound (First (a_token ∷ more)) declaration reads_so, due_so))))
 
-moved : (k : ℕ) (due : Due) {r r2 f f2 : ℕ} {a a2 : List Declared} {ps ps2 : List Piece} → r2 ≡ r → f2 ≡ f → a2 ≡ a → ps2 ≡ ps
-    → IsDue k r2 f2 a2 ps2 due → IsDue k r f a ps due
-moved k due e f g i h = rw (← e, ← f, ← g, ← i) h
+moved : (number : ℕ) (due : Due) {rules_before rules_now functions_before functions_now : ℕ} {before before_too : List Declared}
+    {more_pieces other_pieces : List Piece} → rules_now ≡ rules_before → functions_now ≡ functions_before → before_too ≡ before
+    → other_pieces ≡ more_pieces
+    → IsDue number rules_now functions_now before_too other_pieces due → IsDue number rules_before functions_before before more_pieces due
+moved number due rules_are functions_are before_is pieces_are is_due = rw (← rules_are, ← functions_are, ← before_is, ← pieces_are) is_due
 
 -- The same, of what the code knows: the first n tokens are the first declaration.
-module _ (source : List ℕ) (k r f : ℕ) (before : List Declared) (n : ℕ) (xs : List TokenAt) (e : n ≡ size (toks source xs)) (lt : 0 < length xs) where
+module _ (source : List ℕ) (number rules_before functions_before : ℕ) (before : List Declared) (size_there : ℕ) (tokens_there : List TokenAt)
+    (size_is : size_there ≡ size (toks source tokens_there)) (some_left : 0 < length tokens_there) where
   abbrev Here : List Tok
-  Here = toks source (take n xs)
+  Here = toks source (take size_there tokens_there)
 
-  here : Here ≡ First source k r f before xs
-  here = ap (λ m. toks source (take m xs)) e
+  here : Here ≡ First source number rules_before functions_before before tokens_there
+  here = ap (λ m. toks source (take m tokens_there)) size_is
 
-  pub found_full : is_full Here r f ≡ true → IsDue k r f before (pieces (lineds source xs)) (Err (too_many k))
-  found_full g = due_full source k r f before xs lt (subst (λ ts. is_full ts r f ≡ true) here g)
+  pub found_full : is_full Here rules_before functions_before ≡ true
+      → IsDue number rules_before functions_before before (pieces (lineds source tokens_there)) (Err (too_many number))
+  found_full fits_so =
+      due_full source number rules_before functions_before before tokens_there some_left
+      (subst (λ tokens_here. is_full tokens_here rules_before functions_before ≡ true) here fits_so)
 
-  pub found_bad : (other : TokenAt) → is_full Here r f ≡ false → read_declared Here ≡ None
-      → IsDue k r f before (pieces (lineds source xs)) (Err (bad_declaration k (slice_index_or xs 0 other).line))
-  found_bad other g h =
-      due_bad source k r f before other xs lt (subst (λ ts. is_full ts r f ≡ false) here g) (subst (λ ts. read_declared ts ≡ None) here h)
+  pub found_bad : (other : TokenAt) → is_full Here rules_before functions_before ≡ false → read_declared Here ≡ None
+      → IsDue number rules_before functions_before before (pieces (lineds source tokens_there))
+      (Err (bad_declaration number (slice_index_or tokens_there 0 other).line))
+  found_bad other fits_so reads_so =
+      due_bad source number rules_before functions_before before other tokens_there some_left
+      (subst (λ tokens_here. is_full tokens_here rules_before functions_before ≡ false) here fits_so)
+      (subst (λ tokens_here. read_declared tokens_here ≡ None) here reads_so)
 
-  pub found_later : (d : Declared) (due : Due) (r2 f2 : ℕ) (after : List Declared) (rest : List TokenAt) → is_full Here r f ≡ false
-      → read_declared Here ≡ Some d
-      → r2 ≡ one_more_if (begins_rule Here) r → f2 ≡ one_more_if (begins_function Here) f → after ≡ before ++ d ∷ [] → rest ≡ drop n xs
-      → IsDue (k + 1) r2 f2 after (pieces (lineds source rest)) due → IsDue k r f before (pieces (lineds source xs)) due
-  found_later d due r2 f2 after rest g h er ef ea el i =
+  pub found_later : (declaration : Declared) (due : Due) (rules_now functions_now : ℕ) (after : List Declared) (rest : List TokenAt)
+      → is_full Here rules_before functions_before ≡ false
+      → read_declared Here ≡ Some declaration
+      → rules_now ≡ one_more_if (begins_rule Here) rules_before → functions_now ≡ one_more_if (begins_function Here) functions_before
+      → after ≡ before ++ declaration ∷ [] → rest ≡ drop size_there tokens_there
+      → IsDue (number + 1) rules_now functions_now after (pieces (lineds source rest)) due
+      → IsDue number rules_before functions_before before (pieces (lineds source tokens_there)) due
+  found_later declaration due rules_now functions_now after rest fits_so reads_so rules_are functions_are before_is rest_is due_so =
       let same =
-      moved (k + 1) due (er ∙ ap (λ ts. one_more_if (begins_rule ts) r) here) (ef ∙ ap (λ ts. one_more_if (begins_function ts) f) here) ea
-      (ap (λ l. pieces (lineds source l)) (el ∙ ap (λ m. drop m xs) e)) i in
-      due_later source k r f before xs d due lt (subst (λ ts. is_full ts r f ≡ false) here g) (subst (λ ts. read_declared ts ≡ Some d) here h) same
+      moved (number + 1) due (rules_are ∙ ap (λ tokens_here. one_more_if (begins_rule tokens_here) rules_before) here)
+      (functions_are ∙ ap (λ tokens_here. one_more_if (begins_function tokens_here) functions_before) here) before_is
+      (ap (λ l. pieces (lineds source l)) (rest_is ∙ ap (λ m. drop m tokens_there) size_is)) due_so in
+      due_later source number rules_before functions_before before tokens_there declaration due some_left
+      (subst (λ tokens_here. is_full tokens_here rules_before functions_before ≡ false) here fits_so)
+      (subst (λ tokens_here. read_declared tokens_here ≡ Some declaration) here reads_so) same
 
 -- something is due
-some_due : (k r f : ℕ) (before : List Declared) (ps : List Piece) → (due : Due) × IsDue k r f before ps due
-some_due k r f before [] = (Ok before, refl)
-some_due k r f before (p ∷ ps) =
-    by_full (is_full p.toks r f) refl (λ d. some_due (k + 1) (one_more_if (begins_rule p.toks) r) (one_more_if (begins_function p.toks) f)
-    (before ++ d ∷ []) ps)
+some_due : (number rules_before functions_before : ℕ) (before : List Declared) (more_pieces : List Piece) → (due : Due)
+    × IsDue number rules_before functions_before before more_pieces due
+some_due number rules_before functions_before before [] = (Ok before, refl)
+some_due number rules_before functions_before before (a_piece ∷ more_pieces) =
+    by_full (is_full a_piece.toks rules_before functions_before) refl
+    (λ d. some_due (number + 1) (one_more_if (begins_rule a_piece.toks) rules_before)
+    (one_more_if (begins_function a_piece.toks) functions_before)
+    (before ++ d ∷ []) more_pieces)
   where
     Later : Declared → Type 0
-    Later d = (due : Due) × IsDue (k + 1) (one_more_if (begins_rule p.toks) r) (one_more_if (begins_function p.toks) f) (before ++ d ∷ []) ps due
+    Later declaration = (due : Due)
+        × IsDue (number + 1) (one_more_if (begins_rule a_piece.toks) rules_before) (one_more_if (begins_function a_piece.toks) functions_before)
+        (before ++ declaration ∷ []) more_pieces due
 
-    by_read : (read : Option Declared) → read_declared p.toks ≡ read → is_full p.toks r f ≡ false → ((d : Declared) → Later d)
-        → (due : Due) × IsDue k r f before (p ∷ ps) due
-    by_read None e fits later = (Err (bad_declaration k p.line), inr (inl (fits, no_declaration p.toks e, refl)))
-    by_read (Some d) e fits later = ((later d).0, inr (inr (fits, (d, declared_sound p.toks d e, (later d).1))))
+    by_read : (read : Option Declared) → read_declared a_piece.toks ≡ read → is_full a_piece.toks rules_before functions_before ≡ false
+        → ((declaration : Declared) → Later declaration)
+        → (due : Due) × IsDue number rules_before functions_before before (a_piece ∷ more_pieces) due
+    by_read None reads_so fits later = (Err (bad_declaration number a_piece.line), inr (inl (fits, no_declaration a_piece.toks reads_so, refl)))
+    by_read (Some declaration) reads_so fits later =
+        ((later declaration).0, inr (inr (fits, (declaration, declared_sound a_piece.toks declaration reads_so, (later declaration).1))))
 
-    by_full : (full : Bool) → is_full p.toks r f ≡ full → ((d : Declared) → Later d) → (due : Due) × IsDue k r f before (p ∷ ps) due
-    by_full true e later = (Err (too_many k), inl (e, refl))
-    by_full false e later = by_read (read_declared p.toks) refl e later
+    by_full : (full : Bool) → is_full a_piece.toks rules_before functions_before ≡ full → ((declaration : Declared) → Later declaration) → (due : Due)
+        × IsDue number rules_before functions_before before (a_piece ∷ more_pieces) due
+    by_full true reads_so later = (Err (too_many number), inl (reads_so, refl))
+    by_full false reads_so later = by_read (read_declared a_piece.toks) refl reads_so later
 
-some_due_of : (s : Scanned) → (due : Due) × IsDueOf s due
-some_due_of (all ts) = some_due 1 0 0 [] (pieces ts)
-some_due_of (bad_at line) = (Err (bad_token line), refl)
+some_due_of : (scanned : Scanned) → (due : Due) × IsDueOf scanned due
+some_due_of (all further_lined) = some_due 1 0 0 [] (pieces further_lined)
+some_due_of (bad_at bad_line) = (Err (bad_token bad_line), refl)
 
 pub some_reading_holds : some_reading
 some_reading_holds source = some_due_of (tokens source)
 
 -- what is due is one thing
-one_due : (k r f : ℕ) (before : List Declared) (ps : List Piece) (a b : Due) → IsDue k r f before ps a → IsDue k r f before ps b → a ≡ b
-one_due k r f before [] a b h g = h ∙ sym g
-one_due k r f before (p ∷ ps) a b (inl h) (inl g) = h.1 ∙ sym g.1
-one_due k r f before (p ∷ ps) a b (inl h) (inr (inl g)) = absurd (cc (sym h.0 ∙ g.0))
-one_due k r f before (p ∷ ps) a b (inl h) (inr (inr g)) = absurd (cc (sym h.0 ∙ g.0))
-one_due k r f before (p ∷ ps) a b (inr (inl h)) (inl g) = absurd (cc (sym g.0 ∙ h.0))
-one_due k r f before (p ∷ ps) a b (inr (inl h)) (inr (inl g)) = h.2 ∙ sym g.2
-one_due k r f before (p ∷ ps) a b (inr (inl h)) (inr (inr g)) = absurd (h.1 g.1.0 g.1.1)
-one_due k r f before (p ∷ ps) a b (inr (inr h)) (inl g) = absurd (cc (sym g.0 ∙ h.0))
-one_due k r f before (p ∷ ps) a b (inr (inr h)) (inr (inl g)) = absurd (g.1 h.1.0 h.1.1)
-one_due k r f before (p ∷ ps) a b (inr (inr h)) (inr (inr g)) =
-    let same : g.1.0 ≡ h.1.0 = one_declaration p.toks g.1.0 h.1.0 g.1.1 h.1.1 in
-    one_due (k + 1) _ _ (before ++ h.1.0 ∷ []) ps a b h.1.2
-    (subst (λ d. IsDue (k + 1) (one_more_if (begins_rule p.toks) r) (one_more_if (begins_function p.toks) f) (before ++ d ∷ []) ps b) same g.1.2)
+one_due : (number rules_before functions_before : ℕ) (before : List Declared) (more_pieces : List Piece) (first_due second_due : Due)
+    → IsDue number rules_before functions_before before more_pieces first_due
+    → IsDue number rules_before functions_before before more_pieces second_due → first_due ≡ second_due
+one_due number rules_before functions_before before [] first_due second_due first_is second_is = first_is ∙ sym second_is
+one_due number rules_before functions_before before (a_piece ∷ more_pieces) first_due second_due (inl first_is) (inl second_is) = first_is.1
+    ∙ sym second_is.1
+one_due number rules_before functions_before before (a_piece ∷ more_pieces) first_due second_due (inl first_is) (inr (inl second_is)) =
+    absurd (cc (sym first_is.0 ∙ second_is.0))
+one_due number rules_before functions_before before (a_piece ∷ more_pieces) first_due second_due (inl first_is) (inr (inr second_is)) =
+    absurd (cc (sym first_is.0 ∙ second_is.0))
+one_due number rules_before functions_before before (a_piece ∷ more_pieces) first_due second_due (inr (inl first_is)) (inl second_is) =
+    absurd (cc (sym second_is.0 ∙ first_is.0))
+one_due number rules_before functions_before before (a_piece ∷ more_pieces) first_due second_due (inr (inl first_is)) (inr (inl second_is)) =
+    first_is.2 ∙ sym second_is.2
+one_due number rules_before functions_before before (a_piece ∷ more_pieces) first_due second_due (inr (inl first_is)) (inr (inr second_is)) =
+    absurd (first_is.1 second_is.1.0 second_is.1.1)
+one_due number rules_before functions_before before (a_piece ∷ more_pieces) first_due second_due (inr (inr first_is)) (inl second_is) =
+    absurd (cc (sym second_is.0 ∙ first_is.0))
+one_due number rules_before functions_before before (a_piece ∷ more_pieces) first_due second_due (inr (inr first_is)) (inr (inl second_is)) =
+    absurd (second_is.1 first_is.1.0 first_is.1.1)
+one_due number rules_before functions_before before (a_piece ∷ more_pieces) first_due second_due (inr (inr first_is)) (inr (inr second_is)) =
+    let same : second_is.1.0 ≡ first_is.1.0 = one_declaration a_piece.toks second_is.1.0 first_is.1.0 second_is.1.1 first_is.1.1 in
+    one_due (number + 1) _ _ (before ++ first_is.1.0 ∷ []) more_pieces first_due second_due first_is.1.2
+    (subst (λ d.
+    IsDue (number + 1) (one_more_if (begins_rule a_piece.toks) rules_before) (one_more_if (begins_function a_piece.toks) functions_before)
+    (before ++ d ∷ []) more_pieces second_due) same second_is.1.2)
 
-due_of : (s : Scanned) (a b : Due) → IsDueOf s a → IsDueOf s b → a ≡ b
-due_of (all ts) a b h g = one_due 1 0 0 [] (pieces ts) a b h g
-due_of (bad_at line) a b h g = h ∙ sym g
+due_of : (scanned : Scanned) (first_due second_due : Due) → IsDueOf scanned first_due → IsDueOf scanned second_due → first_due ≡ second_due
+due_of (all further_lined) first_due second_due first_is second_is = one_due 1 0 0 [] (pieces further_lined) first_due second_due first_is second_is
+due_of (bad_at bad_line) first_due second_due first_is second_is = first_is ∙ sym second_is
 
 pub one_reading_holds : one_reading
-one_reading_holds source a b h g = due_of (tokens source) a b h g
+one_reading_holds source first_due second_due first_is second_is = due_of (tokens source) first_due second_due first_is second_is

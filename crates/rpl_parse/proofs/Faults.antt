@@ -7,20 +7,21 @@ use Rattle.rpl_parse.specs.declared.stop.Stop.TheVariants as S
 use Rattle.rpl_parse.specs.Gives.{Fails, GivesExpression, GivesMany}
 use Rattle.rpl_parse.specs.Reading.{Many, Read}
 
-pub fails_on : {A B : Type 0} (f : Stop) (r : Option A) (s : Option B) → (r ≡ None → s ≡ None) → Fails f r → Fails f s
-fails_on S.Bad r s go e = go e
-fails_on S.NoMemory r s go e = e
+pub fails_on : {A B : Type 0} (fault : Stop) (first_found : Option A) (second_found : Option B) → (first_found ≡ None → second_found ≡ None)
+    → Fails fault first_found → Fails fault second_found
+fails_on S.Bad first_found second_found go reads_none = go reads_none
+fails_on S.NoMemory first_found second_found go reads_none = reads_none
 
-pub many_fault : (source : List ℕ) (d : ℕ) (result : Result (Vec Expr Global × ℕ × Bor (List TokenAt)) Stop) (read : Option Many) (f : Stop)
-    → IsErrAnd result (λ e. e ≡ f) → Fails f read → GivesMany source d result read
-many_fault source d (Ok x) read f same why = absurd same
-many_fault source d (Err e) read f same why = subst (λ g. Fails g read) (sym same) why
+pub many_fault : (source : List ℕ) (deepest : ℕ) (result : Result (Vec Expr Global × ℕ × Bor (List TokenAt)) Stop) (read : Option Many) (fault : Stop)
+    → IsErrAnd result (λ fault_there. fault_there ≡ fault) → Fails fault read → GivesMany source deepest result read
+many_fault source deepest (Ok answer) read fault same why = absurd same
+many_fault source deepest (Err fault_there) read fault same why = subst (λ any_fault. Fails any_fault read) (sym same) why
 
-pub tree_fault : (source : List ℕ) (d : ℕ) (result : Result (Expr × ℕ × Bor (List TokenAt)) Stop) (read : Read) (f : Stop)
-    → IsErrAnd result (λ e. e ≡ f) → Fails f read → GivesExpression source d result read
-tree_fault source d (Ok x) read f same why = absurd same
-tree_fault source d (Err e) read f same why = subst (λ g. Fails g read) (sym same) why
+pub tree_fault : (source : List ℕ) (deepest : ℕ) (result : Result (Expr × ℕ × Bor (List TokenAt)) Stop) (read : Read) (fault : Stop)
+    → IsErrAnd result (λ fault_there. fault_there ≡ fault) → Fails fault read → GivesExpression source deepest result read
+tree_fault source deepest (Ok answer) read fault same why = absurd same
+tree_fault source deepest (Err fault_there) read fault same why = subst (λ any_fault. Fails any_fault read) (sym same) why
 
-pub fails_bad : {A : Type 0} (f : Stop) (r : Option A) → f ≡ S.Bad → Fails f r → r ≡ None
-fails_bad S.Bad r same e = e
-fails_bad S.NoMemory r same e = absurd (cc same)
+pub fails_bad : {A : Type 0} (fault : Stop) (first_found : Option A) → fault ≡ S.Bad → Fails fault first_found → first_found ≡ None
+fails_bad S.Bad first_found same reads_none = reads_none
+fails_bad S.NoMemory first_found same reads_none = absurd (cc same)

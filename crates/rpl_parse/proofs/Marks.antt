@@ -5,8 +5,8 @@ use Rattle.rpl_parse.specs.contracts.token.Mark.{the_type}
 use Rattle.rpl_parse.specs.declared.token.Mark.{Mark}
 use Rattle.rpl_parse.specs.Tokens.{same}
 
-pub same_mark : (m n : Mark) → same m n ≡ true → m ≡ n
-same_mark m n e = same_true the_type tt m n e
+pub same_mark : (a_mark other_mark : Mark) → same a_mark other_mark ≡ true → a_mark ≡ other_mark
+same_mark a_mark other_mark alike = same_true the_type tt a_mark other_mark alike
 
-pub same_self : (m : Mark) → same m m ≡ true
-same_self m = true_same the_type m m refl
+pub same_self : (a_mark : Mark) → same a_mark a_mark ≡ true
+same_self a_mark = true_same the_type a_mark a_mark refl

@@ -11,195 +11,230 @@ use Rattle.rpl_parse.specs.Grammar.{Part, ◌⨾◌, sign, token, form, at_most,
 use Rattle.rpl_parse.specs.Grammar.{looseness_on_left, mark_of, mark_of_one, mark_of_truth, mark_of_convert, is_prefix, is_operator}
 use Rattle.rpl_parse.specs.Statements.{SpellsAct, SpellsActs, SpellsParameters, SpellsType, if_none, ◌or◌, IsDeclaration}
 use Rattle.rpl_parse.specs.Declarations.{Piece, piece, is_end, token_joined, pieces}
-use Rattle.rpl_parse.proofs.Complete.{Shrinks, one_shrinks}
+use Rattle.rpl_parse.proofs.Beginnings.{Shrinks, one_shrinks}
 use Rattle.rpl_parse.proofs.CompleteActs.{Ahead, ahead_shrinks}
 use Rattle.rpl_parse.proofs.Both.{type_shrinks, parameters_shrink}
 
 -- a part has at least n tokens
 abbrev Uses : ℕ → Part → Type 0
-Uses n p = (ts rest : List Tok) → p ts rest → n + length rest ≤ length ts
+Uses count first_part = (tokens_here rest : List Tok) → first_part tokens_here rest → count + length rest ≤ length tokens_here
 
-alone : (x : Tok) → Uses 1 (token x)
-alone x ts rest e = let f : length ts ≡ suc (length rest) = ap length e in omega arith
+alone : (a_token : Tok) → Uses 1 (token a_token)
+alone a_token tokens_here rest tokens_are = let counted : length tokens_here ≡ suc (length rest) = ap length tokens_are in omega arith
 
-own : (x : Tok) (n : ℕ) (q : Part) → Uses n q → Uses (suc n) (token x ⨾ q)
-own x n q hq ts rest h =
-    let f : length ts ≡ suc (length h.0) = ap length h.1 in
-    let b = hq h.0 rest h.2 in omega arith
+own : (a_token : Tok) (count : ℕ) (second_part : Part) → Uses count second_part → Uses (suc count) (token a_token ⨾ second_part)
+own a_token count second_part second_part_uses tokens_here rest spells =
+    let counted : length tokens_here ≡ suc (length spells.0) = ap length spells.1 in
+    let second_shorter = second_part_uses spells.0 rest spells.2 in omega arith
 
-pass : (p : Part) (n : ℕ) (q : Part) → Shrinks p → Uses n q → Uses n (p ⨾ q)
-pass p n q hp hq ts rest h = let a = hp ts h.0 h.1 in let b = hq h.0 rest h.2 in omega arith
+pass : (first_part : Part) (count : ℕ) (second_part : Part) → Shrinks first_part → Uses count second_part → Uses count (first_part ⨾ second_part)
+pass first_part count second_part first_part_shrinks second_part_uses tokens_here rest spells = let first_shorter =
+    first_part_shrinks tokens_here spells.0 spells.1 in let second_shorter = second_part_uses spells.0 rest spells.2 in omega arith
 
-skip : (x : Tok) (n : ℕ) (q : Part) → Uses n q → Uses n (token x ⨾ q)
-skip x n q hq = pass (token x) n q (one_shrinks x) hq
+skip : (a_token : Tok) (count : ℕ) (second_part : Part) → Uses count second_part → Uses count (token a_token ⨾ second_part)
+skip a_token count second_part second_part_uses = pass (token a_token) count second_part (one_shrinks a_token) second_part_uses
 
-child : (m n : ℕ) (p q : Part) → Uses m p → Uses n q → Uses (m + n) (p ⨾ q)
-child m n p q hp hq ts rest h = let a = hp ts h.0 h.1 in let b = hq h.0 rest h.2 in omega arith
+child : (first_count second_count : ℕ) (first_part second_part : Part) → Uses first_count first_part → Uses second_count second_part
+    → Uses (first_count + second_count) (first_part ⨾ second_part)
+child first_count second_count first_part second_part first_part_uses second_part_uses tokens_here rest spells = let first_shorter =
+    first_part_uses tokens_here spells.0 spells.1 in let second_shorter = second_part_uses spells.0 rest spells.2 in omega arith
 
-last : (m : ℕ) (p : Part) (x : Tok) → Uses m p → Uses m (p ⨾ token x)
-last m p x hp ts rest h = let a = hp ts h.0 h.1 in let b = one_shrinks x h.0 rest h.2 in omega arith
+last : (first_count : ℕ) (first_part : Part) (a_token : Tok) → Uses first_count first_part → Uses first_count (first_part ⨾ token a_token)
+last first_count first_part a_token first_part_uses tokens_here rest spells = let first_shorter = first_part_uses tokens_here spells.0 spells.1 in
+    let second_shorter = one_shrinks a_token spells.0 rest spells.2 in omega arith
 
-fewer : (m n : ℕ) (p : Part) → n ≤ m → Uses m p → Uses n p
-fewer m n p le h ts rest s = let a = h ts rest s in omega arith
+fewer : (first_count second_count : ℕ) (first_part : Part) → second_count ≤ first_count → Uses first_count first_part → Uses second_count first_part
+fewer first_count second_count first_part no_more it_uses tokens_here rest spells = let uses_there = it_uses tokens_here rest spells in omega arith
 
-tight : (k : ℕ) (t : Tree) (n : ℕ) → Uses n (Spells t) → Uses n (at_most k t (Spells t))
-tight k t n h ts rest s = h ts rest s.1
+tight : (loose : ℕ) (expression : Tree) (count : ℕ) → Uses count (Spells expression) → Uses count (at_most loose expression (Spells expression))
+tight loose expression count it_uses tokens_here rest spells = it_uses tokens_here rest spells.1
 
-by_form : (b : Bool) (n : ℕ) (p q : Part) → Uses n p → Uses n q → Uses n (form b p q)
-by_form true n p q hp hq = hp
-by_form false n p q hp hq = hq
+by_form : (test : Bool) (count : ℕ) (first_part second_part : Part) → Uses count first_part → Uses count second_part
+    → Uses count (form test first_part second_part)
+by_form true count first_part second_part first_part_uses second_part_uses = first_part_uses
+by_form false count first_part second_part first_part_uses second_part_uses = second_part_uses
 
 mutual
-  pub uses : (t : Tree) → Uses (node_count t) (Spells t)
-  uses (literal z None) = alone (digits z)
-  uses (literal z (Some u)) = skip (digits z) 1 (token (text u)) (alone (text u))
-  uses (truth b) = alone (mark (mark_of_truth b))
+  pub uses : (expression : Tree) → Uses (node_count expression) (Spells expression)
+  uses (literal number None) = alone (digits number)
+  uses (literal number (Some unit)) = skip (digits number) 1 (token (text unit)) (alone (text unit))
+  uses (truth is_so) = alone (mark (mark_of_truth is_so))
   uses now = alone (mark M.Now)
-  uses (slot o s) = skip (word o) 1 _ (skip (mark M.Dot) 1 _ (alone (word s)))
-  uses (name x) = alone (word x)
-  uses (call f ts) =
-      own (word f) (node_counts ts) _ (skip (mark M.LeftParen) (node_counts ts) _ (last (node_counts ts) (SpellsList ts) _ (list_uses ts)))
-  uses (brackets t) = own (mark M.LeftParen) (node_count t) _ (last (node_count t) (Spells t) _ (uses t))
-  uses (list no_trees) = λ ts rest h. absurd h
-  uses (list (tree t ts)) =
-      own (mark M.LeftBrace) (node_count t + node_counts ts) _
-      (child (node_count t) (node_counts ts) (Spells t) _ (uses t) (last (node_counts ts) (SpellsMore ts) _ (more_uses ts)))
-  uses (choice c y n) =
-      own (mark M.If) (node_count c + (node_count y + node_count n)) _
-      (child (node_count c) (node_count y + node_count n) (Spells c) _ (uses c) (skip (mark M.Then) (node_count y + node_count n) _
-      (child (node_count y) (node_count n) (Spells y) _ (uses y) (skip (mark M.Else) (node_count n) _ (last (node_count n) (Spells n) _ (uses n))))))
-  uses (bind x e b) =
-      own (mark M.Let) (node_count e + node_count b) _
-      (skip (word x) (node_count e + node_count b) _ (skip (mark M.Assign) (node_count e + node_count b) _
-      (child (node_count e) (node_count b) (Spells e) _ (uses e) (skip (mark M.In) (node_count b) _ (last (node_count b) (Spells b) _ (uses b))))))
-  uses (each x l a f b) =
-      let n = node_count l + (node_count f + node_count b) in
-      let m = node_count f + node_count b in
-      own (mark M.For) n _ (skip (word x) n _ (skip (mark M.In) n _
-      (child (node_count l) m (Spells l) _ (uses l) (skip (mark M.With) m _ (skip (word a) m _ (skip (mark M.Assign) m _
-      (child (node_count f) (node_count b) (Spells f) _ (uses f)
-      (skip (mark M.Do) (node_count b) _ (last (node_count b) (Spells b) _ (uses b))))))))))
-  uses (mapped x l b) =
-      let n = node_count l + node_count b in
-      own (mark M.Map) n _ (skip (word x) n _ (skip (mark M.In) n _
-      (child (node_count l) (node_count b) (Spells l) _ (uses l)
-      (skip (mark M.Do) (node_count b) _ (last (node_count b) (Spells b) _ (uses b))))))
-  uses (one w t) =
-      by_form (is_prefix w) (suc (node_count t)) _ _
-      (own (mark (mark_of_one w)) (node_count t) _ (tight (looseness_of_one w) t (node_count t) (uses t)))
-      (own (mark (mark_of_one w)) (node_count t) _ (skip (mark M.LeftParen) (node_count t) _ (last (node_count t) (Spells t) _ (uses t))))
-  uses (two w l r) = by_form (is_operator w) (suc (node_count l + node_count r)) _ _
-      (fewer (node_count l + suc (node_count r)) (suc (node_count l + node_count r)) _ (omega arith)
-      (child (node_count l) (suc (node_count r)) _ _ (tight (looseness_on_left w) l (node_count l) (uses l))
-      (own (mark (mark_of w)) (node_count r) _ (tight (looseness_of w - 1) r (node_count r) (uses r)))))
-      (own (mark (mark_of w)) (node_count l + node_count r) _
-      (skip (mark M.LeftParen) (node_count l + node_count r) _
-      (child (node_count l) (node_count r) (Spells l) _ (uses l)
-      (skip (mark M.Comma) (node_count r) _ (last (node_count r) (Spells r) _ (uses r))))))
-  uses (convert w o t) =
-      own (mark (mark_of_convert w)) (node_count t) _
-      (skip (mark M.LeftParen) (node_count t) _
-      (skip (word o) (node_count t) _ (skip (mark M.Comma) (node_count t) _ (last (node_count t) (Spells t) _ (uses t)))))
-  uses (at s d) =
-      fewer (node_count s + suc (node_count d)) (suc (node_count s + node_count d)) _ (omega arith)
-      (child (node_count s) (suc (node_count d)) _ _ (tight 0 s (node_count s) (uses s))
-      (own (mark M.LeftBracket) (node_count d) _ (last (node_count d) (Spells d) _ (uses d))))
+  uses (slot object slot_name) = skip (word object) 1 _ (skip (mark M.Dot) 1 _ (alone (word slot_name)))
+  uses (name its_name) = alone (word its_name)
+  uses (call function_name arguments) =
+      own (word function_name) (node_counts arguments) _
+      (skip (mark M.LeftParen) (node_counts arguments) _ (last (node_counts arguments) (SpellsList arguments) _ (list_uses arguments)))
+  uses (brackets inside) = own (mark M.LeftParen) (node_count inside) _ (last (node_count inside) (Spells inside) _ (uses inside))
+  uses (list no_trees) = λ tokens_here rest h. absurd h
+  uses (list (tree first more)) =
+      own (mark M.LeftBrace) (node_count first + node_counts more) _
+      (child (node_count first) (node_counts more) (Spells first) _ (uses first) (last (node_counts more) (SpellsMore more) _ (more_uses more)))
+  uses (choice condition if_true if_false) =
+      own (mark M.If) (node_count condition + (node_count if_true + node_count if_false)) _
+      (child (node_count condition) (node_count if_true + node_count if_false) (Spells condition) _ (uses condition)
+      (skip (mark M.Then) (node_count if_true + node_count if_false) _
+      (child (node_count if_true) (node_count if_false) (Spells if_true) _ (uses if_true)
+      (skip (mark M.Else) (node_count if_false) _ (last (node_count if_false) (Spells if_false) _ (uses if_false))))))
+  uses (bind new_name value_tree body) =
+      own (mark M.Let) (node_count value_tree + node_count body) _
+      (skip (word new_name) (node_count value_tree + node_count body) _ (skip (mark M.Assign) (node_count value_tree + node_count body) _
+      (child (node_count value_tree) (node_count body) (Spells value_tree) _ (uses value_tree)
+      (skip (mark M.In) (node_count body) _ (last (node_count body) (Spells body) _ (uses body))))))
+  uses (each item_name source total_name initial body) =
+      let nodes_there = node_count source + (node_count initial + node_count body) in
+      let behind_source = node_count initial + node_count body in
+      own (mark M.For) nodes_there _ (skip (word item_name) nodes_there _ (skip (mark M.In) nodes_there _
+      (child (node_count source) behind_source (Spells source) _ (uses source)
+      (skip (mark M.With) behind_source _ (skip (word total_name) behind_source _ (skip (mark M.Assign) behind_source _
+      (child (node_count initial) (node_count body) (Spells initial) _ (uses initial)
+      (skip (mark M.Do) (node_count body) _ (last (node_count body) (Spells body) _ (uses body))))))))))
+  uses (mapped item_name source body) =
+      let nodes_there = node_count source + node_count body in
+      own (mark M.Map) nodes_there _ (skip (word item_name) nodes_there _ (skip (mark M.In) nodes_there _
+      (child (node_count source) (node_count body) (Spells source) _ (uses source)
+      (skip (mark M.Do) (node_count body) _ (last (node_count body) (Spells body) _ (uses body))))))
+  uses (one its_word operand) =
+      by_form (is_prefix its_word) (suc (node_count operand)) _ _
+      (own (mark (mark_of_one its_word)) (node_count operand) _ (tight (looseness_of_one its_word) operand (node_count operand) (uses operand)))
+      (own (mark (mark_of_one its_word)) (node_count operand) _
+      (skip (mark M.LeftParen) (node_count operand) _ (last (node_count operand) (Spells operand) _ (uses operand))))
+  uses (two its_word left right) = by_form (is_operator its_word) (suc (node_count left + node_count right)) _ _
+      (fewer (node_count left + suc (node_count right)) (suc (node_count left + node_count right)) _ (omega arith)
+      (child (node_count left) (suc (node_count right)) _ _ (tight (looseness_on_left its_word) left (node_count left) (uses left))
+      (own (mark (mark_of its_word)) (node_count right) _ (tight (looseness_of its_word - 1) right (node_count right) (uses right)))))
+      (own (mark (mark_of its_word)) (node_count left + node_count right) _
+      (skip (mark M.LeftParen) (node_count left + node_count right) _
+      (child (node_count left) (node_count right) (Spells left) _ (uses left)
+      (skip (mark M.Comma) (node_count right) _ (last (node_count right) (Spells right) _ (uses right))))))
+  uses (convert its_word object operand) =
+      own (mark (mark_of_convert its_word)) (node_count operand) _
+      (skip (mark M.LeftParen) (node_count operand) _
+      (skip (word object) (node_count operand) _
+      (skip (mark M.Comma) (node_count operand) _ (last (node_count operand) (Spells operand) _ (uses operand)))))
+  uses (at slot_tree date) =
+      fewer (node_count slot_tree + suc (node_count date)) (suc (node_count slot_tree + node_count date)) _ (omega arith)
+      (child (node_count slot_tree) (suc (node_count date)) _ _ (tight 0 slot_tree (node_count slot_tree) (uses slot_tree))
+      (own (mark M.LeftBracket) (node_count date) _ (last (node_count date) (Spells date) _ (uses date))))
 
-  list_uses : (us : Trees) → Uses (node_counts us) (SpellsList us)
-  list_uses no_trees = λ ts rest e. let f : length ts ≡ length rest = ap length e in omega arith
-  list_uses (tree t us) = child (node_count t) (node_counts us) (Spells t) _ (uses t) (more_uses us)
+  list_uses : (expressions : Trees) → Uses (node_counts expressions) (SpellsList expressions)
+  list_uses no_trees = λ tokens_here rest tokens_are. let counted : length tokens_here ≡ length rest = ap length tokens_are in omega arith
+  list_uses (tree first more) = child (node_count first) (node_counts more) (Spells first) _ (uses first) (more_uses more)
 
-  more_uses : (us : Trees) → Uses (node_counts us) (SpellsMore us)
-  more_uses no_trees = λ ts rest e. let f : length ts ≡ length rest = ap length e in omega arith
-  more_uses (tree t us) =
-      skip (mark M.Comma) (node_count t + node_counts us) _ (child (node_count t) (node_counts us) (Spells t) _ (uses t) (more_uses us))
+  more_uses : (expressions : Trees) → Uses (node_counts expressions) (SpellsMore expressions)
+  more_uses no_trees = λ tokens_here rest tokens_are. let counted : length tokens_here ≡ length rest = ap length tokens_are in omega arith
+  more_uses (tree first more) =
+      skip (mark M.Comma) (node_count first + node_counts more) _
+      (child (node_count first) (node_counts more) (Spells first) _ (uses first) (more_uses more))
 
-others_use : (n : Acts) → Uses (acts_nodes n) (SpellsActs n) → Uses (acts_nodes n) (if_none n or (sign M.Else ⨾ SpellsActs n))
-others_use no_acts h ts rest (inl e) = let f : length ts ≡ length rest = ap length e in omega arith
-others_use (act a more) h ts rest (inl e) = absurd e
-others_use n h ts rest (inr e) = skip (mark M.Else) (acts_nodes n) (SpellsActs n) h ts rest e
+others_use : (second : Acts) → Uses (acts_nodes second) (SpellsActs second)
+    → Uses (acts_nodes second) (if_none second or (sign M.Else ⨾ SpellsActs second))
+others_use no_acts it_uses tokens_here rest (inl spells) = let counted : length tokens_here ≡ length rest = ap length spells in omega arith
+others_use (act first more) it_uses tokens_here rest (inl spells) = absurd spells
+others_use second it_uses tokens_here rest (inr spells) = skip (mark M.Else) (acts_nodes second) (SpellsActs second) it_uses tokens_here rest spells
 
 mutual
-  act_uses : (a : Act) → Uses (act_nodes a) (SpellsAct a)
-  act_uses (assign o s ahead e) =
-      own (word o) (node_count e) _ (skip (mark M.Dot) (node_count e) _
-      (skip (word s) (node_count e) _ (skip (mark M.LeftBracket) (node_count e) _ (skip (mark M.Now) (node_count e) _
-      (pass (Ahead ahead) (node_count e) _ (ahead_shrinks ahead)
-      (skip (mark M.RightBracket) (node_count e) _ (skip (mark M.Assign) (node_count e) _ (last (node_count e) (Spells e) _ (uses e)))))))))
-  act_uses (branch c y n) =
-      let m = acts_nodes y + acts_nodes n in
-      own (mark M.If) (node_count c + m) _ (child (node_count c) m (Spells c) _ (uses c)
-      (skip (mark M.Then) m _ (child (acts_nodes y) (acts_nodes n) (SpellsActs y) _ (acts_use y)
-      (last (acts_nodes n) (if_none n or (sign M.Else ⨾ SpellsActs n)) _ (others_use n (acts_use n))))))
-  act_uses (with_name x e body) =
-      let m = node_count e + acts_nodes body in
-      own (mark M.With) m _ (skip (word x) m _
-      (skip (mark M.Assign) m _ (child (node_count e) (acts_nodes body) (Spells e) _ (uses e)
+  act_uses : (statement : Act) → Uses (act_nodes statement) (SpellsAct statement)
+  act_uses (assign object slot_name ahead value_tree) =
+      own (word object) (node_count value_tree) _ (skip (mark M.Dot) (node_count value_tree) _
+      (skip (word slot_name) (node_count value_tree) _
+      (skip (mark M.LeftBracket) (node_count value_tree) _ (skip (mark M.Now) (node_count value_tree) _
+      (pass (Ahead ahead) (node_count value_tree) _ (ahead_shrinks ahead)
+      (skip (mark M.RightBracket) (node_count value_tree) _
+      (skip (mark M.Assign) (node_count value_tree) _ (last (node_count value_tree) (Spells value_tree) _ (uses value_tree)))))))))
+  act_uses (branch condition first second) =
+      let nodes_there = acts_nodes first + acts_nodes second in
+      own (mark M.If) (node_count condition + nodes_there) _ (child (node_count condition) nodes_there (Spells condition) _ (uses condition)
+      (skip (mark M.Then) nodes_there _ (child (acts_nodes first) (acts_nodes second) (SpellsActs first) _ (acts_use first)
+      (last (acts_nodes second) (if_none second or (sign M.Else ⨾ SpellsActs second)) _ (others_use second (acts_use second))))))
+  act_uses (with_name new_name value_tree body) =
+      let nodes_there = node_count value_tree + acts_nodes body in
+      own (mark M.With) nodes_there _ (skip (word new_name) nodes_there _
+      (skip (mark M.Assign) nodes_there _ (child (node_count value_tree) (acts_nodes body) (Spells value_tree) _ (uses value_tree)
       (skip (mark M.Do) (acts_nodes body) _ (last (acts_nodes body) (SpellsActs body) _ (acts_use body))))))
 
-  acts_use : (xs : Acts) → Uses (acts_nodes xs) (SpellsActs xs)
-  acts_use no_acts = λ ts rest e. let f : length ts ≡ length rest = ap length e in omega arith
-  acts_use (act a more) = child (act_nodes a) (acts_nodes more) (SpellsAct a) _ (act_uses a) (acts_use more)
+  acts_use : (statements : Acts) → Uses (acts_nodes statements) (SpellsActs statements)
+  acts_use no_acts = λ tokens_here rest tokens_are. let counted : length tokens_here ≡ length rest = ap length tokens_are in omega arith
+  acts_use (act first more) = child (act_nodes first) (acts_nodes more) (SpellsAct first) _ (act_uses first) (acts_use more)
 
 -- the nodes of a declaration are no more than its tokens
-pub nodes_within : (ts : List Tok) (d : Declared) → IsDeclaration ts d → nodes_of d ≤ length ts
-nodes_within ts (rule x body) h =
-    let n = acts_nodes body in
-    let a =
-    skip (mark M.Rule) n _ (skip (text x) n _ (skip (mark M.Colon) n _ (last n (SpellsActs body) (mark M.EndRule) (acts_use body)))) ts [] h.0 in
+pub nodes_within : (tokens_here : List Tok) (declaration : Declared) → IsDeclaration tokens_here declaration
+    → nodes_of declaration ≤ length tokens_here
+nodes_within tokens_here (rule called_so body) is_declaration =
+    let nodes_there = acts_nodes body in
+    let uses_there =
+    skip (mark M.Rule) nodes_there _
+    (skip (text called_so) nodes_there _
+    (skip (mark M.Colon) nodes_there _ (last nodes_there (SpellsActs body) (mark M.EndRule) (acts_use body)))) tokens_here [] is_declaration.0 in
     omega arith
-nodes_within ts (function x ps k b) h =
-    let n = node_count b in
-    let a =
-    skip (mark M.Function) n _ (skip (word x) n _
-    (skip (mark M.LeftParen) n _ (pass (SpellsParameters ps) n _ (parameters_shrink ps) (skip (mark M.RightParen) n _ (skip (mark M.Colon) n _
-    (pass (SpellsType k) n _ (type_shrinks k) (skip (mark M.Is) n _ (last n (Spells b) (mark M.EndFunction) (uses b))))))))) ts [] h.0 in omega arith
+nodes_within tokens_here (function called_so taken type_name body) is_declaration =
+    let nodes_there = node_count body in
+    let uses_there =
+    skip (mark M.Function) nodes_there _ (skip (word called_so) nodes_there _
+    (skip (mark M.LeftParen) nodes_there _
+    (pass (SpellsParameters taken) nodes_there _ (parameters_shrink taken)
+    (skip (mark M.RightParen) nodes_there _ (skip (mark M.Colon) nodes_there _
+    (pass (SpellsType type_name) nodes_there _ (type_shrinks type_name)
+    (skip (mark M.Is) nodes_there _ (last nodes_there (Spells body) (mark M.EndFunction) (uses body))))))))) tokens_here [] is_declaration.0 in
+    omega arith
 
 -- a text has no more tokens than bytes
 
-all_one : (xs ys : List Lined) → all xs ≡ all ys → xs ≡ ys
-all_one xs ys e = cc e
+all_one : (lined_tokens other_lined : List Lined) → all lined_tokens ≡ all other_lined → lined_tokens ≡ other_lined
+all_one lined_tokens other_lined alike = cc alike
 
-led_few : (x : Lined) (s : Scanned) (ts : List Lined) (most : ℕ) → led_by (x ∷ []) s ≡ all ts → ((us : List Lined) → s ≡ all us → length us ≤ most)
-    → length ts ≤ suc most
-led_few x (all us) ts most e h = let f = all_one (x ∷ us) ts e in let g : length ts ≡ suc (length us) = sym (ap length f) in let i =
-    h us refl in omega arith
-led_few x (bad_at n) ts most e h = absurd (cc e)
+led_few : (a_token : Lined) (scanned : Scanned) (lined_tokens : List Lined) (most : ℕ) → led_by (a_token ∷ []) scanned ≡ all lined_tokens
+    → ((further_lined : List Lined) → scanned ≡ all further_lined → length further_lined ≤ most)
+    → length lined_tokens ≤ suc most
+led_few a_token (all further_lined) lined_tokens most led_so few_there = let tokens_are = all_one (a_token ∷ further_lined) lined_tokens led_so in
+    let counted : length lined_tokens ≡ suc (length further_lined) = sym (ap length tokens_are) in let few_so =
+    few_there further_lined refl in omega arith
+led_few a_token (bad_at bad_line) lined_tokens most led_so few_there = absurd (cc led_so)
 
-few : (k line : ℕ) (bs : List ℕ) (ts : List Lined) → scan k line bs ≡ all ts → length ts ≤ length bs
+few : (skipped line : ℕ) (bytes : List ℕ) (lined_tokens : List Lined) → scan skipped line bytes ≡ all lined_tokens
+    → length lined_tokens ≤ length bytes
 unfolding scan
-few k line [] ts e = let f = ap length (all_one [] ts e) in omega arith
-few (suc k) line (b ∷ bs) ts e = let h = few k line bs ts e in omega arith
-few zero line (b ∷ bs) ts e = by_found (front (b ∷ bs)) e (λ j l us f. few j l bs us f)
+few skipped line [] lined_tokens scans_so = let none_there = ap length (all_one [] lined_tokens scans_so) in omega arith
+few (suc skipped) line (byte ∷ bytes) lined_tokens scans_so = let few_there = few skipped line bytes lined_tokens scans_so in omega arith
+few zero line (byte ∷ bytes) lined_tokens scans_so =
+    by_found (front (byte ∷ bytes)) scans_so
+    (λ skipped_there line_there further_lined scans_there. few skipped_there line_there bytes further_lined scans_there)
   where
-    by_found : (f : Front) → by_front f (bad_at line) (λ n. scan (n - 1) (line_behind line (b ∷ bs)) bs)
-        (λ t n. led_by (lined t line ∷ []) (scan (n - 1) line bs)) ≡ all ts
-        → ((j l : ℕ) (us : List Lined) → scan j l bs ≡ all us → length us ≤ length bs) → length ts ≤ suc (length bs)
-    by_found bad g h = absurd (cc g)
-    by_found (gap n) g h = let i = h (n - 1) (line_behind line (b ∷ bs)) ts g in omega arith
-    by_found (found t n) g h = led_few (lined t line) (scan (n - 1) line bs) ts (length bs) g (λ us i. h (n - 1) line us i)
+    by_found : (front_there : Front) → by_front front_there (bad_at line) (λ n. scan (n - 1) (line_behind line (byte ∷ bytes)) bytes)
+        (λ t n. led_by (lined t line ∷ []) (scan (n - 1) line bytes)) ≡ all lined_tokens
+        → ((skipped_there line_there : ℕ) (further_lined : List Lined) → scan skipped_there line_there bytes ≡ all further_lined
+        → length further_lined ≤ length bytes) → length lined_tokens ≤ suc (length bytes)
+    by_found bad scans_there few_there = absurd (cc scans_there)
+    by_found (gap size_there) scans_there few_there = let few_so =
+        few_there (size_there - 1) (line_behind line (byte ∷ bytes)) lined_tokens scans_there in omega arith
+    by_found (found a_token size_there) scans_there few_there =
+        led_few (lined a_token line) (scan (size_there - 1) line bytes) lined_tokens (length bytes) scans_there
+        (λ further_lined few_so. few_there (size_there - 1) line further_lined few_so)
 
-pub tokens_few : (source : List ℕ) (ts : List Lined) → tokens source ≡ all ts → length ts ≤ length source
-tokens_few source ts e = few 0 1 source ts e
+pub tokens_few : (source : List ℕ) (lined_tokens : List Lined) → tokens source ≡ all lined_tokens → length lined_tokens ≤ length source
+tokens_few source lined_tokens scans_so = few 0 1 source lined_tokens scans_so
 
 -- each piece has at most so many tokens
 abbrev pub ArePieces : ℕ → List Piece → Type 0
 ArePieces most [] = Unit {0}
-ArePieces most (p ∷ ps) = (length p.toks ≤ most) × ArePieces most ps
+ArePieces most (a_piece ∷ more_pieces) = (length a_piece.toks ≤ most) × ArePieces most more_pieces
 
-one_more : (most : ℕ) (ps : List Piece) → ArePieces most ps → ArePieces (suc most) ps
-one_more most [] h = tt
-one_more most (p ∷ ps) h = (let a = h.0 in omega arith, one_more most ps h.1)
+one_more : (most : ℕ) (more_pieces : List Piece) → ArePieces most more_pieces → ArePieces (suc most) more_pieces
+one_more most [] are_pieces = tt
+one_more most (a_piece ∷ more_pieces) are_pieces = (let small_there = are_pieces.0 in omega arith, one_more most more_pieces are_pieces.1)
 
-joined_within : (t : Lined) (most : ℕ) (ps : List Piece) → ArePieces most ps → ArePieces (suc most) (token_joined t ps)
-joined_within t most [] h = (omega arith, tt)
-joined_within t most (p ∷ ps) h = (let a = h.0 in omega arith, one_more most ps h.1)
+joined_within : (a_token : Lined) (most : ℕ) (more_pieces : List Piece) → ArePieces most more_pieces
+    → ArePieces (suc most) (token_joined a_token more_pieces)
+joined_within a_token most [] are_pieces = (omega arith, tt)
+joined_within a_token most (a_piece ∷ more_pieces) are_pieces =
+    (let small_there = are_pieces.0 in omega arith, one_more most more_pieces are_pieces.1)
 
-pub pieces_within : (ts : List Lined) → ArePieces (length ts) (pieces ts)
+pub pieces_within : (lined_tokens : List Lined) → ArePieces (length lined_tokens) (pieces lined_tokens)
 pieces_within [] = tt
-pieces_within (t ∷ ts) = by_end (is_end t.tok) (pieces_within ts)
+pieces_within (a_token ∷ lined_tokens) = by_end (is_end a_token.tok) (pieces_within lined_tokens)
   where
-    by_end : (b : Bool) → ArePieces (length ts) (pieces ts)
-        → ArePieces (suc (length ts)) (if b then piece (t.tok ∷ []) t.line ∷ pieces ts else token_joined t (pieces ts))
-    by_end true h = (omega arith, one_more (length ts) (pieces ts) h)
-    by_end false h = joined_within t (length ts) (pieces ts) h
+    by_end : (test : Bool) → ArePieces (length lined_tokens) (pieces lined_tokens)
+        → ArePieces (suc (length lined_tokens))
+        (if test then piece (a_token.tok ∷ []) a_token.line ∷ pieces lined_tokens else token_joined a_token (pieces lined_tokens))
+    by_end true are_pieces = (omega arith, one_more (length lined_tokens) (pieces lined_tokens) are_pieces)
+    by_end false are_pieces = joined_within a_token (length lined_tokens) (pieces lined_tokens) are_pieces

@@ -12,24 +12,24 @@ use Rattle.rpl_parse.proofs.Both.{declared_sound, no_declaration}
 
 pub chain_row : Spells from_the_left differences []
 unfolding read_tree level chain steps
-chain_row = let h = sound 100 7 differences (got from_the_left 3 []) refl in h.spells
+chain_row = let read_soundly = sound 100 7 differences (got from_the_left 3 []) refl in read_soundly.spells
 
 pub logic_row : Spells or_last logical []
 unfolding read_tree level chain steps
-logic_row = let h = sound 100 7 logical (got or_last 4 []) refl in h.spells
+logic_row = let read_soundly = sound 100 7 logical (got or_last 4 []) refl in read_soundly.spells
 
 pub right_row : Spells tighter_right levels []
 unfolding read_tree level chain steps
-right_row = let h = sound 100 7 levels (got tighter_right 8 []) refl in h.spells
+right_row = let read_soundly = sound 100 7 levels (got tighter_right 8 []) refl in read_soundly.spells
 
 pub left_row : Spells tighter_left chain_tokens []
 unfolding read_tree level chain steps
-left_row = let h = sound 100 7 chain_tokens (got tighter_left 8 []) refl in h.spells
+left_row = let read_soundly = sound 100 7 chain_tokens (got tighter_left 8 []) refl in read_soundly.spells
 
 pub set_row : IsDeclaration (setting differences) (set_to from_the_left)
 unfolding read_tree level chain steps read_acts more_acts
 set_row = declared_sound (setting differences) (set_to from_the_left) refl
 
-pub twice_row : (d : Declared) → IsDeclaration (setting comparisons) d → ⊥
+pub twice_row : (declaration : Declared) → IsDeclaration (setting comparisons) declaration → ⊥
 unfolding read_tree level chain steps read_acts more_acts
-twice_row d h = no_declaration (setting comparisons) refl d h
+twice_row declaration is_declaration = no_declaration (setting comparisons) refl declaration is_declaration

@@ -6,103 +6,118 @@ use Rattle.rpl_parse.specs.declared.token.Span.{Span}
 use Rattle.rpl_parse.specs.Tokens.{Tok, text, Lined, lined, bytes_in}
 use Rattle.rpl_parse.specs.Scan.{number_of, scan, Scanned, all, bad_at, led_by, gap, token, bad, front, line_behind, tokens}
 
-pub number_grows : (n : ℕ) (bs : List ℕ) → n ≤ number_of n bs
-number_grows n [] = omega arith
-number_grows n (b ∷ bs) = let h = number_grows (10 * n + (b - 48)) bs in omega arith
+pub number_grows : (value_there : ℕ) (bytes : List ℕ) → value_there ≤ number_of value_there bytes
+number_grows value_there [] = omega arith
+number_grows value_there (byte ∷ bytes) = let grown = number_grows (10 * value_there + (byte - 48)) bytes in omega arith
 
-pub number_over : (i : ℕ) (ds : List ℕ) (v most n : ℕ) → i < length ds → most < 10 * v + (slice_index_or ds i 0 - 48)
-    → number_of v (drop i ds) ≡ n → most < n
-number_over i [] v most n lt over e = absurd (omega arith)
-number_over zero (d ∷ ds) v most n lt over e = let h = number_grows (10 * v + (d - 48)) ds in omega (arith, e)
-number_over (suc i) (d ∷ ds) v most n lt over e = number_over i ds v most n (omega arith) over e
+pub number_over : (place : ℕ) (digit_bytes : List ℕ) (value_before most value_there : ℕ) → place < length digit_bytes
+    → most < 10 * value_before + (slice_index_or digit_bytes place 0 - 48)
+    → number_of value_before (drop place digit_bytes) ≡ value_there → most < value_there
+number_over place [] value_before most value_there less over value_is = absurd (omega arith)
+number_over zero (digit ∷ digit_bytes) value_before most value_there less over value_is = let grown =
+    number_grows (10 * value_before + (digit - 48)) digit_bytes in omega (arith, value_is)
+number_over (suc place) (digit ∷ digit_bytes) value_before most value_there less over value_is =
+    number_over place digit_bytes value_before most value_there (omega arith) over value_is
 
-pub led_again : (xs ys : List Lined) (s : Scanned) → led_by xs (led_by ys s) ≡ led_by (xs ++ ys) s
-led_again xs ys (all us) = ap all (sym (append_assoc xs ys us))
-led_again xs ys (bad_at n) = refl
+pub led_again : (first_lined second_lined : List Lined) (scanned : Scanned)
+    → led_by first_lined (led_by second_lined scanned) ≡ led_by (first_lined ++ second_lined) scanned
+led_again first_lined second_lined (all further_lined) = ap all (sym (append_assoc first_lined second_lined further_lined))
+led_again first_lined second_lined (bad_at bad_line) = refl
 
-skipped : (k line : ℕ) (bs : List ℕ) → scan k line bs ≡ scan 0 line (drop k bs)
+skipped : (skipped_bytes line : ℕ) (bytes : List ℕ) → scan skipped_bytes line bytes ≡ scan 0 line (drop skipped_bytes bytes)
 unfolding scan
-skipped zero line bs = refl
-skipped (suc k) line [] = refl
-skipped (suc k) line (b ∷ bs) = skipped k line bs
+skipped zero line bytes = refl
+skipped (suc skipped_bytes) line [] = refl
+skipped (suc skipped_bytes) line (byte ∷ bytes) = skipped skipped_bytes line bytes
 
-behind_piece : (k line b : ℕ) (bs : List ℕ) → 0 < k → scan (k - 1) line bs ≡ scan 0 line (drop k (b ∷ bs))
-behind_piece zero line b bs lt = absurd (omega arith)
-behind_piece (suc k) line b bs lt = let s : suc k - 1 ≡ k = omega arith in rw s (skipped k line bs)
+behind_piece : (skipped_bytes line byte : ℕ) (bytes : List ℕ) → 0 < skipped_bytes
+    → scan (skipped_bytes - 1) line bytes ≡ scan 0 line (drop skipped_bytes (byte ∷ bytes))
+behind_piece zero line byte bytes some_skipped = absurd (omega arith)
+behind_piece (suc skipped_bytes) line byte bytes some_skipped = let same_count : suc skipped_bytes - 1 ≡ skipped_bytes = omega arith in
+    rw same_count (skipped skipped_bytes line bytes)
 
-none_dropped : (n : ℕ) (xs : List ℕ) → xs ≡ [] → drop n xs ≡ []
-none_dropped zero xs e = e
-none_dropped (suc n) xs e = rw e refl
+none_dropped : (count : ℕ) (bytes : List ℕ) → bytes ≡ [] → drop count bytes ≡ []
+none_dropped zero bytes is_empty = is_empty
+none_dropped (suc count) bytes is_empty = rw is_empty refl
 
-pub drop_more : (a b : ℕ) (xs : List ℕ) → drop b (drop a xs) ≡ drop (a + b) xs
-drop_more zero b xs = let e : 0 + b ≡ b = omega arith in rw e refl
-drop_more (suc a) b [] = none_dropped b _ (none_dropped (suc a) [] refl) ∙ sym (none_dropped (suc a + b) [] refl)
-drop_more (suc a) b (x ∷ xs) = let e : suc a + b ≡ suc (a + b) = omega arith in rw e (drop_more a b xs)
+pub drop_more : (first second : ℕ) (bytes : List ℕ) → drop second (drop first bytes) ≡ drop (first + second) bytes
+drop_more zero second bytes = let same_sum : 0 + second ≡ second = omega arith in rw same_sum refl
+drop_more (suc first) second [] = none_dropped second _ (none_dropped (suc first) [] refl) ∙ sym (none_dropped (suc first + second) [] refl)
+drop_more (suc first) second (byte ∷ bytes) = let same_sum : suc first + second ≡ suc (first + second) = omega arith in
+    rw same_sum (drop_more first second bytes)
 
 module _ (line : ℕ) where
-  pub scan_spent : (bs : List ℕ) → length bs ≡ 0 → scan 0 line bs ≡ all []
+  pub scan_spent : (bytes : List ℕ) → length bytes ≡ 0 → scan 0 line bytes ≡ all []
   unfolding scan
-  scan_spent [] e = refl
-  scan_spent (b ∷ bs) e = absurd (omega arith)
+  scan_spent [] front_is = refl
+  scan_spent (byte ∷ bytes) front_is = absurd (omega arith)
 
-  pub scan_bad : (bs : List ℕ) → front bs ≡ bad → 0 < length bs → scan 0 line bs ≡ bad_at line
+  pub scan_bad : (bytes : List ℕ) → front bytes ≡ bad → 0 < length bytes → scan 0 line bytes ≡ bad_at line
   unfolding scan
-  scan_bad [] e pos = absurd (omega arith)
-  scan_bad (b ∷ bs) e pos = rw e refl
+  scan_bad [] front_is pos = absurd (omega arith)
+  scan_bad (byte ∷ bytes) front_is pos = rw front_is refl
 
-  pub scan_gap : (bs : List ℕ) (k : ℕ) → front bs ≡ gap k → 0 < k → 0 < length bs → scan 0 line bs ≡ scan 0 (line_behind line bs) (drop k bs)
+  pub scan_gap : (bytes : List ℕ) (size_there : ℕ) → front bytes ≡ gap size_there → 0 < size_there → 0 < length bytes
+      → scan 0 line bytes ≡ scan 0 (line_behind line bytes) (drop size_there bytes)
   unfolding scan
-  scan_gap [] k e lt pos = absurd (omega arith)
-  scan_gap (b ∷ bs) k e lt pos = rw e (behind_piece k (line_behind line (b ∷ bs)) b bs lt)
+  scan_gap [] size_there front_is some_size pos = absurd (omega arith)
+  scan_gap (byte ∷ bytes) size_there front_is some_size pos =
+      rw front_is (behind_piece size_there (line_behind line (byte ∷ bytes)) byte bytes some_size)
 
-  pub scan_token : (bs : List ℕ) (t : Tok) (k : ℕ) → front bs ≡ token t k → 0 < k → 0 < length bs
-      → scan 0 line bs ≡ led_by (lined t line ∷ []) (scan 0 line (drop k bs))
+  pub scan_token : (bytes : List ℕ) (a_token : Tok) (size_there : ℕ) → front bytes ≡ token a_token size_there → 0 < size_there → 0 < length bytes
+      → scan 0 line bytes ≡ led_by (lined a_token line ∷ []) (scan 0 line (drop size_there bytes))
   unfolding scan
-  scan_token [] t k e lt pos = absurd (omega arith)
-  scan_token (b ∷ bs) t k e lt pos = rw e (ap (led_by (lined t line ∷ [])) (behind_piece k line b bs lt))
+  scan_token [] a_token size_there front_is some_size pos = absurd (omega arith)
+  scan_token (byte ∷ bytes) a_token size_there front_is some_size pos =
+      rw front_is (ap (led_by (lined a_token line ∷ [])) (behind_piece size_there line byte bytes some_size))
 
 -- the bytes of a string, behind its quote
-pub quoted_there : (at n : ℕ) (source : List ℕ) (s : Span) → s.start ≡ at + 1 → s.end ≡ at + 1 + n
-    → take n (drop 1 (drop at source)) ≡ bytes_in source s
-quoted_there at n source s e f =
-    let g : s.end - s.start ≡ n = omega (arith, e, f) in
-    rw (g, e, drop_more at 1 source) refl
+pub quoted_there : (at size_there : ℕ) (source : List ℕ) (span : Span) → span.start ≡ at + 1 → span.end ≡ at + 1 + size_there
+    → take size_there (drop 1 (drop at source)) ≡ bytes_in source span
+quoted_there at size_there source span starts ends =
+    let same_size : span.end - span.start ≡ size_there = omega (arith, starts, ends) in
+    rw (same_size, starts, drop_more at 1 source) refl
 
 -- One turn, behind some tokens, at a place of the text.
-module _ (source : List ℕ) (ts : List Lined) (line at : ℕ) (same : led_by ts (scan 0 line (drop at source)) ≡ tokens source) where
+module _ (source : List ℕ) (lined_tokens : List Lined) (line at : ℕ) (same : led_by lined_tokens (scan 0 line (drop at source)) ≡ tokens source) where
   left : at < length source → 0 < length (drop at source)
-  left lt = let l = length-drop at source in omega (arith, l)
+  left some_left = let dropped = length-drop at source in omega (arith, dropped)
 
-  pub all_read : length source ≤ at → tokens source ≡ all ts
-  all_read le =
-      let l = length-drop at source in
-      let spent = scan_spent line (drop at source) (omega (arith, l)) in
-      sym same ∙ ap (led_by ts) spent ∙ ap all (append-nil ts)
+  pub all_read : length source ≤ at → tokens source ≡ all lined_tokens
+  all_read none_left =
+      let dropped = length-drop at source in
+      let spent = scan_spent line (drop at source) (omega (arith, dropped)) in
+      sym same ∙ ap (led_by lined_tokens) spent ∙ ap all (append-nil lined_tokens)
 
   pub bad_read : front (drop at source) ≡ bad → at < length source → tokens source ≡ bad_at line
-  bad_read e lt = sym same ∙ ap (led_by ts) (scan_bad line (drop at source) e (left lt))
+  bad_read front_is some_left = sym same ∙ ap (led_by lined_tokens) (scan_bad line (drop at source) front_is (left some_left))
 
-  pub gap_read : (n : ℕ) → front (drop at source) ≡ gap n → 0 < n → at < length source
-      → led_by ts (scan 0 (line_behind line (drop at source)) (drop (at + n) source)) ≡ tokens source
-  gap_read n e pos lt =
-      ap (λ bs. led_by ts (scan 0 (line_behind line (drop at source)) bs)) (sym (drop_more at n source))
-      ∙ ap (led_by ts) (sym (scan_gap line (drop at source) n e pos (left lt)))
+  pub gap_read : (size_there : ℕ) → front (drop at source) ≡ gap size_there → 0 < size_there → at < length source
+      → led_by lined_tokens (scan 0 (line_behind line (drop at source)) (drop (at + size_there) source)) ≡ tokens source
+  gap_read size_there front_is pos some_left =
+      ap (λ source_bytes. led_by lined_tokens (scan 0 (line_behind line (drop at source)) source_bytes)) (sym (drop_more at size_there source))
+      ∙ ap (led_by lined_tokens) (sym (scan_gap line (drop at source) size_there front_is pos (left some_left)))
       ∙ same
 
-  pub token_read : (t : Tok) (n : ℕ) → front (drop at source) ≡ token t n → 0 < n → at < length source
-      → led_by (ts ++ lined t line ∷ []) (scan 0 line (drop (at + n) source)) ≡ tokens source
-  token_read t n e pos lt =
-      ap (λ bs. led_by (ts ++ lined t line ∷ []) (scan 0 line bs)) (sym (drop_more at n source))
-      ∙ sym (led_again ts (lined t line ∷ []) (scan 0 line (drop n (drop at source))))
-      ∙ ap (led_by ts) (sym (scan_token line (drop at source) t n e pos (left lt)))
+  pub token_read : (a_token : Tok) (size_there : ℕ) → front (drop at source) ≡ token a_token size_there → 0 < size_there → at < length source
+      → led_by (lined_tokens ++ lined a_token line ∷ []) (scan 0 line (drop (at + size_there) source)) ≡ tokens source
+  token_read a_token size_there front_is pos some_left =
+      ap (λ source_bytes. led_by (lined_tokens ++ lined a_token line ∷ []) (scan 0 line source_bytes)) (sym (drop_more at size_there source))
+      ∙ sym (led_again lined_tokens (lined a_token line ∷ []) (scan 0 line (drop size_there (drop at source))))
+      ∙ ap (led_by lined_tokens) (sym (scan_token line (drop at source) a_token size_there front_is pos (left some_left)))
       ∙ same
 
 -- a string that is found
-pub quoted_found : (at n : ℕ) (source bytes : List ℕ) (s : Span) → bytes ≡ drop at source → at < length source → s.start ≡ at + 1 → s.end ≡ at + 1 + n
-    → token (text (take n (drop 1 bytes))) (n + 2) ≡ front bytes → n + 2 ≤ length bytes
-    → (front (drop at source) ≡ token (text (bytes_in source s)) (n + 2)) × (0 < n + 2) × (at + (n + 2) ≤ length source)
-quoted_found at n source bytes s e lt f g value within =
-    let v = subst (λ l. token (text (take n (drop 1 l))) (n + 2) ≡ front l) e value in
-    let w = subst (λ l. n + 2 ≤ length l) e within in
-    let l = length-drop at source in
-    (sym v ∙ ap (λ bs. token (text bs) (n + 2)) (quoted_there at n source s f g), omega arith, omega (arith, w, l))
+pub quoted_found : (at size_there : ℕ) (source bytes : List ℕ) (span : Span) → bytes ≡ drop at source → at < length source → span.start ≡ at + 1
+    → span.end ≡ at + 1 + size_there
+    → token (text (take size_there (drop 1 bytes))) (size_there + 2) ≡ front bytes → size_there + 2 ≤ length bytes
+    → (front (drop at source) ≡ token (text (bytes_in source span)) (size_there + 2)) × (0 < size_there + 2) × (at + (size_there + 2) ≤ length source)
+quoted_found at size_there source bytes span bytes_are some_left starts ends value within =
+    let token_there = subst (λ dropped. token (text (take size_there (drop 1 dropped))) (size_there + 2) ≡ front dropped) bytes_are value in
+    let within_there = subst (λ dropped. size_there + 2 ≤ length dropped) bytes_are within in
+    let dropped = length-drop at source in (
+      sym token_there
+          ∙ ap (λ source_bytes. token (text source_bytes) (size_there + 2)) (quoted_there at size_there source span starts ends),
+      omega arith,
+      omega (arith, within_there, dropped),
+    )

@@ -20,372 +20,443 @@ use Rattle.rpl_parse.specs.Reading.{items, some_items, args, named, braces, loop
 use Rattle.rpl_parse.specs.Reading.{turn, if_word, if_loose, operator, chain, guarded, if_found, prefix_of, level, read_tree, turns_of, trees_of}
 use Rattle.rpl_parse.proofs.Marks.{same_mark}
 
-pub some_one : {A : Type 0} (x y : A) → Some x ≡ Some y → x ≡ y
-some_one x y e = cc e
+pub some_one : {A : Type 0} (this other : A) → Some this ≡ Some other → this ≡ other
+some_one this other alike = cc alike
 
-pub and_then : {A B : Type 0} (o : Option A) (f : A → Option B) (y : B) → (o >>= f) ≡ Some y → (x : A) × (o ≡ Some x) × (f x ≡ Some y)
-and_then None f y e = absurd (cc e)
-and_then (Some x) f y e = (x, refl, e)
+pub and_then : {A B : Type 0} (maybe : Option A) (go_on : A → Option B) (given : B) → (maybe >>= go_on) ≡ Some given → (x : A) × (maybe ≡ Some x)
+    × (go_on x ≡ Some given)
+and_then None go_on given reads = absurd (cc reads)
+and_then (Some this) go_on given reads = (this, refl, reads)
 
-pub found : {A B P : Type 0} (o : Option A) (b : Option B) (f : A → Option B) (y : B) → if_found o b f ≡ Some y → (o ≡ None → b ≡ Some y → P)
-    → ((x : A) → o ≡ Some x → f x ≡ Some y → P) → P
-found None b f y e stop go = stop refl e
-found (Some x) b f y e stop go = go x refl e
+pub found : {A B P : Type 0} (maybe : Option A) (otherwise : Option B) (go_on : A → Option B) (given : B)
+    → if_found maybe otherwise go_on ≡ Some given → (maybe ≡ None → otherwise ≡ Some given → P)
+    → ((x : A) → maybe ≡ Some x → go_on x ≡ Some given → P) → P
+found None otherwise go_on given reads stop go = stop refl reads
+found (Some this) otherwise go_on given reads stop go = go this refl reads
 
-guard_true : (b : Bool) (r : Read) (y : Got) → guarded b r ≡ Some y → (b ≡ true) × (r ≡ Some y)
-guard_true true r y e = (refl, e)
-guard_true false r y e = absurd (cc e)
+guard_true : (test : Bool) (reading : Read) (given_read : Got) → guarded test reading ≡ Some given_read → (test ≡ true) × (reading ≡ Some given_read)
+guard_true true reading given_read reads = (refl, reads)
+guard_true false reading given_read reads = absurd (cc reads)
 
-kept_one : (b : Bool) (vs us : List Tok) → kept b vs ≡ Some us → (b ≡ true) × (vs ≡ us)
-kept_one true vs us e = (refl, some_one vs us e)
-kept_one false vs us e = absurd (cc e)
+kept_one : (test : Bool) (left_over further : List Tok) → kept test left_over ≡ Some further → (test ≡ true) × (left_over ≡ further)
+kept_one true left_over further reads = (refl, some_one left_over further reads)
+kept_one false left_over further reads = absurd (cc reads)
 
-pub behind_sound : (m : Mark) (ts us : List Tok) → behind m ts ≡ Some us → ts ≡ mark m ∷ us
-behind_sound m [] us e = absurd (cc e)
-behind_sound m (mark n ∷ vs) us e =
-    let k = kept_one (same m n) vs us e in
-    let f = same_mark m n k.0 in rw (f, k.1) refl
-behind_sound m (word n ∷ vs) us e = absurd (cc e)
-behind_sound m (digits z ∷ vs) us e = absurd (cc e)
-behind_sound m (text s ∷ vs) us e = absurd (cc e)
+pub behind_sound : (a_mark : Mark) (tokens_here further : List Tok) → behind a_mark tokens_here ≡ Some further → tokens_here ≡ mark a_mark ∷ further
+behind_sound a_mark [] further reads = absurd (cc reads)
+behind_sound a_mark (mark other_mark ∷ left_over) further reads =
+    let kept_so = kept_one (same a_mark other_mark) left_over further reads in
+    let marks_are = same_mark a_mark other_mark kept_so.0 in rw (marks_are, kept_so.1) refl
+behind_sound a_mark (word its_name ∷ left_over) further reads = absurd (cc reads)
+behind_sound a_mark (digits its_number ∷ left_over) further reads = absurd (cc reads)
+behind_sound a_mark (text its_text ∷ left_over) further reads = absurd (cc reads)
 
-pub name_sound : (ts : List Tok) (x : Named) → behind_name ts ≡ Some x → ts ≡ word x.called ∷ x.next
-name_sound [] x e = absurd (cc e)
-name_sound (mark n ∷ vs) x e = absurd (cc e)
-name_sound (word n ∷ vs) x e = let f : record { called = n; next = vs } ≡ x =
-    some_one _ x e in subst (λ (y : Named). word n ∷ vs ≡ word y.called ∷ y.next) f refl
-name_sound (digits z ∷ vs) x e = absurd (cc e)
-name_sound (text s ∷ vs) x e = absurd (cc e)
+pub name_sound : (tokens_here : List Tok) (named_so : Named) → behind_name tokens_here ≡ Some named_so
+    → tokens_here ≡ word named_so.called ∷ named_so.next
+name_sound [] named_so reads = absurd (cc reads)
+name_sound (mark other_mark ∷ left_over) named_so reads = absurd (cc reads)
+name_sound (word its_name ∷ left_over) named_so reads = let named_is : record { called = its_name; next = left_over } ≡ named_so =
+    some_one _ named_so reads in subst (λ (any_name : Named). word its_name ∷ left_over ≡ word any_name.called ∷ any_name.next) named_is refl
+name_sound (digits its_number ∷ left_over) named_so reads = absurd (cc reads)
+name_sound (text its_text ∷ left_over) named_so reads = absurd (cc reads)
 
 -- the mark of a word that stands between two expressions
-pub record Operates (m : Mark) (w : TwoWord) : Type 0 where
-  pub is : m ≡ mark_of w
-  pub between : is_operator w ≡ true
+pub record Operates (a_mark : Mark) (its_word : TwoWord) : Type 0 where
+  pub is : a_mark ≡ mark_of its_word
+  pub between : is_operator its_word ≡ true
 
-operates : (v w : TwoWord) → Some v ≡ Some w → is_operator v ≡ true → Operates (mark_of v) w
-operates v w e f = subst (Operates (mark_of v)) (some_one v w e) (record { is = refl; between = f })
+operates : (other_word its_word : TwoWord) → Some other_word ≡ Some its_word → is_operator other_word ≡ true → Operates (mark_of other_word) its_word
+operates other_word its_word reads holds =
+    subst (Operates (mark_of other_word)) (some_one other_word its_word reads) (record { is = refl; between = holds })
 
-operator_sound : (m : Mark) (w : TwoWord) → operator m ≡ Some w → Operates m w
-operator_sound M.Or w e = operates T.Or w e refl
-operator_sound M.And w e = operates T.And w e refl
-operator_sound M.Equal w e = operates T.Equal w e refl
-operator_sound M.Unequal w e = operates T.Unequal w e refl
-operator_sound M.Less w e = operates T.Less w e refl
-operator_sound M.LessEqual w e = operates T.LessEqual w e refl
-operator_sound M.Greater w e = operates T.Greater w e refl
-operator_sound M.GreaterEqual w e = operates T.GreaterEqual w e refl
-operator_sound M.Plus w e = operates T.Plus w e refl
-operator_sound M.Minus w e = operates T.Minus w e refl
-operator_sound M.Times w e = operates T.Times w e refl
-operator_sound M.Divide w e = operates T.Divide w e refl
-operator_sound _ w e = absurd (cc e)
+operator_sound : (a_mark : Mark) (its_word : TwoWord) → operator a_mark ≡ Some its_word → Operates a_mark its_word
+operator_sound M.Or its_word reads = operates T.Or its_word reads refl
+operator_sound M.And its_word reads = operates T.And its_word reads refl
+operator_sound M.Equal its_word reads = operates T.Equal its_word reads refl
+operator_sound M.Unequal its_word reads = operates T.Unequal its_word reads refl
+operator_sound M.Less its_word reads = operates T.Less its_word reads refl
+operator_sound M.LessEqual its_word reads = operates T.LessEqual its_word reads refl
+operator_sound M.Greater its_word reads = operates T.Greater its_word reads refl
+operator_sound M.GreaterEqual its_word reads = operates T.GreaterEqual its_word reads refl
+operator_sound M.Plus its_word reads = operates T.Plus its_word reads refl
+operator_sound M.Minus its_word reads = operates T.Minus its_word reads refl
+operator_sound M.Times its_word reads = operates T.Times its_word reads refl
+operator_sound M.Divide its_word reads = operates T.Divide its_word reads refl
+operator_sound _ its_word reads = absurd (cc reads)
 
-loose_one : (b : Bool) (w : TwoWord) (ts : List Tok) (t : Turn) → if_loose b w ts ≡ Some t → (b ≡ true) × (record { op = w; more = ts } ≡ t)
-loose_one true w ts t e = (refl, some_one _ t e)
-loose_one false w ts t e = absurd (cc e)
+loose_one : (test : Bool) (its_word : TwoWord) (tokens_here : List Tok) (a_turn : Turn) → if_loose test its_word tokens_here ≡ Some a_turn
+    → (test ≡ true) × (record { op = its_word; more = tokens_here } ≡ a_turn)
+loose_one true its_word tokens_here a_turn reads = (refl, some_one _ a_turn reads)
+loose_one false its_word tokens_here a_turn reads = absurd (cc reads)
 
-pub record IsTurn (k : ℕ) (ts : List Tok) (t : Turn) : Type 0 where
-  pub front : ts ≡ mark (mark_of t.op) ∷ t.more
-  pub level : looseness_of t.op ≡ k
-  pub between : is_operator t.op ≡ true
+pub record IsTurn (loose : ℕ) (tokens_here : List Tok) (a_turn : Turn) : Type 0 where
+  pub front : tokens_here ≡ mark (mark_of a_turn.op) ∷ a_turn.more
+  pub level : looseness_of a_turn.op ≡ loose
+  pub between : is_operator a_turn.op ≡ true
 
-word_sound : (k : ℕ) (m : Mark) (o : Option TwoWord) (ts : List Tok) (t : Turn) → operator m ≡ o → if_word k o ts ≡ Some t → IsTurn k (mark m ∷ ts) t
-word_sound k m None ts t o e = absurd (cc e)
-word_sound k m (Some w) ts t o e =
-    let p = loose_one (looseness_of w == k) w ts t e in
-    let f : looseness_of w ≡ k = grind (arith, p.0) in
-    let s = operator_sound m w o in
-    subst (IsTurn k (mark m ∷ ts)) p.1 (record { front = ap (λ n. mark n ∷ ts) s.is; level = f; between = s.between })
+word_sound : (loose : ℕ) (a_mark : Mark) (reads_word : Option TwoWord) (tokens_here : List Tok) (a_turn : Turn) → operator a_mark ≡ reads_word
+    → if_word loose reads_word tokens_here ≡ Some a_turn → IsTurn loose (mark a_mark ∷ tokens_here) a_turn
+word_sound loose a_mark None tokens_here a_turn reads_word reads = absurd (cc reads)
+word_sound loose a_mark (Some its_word) tokens_here a_turn reads_word reads =
+    let loose_so = loose_one (looseness_of its_word == loose) its_word tokens_here a_turn reads in
+    let is_level : looseness_of its_word ≡ loose = grind (arith, loose_so.0) in
+    let is_operator_there = operator_sound a_mark its_word reads_word in
+    subst (IsTurn loose (mark a_mark ∷ tokens_here)) loose_so.1
+    (record { front = ap (λ n. mark n ∷ tokens_here) is_operator_there.is; level = is_level; between = is_operator_there.between })
 
-pub turn_sound : (k : ℕ) (ts : List Tok) (t : Turn) → turn k ts ≡ Some t → IsTurn k ts t
-turn_sound k [] t e = absurd (cc e)
-turn_sound k (mark m ∷ ts) t e = word_sound k m (operator m) ts t refl e
-turn_sound k (word n ∷ ts) t e = absurd (cc e)
-turn_sound k (digits z ∷ ts) t e = absurd (cc e)
-turn_sound k (text s ∷ ts) t e = absurd (cc e)
+pub turn_sound : (loose : ℕ) (tokens_here : List Tok) (a_turn : Turn) → turn loose tokens_here ≡ Some a_turn → IsTurn loose tokens_here a_turn
+turn_sound loose [] a_turn reads = absurd (cc reads)
+turn_sound loose (mark other_mark ∷ tokens_here) a_turn reads = word_sound loose other_mark (operator other_mark) tokens_here a_turn refl reads
+turn_sound loose (word its_name ∷ tokens_here) a_turn reads = absurd (cc reads)
+turn_sound loose (digits its_number ∷ tokens_here) a_turn reads = absurd (cc reads)
+turn_sound loose (text its_text ∷ tokens_here) a_turn reads = absurd (cc reads)
 
 -- what a reading at a level, at most d deep, gives
-pub record Is (d k : ℕ) (ts : List Tok) (g : Got) : Type 0 where
-  pub spells : Spells g.tree ts g.rest
-  pub loose : looseness g.tree ≤ k
-  pub deep : g.deep ≡ depth g.tree
-  pub within : g.deep ≤ d
+pub record Is (deepest bound : ℕ) (tokens_here : List Tok) (so_read : Got) : Type 0 where
+  pub spells : Spells so_read.tree tokens_here so_read.rest
+  pub loose : looseness so_read.tree ≤ bound
+  pub deep : so_read.deep ≡ depth so_read.tree
+  pub within : so_read.deep ≤ deepest
 
-pub record IsUpTo (d : ℕ) (m : Mark) (ts : List Tok) (g : Got) : Type 0 where
-  pub spells : (Spells g.tree ⨾ sign m) ts g.rest
-  pub deep : g.deep ≡ depth g.tree
-  pub within : g.deep ≤ d
+pub record IsUpTo (deepest : ℕ) (a_mark : Mark) (tokens_here : List Tok) (so_read : Got) : Type 0 where
+  pub spells : (Spells so_read.tree ⨾ sign a_mark) tokens_here so_read.rest
+  pub deep : so_read.deep ≡ depth so_read.tree
+  pub within : so_read.deep ≤ deepest
 
-pub record IsMore (d : ℕ) (a b : Many) : Type 0 where
+pub record IsMore (deepest : ℕ) (so_far all_items : Many) : Type 0 where
   others : List Tree
-  trees : b.trees ≡ a.trees ++ others
-  pub spells : SpellsMore (trees_of others) a.left b.left
-  most : b.most ≡ max a.most (depths (trees_of others))
-  pub within : a.most ≤ d → b.most ≤ d
+  trees : all_items.trees ≡ so_far.trees ++ others
+  pub spells : SpellsMore (trees_of others) so_far.left all_items.left
+  most : all_items.most ≡ max so_far.most (depths (trees_of others))
+  pub within : so_far.most ≤ deepest → all_items.most ≤ deepest
 
-pub record IsList (d : ℕ) (ts : List Tok) (b : Many) : Type 0 where
+pub record IsList (deepest : ℕ) (tokens_here : List Tok) (all_items : Many) : Type 0 where
   first : Tree
   others : List Tree
-  trees : b.trees ≡ first ∷ others
-  pub spells : (Spells first ⨾ SpellsMore (trees_of others)) ts b.left
-  most : b.most ≡ max (depth first) (depths (trees_of others))
-  pub within : b.most ≤ d
+  trees : all_items.trees ≡ first ∷ others
+  pub spells : (Spells first ⨾ SpellsMore (trees_of others)) tokens_here all_items.left
+  most : all_items.most ≡ max (depth first) (depths (trees_of others))
+  pub within : all_items.most ≤ deepest
 
-pub max_three : (a b c : ℕ) → max (max a b) c ≡ max a (max b c)
-max_three a b c = omega arith
+pub max_three : (first second third : ℕ) → max (max first second) third ≡ max first (max second third)
+max_three first second third = omega arith
 
-pub two_deep : {a b x y : ℕ} → a ≡ x → b ≡ y → max a b + 1 ≡ max x y + 1
-two_deep e f = rw (e, f) refl
+pub two_deep : {first second first_depth second_depth : ℕ} → first ≡ first_depth → second ≡ second_depth
+    → max first second + 1 ≡ max first_depth second_depth + 1
+two_deep first_is second_is = rw (first_is, second_is) refl
 
-pub three_deep : {a b c x y z : ℕ} → a ≡ x → b ≡ y → c ≡ z → max (max a b) c + 1 ≡ max (max x y) z + 1
-three_deep e f g = rw (e, f, g) refl
+pub three_deep : {first second third first_depth second_depth third_depth : ℕ} → first ≡ first_depth → second ≡ second_depth → third ≡ third_depth
+    → max (max first second) third + 1 ≡ max (max first_depth second_depth) third_depth + 1
+three_deep first_is second_is third_is = rw (first_is, second_is, third_is) refl
 
-left_at : (w : TwoWord) (k : ℕ) (n : ℕ) (l : ℕ) → looseness_of w ≡ k → l ≤ k → (k ≡ 4 → 4 * suc n + l ≤ 7) → l ≤ looseness_on_left w
-left_at T.Equal k n l e le f = let g = f (sym e) in omega arith
-left_at T.Unequal k n l e le f = let g = f (sym e) in omega arith
-left_at T.Less k n l e le f = let g = f (sym e) in omega arith
-left_at T.LessEqual k n l e le f = let g = f (sym e) in omega arith
-left_at T.Greater k n l e le f = let g = f (sym e) in omega arith
-left_at T.GreaterEqual k n l e le f = let g = f (sym e) in omega arith
-left_at _ k n l e le f = omega arith
+left_at : (its_word : TwoWord) (loose : ℕ) (turns : ℕ) (left_loose : ℕ) → looseness_of its_word ≡ loose → left_loose ≤ loose
+    → (loose ≡ 4 → 4 * suc turns + left_loose ≤ 7) → left_loose ≤ looseness_on_left its_word
+left_at T.Equal loose turns left_loose is_level left_tight once = let once_so = once (sym is_level) in omega arith
+left_at T.Unequal loose turns left_loose is_level left_tight once = let once_so = once (sym is_level) in omega arith
+left_at T.Less loose turns left_loose is_level left_tight once = let once_so = once (sym is_level) in omega arith
+left_at T.LessEqual loose turns left_loose is_level left_tight once = let once_so = once (sym is_level) in omega arith
+left_at T.Greater loose turns left_loose is_level left_tight once = let once_so = once (sym is_level) in omega arith
+left_at T.GreaterEqual loose turns left_loose is_level left_tight once = let once_so = once (sym is_level) in omega arith
+left_at _ loose turns left_loose is_level left_tight once = omega arith
 
 -- a part in one of two forms
-pub first_form : (b : Bool) (p q : Part) (ts rest : List Tok) → b ≡ true → p ts rest → form b p q ts rest
-first_form true p q ts rest e h = h
-first_form false p q ts rest e h = absurd (cc e)
+pub first_form : (test : Bool) (first_part second_part : Part) (tokens_here rest : List Tok) → test ≡ true → first_part tokens_here rest
+    → form test first_part second_part tokens_here rest
+first_form true first_part second_part tokens_here rest is_form spells = spells
+first_form false first_part second_part tokens_here rest is_form spells = absurd (cc is_form)
 
-pub second_form : (b : Bool) (p q : Part) (ts rest : List Tok) → b ≡ false → q ts rest → form b p q ts rest
-second_form true p q ts rest e h = absurd (cc e)
-second_form false p q ts rest e h = h
+pub second_form : (test : Bool) (first_part second_part : Part) (tokens_here rest : List Tok) → test ≡ false → second_part tokens_here rest
+    → form test first_part second_part tokens_here rest
+second_form true first_part second_part tokens_here rest is_form spells = absurd (cc is_form)
+second_form false first_part second_part tokens_here rest is_form spells = spells
 
 -- a name, and a mark behind it
-pub name_before_sound : (m : Mark) (ts : List Tok) (x : Named) → name_before m ts ≡ Some x
-    → (mid : List Tok) × (ts ≡ word x.called ∷ mid) × (mid ≡ mark m ∷ x.next)
-name_before_sound m ts x e =
-    let p = and_then (behind_name ts) _ x e in
-    let q = and_then (behind m p.0.next) _ x p.2 in
-    let f = some_one _ x q.2 in
-    subst (λ (y : Named). (mid : List Tok) × (ts ≡ word y.called ∷ mid) × (mid ≡ mark m ∷ y.next)) f
-    (p.0.next, name_sound ts p.0 p.1, behind_sound m p.0.next q.0 q.1)
+pub name_before_sound : (a_mark : Mark) (tokens_here : List Tok) (named_so : Named) → name_before a_mark tokens_here ≡ Some named_so
+    → (middle : List Tok) × (tokens_here ≡ word named_so.called ∷ middle) × (middle ≡ mark a_mark ∷ named_so.next)
+name_before_sound a_mark tokens_here named_so reads =
+    let name_so = and_then (behind_name tokens_here) _ named_so reads in
+    let mark_so = and_then (behind a_mark name_so.0.next) _ named_so name_so.2 in
+    let named_is = some_one _ named_so mark_so.2 in
+    subst (λ (any_name : Named). (middle : List Tok) × (tokens_here ≡ word any_name.called ∷ middle) × (middle ≡ mark a_mark ∷ any_name.next))
+    named_is
+    (name_so.0.next, name_sound tokens_here name_so.0 name_so.1, behind_sound a_mark name_so.0.next mark_so.0 mark_so.1)
 
 -- a word that stands before an expression of its level
-pub record IsPrefix (k : ℕ) (w : OneWord) : Type 0 where
-  pub level : looseness_of_one w ≡ k
-  pub before : is_prefix w ≡ true
+pub record IsPrefix (loose : ℕ) (its_word : OneWord) : Type 0 where
+  pub level : looseness_of_one its_word ≡ loose
+  pub before : is_prefix its_word ≡ true
 
-prefix_is : (a b : Bool) (k : ℕ) (w : OneWord) → (a ≡ true → k ≡ 1) → (b ≡ true → k ≡ 5)
-    → (if a then Some O.Minus else (if b then Some O.Not else None)) ≡ Some w → IsPrefix k w
-prefix_is true b k w f g e = subst (IsPrefix k) (some_one O.Minus w e) (record { level = sym (f refl); before = refl })
-prefix_is false true k w f g e = subst (IsPrefix k) (some_one O.Not w e) (record { level = sym (g refl); before = refl })
-prefix_is false false k w f g e = absurd (cc e)
+prefix_is : (is_minus is_not : Bool) (loose : ℕ) (its_word : OneWord) → (is_minus ≡ true → loose ≡ 1) → (is_not ≡ true → loose ≡ 5)
+    → (if is_minus then Some O.Minus else (if is_not then Some O.Not else None)) ≡ Some its_word → IsPrefix loose its_word
+prefix_is true is_not loose its_word minus_level not_level reads =
+    subst (IsPrefix loose) (some_one O.Minus its_word reads) (record { level = sym (minus_level refl); before = refl })
+prefix_is false true loose its_word minus_level not_level reads =
+    subst (IsPrefix loose) (some_one O.Not its_word reads) (record { level = sym (not_level refl); before = refl })
+prefix_is false false loose its_word minus_level not_level reads = absurd (cc reads)
 
-pub prefix_sound : (k : ℕ) (w : OneWord) → prefix_of k ≡ Some w → IsPrefix k w
-prefix_sound k w e = prefix_is (k == 1) (k == 5) k w (λ f. grind (arith, f)) (λ f. grind (arith, f)) e
+pub prefix_sound : (loose : ℕ) (its_word : OneWord) → prefix_of loose ≡ Some its_word → IsPrefix loose its_word
+prefix_sound loose its_word reads =
+    prefix_is (loose == 1) (loose == 5) loose its_word (λ minus_level. grind (arith, minus_level)) (λ minus_level. grind (arith, minus_level)) reads
 
-module _ (inner : ℕ → List Tok → Read) (d : ℕ) (ih : (k : ℕ) (ts : List Tok) (g : Got) → inner k ts ≡ Some g → Is d k ts g) where
-  up_to_sound : (m : Mark) (ts : List Tok) (g : Got) → up_to inner d m ts ≡ Some g → IsUpTo d m ts g
-  up_to_sound m ts g e =
-      let p = and_then (inner 7 ts) (closed_by_mark m) g e in
-      let q = and_then (behind m p.0.rest) (λ us. Some (got p.0.tree p.0.deep us)) g p.2 in
-      let h = ih 7 ts p.0 p.1 in
-      subst (IsUpTo d m ts) (some_one _ g q.2)
-      (record { spells = (p.0.rest, h.spells, behind_sound m p.0.rest q.0 q.1); deep = h.deep; within = h.within })
+module _ (inner : ℕ → List Tok → Read) (deepest : ℕ)
+    (ih : (bound : ℕ) (tokens_here : List Tok) (so_read : Got) → inner bound tokens_here ≡ Some so_read → Is deepest bound tokens_here so_read) where
+  up_to_sound : (a_mark : Mark) (tokens_here : List Tok) (so_read : Got) → up_to inner deepest a_mark tokens_here ≡ Some so_read
+      → IsUpTo deepest a_mark tokens_here so_read
+  up_to_sound a_mark tokens_here so_read reads =
+      let read_first = and_then (inner 7 tokens_here) (closed_by_mark a_mark) so_read reads in
+      let mark_so =
+      and_then (behind a_mark read_first.0.rest) (λ further. Some (got read_first.0.tree read_first.0.deep further)) so_read read_first.2 in
+      let sound_there = ih 7 tokens_here read_first.0 read_first.1 in
+      subst (IsUpTo deepest a_mark tokens_here) (some_one _ so_read mark_so.2)
+      (record {
+        spells = (read_first.0.rest, sound_there.spells, behind_sound a_mark read_first.0.rest mark_so.0 mark_so.1);
+        deep = sound_there.deep;
+        within = sound_there.within;
+      })
 
-  items_sound : (n : ℕ) (a b : Many) → items inner d n a ≡ Some b → IsMore d a b
+  items_sound : (turns : ℕ) (so_far all_items : Many) → items inner deepest turns so_far ≡ Some all_items → IsMore deepest so_far all_items
   unfolding items
-  items_sound zero a b e =
-      subst (IsMore d a) (some_one a b e) (record {
+  items_sound zero so_far all_items reads =
+      subst (IsMore deepest so_far) (some_one so_far all_items reads) (record {
         others = [];
-        trees = sym (append-nil a.trees);
+        trees = sym (append-nil so_far.trees);
         spells = refl;
         most = omega arith;
-        within = λ w. w;
+        within = λ few_there. few_there;
       })
-  items_sound (suc n) a b e = found (behind M.Comma a.left) (Some a) _ b e
-      (λ none same. subst (IsMore d a) (some_one a b same)
-      (record { others = []; trees = sym (append-nil a.trees); spells = refl; most = omega arith; within = λ w. w }))
-      (λ us is go.
-      let p = and_then (inner 7 us) _ b go in
-      let g = p.0 in
-      let h = ih 7 us g p.1 in
-      let r = items_sound n (many (a.trees ++ g.tree ∷ []) (max a.most g.deep) g.rest) b p.2 in
+  items_sound (suc turns) so_far all_items reads = found (behind M.Comma so_far.left) (Some so_far) _ all_items reads
+      (λ none same. subst (IsMore deepest so_far) (some_one so_far all_items same)
+      (record { others = []; trees = sym (append-nil so_far.trees); spells = refl; most = omega arith; within = λ few_there. few_there }))
+      (λ further stands go.
+      let read_first = and_then (inner 7 further) _ all_items go in
+      let first_read = read_first.0 in
+      let first_sound = ih 7 further first_read read_first.1 in
+      let others_sound =
+      items_sound turns (many (so_far.trees ++ first_read.tree ∷ []) (max so_far.most first_read.deep) first_read.rest) all_items read_first.2 in
       record {
-        others = g.tree ∷ r.others;
-        trees = r.trees ∙ append_assoc a.trees (g.tree ∷ []) r.others;
-        spells = (us, behind_sound M.Comma a.left us is, (g.rest, h.spells, r.spells));
-        most = r.most ∙ (max_three a.most g.deep (depths (trees_of r.others)) ∙ ap (λ x. max a.most (max x (depths (trees_of r.others)))) h.deep);
-        within = λ w. let hw = h.within in r.within (omega arith);
+        others = first_read.tree ∷ others_sound.others;
+        trees = others_sound.trees ∙ append_assoc so_far.trees (first_read.tree ∷ []) others_sound.others;
+        spells = (further, behind_sound M.Comma so_far.left further stands, (first_read.rest, first_sound.spells, others_sound.spells));
+        most = others_sound.most
+            ∙ (max_three so_far.most first_read.deep (depths (trees_of others_sound.others))
+            ∙ ap (λ x. max so_far.most (max x (depths (trees_of others_sound.others)))) first_sound.deep);
+        within = λ few_there. let first_within = first_sound.within in others_sound.within (omega arith);
       })
 
-  list_sound : (ts : List Tok) (b : Many) → some_items inner d ts ≡ Some b → IsList d ts b
-  list_sound ts b e =
-      let p = and_then (inner 7 ts) _ b e in
-      let g = p.0 in
-      let h = ih 7 ts g p.1 in
-      let r = items_sound (length g.rest) (many (g.tree ∷ []) g.deep g.rest) b p.2 in
+  list_sound : (tokens_here : List Tok) (all_items : Many) → some_items inner deepest tokens_here ≡ Some all_items
+      → IsList deepest tokens_here all_items
+  list_sound tokens_here all_items reads =
+      let read_first = and_then (inner 7 tokens_here) _ all_items reads in
+      let first_read = read_first.0 in
+      let first_sound = ih 7 tokens_here first_read read_first.1 in
+      let others_sound = items_sound (length first_read.rest) (many (first_read.tree ∷ []) first_read.deep first_read.rest) all_items read_first.2 in
       record {
-        first = g.tree;
-        others = r.others;
-        trees = r.trees;
-        spells = (g.rest, h.spells, r.spells);
-        most = r.most ∙ ap (λ x. max x (depths (trees_of r.others))) h.deep;
-        within = r.within h.within;
+        first = first_read.tree;
+        others = others_sound.others;
+        trees = others_sound.trees;
+        spells = (first_read.rest, first_sound.spells, others_sound.spells);
+        most = others_sound.most ∙ ap (λ x. max x (depths (trees_of others_sound.others))) first_sound.deep;
+        within = others_sound.within first_sound.within;
       }
 
-  closed_list : (m : Mark) (ts : List Tok) (f : Many → List Tok → Got) (g : Got)
-      → (some_items inner d ts >>= (λ a. behind m a.left >>= (λ us. Some (f a us)))) ≡ Some g
-      → (a : Many) × (us : List Tok) × IsList d ts a × (a.left ≡ mark m ∷ us) × (f a us ≡ g)
-  closed_list m ts f g e =
-      let p = and_then (some_items inner d ts) _ g e in
-      let q = and_then (behind m p.0.left) _ g p.2 in
-      (p.0, q.0, list_sound ts p.0 p.1, behind_sound m p.0.left q.0 q.1, some_one _ g q.2)
+  closed_list : (a_mark : Mark) (tokens_here : List Tok) (made : Many → List Tok → Got) (so_read : Got)
+      → (some_items inner deepest tokens_here >>= (λ a. behind a_mark a.left >>= (λ further. Some (made a further)))) ≡ Some so_read
+      → (so_far : Many) × (further : List Tok) × IsList deepest tokens_here so_far × (so_far.left ≡ mark a_mark ∷ further)
+      × (made so_far further ≡ so_read)
+  closed_list a_mark tokens_here made so_read reads =
+      let items_so = and_then (some_items inner deepest tokens_here) _ so_read reads in
+      let mark_so = and_then (behind a_mark items_so.0.left) _ so_read items_so.2 in (
+        items_so.0,
+        mark_so.0,
+        list_sound tokens_here items_so.0 items_so.1,
+        behind_sound a_mark items_so.0.left mark_so.0 mark_so.1,
+        some_one _ so_read mark_so.2,
+      )
 
-  as_is : (k : ℕ) (ts : List Tok) (x g : Got) → Is (suc d) k ts x → Some x ≡ Some g → Is (suc d) k ts g
-  as_is k ts x g h e = subst (Is (suc d) k ts) (some_one x g e) h
+  as_is : (loose : ℕ) (tokens_here : List Tok) (one_read so_read : Got) → Is (suc deepest) loose tokens_here one_read → Some one_read ≡ Some so_read
+      → Is (suc deepest) loose tokens_here so_read
+  as_is loose tokens_here one_read so_read is_so reads = subst (Is (suc deepest) loose tokens_here) (some_one one_read so_read reads) is_so
 
-  braces_sound : (ts : List Tok) (g : Got) → braces inner d ts ≡ Some g → Is (suc d) 0 (mark M.LeftBrace ∷ ts) g
-  braces_sound ts g e =
-      let p = closed_list M.RightBrace ts (λ a us. got (list (trees_of a.trees)) (a.most + 1) us) g e in
-      let a = p.0 in
-      let us = p.1 in
-      let h = p.2 in
-      let w = h.within in
-      let m = h.most in
-      subst (Is (suc d) 0 (mark M.LeftBrace ∷ ts)) p.4
-      (subst (λ l. Is (suc d) 0 (mark M.LeftBrace ∷ ts) (got (list (trees_of l)) (a.most + 1) us)) (sym h.trees)
+  braces_sound : (tokens_here : List Tok) (so_read : Got) → braces inner deepest tokens_here ≡ Some so_read
+      → Is (suc deepest) 0 (mark M.LeftBrace ∷ tokens_here) so_read
+  braces_sound tokens_here so_read reads =
+      let closed_so =
+      closed_list M.RightBrace tokens_here
+      (λ items_there further. got (list (trees_of items_there.trees)) (items_there.most + 1) further) so_read reads in
+      let items_there = closed_so.0 in
+      let further = closed_so.1 in
+      let items_sound_there = closed_so.2 in
+      let within_there = items_sound_there.within in
+      let most_is = items_sound_there.most in
+      subst (Is (suc deepest) 0 (mark M.LeftBrace ∷ tokens_here)) closed_so.4
+      (subst (λ l. Is (suc deepest) 0 (mark M.LeftBrace ∷ tokens_here) (got (list (trees_of l)) (items_there.most + 1) further))
+      (sym items_sound_there.trees)
       (record {
-        spells = (ts, refl, (h.spells.0, h.spells.1, (a.left, h.spells.2, p.3)));
+        spells = (
+          tokens_here,
+          refl,
+          (items_sound_there.spells.0, items_sound_there.spells.1, (items_there.left, items_sound_there.spells.2, closed_so.3)),
+        );
         loose = omega arith;
-        deep = ap (λ n. n + 1) m;
+        deep = ap (λ n. n + 1) most_is;
         within = omega arith;
       }))
 
-  args_sound : (n : List ℕ) (ts us : List Tok) (g : Got) → ts ≡ mark M.LeftParen ∷ us → args inner d n us ≡ Some g → Is (suc d) 0 (word n ∷ ts) g
-  args_sound n ts us g front e = found (behind M.RightParen us) _ _ g e
+  args_sound : (called_so : List ℕ) (tokens_here further : List Tok) (so_read : Got) → tokens_here ≡ mark M.LeftParen ∷ further
+      → args inner deepest called_so further ≡ Some so_read → Is (suc deepest) 0 (word called_so ∷ tokens_here) so_read
+  args_sound called_so tokens_here further so_read front reads = found (behind M.RightParen further) _ _ so_read reads
       (λ none go.
-      let p = closed_list M.RightParen us (λ a vs. got (call n (trees_of a.trees)) (a.most + 1) vs) g go in
-      let a = p.0 in
-      let h = p.2 in
-      let w = h.within in
-      let m = h.most in
-      subst (Is (suc d) 0 (word n ∷ ts)) p.4
-      (subst (λ l. Is (suc d) 0 (word n ∷ ts) (got (call n (trees_of l)) (a.most + 1) p.1)) (sym h.trees)
+      let closed_so =
+      closed_list M.RightParen further
+      (λ items_there left_over. got (call called_so (trees_of items_there.trees)) (items_there.most + 1) left_over) so_read go in
+      let items_there = closed_so.0 in
+      let items_sound_there = closed_so.2 in
+      let within_there = items_sound_there.within in
+      let most_is = items_sound_there.most in
+      subst (Is (suc deepest) 0 (word called_so ∷ tokens_here)) closed_so.4
+      (subst (λ l. Is (suc deepest) 0 (word called_so ∷ tokens_here) (got (call called_so (trees_of l)) (items_there.most + 1) closed_so.1))
+      (sym items_sound_there.trees)
       (record {
-        spells = (ts, refl, (us, front, (a.left, (h.spells.0, h.spells.1, h.spells.2), p.3)));
+        spells = (
+          tokens_here,
+          refl,
+          (further, front, (items_there.left, (items_sound_there.spells.0, items_sound_there.spells.1, items_sound_there.spells.2), closed_so.3)),
+        );
         loose = omega arith;
-        deep = ap (λ n. n + 1) m;
+        deep = ap (λ n. n + 1) most_is;
         within = omega arith;
       })))
-      (λ vs is go. as_is 0 (word n ∷ ts) (got (call n no_trees) 1 vs) g
+      (λ left_over stands go. as_is 0 (word called_so ∷ tokens_here) (got (call called_so no_trees) 1 left_over) so_read
       (record {
-        spells = (ts, refl, (us, front, (us, refl, behind_sound M.RightParen us vs is)));
+        spells = (tokens_here, refl, (further, front, (further, refl, behind_sound M.RightParen further left_over stands)));
         loose = omega arith;
         deep = refl;
         within = omega arith;
       }) go)
 
-  named_sound : (n : List ℕ) (ts : List Tok) (g : Got) → named inner d n ts ≡ Some g → Is (suc d) 0 (word n ∷ ts) g
-  named_sound n ts g e = found (behind M.LeftParen ts) _ _ g e
-      (λ none go. found (behind M.Dot ts) _ _ g go
-      (λ none2 go2. as_is 0 (word n ∷ ts) (got (name n) 1 ts) g
-      (record { spells = refl; loose = omega arith; deep = refl; within = omega arith }) go2)
-      (λ us is go2.
-      let p = and_then (behind_name us) _ g go2 in
-      as_is 0 (word n ∷ ts) (got (slot n p.0.called) 1 p.0.next) g
+  named_sound : (called_so : List ℕ) (tokens_here : List Tok) (so_read : Got) → named inner deepest called_so tokens_here ≡ Some so_read
+      → Is (suc deepest) 0 (word called_so ∷ tokens_here) so_read
+  named_sound called_so tokens_here so_read reads = found (behind M.LeftParen tokens_here) _ _ so_read reads
+      (λ none go. found (behind M.Dot tokens_here) _ _ so_read go
+      (λ none_there go_on. as_is 0 (word called_so ∷ tokens_here) (got (name called_so) 1 tokens_here) so_read
+      (record { spells = refl; loose = omega arith; deep = refl; within = omega arith }) go_on)
+      (λ further stands go_on.
+      let slot_so = and_then (behind_name further) _ so_read go_on in
+      as_is 0 (word called_so ∷ tokens_here) (got (slot called_so slot_so.0.called) 1 slot_so.0.next) so_read
       (record {
-        spells = (ts, refl, (us, behind_sound M.Dot ts us is, name_sound us p.0 p.1));
+        spells = (tokens_here, refl, (further, behind_sound M.Dot tokens_here further stands, name_sound further slot_so.0 slot_so.1));
         loose = omega arith;
         deep = refl;
         within = omega arith;
-      }) p.2))
-      (λ us is go. args_sound n ts us g (behind_sound M.LeftParen ts us is) go)
+      }) slot_so.2))
+      (λ further stands go. args_sound called_so tokens_here further so_read (behind_sound M.LeftParen tokens_here further stands) go)
 
-  one_sound : (w : OneWord) (ts : List Tok) (g : Got) → is_prefix w ≡ false → looseness_of_one w ≡ 0 → word_of_one inner d w ts ≡ Some g
-      → Is (suc d) 0 (mark (mark_of_one w) ∷ ts) g
-  one_sound w ts g plain tight e =
-      let q = and_then (behind M.LeftParen ts >>= up_to inner d M.RightParen) _ g e in
-      let p = and_then (behind M.LeftParen ts) (up_to inner d M.RightParen) q.0 q.1 in
-      let h = up_to_sound M.RightParen p.0 q.0 p.2 in
-      let within = h.within in
-      as_is 0 (mark (mark_of_one w) ∷ ts) _ g (record {
+  one_sound : (its_word : OneWord) (tokens_here : List Tok) (so_read : Got) → is_prefix its_word ≡ false → looseness_of_one its_word ≡ 0
+      → word_of_one inner deepest its_word tokens_here ≡ Some so_read
+      → Is (suc deepest) 0 (mark (mark_of_one its_word) ∷ tokens_here) so_read
+  one_sound its_word tokens_here so_read plain tight reads =
+      let operand_so = and_then (behind M.LeftParen tokens_here >>= up_to inner deepest M.RightParen) _ so_read reads in
+      let paren_so = and_then (behind M.LeftParen tokens_here) (up_to inner deepest M.RightParen) operand_so.0 operand_so.1 in
+      let operand_sound = up_to_sound M.RightParen paren_so.0 operand_so.0 paren_so.2 in
+      let within = operand_sound.within in
+      as_is 0 (mark (mark_of_one its_word) ∷ tokens_here) _ so_read (record {
         spells =
-            second_form (is_prefix w) _ _ (mark (mark_of_one w) ∷ ts) q.0.rest plain (ts, refl, (p.0, behind_sound M.LeftParen ts p.0 p.1, h.spells));
+            second_form (is_prefix its_word) _ _ (mark (mark_of_one its_word) ∷ tokens_here) operand_so.0.rest plain
+            (tokens_here, refl, (paren_so.0, behind_sound M.LeftParen tokens_here paren_so.0 paren_so.1, operand_sound.spells));
         loose = omega (arith, tight);
-        deep = ap (λ n. n + 1) h.deep;
+        deep = ap (λ n. n + 1) operand_sound.deep;
         within = omega arith;
-      }) q.2
+      }) operand_so.2
 
-  two_sound : (w : TwoWord) (ts : List Tok) (g : Got) → is_operator w ≡ false → looseness_of w ≡ 0 → word_of_two inner d w ts ≡ Some g
-      → Is (suc d) 0 (mark (mark_of w) ∷ ts) g
-  two_sound w ts g plain tight e =
-      let l = and_then (behind M.LeftParen ts >>= up_to inner d M.Comma) _ g e in
-      let p = and_then (behind M.LeftParen ts) (up_to inner d M.Comma) l.0 l.1 in
-      let r = and_then (up_to inner d M.RightParen l.0.rest) _ g l.2 in
-      let hl = up_to_sound M.Comma p.0 l.0 p.2 in
-      let hr = up_to_sound M.RightParen l.0.rest r.0 r.1 in
-      let wl = hl.within in
-      let wr = hr.within in
-      as_is 0 (mark (mark_of w) ∷ ts) _ g (record {
-        spells = second_form (is_operator w) _ _ (mark (mark_of w) ∷ ts) r.0.rest plain
-            (ts, refl, (p.0, behind_sound M.LeftParen ts p.0 p.1, (hl.spells.0, hl.spells.1, (l.0.rest, hl.spells.2, hr.spells))));
-        loose = omega (arith, tight);
-        deep = two_deep hl.deep hr.deep;
-        within = omega arith;
-      }) r.2
-
-  convert_sound : (w : ConvertWord) (ts : List Tok) (g : Got) → converts inner d w ts ≡ Some g → Is (suc d) 0 (mark (mark_of_convert w) ∷ ts) g
-  convert_sound w ts g e =
-      let o = and_then (behind M.LeftParen ts >>= name_before M.Comma) _ g e in
-      let p = and_then (behind M.LeftParen ts) (name_before M.Comma) o.0 o.1 in
-      let n = name_before_sound M.Comma p.0 o.0 p.2 in
-      let q = and_then (up_to inner d M.RightParen o.0.next) _ g o.2 in
-      let h = up_to_sound M.RightParen o.0.next q.0 q.1 in
-      let within = h.within in
-      as_is 0 (mark (mark_of_convert w) ∷ ts) _ g (record {
-        spells = (ts, refl, (p.0, behind_sound M.LeftParen ts p.0 p.1, (n.0, n.1, (o.0.next, n.2, h.spells))));
-        loose = omega arith;
-        deep = ap (λ n. n + 1) h.deep;
-        within = omega arith;
-      }) q.2
-
-  loops_sound : (ts : List Tok) (g : Got) → loops inner d ts ≡ Some g → Is (suc d) 0 (mark M.For ∷ ts) g
-  loops_sound ts g e =
-      let x = and_then (name_before M.In ts) _ g e in
-      let l = and_then (up_to inner d M.With x.0.next) _ g x.2 in
-      let a = and_then (name_before M.Assign l.0.rest) _ g l.2 in
-      let f = and_then (up_to inner d M.Do a.0.next) _ g a.2 in
-      let b = and_then (up_to inner d M.EndFor f.0.rest) _ g f.2 in
-      let hx = name_before_sound M.In ts x.0 x.1 in
-      let hl = up_to_sound M.With x.0.next l.0 l.1 in
-      let ha = name_before_sound M.Assign l.0.rest a.0 a.1 in
-      let hf = up_to_sound M.Do a.0.next f.0 f.1 in
-      let hb = up_to_sound M.EndFor f.0.rest b.0 b.1 in
-      let wl = hl.within in
-      let wf = hf.within in
-      let wb = hb.within in
-      as_is 0 (mark M.For ∷ ts) _ g (record {
-        spells = (
-          ts,
+  two_sound : (its_word : TwoWord) (tokens_here : List Tok) (so_read : Got) → is_operator its_word ≡ false → looseness_of its_word ≡ 0
+      → word_of_two inner deepest its_word tokens_here ≡ Some so_read
+      → Is (suc deepest) 0 (mark (mark_of its_word) ∷ tokens_here) so_read
+  two_sound its_word tokens_here so_read plain tight reads =
+      let left_so = and_then (behind M.LeftParen tokens_here >>= up_to inner deepest M.Comma) _ so_read reads in
+      let paren_so = and_then (behind M.LeftParen tokens_here) (up_to inner deepest M.Comma) left_so.0 left_so.1 in
+      let right_so = and_then (up_to inner deepest M.RightParen left_so.0.rest) _ so_read left_so.2 in
+      let left_sound = up_to_sound M.Comma paren_so.0 left_so.0 paren_so.2 in
+      let right_sound = up_to_sound M.RightParen left_so.0.rest right_so.0 right_so.1 in
+      let left_within_so = left_sound.within in
+      let right_within = right_sound.within in
+      as_is 0 (mark (mark_of its_word) ∷ tokens_here) _ so_read (record {
+        spells = second_form (is_operator its_word) _ _ (mark (mark_of its_word) ∷ tokens_here) right_so.0.rest plain (
+          tokens_here,
           refl,
           (
-            hx.0,
-            hx.1,
+            paren_so.0,
+            behind_sound M.LeftParen tokens_here paren_so.0 paren_so.1,
+            (left_sound.spells.0, left_sound.spells.1, (left_so.0.rest, left_sound.spells.2, right_sound.spells)),
+          ),
+        );
+        loose = omega (arith, tight);
+        deep = two_deep left_sound.deep right_sound.deep;
+        within = omega arith;
+      }) right_so.2
+
+  convert_sound : (its_word : ConvertWord) (tokens_here : List Tok) (so_read : Got) → converts inner deepest its_word tokens_here ≡ Some so_read
+      → Is (suc deepest) 0 (mark (mark_of_convert its_word) ∷ tokens_here) so_read
+  convert_sound its_word tokens_here so_read reads =
+      let object_so = and_then (behind M.LeftParen tokens_here >>= name_before M.Comma) _ so_read reads in
+      let paren_so = and_then (behind M.LeftParen tokens_here) (name_before M.Comma) object_so.0 object_so.1 in
+      let object_sound = name_before_sound M.Comma paren_so.0 object_so.0 paren_so.2 in
+      let operand_so = and_then (up_to inner deepest M.RightParen object_so.0.next) _ so_read object_so.2 in
+      let operand_sound = up_to_sound M.RightParen object_so.0.next operand_so.0 operand_so.1 in
+      let within = operand_sound.within in
+      as_is 0 (mark (mark_of_convert its_word) ∷ tokens_here) _ so_read (record {
+        spells = (
+          tokens_here,
+          refl,
+          (
+            paren_so.0,
+            behind_sound M.LeftParen tokens_here paren_so.0 paren_so.1,
+            (object_sound.0, object_sound.1, (object_so.0.next, object_sound.2, operand_sound.spells)),
+          ),
+        );
+        loose = omega arith;
+        deep = ap (λ object_sound. object_sound + 1) operand_sound.deep;
+        within = omega arith;
+      }) operand_so.2
+
+  loops_sound : (tokens_here : List Tok) (so_read : Got) → loops inner deepest tokens_here ≡ Some so_read
+      → Is (suc deepest) 0 (mark M.For ∷ tokens_here) so_read
+  loops_sound tokens_here so_read reads =
+      let item_so = and_then (name_before M.In tokens_here) _ so_read reads in
+      let source_so = and_then (up_to inner deepest M.With item_so.0.next) _ so_read item_so.2 in
+      let total_so = and_then (name_before M.Assign source_so.0.rest) _ so_read source_so.2 in
+      let initial_so = and_then (up_to inner deepest M.Do total_so.0.next) _ so_read total_so.2 in
+      let body_so = and_then (up_to inner deepest M.EndFor initial_so.0.rest) _ so_read initial_so.2 in
+      let item_sound = name_before_sound M.In tokens_here item_so.0 item_so.1 in
+      let source_sound = up_to_sound M.With item_so.0.next source_so.0 source_so.1 in
+      let total_sound = name_before_sound M.Assign source_so.0.rest total_so.0 total_so.1 in
+      let initial_sound = up_to_sound M.Do total_so.0.next initial_so.0 initial_so.1 in
+      let body_sound = up_to_sound M.EndFor initial_so.0.rest body_so.0 body_so.1 in
+      let source_within = source_sound.within in
+      let initial_within = initial_sound.within in
+      let body_within = body_sound.within in
+      as_is 0 (mark M.For ∷ tokens_here) _ so_read (record {
+        spells = (
+          tokens_here,
+          refl,
+          (
+            item_sound.0,
+            item_sound.1,
             (
-              x.0.next,
-              hx.2,
+              item_so.0.next,
+              item_sound.2,
               (
-                hl.spells.0,
-                hl.spells.1,
+                source_sound.spells.0,
+                source_sound.spells.1,
                 (
-                  l.0.rest,
-                  hl.spells.2,
+                  source_so.0.rest,
+                  source_sound.spells.2,
                   (
-                    ha.0,
-                    ha.1,
+                    total_sound.0,
+                    total_sound.1,
                     (
-                      a.0.next,
-                      ha.2,
-                      (hf.spells.0, hf.spells.1, (f.0.rest, hf.spells.2, hb.spells)),
+                      total_so.0.next,
+                      total_sound.2,
+                      (initial_sound.spells.0, initial_sound.spells.1, (initial_so.0.rest, initial_sound.spells.2, body_sound.spells)),
                     ),
                   ),
                 ),
@@ -394,189 +465,248 @@ module _ (inner : ℕ → List Tok → Read) (d : ℕ) (ih : (k : ℕ) (ts : Lis
           ),
         );
         loose = omega arith;
-        deep = three_deep hl.deep hf.deep hb.deep;
+        deep = three_deep source_sound.deep initial_sound.deep body_sound.deep;
         within = omega arith;
-      }) b.2
+      }) body_so.2
 
-  maps_sound : (ts : List Tok) (g : Got) → maps inner d ts ≡ Some g → Is (suc d) 0 (mark M.Map ∷ ts) g
-  maps_sound ts g e =
-      let x = and_then (name_before M.In ts) _ g e in
-      let l = and_then (up_to inner d M.Do x.0.next) _ g x.2 in
-      let b = and_then (up_to inner d M.EndMap l.0.rest) _ g l.2 in
-      let hx = name_before_sound M.In ts x.0 x.1 in
-      let hl = up_to_sound M.Do x.0.next l.0 l.1 in
-      let hb = up_to_sound M.EndMap l.0.rest b.0 b.1 in
-      let wl = hl.within in
-      let wb = hb.within in
-      as_is 0 (mark M.Map ∷ ts) _ g (record {
-        spells = (ts, refl, (hx.0, hx.1, (x.0.next, hx.2, (hl.spells.0, hl.spells.1, (l.0.rest, hl.spells.2, hb.spells)))));
+  maps_sound : (tokens_here : List Tok) (so_read : Got) → maps inner deepest tokens_here ≡ Some so_read
+      → Is (suc deepest) 0 (mark M.Map ∷ tokens_here) so_read
+  maps_sound tokens_here so_read reads =
+      let item_so = and_then (name_before M.In tokens_here) _ so_read reads in
+      let source_so = and_then (up_to inner deepest M.Do item_so.0.next) _ so_read item_so.2 in
+      let body_so = and_then (up_to inner deepest M.EndMap source_so.0.rest) _ so_read source_so.2 in
+      let item_sound = name_before_sound M.In tokens_here item_so.0 item_so.1 in
+      let source_sound = up_to_sound M.Do item_so.0.next source_so.0 source_so.1 in
+      let body_sound = up_to_sound M.EndMap source_so.0.rest body_so.0 body_so.1 in
+      let source_within = source_sound.within in
+      let body_within = body_sound.within in
+      as_is 0 (mark M.Map ∷ tokens_here) _ so_read (record {
+        spells = (
+          tokens_here,
+          refl,
+          (
+            item_sound.0,
+            item_sound.1,
+            (
+              item_so.0.next,
+              item_sound.2,
+              (source_sound.spells.0, source_sound.spells.1, (source_so.0.rest, source_sound.spells.2, body_sound.spells)),
+            ),
+          ),
+        );
         loose = omega arith;
-        deep = two_deep hl.deep hb.deep;
+        deep = two_deep source_sound.deep body_sound.deep;
         within = omega arith;
-      }) b.2
+      }) body_so.2
 
-  opened_sound : (m : Mark) (ts : List Tok) (g : Got) → opened inner d m ts ≡ Some g → Is (suc d) 0 (mark m ∷ ts) g
-  opened_sound M.LeftParen ts g e =
-      let p = and_then (up_to inner d M.RightParen ts) _ g e in
-      let h = up_to_sound M.RightParen ts p.0 p.1 in
-      let w = h.within in
-      as_is 0 (mark M.LeftParen ∷ ts) _ g (record {
-        spells = (ts, refl, h.spells);
+  opened_sound : (a_mark : Mark) (tokens_here : List Tok) (so_read : Got) → opened inner deepest a_mark tokens_here ≡ Some so_read
+      → Is (suc deepest) 0 (mark a_mark ∷ tokens_here) so_read
+  opened_sound M.LeftParen tokens_here so_read reads =
+      let first_so = and_then (up_to inner deepest M.RightParen tokens_here) _ so_read reads in
+      let first_sound = up_to_sound M.RightParen tokens_here first_so.0 first_so.1 in
+      let first_within = first_sound.within in
+      as_is 0 (mark M.LeftParen ∷ tokens_here) _ so_read (record {
+        spells = (tokens_here, refl, first_sound.spells);
         loose = omega arith;
-        deep = ap (λ n. n + 1) h.deep;
+        deep = ap (λ n. n + 1) first_sound.deep;
         within = omega arith;
-      }) p.2
-  opened_sound M.LeftBrace ts g e = braces_sound ts g e
-  opened_sound M.If ts g e =
-      let p = and_then (up_to inner d M.Then ts) _ g e in
-      let q = and_then (up_to inner d M.Else p.0.rest) _ g p.2 in
-      let r = and_then (up_to inner d M.EndIf q.0.rest) _ g q.2 in
-      let hp = up_to_sound M.Then ts p.0 p.1 in
-      let hq = up_to_sound M.Else p.0.rest q.0 q.1 in
-      let hr = up_to_sound M.EndIf q.0.rest r.0 r.1 in
-      let wp = hp.within in
-      let wq = hq.within in
-      let wr = hr.within in
-      let dp = hp.deep in
-      let dq = hq.deep in
-      let dr = hr.deep in
-      as_is 0 (mark M.If ∷ ts) _ g (record {
-        spells = (ts, refl, (hp.spells.0, hp.spells.1, (p.0.rest, hp.spells.2, (hq.spells.0, hq.spells.1, (q.0.rest, hq.spells.2, hr.spells)))));
+      }) first_so.2
+  opened_sound M.LeftBrace tokens_here so_read reads = braces_sound tokens_here so_read reads
+  opened_sound M.If tokens_here so_read reads =
+      let first_so = and_then (up_to inner deepest M.Then tokens_here) _ so_read reads in
+      let second_so = and_then (up_to inner deepest M.Else first_so.0.rest) _ so_read first_so.2 in
+      let third_so = and_then (up_to inner deepest M.EndIf second_so.0.rest) _ so_read second_so.2 in
+      let first_sound = up_to_sound M.Then tokens_here first_so.0 first_so.1 in
+      let second_sound = up_to_sound M.Else first_so.0.rest second_so.0 second_so.1 in
+      let third_sound = up_to_sound M.EndIf second_so.0.rest third_so.0 third_so.1 in
+      let first_within = first_sound.within in
+      let second_within = second_sound.within in
+      let third_within = third_sound.within in
+      let first_deep = first_sound.deep in
+      let second_deep = second_sound.deep in
+      let third_deep = third_sound.deep in
+      as_is 0 (mark M.If ∷ tokens_here) _ so_read (record {
+        spells = (
+          tokens_here,
+          refl,
+          (
+            first_sound.spells.0,
+            first_sound.spells.1,
+            (
+              first_so.0.rest,
+              first_sound.spells.2,
+              (second_sound.spells.0, second_sound.spells.1, (second_so.0.rest, second_sound.spells.2, third_sound.spells)),
+            ),
+          ),
+        );
         loose = omega arith;
-        deep = three_deep dp dq dr;
+        deep = three_deep first_deep second_deep third_deep;
         within = omega arith;
-      }) r.2
-  opened_sound M.Let ts g e =
-      let x = and_then (name_before M.Assign ts) _ g e in
-      let p = and_then (up_to inner d M.In x.0.next) _ g x.2 in
-      let q = and_then (up_to inner d M.EndLet p.0.rest) _ g p.2 in
-      let hx = name_before_sound M.Assign ts x.0 x.1 in
-      let hp = up_to_sound M.In x.0.next p.0 p.1 in
-      let hq = up_to_sound M.EndLet p.0.rest q.0 q.1 in
-      let wp = hp.within in
-      let wq = hq.within in
-      as_is 0 (mark M.Let ∷ ts) _ g (record {
-        spells = (ts, refl, (hx.0, hx.1, (x.0.next, hx.2, (hp.spells.0, hp.spells.1, (p.0.rest, hp.spells.2, hq.spells)))));
+      }) third_so.2
+  opened_sound M.Let tokens_here so_read reads =
+      let name_so = and_then (name_before M.Assign tokens_here) _ so_read reads in
+      let first_so = and_then (up_to inner deepest M.In name_so.0.next) _ so_read name_so.2 in
+      let second_so = and_then (up_to inner deepest M.EndLet first_so.0.rest) _ so_read first_so.2 in
+      let name_sound_there = name_before_sound M.Assign tokens_here name_so.0 name_so.1 in
+      let first_sound = up_to_sound M.In name_so.0.next first_so.0 first_so.1 in
+      let second_sound = up_to_sound M.EndLet first_so.0.rest second_so.0 second_so.1 in
+      let first_within = first_sound.within in
+      let second_within = second_sound.within in
+      as_is 0 (mark M.Let ∷ tokens_here) _ so_read (record {
+        spells = (
+          tokens_here,
+          refl,
+          (
+            name_sound_there.0,
+            name_sound_there.1,
+            (
+              name_so.0.next,
+              name_sound_there.2,
+              (first_sound.spells.0, first_sound.spells.1, (first_so.0.rest, first_sound.spells.2, second_sound.spells)),
+            ),
+          ),
+        );
         loose = omega arith;
-        deep = two_deep hp.deep hq.deep;
+        deep = two_deep first_sound.deep second_sound.deep;
         within = omega arith;
-      }) q.2
-  opened_sound M.True ts g e =
-      as_is 0 (mark M.True ∷ ts) (got (truth true) 1 ts) g (record { spells = refl; loose = omega arith; deep = refl; within = omega arith }) e
-  opened_sound M.False ts g e =
-      as_is 0 (mark M.False ∷ ts) (got (truth false) 1 ts) g (record { spells = refl; loose = omega arith; deep = refl; within = omega arith }) e
-  opened_sound M.Now ts g e =
-      as_is 0 (mark M.Now ∷ ts) (got now 1 ts) g (record { spells = refl; loose = omega arith; deep = refl; within = omega arith }) e
-  opened_sound M.For ts g e = loops_sound ts g e
-  opened_sound M.Map ts g e = maps_sound ts g e
-  opened_sound M.Known ts g e = one_sound O.Known ts g refl refl e
-  opened_sound M.Length ts g e = one_sound O.Length ts g refl refl e
-  opened_sound M.Month ts g e = one_sound O.Month ts g refl refl e
-  opened_sound M.Day ts g e = one_sound O.Day ts g refl refl e
-  opened_sound M.Year ts g e = one_sound O.Year ts g refl refl e
-  opened_sound M.Append ts g e = two_sound T.Append ts g refl refl e
-  opened_sound M.Item ts g e = two_sound T.Item ts g refl refl e
-  opened_sound M.StorageToElevation ts g e = convert_sound C.StorageToElevation ts g e
-  opened_sound M.ElevationToStorage ts g e = convert_sound C.ElevationToStorage ts g e
-  opened_sound _ ts g e = absurd (cc e)
+      }) second_so.2
+  opened_sound M.True tokens_here so_read reads =
+      as_is 0 (mark M.True ∷ tokens_here) (got (truth true) 1 tokens_here) so_read
+      (record { spells = refl; loose = omega arith; deep = refl; within = omega arith }) reads
+  opened_sound M.False tokens_here so_read reads =
+      as_is 0 (mark M.False ∷ tokens_here) (got (truth false) 1 tokens_here) so_read
+      (record { spells = refl; loose = omega arith; deep = refl; within = omega arith }) reads
+  opened_sound M.Now tokens_here so_read reads =
+      as_is 0 (mark M.Now ∷ tokens_here) (got now 1 tokens_here) so_read
+      (record { spells = refl; loose = omega arith; deep = refl; within = omega arith }) reads
+  opened_sound M.For tokens_here so_read reads = loops_sound tokens_here so_read reads
+  opened_sound M.Map tokens_here so_read reads = maps_sound tokens_here so_read reads
+  opened_sound M.Known tokens_here so_read reads = one_sound O.Known tokens_here so_read refl refl reads
+  opened_sound M.Length tokens_here so_read reads = one_sound O.Length tokens_here so_read refl refl reads
+  opened_sound M.Month tokens_here so_read reads = one_sound O.Month tokens_here so_read refl refl reads
+  opened_sound M.Day tokens_here so_read reads = one_sound O.Day tokens_here so_read refl refl reads
+  opened_sound M.Year tokens_here so_read reads = one_sound O.Year tokens_here so_read refl refl reads
+  opened_sound M.Append tokens_here so_read reads = two_sound T.Append tokens_here so_read refl refl reads
+  opened_sound M.Item tokens_here so_read reads = two_sound T.Item tokens_here so_read refl refl reads
+  opened_sound M.StorageToElevation tokens_here so_read reads = convert_sound C.StorageToElevation tokens_here so_read reads
+  opened_sound M.ElevationToStorage tokens_here so_read reads = convert_sound C.ElevationToStorage tokens_here so_read reads
+  opened_sound _ tokens_here so_read reads = absurd (cc reads)
 
-  prim_sound : (ts : List Tok) (g : Got) → prim inner d ts ≡ Some g → Is (suc d) 0 ts g
-  prim_sound [] g e = absurd (cc e)
-  prim_sound (mark m ∷ ts) g e = opened_sound m ts g e
-  prim_sound (word n ∷ ts) g e = named_sound n ts g e
-  prim_sound (text s ∷ ts) g e = absurd (cc e)
-  prim_sound (digits z ∷ []) g e =
-      as_is 0 _ (got (literal z None) 1 []) g (record { spells = refl; loose = omega arith; deep = refl; within = omega arith }) e
-  prim_sound (digits z ∷ (text u ∷ ts)) g e =
-      as_is 0 _ (got (literal z (Some u)) 1 ts) g
-      (record { spells = (text u ∷ ts, refl, refl); loose = omega arith; deep = refl; within = omega arith }) e
-  prim_sound (digits z ∷ (mark m ∷ ts)) g e =
-      as_is 0 _ (got (literal z None) 1 (mark m ∷ ts)) g (record { spells = refl; loose = omega arith; deep = refl; within = omega arith }) e
-  prim_sound (digits z ∷ (word n ∷ ts)) g e =
-      as_is 0 _ (got (literal z None) 1 (word n ∷ ts)) g (record { spells = refl; loose = omega arith; deep = refl; within = omega arith }) e
-  prim_sound (digits z ∷ (digits y ∷ ts)) g e =
-      as_is 0 _ (got (literal z None) 1 (digits y ∷ ts)) g (record { spells = refl; loose = omega arith; deep = refl; within = omega arith }) e
+  prim_sound : (tokens_here : List Tok) (so_read : Got) → prim inner deepest tokens_here ≡ Some so_read → Is (suc deepest) 0 tokens_here so_read
+  prim_sound [] so_read reads = absurd (cc reads)
+  prim_sound (mark other_mark ∷ tokens_here) so_read reads = opened_sound other_mark tokens_here so_read reads
+  prim_sound (word its_name ∷ tokens_here) so_read reads = named_sound its_name tokens_here so_read reads
+  prim_sound (text its_text ∷ tokens_here) so_read reads = absurd (cc reads)
+  prim_sound (digits its_number ∷ []) so_read reads =
+      as_is 0 _ (got (literal its_number None) 1 []) so_read (record { spells = refl; loose = omega arith; deep = refl; within = omega arith }) reads
+  prim_sound (digits its_number ∷ (text its_text ∷ tokens_here)) so_read reads =
+      as_is 0 _ (got (literal its_number (Some its_text)) 1 tokens_here) so_read
+      (record { spells = (text its_text ∷ tokens_here, refl, refl); loose = omega arith; deep = refl; within = omega arith }) reads
+  prim_sound (digits its_number ∷ (mark other_mark ∷ tokens_here)) so_read reads =
+      as_is 0 _ (got (literal its_number None) 1 (mark other_mark ∷ tokens_here)) so_read
+      (record { spells = refl; loose = omega arith; deep = refl; within = omega arith }) reads
+  prim_sound (digits its_number ∷ (word its_name ∷ tokens_here)) so_read reads =
+      as_is 0 _ (got (literal its_number None) 1 (word its_name ∷ tokens_here)) so_read
+      (record { spells = refl; loose = omega arith; deep = refl; within = omega arith }) reads
+  prim_sound (digits its_number ∷ (digits other_number ∷ tokens_here)) so_read reads =
+      as_is 0 _ (got (literal its_number None) 1 (digits other_number ∷ tokens_here)) so_read
+      (record { spells = refl; loose = omega arith; deep = refl; within = omega arith }) reads
 
-  steps_sound : (ts : List Tok) (n : ℕ) (g b : Got) → Is (suc d) 0 ts g → steps inner d n g ≡ Some b → Is (suc d) 0 ts b
+  steps_sound : (tokens_here : List Tok) (turns : ℕ) (so_read all_read : Got) → Is (suc deepest) 0 tokens_here so_read
+      → steps inner deepest turns so_read ≡ Some all_read → Is (suc deepest) 0 tokens_here all_read
   unfolding steps
-  steps_sound ts zero g b h e = as_is 0 ts g b h e
-  steps_sound ts (suc n) g b h e = found (behind M.LeftBracket g.rest) _ _ b e
-      (λ none same. as_is 0 ts g b h same)
-      (λ us is go.
-      let t = guard_true (ltb g.deep (suc d)) _ b go in
-      let lt = ltb-true g.deep (suc d) t.0 in
-      let p = and_then (up_to inner d M.RightBracket us) _ b t.1 in
-      let r = up_to_sound M.RightBracket us p.0 p.1 in
-      let w = r.within in
-      let dr = r.deep in
-      let dg = h.deep in
-      steps_sound ts n _ b (record {
-        spells = (g.rest, (h.loose, h.spells), (us, behind_sound M.LeftBracket g.rest us is, r.spells));
+  steps_sound tokens_here zero so_read all_read sound_so reads = as_is 0 tokens_here so_read all_read sound_so reads
+  steps_sound tokens_here (suc turns) so_read all_read sound_so reads = found (behind M.LeftBracket so_read.rest) _ _ all_read reads
+      (λ none same. as_is 0 tokens_here so_read all_read sound_so same)
+      (λ further stands go.
+      let guard_so = guard_true (ltb so_read.deep (suc deepest)) _ all_read go in
+      let less = ltb-true so_read.deep (suc deepest) guard_so.0 in
+      let date_so = and_then (up_to inner deepest M.RightBracket further) _ all_read guard_so.1 in
+      let date_sound = up_to_sound M.RightBracket further date_so.0 date_so.1 in
+      let date_within = date_sound.within in
+      let date_deep = date_sound.deep in
+      let slot_deep = sound_so.deep in
+      steps_sound tokens_here turns _ all_read (record {
+        spells = (
+          so_read.rest,
+          (sound_so.loose, sound_so.spells),
+          (further, behind_sound M.LeftBracket so_read.rest further stands, date_sound.spells),
+        );
         loose = omega arith;
-        deep = two_deep dg dr;
+        deep = two_deep slot_deep date_deep;
         within = omega arith;
-      }) p.2)
+      }) date_so.2)
 
-  chain_sound : (ts : List Tok) (k n : ℕ) (g b : Got) → Is (suc d) k ts g → (k ≡ 4 → 4 * n + looseness g.tree ≤ 7) → chain inner d k n g ≡ Some b
-      → Is (suc d) k ts b
+  chain_sound : (tokens_here : List Tok) (loose turns : ℕ) (so_read all_read : Got) → Is (suc deepest) loose tokens_here so_read
+      → (loose ≡ 4 → 4 * turns + looseness so_read.tree ≤ 7) → chain inner deepest loose turns so_read ≡ Some all_read
+      → Is (suc deepest) loose tokens_here all_read
   unfolding chain
-  chain_sound ts k zero g b h room e = as_is k ts g b h e
-  chain_sound ts k (suc n) g b h room e = found (turn k g.rest) _ _ b e
-      (λ none same. as_is k ts g b h same)
-      (λ t is go.
-      let gd = guard_true (ltb g.deep (suc d)) _ b go in
-      let lt = ltb-true g.deep (suc d) gd.0 in
-      let p = and_then (inner (k - 1) t.more) _ b gd.1 in
-      let r = ih (k - 1) t.more p.0 p.1 in
-      let f = turn_sound k g.rest t is in
-      let fl = f.level in
-      let w = r.within in
-      let dr = r.deep in
-      let dg = h.deep in
-      let rl : looseness p.0.tree ≤ looseness_of t.op - 1 = let z = r.loose in omega arith in
-      chain_sound ts k n _ b (record {
+  chain_sound tokens_here loose zero so_read all_read sound_so room reads = as_is loose tokens_here so_read all_read sound_so reads
+  chain_sound tokens_here loose (suc turns) so_read all_read sound_so room reads = found (turn loose so_read.rest) _ _ all_read reads
+      (λ none same. as_is loose tokens_here so_read all_read sound_so same)
+      (λ a_turn stands go.
+      let guard_so = guard_true (ltb so_read.deep (suc deepest)) _ all_read go in
+      let less = ltb-true so_read.deep (suc deepest) guard_so.0 in
+      let right_so = and_then (inner (loose - 1) a_turn.more) _ all_read guard_so.1 in
+      let right_sound = ih (loose - 1) a_turn.more right_so.0 right_so.1 in
+      let turn_so = turn_sound loose so_read.rest a_turn stands in
+      let turn_level = turn_so.level in
+      let right_within = right_sound.within in
+      let right_deep = right_sound.deep in
+      let left_deep = sound_so.deep in
+      let right_tight : looseness right_so.0.tree ≤ looseness_of a_turn.op - 1 = let right_loose = right_sound.loose in omega arith in
+      chain_sound tokens_here loose turns _ all_read (record {
         spells =
-            first_form (is_operator t.op) _ _ ts p.0.rest f.between
-            (g.rest, (left_at t.op k n (looseness g.tree) f.level h.loose room, h.spells), (t.more, f.front, (rl, r.spells)));
+            first_form (is_operator a_turn.op) _ _ tokens_here right_so.0.rest turn_so.between (
+              so_read.rest,
+              (left_at a_turn.op loose turns (looseness so_read.tree) turn_so.level sound_so.loose room, sound_so.spells),
+              (a_turn.more, turn_so.front, (right_tight, right_sound.spells)),
+            );
         loose = omega arith;
-        deep = two_deep dg dr;
+        deep = two_deep left_deep right_deep;
         within = omega arith;
-      }) (λ four. let z = room four in omega arith) p.2)
+      }) (λ four. let right_loose = room four in omega arith) right_so.2)
 
-  looser : (j k : ℕ) (ts : List Tok) (g : Got) → j ≤ k → Is (suc d) j ts g → Is (suc d) k ts g
-  looser j k ts g le h = let z = h.loose in record { spells = h.spells; loose = omega arith; deep = h.deep; within = h.within }
+  looser : (lower loose : ℕ) (tokens_here : List Tok) (so_read : Got) → lower ≤ loose → Is (suc deepest) lower tokens_here so_read
+      → Is (suc deepest) loose tokens_here so_read
+  looser lower loose tokens_here so_read no_more is_so = let loose_there = is_so.loose in
+      record { spells = is_so.spells; loose = omega arith; deep = is_so.deep; within = is_so.within }
 
-  one_turn : (k : ℕ) → k ≡ 4 → turns_of k d ≡ 1
-  one_turn k e = rw e refl
+  one_turn : (loose : ℕ) → loose ≡ 4 → turns_of loose deepest ≡ 1
+  one_turn loose is_four = rw is_four refl
 
-  level_sound : (k : ℕ) (ts : List Tok) (g : Got) → level inner d k ts ≡ Some g → Is (suc d) k ts g
+  level_sound : (loose : ℕ) (tokens_here : List Tok) (so_read : Got) → level inner deepest loose tokens_here ≡ Some so_read
+      → Is (suc deepest) loose tokens_here so_read
   unfolding level
-  level_sound zero ts g e =
-      let p = and_then (prim inner d ts) _ g e in
-      steps_sound ts d p.0 g (prim_sound ts p.0 p.1) p.2
-  level_sound (suc j) ts g e = found (prefix_of (suc j)) _ _ g e
+  level_sound zero tokens_here so_read reads =
+      let first_so = and_then (prim inner deepest tokens_here) _ so_read reads in
+      steps_sound tokens_here deepest first_so.0 so_read (prim_sound tokens_here first_so.0 first_so.1) first_so.2
+  level_sound (suc lower) tokens_here so_read reads = found (prefix_of (suc lower)) _ _ so_read reads
       (λ none go.
-      let p = and_then (level inner d j ts) _ g go in
-      let h = level_sound j ts p.0 p.1 in
-      chain_sound ts (suc j) (turns_of (suc j) d) p.0 g (looser j (suc j) ts p.0 (omega arith) h)
-      (λ four. let z = h.loose in let o = one_turn (suc j) four in omega arith) p.2)
-      (λ w is go. found (behind (mark_of_one w) ts) _ _ g go
-      (λ none go2. looser j (suc j) ts g (omega arith) (level_sound j ts g go2))
-      (λ us at go2.
-      let p = and_then (inner (suc j) us) _ g go2 in
-      let r = ih (suc j) us p.0 p.1 in
-      let within = r.within in
-      let f = prefix_sound (suc j) w is in
-      let l = r.loose in
-      let level = f.level in
-      as_is (suc j) ts _ g (record {
-        spells = first_form (is_prefix w) _ _ ts p.0.rest f.before (us, behind_sound (mark_of_one w) ts us at, (omega (arith, l, level), r.spells));
+      let first_so = and_then (level inner deepest lower tokens_here) _ so_read go in
+      let first_sound = level_sound lower tokens_here first_so.0 first_so.1 in
+      chain_sound tokens_here (suc lower) (turns_of (suc lower) deepest) first_so.0 so_read
+      (looser lower (suc lower) tokens_here first_so.0 (omega arith) first_sound)
+      (λ four. let loose_there = first_sound.loose in let one_there = one_turn (suc lower) four in omega arith) first_so.2)
+      (λ its_word stands go. found (behind (mark_of_one its_word) tokens_here) _ _ so_read go
+      (λ none go_on. looser lower (suc lower) tokens_here so_read (omega arith) (level_sound lower tokens_here so_read go_on))
+      (λ further at go_on.
+      let first_so = and_then (inner (suc lower) further) _ so_read go_on in
+      let operand_sound = ih (suc lower) further first_so.0 first_so.1 in
+      let within = operand_sound.within in
+      let prefix_so = prefix_sound (suc lower) its_word stands in
+      let operand_loose = operand_sound.loose in
+      let level = prefix_so.level in
+      as_is (suc lower) tokens_here _ so_read (record {
+        spells = first_form (is_prefix its_word) _ _ tokens_here first_so.0.rest prefix_so.before
+            (further, behind_sound (mark_of_one its_word) tokens_here further at, (omega (arith, operand_loose, level), operand_sound.spells));
         loose = omega (arith, level);
-        deep = ap (λ n. n + 1) r.deep;
+        deep = ap (λ n. n + 1) operand_sound.deep;
         within = omega arith;
-      }) p.2))
+      }) first_so.2))
 
-pub sound : (d k : ℕ) (ts : List Tok) (g : Got) → read_tree d k ts ≡ Some g → Is d k ts g
+pub sound : (deepest loose : ℕ) (tokens_here : List Tok) (so_read : Got) → read_tree deepest loose tokens_here ≡ Some so_read
+    → Is deepest loose tokens_here so_read
 unfolding read_tree
-sound zero k ts g e = absurd (cc e)
-sound (suc d) k ts g e = level_sound (read_tree d) d (sound d) k ts g e
+sound zero loose tokens_here so_read reads = absurd (cc reads)
+sound (suc deepest) loose tokens_here so_read reads = level_sound (read_tree deepest) deepest (sound deepest) loose tokens_here so_read reads

@@ -14,236 +14,332 @@ use Rattle.rpl_parse.specs.ReadingActs.{Done, done, Step, read_step, Numbered, b
 use Rattle.rpl_parse.specs.ReadingActs.{assigns, ended, others, branches, withs, one_act, no_room, begins_act, more_acts, read_acts}
 use Rattle.rpl_parse.proofs.Sound.{some_one, and_then, found, behind_sound, name_sound, name_before_sound, sound, max_three, two_deep, three_deep}
 
-record IsValue (d : ℕ) (m : Mark) (ts : List Tok) (g : Got) : Type 0 where
-  spells : (Spells g.tree ⨾ sign m) ts g.rest
-  deep : g.deep ≡ depth g.tree
-  pub within : g.deep ≤ d
+record IsValue (deepest : ℕ) (a_mark : Mark) (tokens_here : List Tok) (so_read : Got) : Type 0 where
+  spells : (Spells so_read.tree ⨾ sign a_mark) tokens_here so_read.rest
+  deep : so_read.deep ≡ depth so_read.tree
+  pub within : so_read.deep ≤ deepest
 
-pub record IsActs (d : ℕ) (a b : Done) : Type 0 where
+pub record IsActs (deepest : ℕ) (so_far all_done : Done) : Type 0 where
   pub more : List Act
-  pub acts : b.acts ≡ a.acts ++ more
-  pub spells : SpellsActs (acts_of more) a.left b.left
-  pub most : b.most ≡ max a.most (acts_depth (acts_of more))
-  pub within : a.most ≤ d → b.most ≤ d
+  pub acts : all_done.acts ≡ so_far.acts ++ more
+  pub spells : SpellsActs (acts_of more) so_far.left all_done.left
+  pub most : all_done.most ≡ max so_far.most (acts_depth (acts_of more))
+  pub within : so_far.most ≤ deepest → all_done.most ≤ deepest
 
-record IsStep (d : ℕ) (ts : List Tok) (x : Step) : Type 0 where
-  spells : SpellsAct x.new ts x.rest
-  deep : x.deep ≡ act_depth x.new
-  pub within : x.deep ≤ d
+record IsStep (deepest : ℕ) (tokens_here : List Tok) (a_step : Step) : Type 0 where
+  spells : SpellsAct a_step.new tokens_here a_step.rest
+  deep : a_step.deep ≡ act_depth a_step.new
+  pub within : a_step.deep ≤ deepest
 
 -- what is set, behind the name of its object
 abbrev IsTarget : List Tok → Target → Type 0
-IsTarget ts t =
-    (sign M.Dot ⨾ token (word t.slot) ⨾ sign M.LeftBracket ⨾ sign M.Now ⨾ (if_zero t.ahead or (sign M.Plus ⨾ token (digits t.ahead))) ⨾ sign
-    M.RightBracket ⨾ sign M.Assign) ts t.next
+IsTarget tokens_here target =
+    (sign M.Dot ⨾ token (word target.slot) ⨾ sign M.LeftBracket ⨾ sign M.Now ⨾ (if_zero target.ahead or (sign M.Plus ⨾ token (digits target.ahead)))
+    ⨾ sign
+    M.RightBracket ⨾ sign M.Assign) tokens_here target.next
 
-pub number_sound : (ts : List Tok) (x : Numbered) → behind_number ts ≡ Some x → ts ≡ digits x.value ∷ x.next
-number_sound [] x e = absurd (cc e)
-number_sound (mark n ∷ vs) x e = absurd (cc e)
-number_sound (word n ∷ vs) x e = absurd (cc e)
-number_sound (digits z ∷ vs) x e = subst (λ (y : Numbered). digits z ∷ vs ≡ digits y.value ∷ y.next) (some_one _ x e) refl
-number_sound (text s ∷ vs) x e = absurd (cc e)
+pub number_sound : (tokens_here : List Tok) (numbered_so : Numbered) → behind_number tokens_here ≡ Some numbered_so
+    → tokens_here ≡ digits numbered_so.value ∷ numbered_so.next
+number_sound [] numbered_so reads = absurd (cc reads)
+number_sound (mark other_mark ∷ left_over) numbered_so reads = absurd (cc reads)
+number_sound (word its_name ∷ left_over) numbered_so reads = absurd (cc reads)
+number_sound (digits its_number ∷ left_over) numbered_so reads =
+    subst (λ (any_number : Numbered). digits its_number ∷ left_over ≡ digits any_number.value ∷ any_number.next) (some_one _ numbered_so reads) refl
+number_sound (text its_text ∷ left_over) numbered_so reads = absurd (cc reads)
 
-ahead_sound : (ts : List Tok) (x : Numbered) → ahead_of ts ≡ Some x → (if_zero x.value or (sign M.Plus ⨾ token (digits x.value))) ts x.next
-ahead_sound ts x e = found (behind M.Plus ts) _ _ x e
-    (λ none go. subst (λ (y : Numbered). (if_zero y.value or (sign M.Plus ⨾ token (digits y.value))) ts y.next) (some_one _ x go) (inl (refl, refl)))
-    (λ us is go. inr (us, behind_sound M.Plus ts us is, number_sound us x go))
+ahead_sound : (tokens_here : List Tok) (numbered_so : Numbered) → ahead_of tokens_here ≡ Some numbered_so
+    → (if_zero numbered_so.value or (sign M.Plus ⨾ token (digits numbered_so.value))) tokens_here numbered_so.next
+ahead_sound tokens_here numbered_so reads = found (behind M.Plus tokens_here) _ _ numbered_so reads
+    (λ none go.
+    subst (λ (any_number : Numbered). (if_zero any_number.value or (sign M.Plus ⨾ token (digits any_number.value))) tokens_here any_number.next)
+    (some_one _ numbered_so go) (inl (refl, refl)))
+    (λ further stands go. inr (further, behind_sound M.Plus tokens_here further stands, number_sound further numbered_so go))
 
-dated_sound : (s : List ℕ) (ts : List Tok) (t : Target) → dated s ts ≡ Some t
-    → (t.slot ≡ s) × (sign M.LeftBracket ⨾ sign M.Now ⨾ (if_zero t.ahead or (sign M.Plus ⨾ token (digits t.ahead))) ⨾ sign M.RightBracket ⨾ sign
-    M.Assign) ts t.next
-dated_sound s ts t e =
-    let n = and_then (behind M.LeftBracket ts >>= behind M.Now >>= ahead_of) _ t e in
-    let m = and_then (behind M.LeftBracket ts >>= behind M.Now) ahead_of n.0 n.1 in
-    let l = and_then (behind M.LeftBracket ts) (behind M.Now) m.0 m.1 in
-    let u = and_then (behind M.RightBracket n.0.next >>= behind M.Assign) _ t n.2 in
-    let r = and_then (behind M.RightBracket n.0.next) (behind M.Assign) u.0 u.1 in
-    subst (λ (y : Target). (y.slot ≡ s) × (sign M.LeftBracket ⨾ sign M.Now ⨾ (if_zero y.ahead or (sign M.Plus ⨾ token (digits y.ahead))) ⨾ sign
-    M.RightBracket ⨾ sign M.Assign) ts y.next)
-    (some_one (record { slot = s; ahead = n.0.value; next = u.0 }) t u.2) (
+dated_sound : (slot_name : List ℕ) (tokens_here : List Tok) (target : Target) → dated slot_name tokens_here ≡ Some target
+    → (target.slot ≡ slot_name)
+    × (sign M.LeftBracket ⨾ sign M.Now ⨾ (if_zero target.ahead or (sign M.Plus ⨾ token (digits target.ahead))) ⨾ sign M.RightBracket ⨾ sign
+    M.Assign) tokens_here target.next
+dated_sound slot_name tokens_here target reads =
+    let ahead_so = and_then (behind M.LeftBracket tokens_here >>= behind M.Now >>= ahead_of) _ target reads in
+    let now_so = and_then (behind M.LeftBracket tokens_here >>= behind M.Now) ahead_of ahead_so.0 ahead_so.1 in
+    let bracket_so = and_then (behind M.LeftBracket tokens_here) (behind M.Now) now_so.0 now_so.1 in
+    let assign_so = and_then (behind M.RightBracket ahead_so.0.next >>= behind M.Assign) _ target ahead_so.2 in
+    let close_so = and_then (behind M.RightBracket ahead_so.0.next) (behind M.Assign) assign_so.0 assign_so.1 in
+    subst (λ (any_target : Target). (any_target.slot ≡ slot_name)
+    × (sign M.LeftBracket ⨾ sign M.Now ⨾ (if_zero any_target.ahead or (sign M.Plus ⨾ token (digits any_target.ahead))) ⨾ sign
+    M.RightBracket ⨾ sign M.Assign) tokens_here any_target.next)
+    (some_one (record { slot = slot_name; ahead = ahead_so.0.value; next = assign_so.0 }) target assign_so.2) (
       refl,
       (
-        l.0,
-        behind_sound M.LeftBracket ts l.0 l.1,
+        bracket_so.0,
+        behind_sound M.LeftBracket tokens_here bracket_so.0 bracket_so.1,
         (
-          m.0,
-          behind_sound M.Now l.0 m.0 l.2,
+          now_so.0,
+          behind_sound M.Now bracket_so.0 now_so.0 bracket_so.2,
           (
-            n.0.next,
-            ahead_sound m.0 n.0 m.2,
-            (r.0, behind_sound M.RightBracket n.0.next r.0 r.1, behind_sound M.Assign r.0 u.0 r.2),
+            ahead_so.0.next,
+            ahead_sound now_so.0 ahead_so.0 now_so.2,
+            (close_so.0, behind_sound M.RightBracket ahead_so.0.next close_so.0 close_so.1, behind_sound M.Assign close_so.0 assign_so.0 close_so.2),
           ),
         ),
       ),
     )
 
-target_sound : (ts : List Tok) (t : Target) → target_read ts ≡ Some t → IsTarget ts t
-target_sound ts t e =
-    let s = and_then (behind M.Dot ts >>= behind_name) _ t e in
-    let p = and_then (behind M.Dot ts) behind_name s.0 s.1 in
-    let h = dated_sound s.0.called s.0.next t s.2 in
-    let n : p.0 ≡ word t.slot ∷ s.0.next = name_sound p.0 s.0 p.2 ∙ ap (λ x. word x ∷ s.0.next) (sym h.0) in
-    (p.0, behind_sound M.Dot ts p.0 p.1, (s.0.next, n, h.1))
+target_sound : (tokens_here : List Tok) (target : Target) → target_read tokens_here ≡ Some target → IsTarget tokens_here target
+target_sound tokens_here target reads =
+    let slot_so = and_then (behind M.Dot tokens_here >>= behind_name) _ target reads in
+    let dot_so = and_then (behind M.Dot tokens_here) behind_name slot_so.0 slot_so.1 in
+    let dated_so = dated_sound slot_so.0.called slot_so.0.next target slot_so.2 in
+    let name_so : dot_so.0 ≡ word target.slot ∷ slot_so.0.next = name_sound dot_so.0 slot_so.0 dot_so.2
+    ∙ ap (λ x. word x ∷ slot_so.0.next) (sym dated_so.0) in
+    (dot_so.0, behind_sound M.Dot tokens_here dot_so.0 dot_so.1, (slot_so.0.next, name_so, dated_so.1))
 
-no_more : (d : ℕ) (a b : Done) → Some a ≡ Some b → IsActs d a b
-no_more d a b e =
-    subst (IsActs d a) (some_one a b e) (record { more = []; acts = sym (append-nil a.acts); spells = refl; most = omega arith; within = λ w. w })
+no_more : (deepest : ℕ) (so_far all_done : Done) → Some so_far ≡ Some all_done → IsActs deepest so_far all_done
+no_more deepest so_far all_done alike =
+    subst (IsActs deepest so_far) (some_one so_far all_done alike)
+    (record { more = []; acts = sym (append-nil so_far.acts); spells = refl; most = omega arith; within = λ few_there. few_there })
 
-module _ (d : ℕ) (value : List Tok → Read) (inner : List Tok → Option Done)
-    (vih : (m : Mark) (ts : List Tok) (g : Got) → (value ts >>= closed_by_mark m) ≡ Some g → IsValue d m ts g)
-    (ih : (ts : List Tok) (b : Done) → inner ts ≡ Some b → IsActs d (done [] 0 ts) b) where
+module _ (deepest : ℕ) (value : List Tok → Read) (inner : List Tok → Option Done)
+    (value_sound_there : (a_mark : Mark) (tokens_here : List Tok) (so_read : Got) → (value tokens_here >>= closed_by_mark a_mark) ≡ Some so_read
+    → IsValue deepest a_mark tokens_here so_read)
+    (inner_sound : (tokens_here : List Tok) (all_done : Done) → inner tokens_here ≡ Some all_done
+    → IsActs deepest (done [] 0 tokens_here) all_done) where
   -- statements from the first on
-  record IsBody (ts : List Tok) (b : Done) : Type 0 where
-    spells : SpellsActs (acts_of b.acts) ts b.left
-    most : b.most ≡ acts_depth (acts_of b.acts)
-    within : b.most ≤ d
+  record IsBody (tokens_here : List Tok) (all_done : Done) : Type 0 where
+    spells : SpellsActs (acts_of all_done.acts) tokens_here all_done.left
+    most : all_done.most ≡ acts_depth (acts_of all_done.acts)
+    within : all_done.most ≤ deepest
 
-  body_sound : (ts : List Tok) (b : Done) → inner ts ≡ Some b → IsBody ts b
-  body_sound ts b e =
-      let h = ih ts b e in
-      let all : b.acts ≡ h.more = h.acts in
+  body_sound : (tokens_here : List Tok) (all_done : Done) → inner tokens_here ≡ Some all_done → IsBody tokens_here all_done
+  body_sound tokens_here all_done reads =
+      let statements_sound = inner_sound tokens_here all_done reads in
+      let all : all_done.acts ≡ statements_sound.more = statements_sound.acts in
       record {
-        spells = subst (λ l. SpellsActs (acts_of l) ts b.left) (sym all) h.spells;
-        most = h.most ∙ subst (λ l. max 0 (acts_depth (acts_of h.more)) ≡ acts_depth (acts_of l)) (sym all) (omega arith);
-        within = h.within (omega arith);
+        spells = subst (λ l. SpellsActs (acts_of l) tokens_here all_done.left) (sym all) statements_sound.spells;
+        most = statements_sound.most
+            ∙ subst (λ l. max 0 (acts_depth (acts_of statements_sound.more)) ≡ acts_depth (acts_of l)) (sym all) (omega arith);
+        within = statements_sound.within (omega arith);
       }
 
-  assigns_sound : (o : List ℕ) (ts : List Tok) (x : Step) → assigns value inner o ts ≡ Some x → IsStep (suc d) (word o ∷ ts) x
-  assigns_sound o ts x e =
-      let t = and_then (target_read ts) _ x e in
-      let q = and_then (value t.0.next >>= closed_by_mark M.Semicolon) _ x t.2 in
-      let g = target_sound ts t.0 t.1 in
-      let h = vih M.Semicolon t.0.next q.0 q.1 in
-      let w = h.within in
-      let k = g.2.2.2 in
-      let l = k.2.2 in
-      subst (IsStep (suc d) (word o ∷ ts)) (some_one (read_step (assign o t.0.slot t.0.ahead q.0.tree) (q.0.deep + 1) q.0.rest) x q.2) (record {
-        spells = (ts, refl, (g.0, g.1, (g.2.0, g.2.1, (g.2.2.0, g.2.2.1, (k.0, k.1, (k.2.0, k.2.1, (l.0, l.1, (t.0.next, l.2, h.spells))))))));
-        deep = ap (λ n. n + 1) h.deep;
+  assigns_sound : (object : List ℕ) (tokens_here : List Tok) (a_step : Step) → assigns value inner object tokens_here ≡ Some a_step
+      → IsStep (suc deepest) (word object ∷ tokens_here) a_step
+  assigns_sound object tokens_here a_step reads =
+      let target_so = and_then (target_read tokens_here) _ a_step reads in
+      let value_so = and_then (value target_so.0.next >>= closed_by_mark M.Semicolon) _ a_step target_so.2 in
+      let target_sound_there = target_sound tokens_here target_so.0 target_so.1 in
+      let value_sound_so = value_sound_there M.Semicolon target_so.0.next value_so.0 value_so.1 in
+      let value_within = value_sound_so.within in
+      let date_part = target_sound_there.2.2.2 in
+      let end_part = date_part.2.2 in
+      subst (IsStep (suc deepest) (word object ∷ tokens_here))
+      (some_one (read_step (assign object target_so.0.slot target_so.0.ahead value_so.0.tree) (value_so.0.deep + 1) value_so.0.rest) a_step
+      value_so.2) (record {
+        spells = (
+          tokens_here,
+          refl,
+          (
+            target_sound_there.0,
+            target_sound_there.1,
+            (
+              target_sound_there.2.0,
+              target_sound_there.2.1,
+              (
+                target_sound_there.2.2.0,
+                target_sound_there.2.2.1,
+                (
+                  date_part.0,
+                  date_part.1,
+                  (date_part.2.0, date_part.2.1, (end_part.0, end_part.1, (target_so.0.next, end_part.2, value_sound_so.spells))),
+                ),
+              ),
+            ),
+          ),
+        );
+        deep = ap (λ n. n + 1) value_sound_so.deep;
         within = omega arith;
       })
 
   -- the branch that may be left out
-  record IsOther (ts : List Tok) (b : Done) : Type 0 where
-    spells : (if_none (acts_of b.acts) or (sign M.Else ⨾ SpellsActs (acts_of b.acts))) ts b.left
-    most : b.most ≡ acts_depth (acts_of b.acts)
-    within : b.most ≤ d
+  record IsOther (tokens_here : List Tok) (all_done : Done) : Type 0 where
+    spells : (if_none (acts_of all_done.acts) or (sign M.Else ⨾ SpellsActs (acts_of all_done.acts))) tokens_here all_done.left
+    most : all_done.most ≡ acts_depth (acts_of all_done.acts)
+    within : all_done.most ≤ deepest
 
-  others_sound : (ts : List Tok) (b : Done) → others value inner ts ≡ Some b → IsOther ts b
-  others_sound ts b e = found (behind M.Else ts) (Some (done [] 0 ts)) inner b e
-      (λ none same. subst (IsOther ts) (some_one _ b same) (record { spells = inl refl; most = refl; within = omega arith }))
-      (λ us is go.
-      let h = body_sound us b go in
-      record { spells = inr (us, behind_sound M.Else ts us is, h.spells); most = h.most; within = h.within })
+  others_sound : (tokens_here : List Tok) (all_done : Done) → others value inner tokens_here ≡ Some all_done → IsOther tokens_here all_done
+  others_sound tokens_here all_done reads = found (behind M.Else tokens_here) (Some (done [] 0 tokens_here)) inner all_done reads
+      (λ none same. subst (IsOther tokens_here) (some_one _ all_done same) (record { spells = inl refl; most = refl; within = omega arith }))
+      (λ further stands go.
+      let body_sound_there = body_sound further all_done go in
+      record {
+        spells = inr (further, behind_sound M.Else tokens_here further stands, body_sound_there.spells);
+        most = body_sound_there.most;
+        within = body_sound_there.within;
+      })
 
   -- a mark behind statements
-  ended_sound : (m : Mark) (a b : Done) → ended value inner m a ≡ Some b → (a.left ≡ mark m ∷ b.left) × (b ≡ done a.acts a.most b.left)
-  ended_sound m a b e =
-      let t = and_then (behind m a.left) _ b e in
-      let same : done a.acts a.most t.0 ≡ b = some_one _ b t.2 in
-      subst (λ (y : Done). (a.left ≡ mark m ∷ y.left) × (y ≡ done a.acts a.most y.left)) same (behind_sound m a.left t.0 t.1, refl)
+  ended_sound : (a_mark : Mark) (so_far all_done : Done) → ended value inner a_mark so_far ≡ Some all_done
+      → (so_far.left ≡ mark a_mark ∷ all_done.left) × (all_done ≡ done so_far.acts so_far.most all_done.left)
+  ended_sound a_mark so_far all_done reads =
+      let mark_so = and_then (behind a_mark so_far.left) _ all_done reads in
+      let same : done so_far.acts so_far.most mark_so.0 ≡ all_done = some_one _ all_done mark_so.2 in
+      subst (λ (any_done : Done). (so_far.left ≡ mark a_mark ∷ any_done.left) × (any_done ≡ done so_far.acts so_far.most any_done.left)) same
+      (behind_sound a_mark so_far.left mark_so.0 mark_so.1, refl)
 
-  branches_sound : (ts : List Tok) (x : Step) → branches value inner ts ≡ Some x → IsStep (suc d) (mark M.If ∷ ts) x
-  branches_sound ts x e =
-      let p = and_then (value ts >>= closed_by_mark M.Then) _ x e in
-      let q = and_then (inner p.0.rest) _ x p.2 in
-      let s = and_then (others value inner q.0.left >>= ended value inner M.EndIf) _ x q.2 in
-      let r = and_then (others value inner q.0.left) (ended value inner M.EndIf) s.0 s.1 in
-      let hp = vih M.Then ts p.0 p.1 in
-      let hq = body_sound p.0.rest q.0 q.1 in
-      let hr = others_sound q.0.left r.0 r.1 in
-      let hs = ended_sound M.EndIf r.0 s.0 r.2 in
-      let wp = hp.within in
-      let wq = hq.within in
-      let wr = hr.within in
-      let whole : IsStep (suc d) (mark M.If ∷ ts)
-      (read_step (branch p.0.tree (acts_of q.0.acts) (acts_of r.0.acts)) (max (max p.0.deep q.0.most) r.0.most + 1) s.0.left) = record {
-        spells = (ts, refl, (hp.spells.0, hp.spells.1, (p.0.rest, hp.spells.2, (q.0.left, hq.spells, (r.0.left, hr.spells, hs.0)))));
-        deep = three_deep hp.deep hq.most hr.most;
+  branches_sound : (tokens_here : List Tok) (a_step : Step) → branches value inner tokens_here ≡ Some a_step
+      → IsStep (suc deepest) (mark M.If ∷ tokens_here) a_step
+  branches_sound tokens_here a_step reads =
+      let first_so = and_then (value tokens_here >>= closed_by_mark M.Then) _ a_step reads in
+      let second_so = and_then (inner first_so.0.rest) _ a_step first_so.2 in
+      let ended_so = and_then (others value inner second_so.0.left >>= ended value inner M.EndIf) _ a_step second_so.2 in
+      let third_so = and_then (others value inner second_so.0.left) (ended value inner M.EndIf) ended_so.0 ended_so.1 in
+      let first_sound = value_sound_there M.Then tokens_here first_so.0 first_so.1 in
+      let second_sound = body_sound first_so.0.rest second_so.0 second_so.1 in
+      let third_sound = others_sound second_so.0.left third_so.0 third_so.1 in
+      let ended_sound_there = ended_sound M.EndIf third_so.0 ended_so.0 third_so.2 in
+      let first_within = first_sound.within in
+      let second_within = second_sound.within in
+      let third_within = third_sound.within in
+      let whole : IsStep (suc deepest) (mark M.If ∷ tokens_here)
+      (read_step (branch first_so.0.tree (acts_of second_so.0.acts) (acts_of third_so.0.acts))
+      (max (max first_so.0.deep second_so.0.most) third_so.0.most + 1) ended_so.0.left) = record {
+        spells = (
+          tokens_here,
+          refl,
+          (
+            first_sound.spells.0,
+            first_sound.spells.1,
+            (
+              first_so.0.rest,
+              first_sound.spells.2,
+              (second_so.0.left, second_sound.spells, (third_so.0.left, third_sound.spells, ended_sound_there.0)),
+            ),
+          ),
+        );
+        deep = three_deep first_sound.deep second_sound.most third_sound.most;
         within = omega arith;
       } in
-      subst (IsStep (suc d) (mark M.If ∷ ts)) (ap
-      (λ (z : Done). read_step (branch p.0.tree (acts_of q.0.acts) (acts_of z.acts)) (max (max p.0.deep q.0.most) z.most + 1) z.left) (sym hs.1)
-      ∙ some_one _ x s.2) whole
+      subst (IsStep (suc deepest) (mark M.If ∷ tokens_here)) (ap
+      (λ (any_done : Done).
+      read_step (branch first_so.0.tree (acts_of second_so.0.acts) (acts_of any_done.acts))
+      (max (max first_so.0.deep second_so.0.most) any_done.most + 1) any_done.left) (sym ended_sound_there.1)
+      ∙ some_one _ a_step ended_so.2) whole
 
-  withs_sound : (ts : List Tok) (x : Step) → withs value inner ts ≡ Some x → IsStep (suc d) (mark M.With ∷ ts) x
-  withs_sound ts x e =
-      let n = and_then (name_before M.Assign ts) _ x e in
-      let p = and_then (value n.0.next >>= closed_by_mark M.Do) _ x n.2 in
-      let s = and_then (inner p.0.rest >>= ended value inner M.EndWith) _ x p.2 in
-      let q = and_then (inner p.0.rest) (ended value inner M.EndWith) s.0 s.1 in
-      let hn = name_before_sound M.Assign ts n.0 n.1 in
-      let hp = vih M.Do n.0.next p.0 p.1 in
-      let hq = body_sound p.0.rest q.0 q.1 in
-      let hs = ended_sound M.EndWith q.0 s.0 q.2 in
-      let wp = hp.within in
-      let wq = hq.within in
-      let whole : IsStep (suc d) (mark M.With ∷ ts)
-      (read_step (with_name n.0.called p.0.tree (acts_of q.0.acts)) (max p.0.deep q.0.most + 1) s.0.left) = record {
-        spells = (ts, refl, (hn.0, hn.1, (n.0.next, hn.2, (hp.spells.0, hp.spells.1, (p.0.rest, hp.spells.2, (q.0.left, hq.spells, hs.0))))));
-        deep = two_deep hp.deep hq.most;
-        within = omega arith;
-      } in
-      subst (IsStep (suc d) (mark M.With ∷ ts))
-      (ap (λ (z : Done). read_step (with_name n.0.called p.0.tree (acts_of z.acts)) (max p.0.deep z.most + 1) z.left) (sym hs.1)
-      ∙ some_one _ x s.2) whole
-
-  two_somes : (o : Option Step) (x : Step) → (o >>= (λ y. Some (Some y))) ≡ Some (Some x) → o ≡ Some x
-  two_somes None x e = absurd (cc e)
-  two_somes (Some y) x e = ap Some (some_one y x (some_one (Some y) (Some x) e))
-
-  one_sound : (ts : List Tok) (x : Step) → one_act value inner ts ≡ Some (Some x) → IsStep (suc d) ts x
-  one_sound ts x e = found (behind_name ts) _ _ (Some x) e
-      (λ none go. found (behind M.If ts) _ _ (Some x) go
-      (λ none2 go2. found (behind M.With ts) _ _ (Some x) go2
-      (λ none3 same. absurd (cc (some_one _ _ same)))
-      (λ us is rest. subst (λ l. IsStep (suc d) l x) (sym (behind_sound M.With ts us is)) (withs_sound us x (two_somes _ x rest))))
-      (λ us is rest. subst (λ l. IsStep (suc d) l x) (sym (behind_sound M.If ts us is)) (branches_sound us x (two_somes _ x rest))))
-      (λ o is rest. subst (λ l. IsStep (suc d) l x) (sym (name_sound ts o is)) (assigns_sound o.called o.next x (two_somes _ x rest)))
-
-module _ (d : ℕ) (one : List Tok → Option (Option Step)) (ih : (ts : List Tok) (x : Step) → one ts ≡ Some (Some x) → IsStep d ts x) where
-  joined : (a : Done) (x : Step) (c : Done) → IsStep d a.left x → IsActs d (with_act a x) c → IsActs d a c
-  joined a x c s h =
+  withs_sound : (tokens_here : List Tok) (a_step : Step) → withs value inner tokens_here ≡ Some a_step
+      → IsStep (suc deepest) (mark M.With ∷ tokens_here) a_step
+  withs_sound tokens_here a_step reads =
+      let name_so = and_then (name_before M.Assign tokens_here) _ a_step reads in
+      let first_so = and_then (value name_so.0.next >>= closed_by_mark M.Do) _ a_step name_so.2 in
+      let ended_so = and_then (inner first_so.0.rest >>= ended value inner M.EndWith) _ a_step first_so.2 in
+      let second_so = and_then (inner first_so.0.rest) (ended value inner M.EndWith) ended_so.0 ended_so.1 in
+      let name_sound_there = name_before_sound M.Assign tokens_here name_so.0 name_so.1 in
+      let first_sound = value_sound_there M.Do name_so.0.next first_so.0 first_so.1 in
+      let second_sound = body_sound first_so.0.rest second_so.0 second_so.1 in
+      let ended_sound_there = ended_sound M.EndWith second_so.0 ended_so.0 second_so.2 in
+      let first_within = first_sound.within in
+      let second_within = second_sound.within in
+      let whole : IsStep (suc deepest) (mark M.With ∷ tokens_here)
+      (read_step (with_name name_so.0.called first_so.0.tree (acts_of second_so.0.acts)) (max first_so.0.deep second_so.0.most + 1) ended_so.0.left) =
       record {
-        more = x.new ∷ h.more;
-        acts = h.acts ∙ append_assoc a.acts (x.new ∷ []) h.more;
-        spells = (x.rest, s.spells, h.spells);
+        spells = (
+          tokens_here,
+          refl,
+          (
+            name_sound_there.0,
+            name_sound_there.1,
+            (
+              name_so.0.next,
+              name_sound_there.2,
+              (
+                first_sound.spells.0,
+                first_sound.spells.1,
+                (first_so.0.rest, first_sound.spells.2, (second_so.0.left, second_sound.spells, ended_sound_there.0)),
+              ),
+            ),
+          ),
+        );
+        deep = two_deep first_sound.deep second_sound.most;
+        within = omega arith;
+      } in
+      subst (IsStep (suc deepest) (mark M.With ∷ tokens_here))
+      (ap (λ (any_done : Done).
+      read_step (with_name name_so.0.called first_so.0.tree (acts_of any_done.acts)) (max first_so.0.deep any_done.most + 1) any_done.left)
+      (sym ended_sound_there.1)
+      ∙ some_one _ a_step ended_so.2) whole
+
+  two_somes : (found_there : Option Step) (a_step : Step) → (found_there >>= (λ y. Some (Some y))) ≡ Some (Some a_step) → found_there ≡ Some a_step
+  two_somes None a_step reads = absurd (cc reads)
+  two_somes (Some other_step) a_step reads = ap Some (some_one other_step a_step (some_one (Some other_step) (Some a_step) reads))
+
+  one_sound : (tokens_here : List Tok) (a_step : Step) → one_act value inner tokens_here ≡ Some (Some a_step)
+      → IsStep (suc deepest) tokens_here a_step
+  one_sound tokens_here a_step reads = found (behind_name tokens_here) _ _ (Some a_step) reads
+      (λ none go. found (behind M.If tokens_here) _ _ (Some a_step) go
+      (λ none_there go_on. found (behind M.With tokens_here) _ _ (Some a_step) go_on
+      (λ none3 same. absurd (cc (some_one _ _ same)))
+      (λ further stands rest.
+      subst (λ l. IsStep (suc deepest) l a_step) (sym (behind_sound M.With tokens_here further stands))
+      (withs_sound further a_step (two_somes _ a_step rest))))
+      (λ further stands rest.
+      subst (λ l. IsStep (suc deepest) l a_step) (sym (behind_sound M.If tokens_here further stands))
+      (branches_sound further a_step (two_somes _ a_step rest))))
+      (λ object_there stands rest.
+      subst (λ l. IsStep (suc deepest) l a_step) (sym (name_sound tokens_here object_there stands))
+      (assigns_sound object_there.called object_there.next a_step (two_somes _ a_step rest)))
+
+module _ (deepest : ℕ) (one : List Tok → Option (Option Step))
+    (inner_sound : (tokens_here : List Tok) (a_step : Step) → one tokens_here ≡ Some (Some a_step) → IsStep deepest tokens_here a_step) where
+  joined : (so_far : Done) (a_step : Step) (after_one : Done) → IsStep deepest so_far.left a_step → IsActs deepest (with_act so_far a_step) after_one
+      → IsActs deepest so_far after_one
+  joined so_far a_step after_one first_sound others_sound_there =
+      record {
+        more = a_step.new ∷ others_sound_there.more;
+        acts = others_sound_there.acts ∙ append_assoc so_far.acts (a_step.new ∷ []) others_sound_there.more;
+        spells = (a_step.rest, first_sound.spells, others_sound_there.spells);
         most =
-            h.most ∙ (ap (λ n. max (max a.most n) (acts_depth (acts_of h.more))) s.deep
-            ∙ max_three a.most (act_depth x.new) (acts_depth (acts_of h.more)));
-        within = λ l. let w = s.within in h.within (omega arith);
+            others_sound_there.most ∙ (ap (λ n. max (max so_far.most n) (acts_depth (acts_of others_sound_there.more))) first_sound.deep
+            ∙ max_three so_far.most (act_depth a_step.new) (acts_depth (acts_of others_sound_there.more)));
+        within = λ few_there. let first_within = first_sound.within in others_sound_there.within (omega arith);
       }
 
-  more_sound : (n : ℕ) (a b : Done) → more_acts one n a ≡ Some b → IsActs d a b
+  more_sound : (turns : ℕ) (so_far all_done : Done) → more_acts one turns so_far ≡ Some all_done → IsActs deepest so_far all_done
   unfolding more_acts
-  more_sound zero a b e = no_more d a b e
-  more_sound (suc n) a b e =
-      let p = and_then (one a.left) _ b e in
-      by_one p.0 p.1 p.2 (λ c f. more_sound n c b f)
+  more_sound zero so_far all_done reads = no_more deepest so_far all_done reads
+  more_sound (suc turns) so_far all_done reads =
+      let one_so = and_then (one so_far.left) _ all_done reads in
+      by_one one_so.0 one_so.1 one_so.2 (λ after_one reads_on. more_sound turns after_one all_done reads_on)
     where
-      by_one : (o : Option Step) → one a.left ≡ Some o → if_found o (Some a) (λ x. more_acts one n (with_act a x)) ≡ Some b
-          → ((c : Done) → more_acts one n c ≡ Some b → IsActs d c b) → IsActs d a b
-      by_one None is go next = no_more d a b go
-      by_one (Some x) is go next = joined a x b (ih a.left x is) (next (with_act a x) go)
+      by_one : (found_there : Option Step) → one so_far.left ≡ Some found_there
+          → if_found found_there (Some so_far) (λ x. more_acts one turns (with_act so_far x)) ≡ Some all_done
+          → ((after_one : Done) → more_acts one turns after_one ≡ Some all_done → IsActs deepest after_one all_done) → IsActs deepest so_far all_done
+      by_one None stands goes_on next = no_more deepest so_far all_done goes_on
+      by_one (Some a_step) stands goes_on next =
+          joined so_far a_step all_done (inner_sound so_far.left a_step stands) (next (with_act so_far a_step) goes_on)
 
-value_sound : (d : ℕ) (m : Mark) (ts : List Tok) (g : Got) → (read_tree d 7 ts >>= closed_by_mark m) ≡ Some g → IsValue d m ts g
-value_sound d m ts g e =
-    let p = and_then (read_tree d 7 ts) (closed_by_mark m) g e in
-    let q = and_then (behind m p.0.rest) _ g p.2 in
-    let h = sound d 7 ts p.0 p.1 in
-    subst (IsValue d m ts) (some_one _ g q.2)
-    (record { spells = (p.0.rest, h.spells, behind_sound m p.0.rest q.0 q.1); deep = h.deep; within = h.within })
+value_sound : (deepest : ℕ) (a_mark : Mark) (tokens_here : List Tok) (so_read : Got)
+    → (read_tree deepest 7 tokens_here >>= closed_by_mark a_mark) ≡ Some so_read → IsValue deepest a_mark tokens_here so_read
+value_sound deepest a_mark tokens_here so_read reads =
+    let value_so = and_then (read_tree deepest 7 tokens_here) (closed_by_mark a_mark) so_read reads in
+    let mark_so = and_then (behind a_mark value_so.0.rest) _ so_read value_so.2 in
+    let value_sound_there = sound deepest 7 tokens_here value_so.0 value_so.1 in
+    subst (IsValue deepest a_mark tokens_here) (some_one _ so_read mark_so.2)
+    (record {
+      spells = (value_so.0.rest, value_sound_there.spells, behind_sound a_mark value_so.0.rest mark_so.0 mark_so.1);
+      deep = value_sound_there.deep;
+      within = value_sound_there.within;
+    })
 
-nothing_there : (ts : List Tok) (x : Step) → no_room ts ≡ Some (Some x) → IsStep 0 ts x
-nothing_there ts x e = by_test (begins_act ts) e
+nothing_there : (tokens_here : List Tok) (a_step : Step) → no_room tokens_here ≡ Some (Some a_step) → IsStep 0 tokens_here a_step
+nothing_there tokens_here a_step reads = by_test (begins_act tokens_here) reads
   where
-    by_test : (b : Bool) → (if b then None else Some None) ≡ Some (Some x) → IsStep 0 ts x
-    by_test true f = absurd (cc f)
-    by_test false f = absurd (cc (some_one None (Some x) f))
+    by_test : (test : Bool) → (if test then None else Some None) ≡ Some (Some a_step) → IsStep 0 tokens_here a_step
+    by_test true reads_so = absurd (cc reads_so)
+    by_test false reads_so = absurd (cc (some_one None (Some a_step) reads_so))
 
-pub acts_sound : (d : ℕ) (ts : List Tok) (b : Done) → read_acts d ts ≡ Some b → IsActs d (done [] 0 ts) b
+pub acts_sound : (deepest : ℕ) (tokens_here : List Tok) (all_done : Done) → read_acts deepest tokens_here ≡ Some all_done
+    → IsActs deepest (done [] 0 tokens_here) all_done
 unfolding read_acts
-acts_sound zero ts b e = more_sound 0 no_room nothing_there (length ts) (done [] 0 ts) b e
-acts_sound (suc d) ts b e =
-    more_sound (suc d) (one_act (read_tree d 7) (read_acts d)) (one_sound d (read_tree d 7) (read_acts d) (value_sound d) (acts_sound d)) (length ts)
-    (done [] 0 ts) b e
+acts_sound zero tokens_here all_done reads = more_sound 0 no_room nothing_there (length tokens_here) (done [] 0 tokens_here) all_done reads
+acts_sound (suc deepest) tokens_here all_done reads =
+    more_sound (suc deepest) (one_act (read_tree deepest 7) (read_acts deepest))
+    (one_sound deepest (read_tree deepest 7) (read_acts deepest) (value_sound deepest) (acts_sound deepest)) (length tokens_here)
+    (done [] 0 tokens_here) all_done reads

@@ -6,62 +6,82 @@ use Rattle.rpl_parse.specs.Tokens.{Tok}
 use Rattle.rpl_tree.specs.Tree.{two, at}
 use Rattle.rpl_parse.specs.Reading.{Read, Got, got, Many, many, Turn, behind, turn, up_to, items, steps, chain}
 
-module _ (inner : ℕ → List Tok → Read) (d : ℕ) where
-  pub items_stops : (n : ℕ) (a : Many) → behind M.Comma a.left ≡ None → items inner d n a ≡ Some a
+module _ (inner : ℕ → List Tok → Read) (deepest : ℕ) where
+  pub items_stops : (turns : ℕ) (so_far : Many) → behind M.Comma so_far.left ≡ None → items inner deepest turns so_far ≡ Some so_far
   unfolding items
-  items_stops zero a e = refl
-  items_stops (suc n) a e = rw e refl
+  items_stops zero so_far mark_stands = refl
+  items_stops (suc turns) so_far mark_stands = rw mark_stands refl
 
-  pub items_turn : (n : ℕ) (a : Many) (us : List Tok) (g : Got) → behind M.Comma a.left ≡ Some us → inner 7 us ≡ Some g
-      → items inner d (suc n) a ≡ items inner d n (many (a.trees ++ g.tree ∷ []) (max a.most g.deep) g.rest)
+  pub items_turn : (turns : ℕ) (so_far : Many) (further : List Tok) (so_read : Got) → behind M.Comma so_far.left ≡ Some further
+      → inner 7 further ≡ Some so_read
+      → items inner deepest (suc turns) so_far
+      ≡ items inner deepest turns (many (so_far.trees ++ so_read.tree ∷ []) (max so_far.most so_read.deep) so_read.rest)
   unfolding items
-  items_turn n a us g e f = rw (e, f) refl
+  items_turn turns so_far further so_read mark_stands reads_item = rw (mark_stands, reads_item) refl
 
-  items_end : (n : ℕ) (a : Many) (us : List Tok) → behind M.Comma a.left ≡ Some us → inner 7 us ≡ None → items inner d (suc n) a ≡ None
+  items_end : (turns : ℕ) (so_far : Many) (further : List Tok) → behind M.Comma so_far.left ≡ Some further → inner 7 further ≡ None
+      → items inner deepest (suc turns) so_far ≡ None
   unfolding items
-  items_end n a us e f = rw (e, f) refl
+  items_end turns so_far further mark_stands reads_item = rw (mark_stands, reads_item) refl
 
-  pub items_goes : (n i : ℕ) (a : Many) (us : List Tok) (g : Got) → i < n → behind M.Comma a.left ≡ Some us → inner 7 us ≡ Some g
-      → items inner d (n - i) a ≡ items inner d (n - (i + 1)) (many (a.trees ++ g.tree ∷ []) (max a.most g.deep) g.rest)
-  items_goes n i a us g lt e f =
-      let s : n - i ≡ suc (n - (i + 1)) = omega arith in
-      ap (λ k. items inner d k a) s ∙ items_turn (n - (i + 1)) a us g e f
+  pub items_goes : (turns turn_number : ℕ) (so_far : Many) (further : List Tok) (so_read : Got) → turn_number < turns
+      → behind M.Comma so_far.left ≡ Some further → inner 7 further ≡ Some so_read
+      → items inner deepest (turns - turn_number) so_far
+      ≡ items inner deepest (turns - (turn_number + 1)) (many (so_far.trees ++ so_read.tree ∷ []) (max so_far.most so_read.deep) so_read.rest)
+  items_goes turns turn_number so_far further so_read less mark_stands reads_item =
+      let next_turns : turns - turn_number ≡ suc (turns - (turn_number + 1)) = omega arith in
+      ap (λ loose. items inner deepest loose so_far) next_turns ∙ items_turn (turns - (turn_number + 1)) so_far further so_read mark_stands reads_item
 
-  pub items_fails : (n i : ℕ) (a : Many) (us : List Tok) → i < n → behind M.Comma a.left ≡ Some us → inner 7 us ≡ None
-      → items inner d (n - i) a ≡ None
-  items_fails n i a us lt e f =
-      let s : n - i ≡ suc (n - (i + 1)) = omega arith in
-      ap (λ k. items inner d k a) s ∙ items_end (n - (i + 1)) a us e f
+  pub items_fails : (turns turn_number : ℕ) (so_far : Many) (further : List Tok) → turn_number < turns → behind M.Comma so_far.left ≡ Some further
+      → inner 7 further ≡ None
+      → items inner deepest (turns - turn_number) so_far ≡ None
+  items_fails turns turn_number so_far further less mark_stands reads_item =
+      let next_turns : turns - turn_number ≡ suc (turns - (turn_number + 1)) = omega arith in
+      ap (λ loose. items inner deepest loose so_far) next_turns ∙ items_end (turns - (turn_number + 1)) so_far further mark_stands reads_item
 
-  pub steps_turn : (n : ℕ) (g : Got) (us : List Tok) (r : Got) → behind M.LeftBracket g.rest ≡ Some us → ltb g.deep (suc d) ≡ true
-      → up_to inner d M.RightBracket us ≡ Some r → steps inner d (suc n) g ≡ steps inner d n (got (at g.tree r.tree) (max g.deep r.deep + 1) r.rest)
+  pub steps_turn : (turns : ℕ) (so_read : Got) (further : List Tok) (right_read : Got) → behind M.LeftBracket so_read.rest ≡ Some further
+      → ltb so_read.deep (suc deepest) ≡ true
+      → up_to inner deepest M.RightBracket further ≡ Some right_read
+      → steps inner deepest (suc turns) so_read
+      ≡ steps inner deepest turns (got (at so_read.tree right_read.tree) (max so_read.deep right_read.deep + 1) right_read.rest)
   unfolding steps
-  steps_turn n g us r e b f = rw (e, b, f) refl
+  steps_turn turns so_read further right_read mark_stands is_shallow reads_item = rw (mark_stands, is_shallow, reads_item) refl
 
-  pub steps_goes : (n i : ℕ) (g : Got) (us : List Tok) (r : Got) → i < n → behind M.LeftBracket g.rest ≡ Some us → g.deep ≤ d
-      → up_to inner d M.RightBracket us ≡ Some r
-      → steps inner d (n - i) g ≡ steps inner d (n - (i + 1)) (got (at g.tree r.tree) (max g.deep r.deep + 1) r.rest)
-  steps_goes n i g us r lt e b f =
-      let s : n - i ≡ suc (n - (i + 1)) = omega arith in
-      ap (λ k. steps inner d k g) s ∙ steps_turn (n - (i + 1)) g us r e (lt-ltb g.deep (suc d) (omega arith)) f
+  pub steps_goes : (turns turn_number : ℕ) (so_read : Got) (further : List Tok) (right_read : Got) → turn_number < turns
+      → behind M.LeftBracket so_read.rest ≡ Some further → so_read.deep ≤ deepest
+      → up_to inner deepest M.RightBracket further ≡ Some right_read
+      → steps inner deepest (turns - turn_number) so_read
+      ≡ steps inner deepest (turns - (turn_number + 1))
+      (got (at so_read.tree right_read.tree) (max so_read.deep right_read.deep + 1) right_read.rest)
+  steps_goes turns turn_number so_read further right_read less mark_stands is_shallow reads_item =
+      let next_turns : turns - turn_number ≡ suc (turns - (turn_number + 1)) = omega arith in
+      ap (λ loose. steps inner deepest loose so_read) next_turns
+      ∙ steps_turn (turns - (turn_number + 1)) so_read further right_read mark_stands (lt-ltb so_read.deep (suc deepest) (omega arith)) reads_item
 
-  pub chain_turn : (k n : ℕ) (g : Got) (t : Turn) (r : Got) → turn k g.rest ≡ Some t → ltb g.deep (suc d) ≡ true → inner (k - 1) t.more ≡ Some r
-      → chain inner d k (suc n) g ≡ chain inner d k n (got (two t.op g.tree r.tree) (max g.deep r.deep + 1) r.rest)
+  pub chain_turn : (loose turns : ℕ) (so_read : Got) (a_turn : Turn) (right_read : Got) → turn loose so_read.rest ≡ Some a_turn
+      → ltb so_read.deep (suc deepest) ≡ true → inner (loose - 1) a_turn.more ≡ Some right_read
+      → chain inner deepest loose (suc turns) so_read
+      ≡ chain inner deepest loose turns (got (two a_turn.op so_read.tree right_read.tree) (max so_read.deep right_read.deep + 1) right_read.rest)
   unfolding chain
-  chain_turn k n g t r e b f = rw (e, b, f) refl
+  chain_turn loose turns so_read a_turn right_read mark_stands is_shallow reads_item = rw (mark_stands, is_shallow, reads_item) refl
 
-  pub chain_goes : (k n i : ℕ) (g : Got) (t : Turn) (r : Got) → i < n → turn k g.rest ≡ Some t → g.deep ≤ d → inner (k - 1) t.more ≡ Some r
-      → chain inner d k (n - i) g ≡ chain inner d k (n - (i + 1)) (got (two t.op g.tree r.tree) (max g.deep r.deep + 1) r.rest)
-  chain_goes k n i g t r lt e b f =
-      let s : n - i ≡ suc (n - (i + 1)) = omega arith in
-      ap (λ m. chain inner d k m g) s ∙ chain_turn k (n - (i + 1)) g t r e (lt-ltb g.deep (suc d) (omega arith)) f
+  pub chain_goes : (loose turns turn_number : ℕ) (so_read : Got) (a_turn : Turn) (right_read : Got) → turn_number < turns
+      → turn loose so_read.rest ≡ Some a_turn → so_read.deep ≤ deepest → inner (loose - 1) a_turn.more ≡ Some right_read
+      → chain inner deepest loose (turns - turn_number) so_read
+      ≡ chain inner deepest loose (turns - (turn_number + 1))
+      (got (two a_turn.op so_read.tree right_read.tree) (max so_read.deep right_read.deep + 1) right_read.rest)
+  chain_goes loose turns turn_number so_read a_turn right_read less mark_stands is_shallow reads_item =
+      let next_turns : turns - turn_number ≡ suc (turns - (turn_number + 1)) = omega arith in
+      ap (λ m. chain inner deepest loose m so_read) next_turns
+      ∙ chain_turn loose (turns - (turn_number + 1)) so_read a_turn right_read mark_stands
+      (lt-ltb so_read.deep (suc deepest) (omega arith)) reads_item
 
-  pub steps_stops : (n : ℕ) (g : Got) → behind M.LeftBracket g.rest ≡ None → steps inner d n g ≡ Some g
+  pub steps_stops : (turns : ℕ) (so_read : Got) → behind M.LeftBracket so_read.rest ≡ None → steps inner deepest turns so_read ≡ Some so_read
   unfolding steps
-  steps_stops zero g e = refl
-  steps_stops (suc n) g e = rw e refl
+  steps_stops zero so_read mark_stands = refl
+  steps_stops (suc turns) so_read mark_stands = rw mark_stands refl
 
-  pub chain_stops : (k n : ℕ) (g : Got) → turn k g.rest ≡ None → chain inner d k n g ≡ Some g
+  pub chain_stops : (loose turns : ℕ) (so_read : Got) → turn loose so_read.rest ≡ None → chain inner deepest loose turns so_read ≡ Some so_read
   unfolding chain
-  chain_stops k zero g e = refl
-  chain_stops k (suc n) g e = rw e refl
+  chain_stops loose zero so_read mark_stands = refl
+  chain_stops loose (suc turns) so_read mark_stands = rw mark_stands refl

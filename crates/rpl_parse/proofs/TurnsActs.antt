@@ -10,36 +10,40 @@ use Rattle.rpl_parse.specs.GivesActs.{GivesActs}
 use Rattle.rpl_parse.specs.ReadingActs.{Done, done, Step, with_act, more_acts, read_acts, act_at}
 
 module _ (one : List Tok → Option (Option Step)) where
-  pub acts_stop : (n : ℕ) (a : Done) → one a.left ≡ Some None → more_acts one n a ≡ Some a
+  pub acts_stop : (turns : ℕ) (so_far : Done) → one so_far.left ≡ Some None → more_acts one turns so_far ≡ Some so_far
   unfolding more_acts
-  acts_stop zero a e = refl
-  acts_stop (suc n) a e = rw e refl
+  acts_stop zero so_far reads = refl
+  acts_stop (suc turns) so_far reads = rw reads refl
 
-  pub acts_turn : (n : ℕ) (a : Done) (x : Step) → one a.left ≡ Some (Some x) → more_acts one (suc n) a ≡ more_acts one n (with_act a x)
+  pub acts_turn : (turns : ℕ) (so_far : Done) (a_step : Step) → one so_far.left ≡ Some (Some a_step)
+      → more_acts one (suc turns) so_far ≡ more_acts one turns (with_act so_far a_step)
   unfolding more_acts
-  acts_turn n a x e = rw e refl
+  acts_turn turns so_far a_step reads = rw reads refl
 
-  acts_end : (n : ℕ) (a : Done) → one a.left ≡ None → more_acts one (suc n) a ≡ None
+  acts_end : (turns : ℕ) (so_far : Done) → one so_far.left ≡ None → more_acts one (suc turns) so_far ≡ None
   unfolding more_acts
-  acts_end n a e = rw e refl
+  acts_end turns so_far reads_none = rw reads_none refl
 
-  pub acts_fail : (n k : ℕ) (a : Done) → k < n → one a.left ≡ None → more_acts one (n - k) a ≡ None
-  acts_fail n k a lt e =
-      let s : n - k ≡ suc (n - (k + 1)) = omega arith in
-      ap (λ m. more_acts one m a) s ∙ acts_end (n - (k + 1)) a e
+  pub acts_fail : (turns turn_number : ℕ) (so_far : Done) → turn_number < turns → one so_far.left ≡ None
+      → more_acts one (turns - turn_number) so_far ≡ None
+  acts_fail turns turn_number so_far less reads_none =
+      let next_turns : turns - turn_number ≡ suc (turns - (turn_number + 1)) = omega arith in
+      ap (λ m. more_acts one m so_far) next_turns ∙ acts_end (turns - (turn_number + 1)) so_far reads_none
 
-  pub acts_go : (n k : ℕ) (a : Done) (x : Step) → k < n → one a.left ≡ Some (Some x)
-      → more_acts one (n - k) a ≡ more_acts one (n - (k + 1)) (with_act a x)
-  acts_go n k a x lt e =
-      let s : n - k ≡ suc (n - (k + 1)) = omega arith in
-      ap (λ m. more_acts one m a) s ∙ acts_turn (n - (k + 1)) a x e
+  pub acts_go : (turns turn_number : ℕ) (so_far : Done) (a_step : Step) → turn_number < turns → one so_far.left ≡ Some (Some a_step)
+      → more_acts one (turns - turn_number) so_far ≡ more_acts one (turns - (turn_number + 1)) (with_act so_far a_step)
+  acts_go turns turn_number so_far a_step less reads =
+      let next_turns : turns - turn_number ≡ suc (turns - (turn_number + 1)) = omega arith in
+      ap (λ m. more_acts one m so_far) next_turns ∙ acts_turn (turns - (turn_number + 1)) so_far a_step reads
 
-pub acts_is : (d n : ℕ) (ts : List Tok) → n ≡ length ts → more_acts (act_at d) n (done [] 0 ts) ≡ read_acts d ts
+pub acts_is : (deepest turns : ℕ) (tokens_here : List Tok) → turns ≡ length tokens_here
+    → more_acts (act_at deepest) turns (done [] 0 tokens_here) ≡ read_acts deepest tokens_here
 unfolding read_acts
-acts_is zero n ts e = rw e refl
-acts_is (suc d) n ts e = rw e refl
+acts_is zero turns tokens_here n_is = rw n_is refl
+acts_is (suc deepest) turns tokens_here n_is = rw n_is refl
 
-pub acts_fault : (source : List ℕ) (d : ℕ) (result : Result (Vec Statement Global × ℕ × Bor (List TokenAt)) Stop) (read : Option Done) (f : Stop)
-    → IsErrAnd result (λ e. e ≡ f) → Fails f read → GivesActs source d result read
-acts_fault source d (Ok x) read f same why = absurd same
-acts_fault source d (Err e) read f same why = subst (λ g. Fails g read) (sym same) why
+pub acts_fault : (source : List ℕ) (deepest : ℕ) (result : Result (Vec Statement Global × ℕ × Bor (List TokenAt)) Stop) (read : Option Done)
+    (fault : Stop)
+    → IsErrAnd result (λ fault_there. fault_there ≡ fault) → Fails fault read → GivesActs source deepest result read
+acts_fault source deepest (Ok answer) read fault same why = absurd same
+acts_fault source deepest (Err fault_there) read fault same why = subst (λ any_fault. Fails any_fault read) (sym same) why

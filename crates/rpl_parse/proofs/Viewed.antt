@@ -9,24 +9,26 @@ use Rattle.rpl_tree.proofs.Viewed as Tree
 use Rattle.rpl_parse.specs.Reading.{trees_of}
 use Rattle.rpl_parse.specs.ReadingActs.{acts_of}
 
-trees_listed : (es : List Expr) → trees_in es ≡ trees_of (map tree_of es)
+trees_listed : (expressions : List Expr) → trees_in expressions ≡ trees_of (map tree_of expressions)
 trees_listed [] = refl
-trees_listed (e ∷ es) = ap (tree (tree_of e)) (trees_listed es)
+trees_listed (first ∷ expressions) = ap (tree (tree_of first)) (trees_listed expressions)
 
-pub acts_listed : (ss : List Statement) → acts_in ss ≡ acts_of (map act_of ss)
+pub acts_listed : (statements : List Statement) → acts_in statements ≡ acts_of (map act_of statements)
 acts_listed [] = refl
-acts_listed (s ∷ ss) = ap (act (act_of s)) (acts_listed ss)
+acts_listed (first ∷ statements) = ap (act (act_of first)) (acts_listed statements)
 
-pub tree_of_list : (es : Vec Expr Global) → tree_of (Listed es) ≡ list (trees_of (map tree_of es.items))
-tree_of_list es = Tree.tree_of_list es ∙ ap list (trees_listed es.items)
+pub tree_of_list : (expressions : Vec Expr Global) → tree_of (Listed expressions) ≡ list (trees_of (map tree_of expressions.items))
+tree_of_list expressions = Tree.tree_of_list expressions ∙ ap list (trees_listed expressions.items)
 
-pub tree_of_call : (f : Vec ℕ Global) (es : Vec Expr Global) → tree_of (Call f es) ≡ call f.items (trees_of (map tree_of es.items))
-tree_of_call f es = Tree.tree_of_call f es ∙ ap (call f.items) (trees_listed es.items)
+pub tree_of_call : (function_name : Vec ℕ Global) (expressions : Vec Expr Global)
+    → tree_of (Call function_name expressions) ≡ call function_name.items (trees_of (map tree_of expressions.items))
+tree_of_call function_name expressions = Tree.tree_of_call function_name expressions ∙ ap (call function_name.items) (trees_listed expressions.items)
 
-pub act_of_branch : (c : Expr) (ys ns : Vec Statement Global)
-    → act_of (Branched c ys ns) ≡ branch (tree_of c) (acts_of (map act_of ys.items)) (acts_of (map act_of ns.items))
-act_of_branch c ys ns = Tree.act_of_branch c ys ns ∙ ap₂ (branch (tree_of c)) (acts_listed ys.items) (acts_listed ns.items)
+pub act_of_branch : (condition : Expr) (first second : Vec Statement Global)
+    → act_of (Branched condition first second) ≡ branch (tree_of condition) (acts_of (map act_of first.items)) (acts_of (map act_of second.items))
+act_of_branch condition first second = Tree.act_of_branch condition first second
+    ∙ ap₂ (branch (tree_of condition)) (acts_listed first.items) (acts_listed second.items)
 
-pub act_of_with : (x : Vec ℕ Global) (e : Expr) (body : Vec Statement Global)
-    → act_of (With x e body) ≡ with_name x.items (tree_of e) (acts_of (map act_of body.items))
-act_of_with x e body = Tree.act_of_with x e body ∙ ap (with_name x.items (tree_of e)) (acts_listed body.items)
+pub act_of_with : (new_name : Vec ℕ Global) (expression : Expr) (body : Vec Statement Global)
+    → act_of (With new_name expression body) ≡ with_name new_name.items (tree_of expression) (acts_of (map act_of body.items))
+act_of_with new_name first body = Tree.act_of_with new_name first body ∙ ap (with_name new_name.items (tree_of first)) (acts_listed body.items)

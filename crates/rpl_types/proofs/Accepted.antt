@@ -24,258 +24,317 @@ use Rattle.rpl_types.specs.Nodes.{types_of_acts, types_of_all, ◌>>=◌}
 -- ---- what was answered before
 
 abbrev is_ok : {R A : Type 0} → Result A R → Bool
-is_ok (Ok x) = true
-is_ok (Err r) = false
+is_ok (Ok made) = true
+is_ok (Err why) = false
 
-bound : {A B : Type 0} (j : Judged A) (f : A → Judged B) (y : B) → (j >>= f) ≡ Ok y → (x : A) × (j ≡ Ok x) × (f x ≡ Ok y)
-bound (Ok x) f y h = (x, refl, h)
-bound (Err r) f y h = absurd (false≢true (ap is_ok h))
+bound : {A B : Type 0} (judged : Judged A) (next : A → Judged B) (given : B) → (judged >>= next) ≡ Ok given → (made : A) × (judged ≡ Ok made)
+    × (next made ≡ Ok given)
+bound (Ok made) next given accepted = (made, refl, accepted)
+bound (Err why) next given accepted = absurd (false≢true (ap is_ok accepted))
 
 abbrev value_or : {R A : Type 0} → A → Result A R → A
-value_or d (Ok x) = x
-value_or d (Err r) = d
+value_or otherwise (Ok made) = made
+value_or otherwise (Err why) = otherwise
 
-own_is : (n : ℕ) (below : Types) (t : Typed) (e : Expression) → expression n below t ≡ Ok e → t ≡ Ok e.own
-own_is n below (Ok own) e h = ap (λ (t : RplType). Ok t) (ap (λ (j : Judged Expression). (value_or e j).own) h)
-own_is n below (Err kind) e h = absurd (false≢true (ap is_ok h))
+own_is : (number : ℕ) (below : Types) (judged_type : Typed) (answer : Expression) → expression number below judged_type ≡ Ok answer
+    → judged_type ≡ Ok answer.own
+own_is number below (Ok own) answer accepted =
+    ap (λ (its_type : RplType). Ok its_type) (ap (λ (judged : Judged Expression). (value_or answer judged).own) accepted)
+own_is number below (Err kind) answer accepted = absurd (false≢true (ap is_ok accepted))
 
-at_is : (n : ℕ) (t : Typed) (own : RplType) → at_node n t ≡ Ok own → t ≡ Ok own
-at_is n (Ok t) own h = ap (λ (t : RplType). Ok t) (ap (λ (j : Judged RplType). value_or own j) h)
-at_is n (Err kind) own h = absurd (false≢true (ap is_ok h))
+at_is : (number : ℕ) (judged_type : Typed) (own : RplType) → at_node number judged_type ≡ Ok own → judged_type ≡ Ok own
+at_is number (Ok t) own accepted = ap (λ (its_type : RplType). Ok its_type) (ap (λ (judged : Judged RplType). value_or own judged) accepted)
+at_is number (Err kind) own accepted = absurd (false≢true (ap is_ok accepted))
 
-stood : (n : ℕ) (below all : Types) (found : Option TypeKind) → statement n below found ≡ Ok all → found ≡ None
-stood n below all None h = refl
-stood n below all (Some kind) h = absurd (false≢true (ap is_ok h))
+stood : (number : ℕ) (below all : Types) (found : Option TypeKind) → statement number below found ≡ Ok all → found ≡ None
+stood number below all None accepted = refl
+stood number below all (Some kind) accepted = absurd (false≢true (ap is_ok accepted))
 
-unrefused : (found : Option TypeKind) (x t : RplType) → unless_refused found x ≡ Ok t → (found ≡ None) × (x ≡ t)
-unrefused None x t h = (refl, ap (λ (r : Typed). value_or t r) h)
-unrefused (Some kind) x t h = absurd (false≢true (ap is_ok h))
+unrefused : (found : Option TypeKind) (found_type its_type : RplType) → unless_refused found found_type ≡ Ok its_type → (found ≡ None)
+    × (found_type ≡ its_type)
+unrefused None found_type its_type accepted = (refl, ap (λ (judged_type : Typed). value_or its_type judged_type) accepted)
+unrefused (Some kind) found_type its_type accepted = absurd (false≢true (ap is_ok accepted))
 
-tested : (c y n t : RplType) → choice_type c y n ≡ Ok t → (c ≡ Boolean) × (joined_type y n ≡ Ok t)
-tested Boolean y n t h = (refl, h)
-tested (Numeric d) y n t h = absurd (false≢true (ap is_ok h))
-tested Datetime y n t h = absurd (false≢true (ap is_ok h))
-tested (Slot d) y n t h = absurd (false≢true (ap is_ok h))
-tested (NumericList m d) y n t h = absurd (false≢true (ap is_ok h))
-tested (SlotList m d) y n t h = absurd (false≢true (ap is_ok h))
+tested : (condition_type true_type false_type whole : RplType) → choice_type condition_type true_type false_type ≡ Ok whole
+    → (condition_type ≡ Boolean) × (joined_type true_type false_type ≡ Ok whole)
+tested Boolean true_type false_type whole accepted = (refl, accepted)
+tested (Numeric dimension) true_type false_type whole accepted = absurd (false≢true (ap is_ok accepted))
+tested Datetime true_type false_type whole accepted = absurd (false≢true (ap is_ok accepted))
+tested (Slot dimension) true_type false_type whole accepted = absurd (false≢true (ap is_ok accepted))
+tested (NumericList room dimension) true_type false_type whole accepted = absurd (false≢true (ap is_ok accepted))
+tested (SlotList room dimension) true_type false_type whole accepted = absurd (false≢true (ap is_ok accepted))
 
-condition : (c : RplType) → condition_misfit c ≡ None → c ≡ Boolean
-condition Boolean h = refl
-condition (Numeric d) h = absurd (false≢true (sym (ap is_some h)))
-condition Datetime h = absurd (false≢true (sym (ap is_some h)))
-condition (Slot d) h = absurd (false≢true (sym (ap is_some h)))
-condition (NumericList m d) h = absurd (false≢true (sym (ap is_some h)))
-condition (SlotList m d) h = absurd (false≢true (sym (ap is_some h)))
+condition : (condition_type : RplType) → condition_misfit condition_type ≡ None → condition_type ≡ Boolean
+condition Boolean none = refl
+condition (Numeric dimension) none = absurd (false≢true (sym (ap is_some none)))
+condition Datetime none = absurd (false≢true (sym (ap is_some none)))
+condition (Slot dimension) none = absurd (false≢true (sym (ap is_some none)))
+condition (NumericList room dimension) none = absurd (false≢true (sym (ap is_some none)))
+condition (SlotList room dimension) none = absurd (false≢true (sym (ap is_some none)))
 
-as_a_whole : {A : Type 0} (found : Option TypeKind) (x y : A) → refused_as_whole found x ≡ Ok y → (found ≡ None) × (x ≡ y)
-as_a_whole None x y h = (refl, ap (λ (j : Judged _). value_or y j) h)
-as_a_whole (Some kind) x y h = absurd (false≢true (ap is_ok h))
+as_a_whole : {A : Type 0} (found : Option TypeKind) (made given : A) → refused_as_whole found made ≡ Ok given → (found ≡ None) × (made ≡ given)
+as_a_whole None made given accepted = (refl, ap (λ (judged : Judged _). value_or given judged) accepted)
+as_a_whole (Some kind) made given accepted = absurd (false≢true (ap is_ok accepted))
 
-behind_it : {A : Type 0} (k : ℕ) (j : Judged A) (f : A → Result (List A) TypeRefusal) (all : List A) → and_then k j f ≡ Ok all
-    → (x : A) × (j ≡ Ok x) × (f x ≡ Ok all)
-behind_it k (Ok x) f all h = (x, refl, h)
-behind_it k (Err r) f all h = absurd (false≢true (ap is_ok h))
+behind_it : {A : Type 0} (number : ℕ) (judged : Judged A) (next : A → Result (List A) TypeRefusal) (all : List A)
+    → and_then number judged next ≡ Ok all
+    → (made : A) × (judged ≡ Ok made) × (next made ≡ Ok all)
+behind_it number (Ok made) next all accepted = (made, refl, accepted)
+behind_it number (Err why) next all accepted = absurd (false≢true (ap is_ok accepted))
 
-others : {A : Type 0} (x : A) (r : Result (List A) TypeRefusal) (all : List A) → before_others x r ≡ Ok all → (rest : List A) × (r ≡ Ok rest)
-others x (Ok rest) all h = (rest, refl)
-others x (Err r) all h = absurd (false≢true (ap is_ok h))
+others : {A : Type 0} (made : A) (judged : Result (List A) TypeRefusal) (all : List A) → before_others made judged ≡ Ok all → (rest : List A)
+    × (judged ≡ Ok rest)
+others made (Ok rest) all accepted = (rest, refl)
+others made (Err why) all accepted = absurd (false≢true (ap is_ok accepted))
 
 module _ (basin : Draft) (callable : Callable) where
   abbrev Claim : Tree → Type 0
-  Claim t = (scope : TypeScope) (n : ℕ) (e : Expression) → types_of basin callable scope n t ≡ Ok e → HasType basin callable scope t e.own
+  Claim form = (scope : TypeScope) (number : ℕ) (answer : Expression) → types_of basin callable scope number form ≡ Ok answer
+      → HasType basin callable scope form answer.own
 
   abbrev ClaimAll : Trees → Type 0
-  ClaimAll ts =
-      (scope : TypeScope) (n : ℕ) (row : RowTypes) → types_of_all basin callable scope n ts ≡ Ok row → HaveTypes basin callable scope ts row.types
+  ClaimAll expressions =
+      (scope : TypeScope) (number : ℕ) (row : RowTypes) → types_of_all basin callable scope number expressions ≡ Ok row
+      → HaveTypes basin callable scope expressions row.types
 
-  on_call : (f : List ℕ) (ts : Trees) → ClaimAll ts → Claim (call f ts)
-  on_call f ts all scope n e h =
-      let row = bound (types_of_all basin callable scope (n + 1) ts) _ e h in
-      (row.0.types, all scope (n + 1) row.0 row.1, own_is n row.0.all _ e row.2)
+  on_call : (function_name : List ℕ) (expressions : Trees) → ClaimAll expressions → Claim (call function_name expressions)
+  on_call function_name expressions claim_of_expressions scope number answer accepted =
+      let row = bound (types_of_all basin callable scope (number + 1) expressions) _ answer accepted in
+      (row.0.types, claim_of_expressions scope (number + 1) row.0 row.1, own_is number row.0.all _ answer row.2)
 
-  on_list : (ts : Trees) → ClaimAll ts → Claim (list ts)
-  on_list ts all scope n e h =
-      let row = bound (types_of_all basin callable scope (n + 1) ts) _ e h in
-      (row.0.types, all scope (n + 1) row.0 row.1, own_is n row.0.all _ e row.2)
+  on_list : (expressions : Trees) → ClaimAll expressions → Claim (list expressions)
+  on_list expressions claim_of_expressions scope number answer accepted =
+      let row = bound (types_of_all basin callable scope (number + 1) expressions) _ answer accepted in
+      (row.0.types, claim_of_expressions scope (number + 1) row.0 row.1, own_is number row.0.all _ answer row.2)
 
-  on_brackets : (t : Tree) → Claim t → Claim (brackets t)
-  on_brackets t inside scope n e h =
-      let part = bound (types_of basin callable scope (n + 1) t) _ e h in
-      let own : part.0.own ≡ e.own = ap (λ (r : Typed). value_or e.own r) (own_is n (nodes part.0) (Ok part.0.own) e part.2) in
-      subst (HasType basin callable scope t) own (inside scope (n + 1) part.0 part.1)
+  on_brackets : (form : Tree) → Claim form → Claim (brackets form)
+  on_brackets form claim_of_inside scope number answer accepted =
+      let part = bound (types_of basin callable scope (number + 1) form) _ answer accepted in
+      let own : part.0.own ≡ answer.own =
+      ap (λ (judged_type : Typed). value_or answer.own judged_type) (own_is number (nodes part.0) (Ok part.0.own) answer part.2) in
+      subst (HasType basin callable scope form) own (claim_of_inside scope (number + 1) part.0 part.1)
 
-  on_one : (word : OneWord) (t : Tree) → Claim t → Claim (one word t)
-  on_one word t inside scope n e h =
-      let part = bound (types_of basin callable scope (n + 1) t) _ e h in
-      (part.0.own, inside scope (n + 1) part.0 part.1, own_is n (nodes part.0) _ e part.2)
+  on_one : (word : OneWord) (operand : Tree) → Claim operand → Claim (one word operand)
+  on_one word operand claim_of_inside scope number answer accepted =
+      let part = bound (types_of basin callable scope (number + 1) operand) _ answer accepted in
+      (part.0.own, claim_of_inside scope (number + 1) part.0 part.1, own_is number (nodes part.0) _ answer part.2)
 
-  on_convert : (word : ConvertWord) (o : List ℕ) (t : Tree) → Claim t → Claim (convert word o t)
-  on_convert word o t inside scope n e h =
-      let part = bound (types_of basin callable scope (n + 1) t) _ e h in
-      (part.0.own, inside scope (n + 1) part.0 part.1, own_is n (nodes part.0) _ e part.2)
+  on_convert : (word : ConvertWord) (object : List ℕ) (operand : Tree) → Claim operand → Claim (convert word object operand)
+  on_convert word object operand claim_of_inside scope number answer accepted =
+      let part = bound (types_of basin callable scope (number + 1) operand) _ answer accepted in
+      (part.0.own, claim_of_inside scope (number + 1) part.0 part.1, own_is number (nodes part.0) _ answer part.2)
 
-  on_two : (word : TwoWord) (l r : Tree) → Claim l → Claim r → Claim (two word l r)
-  on_two word l r left right scope n e h =
-      let a = bound (types_of basin callable scope (n + 1) l) _ e h in
-      let b = bound (types_of basin callable scope (node_behind (n + 1) (nodes a.0)) r) _ e a.2 in
-      (a.0.own, b.0.own, left scope _ a.0 a.1, right scope _ b.0 b.1, own_is n (nodes a.0 ++ nodes b.0) _ e b.2)
+  on_two : (word : TwoWord) (left right : Tree) → Claim left → Claim right → Claim (two word left right)
+  on_two word left right claim_of_left claim_of_right scope number answer accepted =
+      let left_so = bound (types_of basin callable scope (number + 1) left) _ answer accepted in
+      let right_so = bound (types_of basin callable scope (node_behind (number + 1) (nodes left_so.0)) right) _ answer left_so.2 in (
+        left_so.0.own,
+        right_so.0.own,
+        claim_of_left scope _ left_so.0 left_so.1,
+        claim_of_right scope _ right_so.0 right_so.1,
+        own_is number (nodes left_so.0 ++ nodes right_so.0) _ answer right_so.2,
+      )
 
-  on_at : (s d : Tree) → Claim s → Claim d → Claim (at s d)
-  on_at s d place date scope n e h =
-      let a = bound (types_of basin callable scope (n + 1) s) _ e h in
-      let b = bound (types_of basin callable scope (node_behind (n + 1) (nodes a.0)) d) _ e a.2 in
-      (a.0.own, b.0.own, place scope _ a.0 a.1, date scope _ b.0 b.1, own_is n (nodes a.0 ++ nodes b.0) _ e b.2)
+  on_at : (slot_tree date : Tree) → Claim slot_tree → Claim date → Claim (at slot_tree date)
+  on_at slot_tree date claim_of_slot claim_of_date scope number answer accepted =
+      let slot_so = bound (types_of basin callable scope (number + 1) slot_tree) _ answer accepted in
+      let date_so = bound (types_of basin callable scope (node_behind (number + 1) (nodes slot_so.0)) date) _ answer slot_so.2 in (
+        slot_so.0.own,
+        date_so.0.own,
+        claim_of_slot scope _ slot_so.0 slot_so.1,
+        claim_of_date scope _ date_so.0 date_so.1,
+        own_is number (nodes slot_so.0 ++ nodes date_so.0) _ answer date_so.2,
+      )
 
-  on_choice : (c y d : Tree) → Claim c → Claim y → Claim d → Claim (choice c y d)
-  on_choice c y d test first second scope n e h =
-      let a = bound (types_of basin callable scope (n + 1) c) _ e h in
-      let b = bound (types_of basin callable scope (node_behind (n + 1) (nodes a.0)) y) _ e a.2 in
-      let z = bound (types_of basin callable scope (node_behind (n + 1) (nodes a.0 ++ nodes b.0)) d) _ e b.2 in
-      let found = tested a.0.own b.0.own z.0.own e.own (own_is n (nodes a.0 ++ nodes b.0 ++ nodes z.0) _ e z.2) in (
-        subst (HasType basin callable scope c) found.0 (test scope _ a.0 a.1),
-        b.0.own,
-        z.0.own,
-        first scope _ b.0 b.1,
-        second scope _ z.0 z.1,
+  on_choice : (condition if_true if_false : Tree) → Claim condition → Claim if_true → Claim if_false → Claim (choice condition if_true if_false)
+  on_choice condition if_true if_false claim_of_condition claim_of_true claim_of_false scope number answer accepted =
+      let condition_so = bound (types_of basin callable scope (number + 1) condition) _ answer accepted in
+      let true_so = bound (types_of basin callable scope (node_behind (number + 1) (nodes condition_so.0)) if_true) _ answer condition_so.2 in
+      let false_so =
+      bound (types_of basin callable scope (node_behind (number + 1) (nodes condition_so.0 ++ nodes true_so.0)) if_false) _ answer true_so.2 in
+      let found =
+      tested condition_so.0.own true_so.0.own false_so.0.own answer.own
+      (own_is number (nodes condition_so.0 ++ nodes true_so.0 ++ nodes false_so.0) _ answer false_so.2) in (
+        subst (HasType basin callable scope condition) found.0 (claim_of_condition scope _ condition_so.0 condition_so.1),
+        true_so.0.own,
+        false_so.0.own,
+        claim_of_true scope _ true_so.0 true_so.1,
+        claim_of_false scope _ false_so.0 false_so.1,
         found.1,
       )
 
-  on_bind : (x : List ℕ) (v b : Tree) → Claim v → Claim b → Claim (bind x v b)
-  on_bind x v b value body scope n e h =
-      let a = bound (types_of basin callable scope (n + 1) v) _ e h in
-      let z = bound (types_of basin callable ((x, a.0.own) ∷ scope) (node_behind (n + 1) (nodes a.0)) b) _ e a.2 in
-      let own : z.0.own ≡ e.own = ap (λ (r : Typed). value_or e.own r) (own_is n (nodes a.0 ++ nodes z.0) (Ok z.0.own) e z.2) in
-      (a.0.own, value scope _ a.0 a.1, subst (HasType basin callable ((x, a.0.own) ∷ scope) b) own (body _ _ z.0 z.1))
-
-  on_mapped : (x : List ℕ) (l b : Tree) → Claim l → Claim b → Claim (mapped x l b)
-  on_mapped x l b items body scope n e h =
-      let a = bound (types_of basin callable scope (n + 1) l) _ e h in
-      let item = bound (at_node n (element_type a.0.own)) _ e a.2 in
-      let z = bound (types_of basin callable ((x, item.0) ∷ scope) (node_behind (n + 1) (nodes a.0)) b) _ e item.2 in (
-        a.0.own,
-        item.0,
-        z.0.own,
-        items scope _ a.0 a.1,
-        at_is n (element_type a.0.own) item.0 item.1,
-        body _ _ z.0 z.1,
-        own_is n (nodes a.0 ++ nodes z.0) _ e z.2,
+  on_bind : (new_name : List ℕ) (value_tree body : Tree) → Claim value_tree → Claim body → Claim (bind new_name value_tree body)
+  on_bind new_name value_tree body claim_of_value claim_of_body scope number answer accepted =
+      let value_so = bound (types_of basin callable scope (number + 1) value_tree) _ answer accepted in
+      let body_so =
+      bound (types_of basin callable ((new_name, value_so.0.own) ∷ scope) (node_behind (number + 1) (nodes value_so.0)) body) _ answer
+      value_so.2 in
+      let own : body_so.0.own ≡ answer.own =
+      ap (λ (judged_type : Typed). value_or answer.own judged_type)
+      (own_is number (nodes value_so.0 ++ nodes body_so.0) (Ok body_so.0.own) answer body_so.2) in (
+        value_so.0.own,
+        claim_of_value scope _ value_so.0 value_so.1,
+        subst (HasType basin callable ((new_name, value_so.0.own) ∷ scope) body) own (claim_of_body _ _ body_so.0 body_so.1),
       )
 
-  on_each : (x : List ℕ) (l : Tree) (y : List ℕ) (f b : Tree) → Claim l → Claim f → Claim b → Claim (each x l y f b)
-  on_each x l y f b items first body scope n e h =
-      let a = bound (types_of basin callable scope (n + 1) l) _ e h in
-      let total = bound (types_of basin callable scope (node_behind (n + 1) (nodes a.0)) f) _ e a.2 in
-      let item = bound (at_node n (element_type a.0.own)) _ e total.2 in
-      let z =
-      bound (types_of basin callable ((y, total.0.own) ∷ (x, item.0) ∷ scope) (node_behind (n + 1) (nodes a.0 ++ nodes total.0)) b) _ e item.2 in
-      let found =
-      unrefused (misfit z.0.own total.0.own) total.0.own e.own
-      (own_is n (nodes a.0 ++ nodes total.0 ++ nodes z.0) (total_type total.0.own z.0.own) e z.2) in
-      subst (HasType basin callable scope (each x l y f b)) found.1 (
-        a.0.own,
+  on_mapped : (item_name : List ℕ) (source body : Tree) → Claim source → Claim body → Claim (mapped item_name source body)
+  on_mapped item_name source body claim_of_source claim_of_body scope number answer accepted =
+      let source_so = bound (types_of basin callable scope (number + 1) source) _ answer accepted in
+      let item = bound (at_node number (element_type source_so.0.own)) _ answer source_so.2 in
+      let body_so =
+      bound (types_of basin callable ((item_name, item.0) ∷ scope) (node_behind (number + 1) (nodes source_so.0)) body) _ answer item.2 in (
+        source_so.0.own,
         item.0,
-        z.0.own,
-        items scope _ a.0 a.1,
-        at_is n (element_type a.0.own) item.0 item.1,
-        first scope _ total.0 total.1,
-        body _ _ z.0 z.1,
+        body_so.0.own,
+        claim_of_source scope _ source_so.0 source_so.1,
+        at_is number (element_type source_so.0.own) item.0 item.1,
+        claim_of_body _ _ body_so.0 body_so.1,
+        own_is number (nodes source_so.0 ++ nodes body_so.0) _ answer body_so.2,
+      )
+
+  on_each : (item_name : List ℕ) (source : Tree) (total_name : List ℕ) (initial body : Tree) → Claim source → Claim initial → Claim body
+      → Claim (each item_name source total_name initial body)
+  on_each item_name source total_name initial body claim_of_source claim_of_initial claim_of_body scope number answer accepted =
+      let source_so = bound (types_of basin callable scope (number + 1) source) _ answer accepted in
+      let total = bound (types_of basin callable scope (node_behind (number + 1) (nodes source_so.0)) initial) _ answer source_so.2 in
+      let item = bound (at_node number (element_type source_so.0.own)) _ answer total.2 in
+      let body_so =
+      bound (types_of basin callable ((total_name, total.0.own) ∷ (item_name, item.0) ∷ scope)
+      (node_behind (number + 1) (nodes source_so.0 ++ nodes total.0)) body) _ answer item.2 in
+      let found =
+      unrefused (misfit body_so.0.own total.0.own) total.0.own answer.own
+      (own_is number (nodes source_so.0 ++ nodes total.0 ++ nodes body_so.0) (total_type total.0.own body_so.0.own) answer body_so.2) in
+      subst (HasType basin callable scope (each item_name source total_name initial body)) found.1 (
+        source_so.0.own,
+        item.0,
+        body_so.0.own,
+        claim_of_source scope _ source_so.0 source_so.1,
+        at_is number (element_type source_so.0.own) item.0 item.1,
+        claim_of_initial scope _ total.0 total.1,
+        claim_of_body _ _ body_so.0 body_so.1,
         found.0,
       )
 
-  on_tree : (t : Tree) (ts : Trees) → Claim t → ClaimAll ts → ClaimAll (tree t ts)
-  on_tree t ts first rest scope n row h =
-      let a = bound (types_of basin callable scope n t) _ row h in
-      let z = bound (types_of_all basin callable scope (node_behind n (nodes a.0)) ts) _ row a.2 in
-      (a.0.own, z.0.types, sym (ap (λ (j : Judged RowTypes). (value_or row j).types) z.2), first scope n a.0 a.1, rest scope _ z.0 z.1)
+  on_tree : (form : Tree) (expressions : Trees) → Claim form → ClaimAll expressions → ClaimAll (tree form expressions)
+  on_tree form expressions claim_of_expression claim_of_others scope number row accepted =
+      let first_so = bound (types_of basin callable scope number form) _ row accepted in
+      let others_so = bound (types_of_all basin callable scope (node_behind number (nodes first_so.0)) expressions) _ row first_so.2 in (
+        first_so.0.own,
+        others_so.0.types,
+        sym (ap (λ (judged : Judged RowTypes). (value_or row judged).types) others_so.2),
+        claim_of_expression scope number first_so.0 first_so.1,
+        claim_of_others scope _ others_so.0 others_so.1,
+      )
 
   mutual
-    has_type : (t : Tree) → Claim t
-    has_type (literal z unit) = λ scope n e h. own_is n [] _ e h
-    has_type (truth b) = λ scope n e h. sym (ap (λ (r : Typed). value_or e.own r) (own_is n [] (Ok Boolean) e h))
-    has_type now = λ scope n e h. sym (ap (λ (r : Typed). value_or e.own r) (own_is n [] (Ok Datetime) e h))
-    has_type (slot o s) = λ scope n e h. own_is n [] _ e h
-    has_type (name x) = λ scope n e h. own_is n [] _ e h
-    has_type (call f ts) = on_call f ts (have_types ts)
-    has_type (brackets t) = on_brackets t (has_type t)
-    has_type (list ts) = on_list ts (have_types ts)
-    has_type (choice c y d) = on_choice c y d (has_type c) (has_type y) (has_type d)
-    has_type (bind x v b) = on_bind x v b (has_type v) (has_type b)
-    has_type (each x l y f b) = on_each x l y f b (has_type l) (has_type f) (has_type b)
-    has_type (mapped x l b) = on_mapped x l b (has_type l) (has_type b)
-    has_type (one word t) = on_one word t (has_type t)
-    has_type (two word l r) = on_two word l r (has_type l) (has_type r)
-    has_type (convert word o t) = on_convert word o t (has_type t)
-    has_type (at s d) = on_at s d (has_type s) (has_type d)
+    has_type : (expression : Tree) → Claim expression
+    has_type (literal number unit) = λ scope n answer accepted. own_is n [] _ answer accepted
+    has_type (truth is_so) =
+        λ scope number answer accepted.
+        sym (ap (λ (judged_type : Typed). value_or answer.own judged_type) (own_is number [] (Ok Boolean) answer accepted))
+    has_type now =
+        λ scope number answer accepted.
+        sym (ap (λ (judged_type : Typed). value_or answer.own judged_type) (own_is number [] (Ok Datetime) answer accepted))
+    has_type (slot object slot_name) = λ scope number answer accepted. own_is number [] _ answer accepted
+    has_type (name sought) = λ scope number answer accepted. own_is number [] _ answer accepted
+    has_type (call function_name arguments) = on_call function_name arguments (have_types arguments)
+    has_type (brackets inside) = on_brackets inside (has_type inside)
+    has_type (list items) = on_list items (have_types items)
+    has_type (choice condition if_true if_false) = on_choice condition if_true if_false (has_type condition) (has_type if_true) (has_type if_false)
+    has_type (bind new_name value_tree body) = on_bind new_name value_tree body (has_type value_tree) (has_type body)
+    has_type (each item_name source total_name initial body) =
+        on_each item_name source total_name initial body (has_type source) (has_type initial) (has_type body)
+    has_type (mapped item_name source body) = on_mapped item_name source body (has_type source) (has_type body)
+    has_type (one word operand) = on_one word operand (has_type operand)
+    has_type (two word left right) = on_two word left right (has_type left) (has_type right)
+    has_type (convert word object operand) = on_convert word object operand (has_type operand)
+    has_type (at slot_tree date) = on_at slot_tree date (has_type slot_tree) (has_type date)
 
-    have_types : (ts : Trees) → ClaimAll ts
-    have_types no_trees = λ scope n row h. sym (ap (λ (j : Judged RowTypes). (value_or row j).types) h)
-    have_types (tree t ts) = on_tree t ts (has_type t) (have_types ts)
+    have_types : (expressions : Trees) → ClaimAll expressions
+    have_types no_trees = λ scope number row accepted. sym (ap (λ (judged : Judged RowTypes). (value_or row judged).types) accepted)
+    have_types (tree first others) = on_tree first others (has_type first) (have_types others)
 
   -- ---- statements
 
   abbrev ClaimAct : Act → Type 0
-  ClaimAct a = (scope : TypeScope) (n : ℕ) (all : Types) → types_of_act basin callable scope n a ≡ Ok all → Stands basin callable scope a
+  ClaimAct form = (scope : TypeScope) (number : ℕ) (all : Types) → types_of_act basin callable scope number form ≡ Ok all
+      → Stands basin callable scope form
 
   abbrev ClaimActs : Acts → Type 0
-  ClaimActs ss = (scope : TypeScope) (n : ℕ) (all : Types) → types_of_acts basin callable scope n ss ≡ Ok all → AllStand basin callable scope ss
+  ClaimActs statements = (scope : TypeScope) (number : ℕ) (all : Types) → types_of_acts basin callable scope number statements ≡ Ok all
+      → AllStand basin callable scope statements
 
-  on_assign : (o s : List ℕ) (ahead : ℤ) (v : Tree) → ClaimAct (assign o s ahead v)
-  on_assign o s ahead v scope n all h =
-      let a = bound (types_of basin callable scope (n + 1) v) _ all h in
-      (a.0.own, has_type v scope _ a.0 a.1, stood n (nodes a.0) all (target_misfit basin o s ahead a.0.own) a.2)
+  on_assign : (object slot_name : List ℕ) (ahead : ℤ) (value_tree : Tree) → ClaimAct (assign object slot_name ahead value_tree)
+  on_assign object slot_name ahead value_tree scope number all accepted =
+      let value_so = bound (types_of basin callable scope (number + 1) value_tree) _ all accepted in (
+        value_so.0.own,
+        has_type value_tree scope _ value_so.0 value_so.1,
+        stood number (nodes value_so.0) all (target_misfit basin object slot_name ahead value_so.0.own) value_so.2,
+      )
 
-  on_branch : (c : Tree) (ys ns : Acts) → ClaimActs ys → ClaimActs ns → ClaimAct (branch c ys ns)
-  on_branch c ys ns first second scope n all h =
-      let a = bound (types_of basin callable scope (n + 1) c) _ all h in
-      let b = bound (types_of_acts basin callable scope (node_behind (n + 1) (nodes a.0)) ys) _ all a.2 in
-      let z = bound (types_of_acts basin callable scope (node_behind (n + 1) (nodes a.0 ++ b.0)) ns) _ all b.2 in
-      let same = condition a.0.own (stood n (nodes a.0 ++ b.0 ++ z.0) all (condition_misfit a.0.own) z.2) in
-      (subst (HasType basin callable scope c) same (has_type c scope _ a.0 a.1), first scope _ b.0 b.1, second scope _ z.0 z.1)
+  on_branch : (condition_tree : Tree) (first second : Acts) → ClaimActs first → ClaimActs second → ClaimAct (branch condition_tree first second)
+  on_branch condition_tree first second claim_of_first claim_of_second scope number all accepted =
+      let condition_so = bound (types_of basin callable scope (number + 1) condition_tree) _ all accepted in
+      let first_so = bound (types_of_acts basin callable scope (node_behind (number + 1) (nodes condition_so.0)) first) _ all condition_so.2 in
+      let second_so =
+      bound (types_of_acts basin callable scope (node_behind (number + 1) (nodes condition_so.0 ++ first_so.0)) second) _ all first_so.2 in
+      let same = condition condition_so.0.own
+      (stood number (nodes condition_so.0 ++ first_so.0 ++ second_so.0) all (condition_misfit condition_so.0.own) second_so.2) in (
+        subst (HasType basin callable scope condition_tree) same (has_type condition_tree scope _ condition_so.0 condition_so.1),
+        claim_of_first scope _ first_so.0 first_so.1,
+        claim_of_second scope _ second_so.0 second_so.1,
+      )
 
-  on_with : (x : List ℕ) (v : Tree) (body : Acts) → ClaimActs body → ClaimAct (with_name x v body)
-  on_with x v body inside scope n all h =
-      let a = bound (types_of basin callable scope (n + 1) v) _ all h in
-      let b = bound (types_of_acts basin callable ((x, a.0.own) ∷ scope) (node_behind (n + 1) (nodes a.0)) body) _ all a.2 in
-      (a.0.own, has_type v scope _ a.0 a.1, inside _ _ b.0 b.1)
+  on_with : (new_name : List ℕ) (value_tree : Tree) (body : Acts) → ClaimActs body → ClaimAct (with_name new_name value_tree body)
+  on_with new_name value_tree body claim_of_body scope number all accepted =
+      let value_so = bound (types_of basin callable scope (number + 1) value_tree) _ all accepted in
+      let body_so =
+      bound (types_of_acts basin callable ((new_name, value_so.0.own) ∷ scope) (node_behind (number + 1) (nodes value_so.0)) body) _ all
+      value_so.2 in
+      (value_so.0.own, has_type value_tree scope _ value_so.0 value_so.1, claim_of_body _ _ body_so.0 body_so.1)
 
-  on_act : (a : Act) (rest : Acts) → ClaimAct a → ClaimActs rest → ClaimActs (act a rest)
-  on_act a rest first more scope n all h =
-      let x = bound (types_of_act basin callable scope n a) _ all h in
-      let z = bound (types_of_acts basin callable scope (node_behind n x.0) rest) _ all x.2 in
-      (first scope n x.0 x.1, more scope _ z.0 z.1)
+  on_act : (form : Act) (rest : Acts) → ClaimAct form → ClaimActs rest → ClaimActs (act form rest)
+  on_act form rest claim_of_statement claim_of_rest scope number all accepted =
+      let first_so = bound (types_of_act basin callable scope number form) _ all accepted in
+      let rest_so = bound (types_of_acts basin callable scope (node_behind number first_so.0) rest) _ all first_so.2 in
+      (claim_of_statement scope number first_so.0 first_so.1, claim_of_rest scope _ rest_so.0 rest_so.1)
 
   mutual
-    stands : (a : Act) → ClaimAct a
-    stands (assign o s ahead v) = on_assign o s ahead v
-    stands (branch c ys ns) = on_branch c ys ns (all_stand ys) (all_stand ns)
-    stands (with_name x v body) = on_with x v body (all_stand body)
+    stands : (statement : Act) → ClaimAct statement
+    stands (assign object slot_name ahead value_tree) = on_assign object slot_name ahead value_tree
+    stands (branch condition first second) = on_branch condition first second (all_stand first) (all_stand second)
+    stands (with_name new_name value_tree body) = on_with new_name value_tree body (all_stand body)
 
-    all_stand : (ss : Acts) → ClaimActs ss
-    all_stand no_acts = λ scope n all h. tt
-    all_stand (act a rest) = on_act a rest (stands a) (all_stand rest)
+    all_stand : (statements : Acts) → ClaimActs statements
+    all_stand no_acts = λ scope number all accepted. tt
+    all_stand (act first others) = on_act first others (stands first) (all_stand others)
 
   -- ---- declarations
 
-  is_declared : (d : Declared) (types : Types) → declared_types basin callable d ≡ Ok types → IsDeclared basin callable d
-  is_declared (rule called_so body) types h = all_stand body [] 1 types h
-  is_declared (function f ps result body) types h =
-      let head = bound (refused_as_whole (head_refusal callable.earlier f ps result) ps) _ types h in
-      let e = bound (types_of basin callable (param_scope head.0) 1 body) _ types head.2 in
-      let fine = as_a_whole (head_refusal callable.earlier f ps result) ps head.0 head.1 in
-      let fits = as_a_whole (misfit e.0.own (type_here result)) (nodes e.0) types e.2 in
-      let typed = has_type body (param_scope head.0) 1 e.0 e.1 in
-      (fine.0, e.0.own, subst (λ (qs : List Parameter). HasType basin callable (param_scope qs) body e.0.own) (sym fine.1) typed, fits.0)
+  is_declared : (declaration : Declared) (types : Types) → declared_types basin callable declaration ≡ Ok types
+      → IsDeclared basin callable declaration
+  is_declared (rule called_so body) types accepted = all_stand body [] 1 types accepted
+  is_declared (function called_so parameters result body) types accepted =
+      let head = bound (refused_as_whole (head_refusal callable.earlier called_so parameters result) parameters) _ types accepted in
+      let body_so = bound (types_of basin callable (param_scope head.0) 1 body) _ types head.2 in
+      let fine = as_a_whole (head_refusal callable.earlier called_so parameters result) parameters head.0 head.1 in
+      let fits = as_a_whole (misfit body_so.0.own (type_here result)) (nodes body_so.0) types body_so.2 in
+      let typed = has_type body (param_scope head.0) 1 body_so.0 body_so.1 in
+      (fine.0, body_so.0.own, subst (λ (qs : List Parameter). HasType basin callable (param_scope qs) body body_so.0.own) (sym fine.1) typed, fits.0)
 
-are_declared : (basin : Draft) (rules : List Declared) (k : ℕ) (earlier : List Signature) (ds : List Declared) (all : List Types)
-    → judged_from basin rules k earlier ds ≡ Ok all → AreDeclared basin rules k earlier ds
-are_declared basin rules k earlier [] all h = tt
-are_declared basin rules k earlier (d ∷ ds) all h =
-    let callable : Callable = record { earlier = earlier; later = function_names (d ∷ ds) } in
-    let own = behind_it k (with_budget basin callable (budget_of rules k) d) _ all h in
-    let types = bound (declared_types basin callable d) _ own.0 own.1 in
-    let cheap = as_a_whole (cost_refusal (budget_of rules k)) types.0 own.0 types.2 in
-    let rest = others own.0 (judged_from basin rules (k + 1) (and_function d earlier) ds) all own.2 in
-    (is_declared basin callable d types.0 types.1, cheap.0, are_declared basin rules (k + 1) (and_function d earlier) ds rest.0 rest.1)
+are_declared : (basin : Draft) (rules : List Declared) (number : ℕ) (earlier : List Signature) (declarations : List Declared) (all : List Types)
+    → judged_from basin rules number earlier declarations ≡ Ok all → AreDeclared basin rules number earlier declarations
+are_declared basin rules number earlier [] all accepted = tt
+are_declared basin rules number earlier (declaration ∷ declarations) all accepted =
+    let callable : Callable = record { earlier = earlier; later = function_names (declaration ∷ declarations) } in
+    let own = behind_it number (with_budget basin callable (budget_of rules number) declaration) _ all accepted in
+    let types = bound (declared_types basin callable declaration) _ own.0 own.1 in
+    let cheap = as_a_whole (cost_refusal (budget_of rules number)) types.0 own.0 types.2 in
+    let rest = others own.0 (judged_from basin rules (number + 1) (and_function declaration earlier) declarations) all own.2 in (
+      is_declared basin callable declaration types.0 types.1,
+      cheap.0,
+      are_declared basin rules (number + 1) (and_function declaration earlier) declarations rest.0 rest.1,
+    )
 
 pub accepted : (basin : Draft) (rules : List Declared) (all : List Types) → rules_judged basin rules ≡ Ok all → IsTyped basin rules
-accepted basin rules all h = are_declared basin rules 1 [] rules all h
+accepted basin rules all judged_so = are_declared basin rules 1 [] rules all judged_so

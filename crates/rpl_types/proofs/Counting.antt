@@ -17,27 +17,31 @@ module _ (costs : List TreeCost) (rules : List Declared) (are : map budget_seen 
   pub as_many : length costs ≡ length rules
   as_many = sym (length-map costs budget_seen) ∙ ap length are ∙ budgets_length rules
 
-  pub its_budget : (k : ℕ) (cost default : TreeCost) → k < length rules → cost ≡ get_or costs k default → budget_seen cost ≡ budget_of rules (k + 1)
-  its_budget k cost default lt is =
+  pub its_budget : (place : ℕ) (cost default : TreeCost) → place < length rules → cost ≡ get_or costs place default
+      → budget_seen cost ≡ budget_of rules (place + 1)
+  its_budget place cost default less cost_is =
       let many = as_many in
-      let here : slice_get costs k ≡ Some cost = slice_get-get_or costs k default (omega (arith, lt, many)) ∙ ap Some (sym is) in
-      let seen : Some (budget_seen cost) ≡ Some (budget_of rules (k + 1)) =
-      sym (slice_get-map budget_seen costs k ∙ ap (option_map budget_seen) here) ∙ ap (λ bs. slice_get bs k) are ∙ budget_at rules k lt in
+      let here : slice_get costs place ≡ Some cost = slice_get-get_or costs place default (omega (arith, less, many)) ∙ ap Some (sym cost_is) in
+      let seen : Some (budget_seen cost) ≡ Some (budget_of rules (place + 1)) =
+      sym (slice_get-map budget_seen costs place ∙ ap (option_map budget_seen) here) ∙ ap (λ budgets. slice_get budgets place) are
+      ∙ budget_at rules place less in
       cc
 
 -- a rule's declaration is one of them
-within_from : (k n p : ℕ) (ds : List Declared) → declaration_from k ds n ≡ Some p → (k ≤ p) × (p < k + length ds)
-within_from k n p [] is = absurd cc
-within_from k zero p (rule called_so body ∷ ds) is = absurd cc
-within_from k (suc zero) p (rule called_so body ∷ ds) is = let same : k ≡ p = cc in (omega (arith, same), omega (arith, same))
-within_from k (suc (suc n)) p (rule called_so body ∷ ds) is =
-    let rest = within_from (k + 1) (suc n) p ds is in (omega (arith, rest.0), omega (arith, rest.1))
-within_from k n p (function f ps result body ∷ ds) is =
-    let rest = within_from (k + 1) n p ds is in (omega (arith, rest.0), omega (arith, rest.1))
+within_from : (first_number number place : ℕ) (declarations : List Declared) → declaration_from first_number declarations number ≡ Some place
+    → (first_number ≤ place) × (place < first_number + length declarations)
+within_from first_number number place [] found = absurd cc
+within_from first_number zero place (rule called_so body ∷ declarations) found = absurd cc
+within_from first_number (suc zero) place (rule called_so body ∷ declarations) found = let same : first_number ≡ place = cc in
+    (omega (arith, same), omega (arith, same))
+within_from first_number (suc (suc n)) place (rule called_so body ∷ declarations) found =
+    let rest = within_from (first_number + 1) (suc n) place declarations found in (omega (arith, rest.0), omega (arith, rest.1))
+within_from first_number number place (function called_so parameters result body ∷ declarations) found =
+    let rest = within_from (first_number + 1) number place declarations found in (omega (arith, rest.0), omega (arith, rest.1))
 
-pub rule_within : (rules : List Declared) (n place : ℕ) → declaration_of_rule rules n ≡ Some (place + 1) → place < length rules
-rule_within rules n place is = let within = within_from 1 n (place + 1) rules is in omega (arith, within.1)
+pub rule_within : (rules : List Declared) (number place : ℕ) → declaration_of_rule rules number ≡ Some (place + 1) → place < length rules
+rule_within rules number place found = let within = within_from 1 number (place + 1) rules found in omega (arith, within.1)
 
-pub budget_of_rule : (rules : List Declared) (n place : ℕ) (b : Budget) → declaration_of_rule rules n ≡ Some (place + 1)
-    → b ≡ budget_of rules (place + 1) → rule_budget rules n ≡ Some b
-budget_of_rule rules n place b is e = ap (option_map (budget_of rules)) is ∙ ap Some (sym e)
+pub budget_of_rule : (rules : List Declared) (number place : ℕ) (its_budget : Budget) → declaration_of_rule rules number ≡ Some (place + 1)
+    → its_budget ≡ budget_of rules (place + 1) → rule_budget rules number ≡ Some its_budget
+budget_of_rule rules number place its_budget found its_budget_is = ap (option_map (budget_of rules)) found ∙ ap Some (sym its_budget_is)

@@ -17,28 +17,32 @@ one_found : {A : Type 0} (found : List A) (x : A) (rest : Result (List A) TypeRe
 one_found found x (Ok rest) = ap Ok (sym (append_assoc found (x ∷ []) rest))
 one_found found x (Err refused) = refl
 
-module _ (basin : Draft) (rules : List Declared) (k : ℕ) (earlier : List Signature) (d : Declared) (ds all : List Declared) (b : Budget)
-    (found : List Types) (whole : Result (List Types) TypeRefusal) (is : all ≡ d ∷ ds) (its : b ≡ budget_of rules k)
-    (left : whole ≡ behind_found found (judged_from basin rules k earlier all)) where
+module _ (basin : Draft) (rules : List Declared) (number : ℕ) (earlier : List Signature) (declaration : Declared) (declarations all : List Declared)
+    (its_budget : Budget)
+    (found : List Types) (whole : Result (List Types) TypeRefusal) (all_is : all ≡ declaration ∷ declarations)
+    (its : its_budget ≡ budget_of rules number)
+    (left : whole ≡ behind_found found (judged_from basin rules number earlier all)) where
   -- what is answered for the declaration
   abbrev here : List Declared → Budget → Judged Types
-  here xs c = with_budget basin (record { earlier = earlier; later = function_names xs }) c d
+  here declarations_left c = with_budget basin (record { earlier = earlier; later = function_names declarations_left }) c declaration
 
   abbrev behind : Judged Types → Result (List Types) TypeRefusal
-  behind answer = behind_found found (and_then k answer (λ ts. before_others ts (judged_from basin rules (k + 1) (and_function d earlier) ds)))
+  behind answer =
+      behind_found found
+      (and_then number answer (λ ts. before_others ts (judged_from basin rules (number + 1) (and_function declaration earlier) declarations)))
 
-  opened : (answer : Judged Types) → here all b ≡ answer → whole ≡ behind answer
-  opened answer e =
-      left ∙ ap (λ xs. behind_found found (judged_from basin rules k earlier xs)) is
-      ∙ ap behind (sym (ap₂ here is its) ∙ e)
+  opened : (answer : Judged Types) → here all its_budget ≡ answer → whole ≡ behind answer
+  opened answer same =
+      left ∙ ap (λ xs. behind_found found (judged_from basin rules number earlier xs)) all_is
+      ∙ ap behind (sym (ap₂ here all_is its) ∙ same)
 
-  pub stops : (kind : TypeKind) (node : ℕ) → here all b ≡ Err (node_refusal kind node) → whole ≡ Err (type_refusal kind k node)
-  stops kind node e = opened (Err (node_refusal kind node)) e
+  pub stops : (kind : TypeKind) (node : ℕ) → here all its_budget ≡ Err (node_refusal kind node) → whole ≡ Err (type_refusal kind number node)
+  stops kind node same = opened (Err (node_refusal kind node)) same
 
-  pub goes_on : (types : Types) → here all b ≡ Ok types → (more : List Types) → more ≡ found ++ types ∷ []
-      → (later : List Signature) → later ≡ and_function d earlier → (rest : List Declared) → rest ≡ ds
-      → whole ≡ behind_found more (judged_from basin rules (k + 1) later rest)
-  goes_on types e more one later with_it rest after =
-      opened (Ok types) e ∙ one_found found types (judged_from basin rules (k + 1) (and_function d earlier) ds)
-      ∙ ap₂ (λ xs l. behind_found xs (judged_from basin rules (k + 1) l ds)) (sym one) (sym with_it)
-      ∙ ap (λ xs. behind_found more (judged_from basin rules (k + 1) later xs)) (sym after)
+  pub goes_on : (types : Types) → here all its_budget ≡ Ok types → (more : List Types) → more ≡ found ++ types ∷ []
+      → (later : List Signature) → later ≡ and_function declaration earlier → (rest : List Declared) → rest ≡ declarations
+      → whole ≡ behind_found more (judged_from basin rules (number + 1) later rest)
+  goes_on types accepted more one later with_it rest after =
+      opened (Ok types) accepted ∙ one_found found types (judged_from basin rules (number + 1) (and_function declaration earlier) declarations)
+      ∙ ap₂ (λ xs l. behind_found xs (judged_from basin rules (number + 1) l declarations)) (sym one) (sym with_it)
+      ∙ ap (λ xs. behind_found more (judged_from basin rules (number + 1) later xs)) (sym after)

@@ -24,20 +24,20 @@ abbrev is_small : List ℕ → Bool
 is_small = list_all (λ b. nat_lt b 128)
 
 small_ascii : (word : List ℕ) → is_small word ≡ true → IsAscii word
-small_ascii [] h = IsAscii-nil
-small_ascii (b ∷ bs) h =
-    let parts = and_parts (nat_lt b 128) (is_small bs) h in IsAscii-cons b bs (ltb-true b 128 parts.0) (small_ascii bs parts.1)
+small_ascii [] holds = IsAscii-nil
+small_ascii (byte ∷ bytes) holds =
+    let parts = and_parts (nat_lt byte 128) (is_small bytes) holds in IsAscii-cons byte bytes (ltb-true byte 128 parts.0) (small_ascii bytes parts.1)
 
 pub small_text : (word : List ℕ) → is_small word ≡ true → IsUtf8 word
-small_text word h = IsUtf8-from_ascii word (small_ascii word h)
+small_text word holds = IsUtf8-from_ascii word (small_ascii word holds)
 
 -- ---- units
 
 no_row : (rows : List (List ℕ × Dimension × ℤ)) (word : List ℕ) → list_all (λ row. is_small row.0) rows ≡ true
     → ¬ (IsUtf8 word) → unit_in rows word ≡ None
-no_row [] word h not = refl
-no_row (row ∷ rows) word h not =
-    let parts = and_parts (is_small row.0) (list_all (λ r. is_small r.0) rows) h in
+no_row [] word holds not = refl
+no_row (row ∷ rows) word holds not =
+    let parts = and_parts (is_small row.0) (list_all (λ r. is_small r.0) rows) holds in
     elim (cases_Bool (bytes_eq row.0 word)) [
       | inl here ↦ absurd (not (subst IsUtf8 ((bytes_eq-Decides row.0 word).0 here) (small_text row.0 parts.0)))
       | inr other ↦ rw other (no_row rows word parts.1 not)
@@ -55,62 +55,62 @@ goes_on = list_all (λ b. is_letter b || is_digit b)
 -- the first one no digit, and 32 at most
 abbrev pub is_plain : List ℕ → Bool
 is_plain [] = false
-is_plain (b ∷ bs) = nat_le (length (b ∷ bs)) 32 && (is_letter b && goes_on bs)
+is_plain (byte ∷ bytes) = nat_le (length (byte ∷ bytes)) 32 && (is_letter byte && goes_on bytes)
 
 abbrev pub IsPlain : List ℕ → Type 0
 IsPlain name = is_plain name ≡ true
 
-both_pass : (a b : Bool) → a ≡ true → b ≡ true → (a && b) ≡ true
-both_pass a b e f = rw (e, f) refl
+both_pass : (first second : Bool) → first ≡ true → second ≡ true → (first && second) ≡ true
+both_pass first second first_holds second_holds = rw (first_holds, second_holds) refl
 
-letter_small : (b : ℕ) → is_letter b ≡ true → nat_lt b 128 ≡ true
-letter_small b h = grind (arith, nat_tests, h)
+letter_small : (byte : ℕ) → is_letter byte ≡ true → nat_lt byte 128 ≡ true
+letter_small byte holds = grind (arith, nat_tests, holds)
 
-byte_small : (b : ℕ) → (is_letter b || is_digit b) ≡ true → nat_lt b 128 ≡ true
-byte_small b h = grind (arith, nat_tests, h)
+byte_small : (byte : ℕ) → (is_letter byte || is_digit byte) ≡ true → nat_lt byte 128 ≡ true
+byte_small byte holds = grind (arith, nat_tests, holds)
 
-all_small : (bs : List ℕ) → goes_on bs ≡ true → is_small bs ≡ true
-all_small [] h = refl
-all_small (b ∷ bs) h =
-    let parts = and_parts (is_letter b || is_digit b) (goes_on bs) h in
-    both_pass (nat_lt b 128) (is_small bs) (byte_small b parts.0) (all_small bs parts.1)
+all_small : (bytes : List ℕ) → goes_on bytes ≡ true → is_small bytes ≡ true
+all_small [] holds = refl
+all_small (byte ∷ bytes) holds =
+    let parts = and_parts (is_letter byte || is_digit byte) (goes_on bytes) holds in
+    both_pass (nat_lt byte 128) (is_small bytes) (byte_small byte parts.0) (all_small bytes parts.1)
 
 plain_text : (name : List ℕ) → IsPlain name → IsUtf8 name
-plain_text [] h = absurd (cc h)
-plain_text (b ∷ bs) h =
-    let parts = and_parts (nat_le (length (b ∷ bs)) 32) (is_letter b && goes_on bs) h in
-    let letters = and_parts (is_letter b) (goes_on bs) parts.1 in
-    small_text (b ∷ bs) (both_pass (nat_lt b 128) (is_small bs) (letter_small b letters.0) (all_small bs letters.1))
+plain_text [] is_plain = absurd (cc is_plain)
+plain_text (byte ∷ bytes) is_plain =
+    let parts = and_parts (nat_le (length (byte ∷ bytes)) 32) (is_letter byte && goes_on bytes) is_plain in
+    let letters = and_parts (is_letter byte) (goes_on bytes) parts.1 in
+    small_text (byte ∷ bytes) (both_pass (nat_lt byte 128) (is_small bytes) (letter_small byte letters.0) (all_small bytes letters.1))
 
 test_plain : (text : List ℕ) → N.is_name text ≡ true → IsPlain text
-test_plain [] h = absurd (cc h)
-test_plain (b ∷ bs) h =
-    let text = b ∷ bs in
+test_plain [] holds = absurd (cc holds)
+test_plain (byte ∷ bytes) holds =
+    let text = byte ∷ bytes in
     let free = not (N.is_word N.reserved_words text) in
-    let some = and_parts (nat_le 1 (length text)) (nat_le (length text) 32 && (is_letter b && (goes_on text && free))) h in
-    let short = and_parts (nat_le (length text) 32) (is_letter b && (goes_on text && free)) some.1 in
-    let first = and_parts (is_letter b) (goes_on text && free) short.1 in
+    let some = and_parts (nat_le 1 (length text)) (nat_le (length text) 32 && (is_letter byte && (goes_on text && free))) holds in
+    let short = and_parts (nat_le (length text) 32) (is_letter byte && (goes_on text && free)) some.1 in
+    let first = and_parts (is_letter byte) (goes_on text && free) short.1 in
     let all = and_parts (goes_on text) free first.1 in
-    let rest = and_parts (is_letter b || is_digit b) (goes_on bs) all.0 in
-    both_pass (nat_le (length text) 32) (is_letter b && goes_on bs) short.0 (both_pass (is_letter b) (goes_on bs) first.0 rest.1)
+    let rest = and_parts (is_letter byte || is_digit byte) (goes_on bytes) all.0 in
+    both_pass (nat_le (length text) 32) (is_letter byte && goes_on bytes) short.0 (both_pass (is_letter byte) (goes_on bytes) first.0 rest.1)
 
 name_plain : (text : List ℕ) → IsName text → IsPlain text
-name_plain text h = test_plain text ((Decides-name text).1 h)
+name_plain text is_name = test_plain text ((Decides-name text).1 is_name)
 
 same_plain : (word name : List ℕ) → bytes_eq word name ≡ true → IsPlain name → IsPlain word
-same_plain word name e h = subst IsPlain (sym ((bytes_eq-Decides word name).0 e)) h
+same_plain word name equal is_plain = subst IsPlain (sym ((bytes_eq-Decides word name).0 equal)) is_plain
 
 -- ---- objects
 
 sound_objects : (basin : Draft) → IsBasin basin → AllByRecursion IsSound basin.objects
-sound_objects basin h = recursion_from_All IsSound basin.objects h.whole.sound
+sound_objects basin is_basin = recursion_from_All IsSound basin.objects is_basin.whole.sound
 
-object_plain : (n : ℕ) (objects : List Object) (name : List ℕ) → AllByRecursion IsSound objects → IsSome (object_from n objects name)
+object_plain : (number : ℕ) (objects : List Object) (name : List ℕ) → AllByRecursion IsSound objects → IsSome (object_from number objects name)
     → IsPlain name
-object_plain n [] name sound h = absurd (cc h)
-object_plain n (object ∷ objects) name sound h =
-    cond_both _ _ _ (λ found. IsSome found → IsPlain name) (λ e h. same_plain name object.name e (name_plain object.name sound.0.name))
-    (λ e. object_plain (n + 1) objects name sound.1) h
+object_plain number [] name sound is_some = absurd (cc is_some)
+object_plain number (object ∷ objects) name sound is_some =
+    cond_both _ _ _ (λ found. IsSome found → IsPlain name) (λ equal found_so. same_plain name object.name equal (name_plain object.name sound.0.name))
+    (λ equal. object_plain (number + 1) objects name sound.1) is_some
 
 -- ---- slots
 
@@ -121,23 +121,23 @@ IsSlotPlain (Some slot) = IsPlain slot.name
 abbrev IsPlacedPlain : Placed → Type 0
 IsPlacedPlain placed = IsPlain placed.slot.name
 
-chosen_plain : (b : Bool) (slot : Slot) → IsPlain slot.name → IsSlotPlain (where_chosen b slot)
-chosen_plain true slot h = h
-chosen_plain false slot h = tt
+chosen_plain : (test : Bool) (slot : Slot) → IsPlain slot.name → IsSlotPlain (where_chosen test slot)
+chosen_plain true slot is_plain = is_plain
+chosen_plain false slot is_plain = tt
 
 data_plain : (slots : List DataSlot) → AllByRecursion (λ (slot : DataSlot). IsName slot.name) slots
     → AllByRecursion IsSlotPlain (map (λ (slot : DataSlot). Some (of_range slot.name slot.dim Neither all_quantities)) slots)
-data_plain [] h = tt
-data_plain (slot ∷ slots) h = (name_plain slot.name h.0, data_plain slots h.1)
+data_plain [] all_by_recursion = tt
+data_plain (slot ∷ slots) all_by_recursion = (name_plain slot.name all_by_recursion.0, data_plain slots all_by_recursion.1)
 
 kind_plain : (kind : Kind) → IsKind kind → AllByRecursion IsSlotPlain (slots_of kind)
-kind_plain (DataObject slots) h = data_plain slots (recursion_from_All (λ (slot : DataSlot). IsName slot.name) slots h.named)
-kind_plain Gage h = (refl, (refl, tt))
-kind_plain Confluence h = (refl, (refl, (refl, tt)))
-kind_plain Bifurcation h = (refl, (refl, (refl, tt)))
-kind_plain (Reach lag history local_inflow diversion return_flow) h =
+kind_plain (DataObject slots) is_kind = data_plain slots (recursion_from_All (λ (slot : DataSlot). IsName slot.name) slots is_kind.named)
+kind_plain Gage is_kind = (refl, (refl, tt))
+kind_plain Confluence is_kind = (refl, (refl, (refl, tt)))
+kind_plain Bifurcation is_kind = (refl, (refl, (refl, tt)))
+kind_plain (Reach lag history local_inflow diversion return_flow) is_kind =
     (refl, (refl, (chosen_plain _ _ refl, (chosen_plain _ _ refl, (chosen_plain _ _ refl, tt)))))
-kind_plain (Reservoir initial_storage table local_inflow diversion return_flow evaporation max_release) h = (
+kind_plain (Reservoir initial_storage table local_inflow diversion return_flow evaporation max_release) is_kind = (
   refl,
   (
     refl,
@@ -156,36 +156,37 @@ kind_plain (Reservoir initial_storage table local_inflow diversion return_flow e
     ),
   ),
 )
-kind_plain (WaterUser depletion Request) h = (refl, (refl, (refl, (refl, tt))))
-kind_plain (WaterUser depletion Rule) h = (refl, (refl, (refl, (refl, tt))))
-kind_plain (Canal seepage) h = (refl, (refl, (refl, tt)))
-kind_plain (PowerReservoir initial_storage table max_release tailwater power) h =
+kind_plain (WaterUser depletion Request) is_kind = (refl, (refl, (refl, (refl, tt))))
+kind_plain (WaterUser depletion Rule) is_kind = (refl, (refl, (refl, (refl, tt))))
+kind_plain (Canal seepage) is_kind = (refl, (refl, (refl, tt)))
+kind_plain (PowerReservoir initial_storage table max_release tailwater power) is_kind =
     (refl, (refl, (refl, (refl, (refl, (refl, (refl, (refl, tt))))))))
-kind_plain (RoutedReach initial_content release) h = (refl, (refl, (refl, tt)))
+kind_plain (RoutedReach initial_content release) is_kind = (refl, (refl, (refl, tt)))
 
 pub both_all : {X : Type 0} (P : X → Type 0) (xs ys : List X) → AllByRecursion P xs → AllByRecursion P ys → AllByRecursion P (xs ++ ys)
-both_all P [] ys h g = g
-both_all P (x ∷ xs) ys h g = (h.0, both_all P xs ys h.1 g)
+both_all P [] ys all also = also
+both_all P (x ∷ xs) ys all also = (all.0, both_all P xs ys all.1 also)
 
 placed_plain : (owner place : ℕ) (slots : List (Option Slot)) → AllByRecursion IsSlotPlain slots
     → AllByRecursion IsPlacedPlain (placed_from owner place slots)
-placed_plain owner place [] h = tt
-placed_plain owner place (None ∷ slots) h = placed_plain owner (place + 1) slots h.1
-placed_plain owner place (Some slot ∷ slots) h = (h.0, placed_plain owner (place + 1) slots h.1)
+placed_plain owner place [] all_by_recursion = tt
+placed_plain owner place (None ∷ slots) all_by_recursion = placed_plain owner (place + 1) slots all_by_recursion.1
+placed_plain owner place (Some slot ∷ slots) all_by_recursion = (all_by_recursion.0, placed_plain owner (place + 1) slots all_by_recursion.1)
 
-slots_plain : (n : ℕ) (objects : List Object) → AllByRecursion IsSound objects → AllByRecursion IsPlacedPlain (slots_from n objects)
-slots_plain n [] h = tt
-slots_plain n (object ∷ objects) h =
-    both_all IsPlacedPlain (placed_from n 0 (slots_of object.kind)) (slots_from (n + 1) objects)
-    (placed_plain n 0 (slots_of object.kind) (kind_plain object.kind h.0.kind)) (slots_plain (n + 1) objects h.1)
+slots_plain : (number : ℕ) (objects : List Object) → AllByRecursion IsSound objects → AllByRecursion IsPlacedPlain (slots_from number objects)
+slots_plain number [] all_by_recursion = tt
+slots_plain number (object ∷ objects) all_by_recursion =
+    both_all IsPlacedPlain (placed_from number 0 (slots_of object.kind)) (slots_from (number + 1) objects)
+    (placed_plain number 0 (slots_of object.kind) (kind_plain object.kind all_by_recursion.0.kind))
+    (slots_plain (number + 1) objects all_by_recursion.1)
 
-first_plain : (n owner : ℕ) (name : List ℕ) (slots : List Placed) → AllByRecursion IsPlacedPlain slots
-    → IsSome (first_from n (is_named owner name) slots) → IsPlain name
-first_plain n owner name [] plain h = absurd (cc h)
-first_plain n owner name (placed ∷ slots) plain h =
+first_plain : (number owner : ℕ) (name : List ℕ) (slots : List Placed) → AllByRecursion IsPlacedPlain slots
+    → IsSome (first_from number (is_named owner name) slots) → IsPlain name
+first_plain number owner name [] plain is_some = absurd (cc is_some)
+first_plain number owner name (placed ∷ slots) plain is_some =
     cond_both _ _ _ (λ found. IsSome found → IsPlain name)
-    (λ e h. same_plain name placed.slot.name (and_parts (placed.owner == owner) (bytes_eq name placed.slot.name) e).1 plain.0)
-    (λ e. first_plain (n + 1) owner name slots plain.1) h
+    (λ equal found_so. same_plain name placed.slot.name (and_parts (placed.owner == owner) (bytes_eq name placed.slot.name) equal).1 plain.0)
+    (λ equal. first_plain (number + 1) owner name slots plain.1) is_some
 
 -- ---- in a basin
 
@@ -196,25 +197,25 @@ absent (Some x) none = absurd (none refl)
 
 module _ (basin : Draft) (valid : IsBasin basin) where
   pub object_found : (name : List ℕ) → IsSome (object_named basin.objects name) → IsPlain name
-  object_found name h = object_plain 1 basin.objects name (sound_objects basin valid) h
+  object_found name is_some = object_plain 1 basin.objects name (sound_objects basin valid) is_some
 
   -- of the slot, and of its object
   pub slot_found : (object name : List ℕ) → IsSome (slot_named basin.objects object name) → IsPlain object × IsPlain name
-  slot_found object name h = by (object_named basin.objects object) refl h
+  slot_found object name is_some = by (object_named basin.objects object) refl is_some
     where
       by : (found : Option ℕ) → object_named basin.objects object ≡ found
           → IsSome (option_and_then (λ owner. first_from 1 (is_named owner name) (all_slots basin.objects)) found) → IsPlain object × IsPlain name
-      by None e h = absurd (cc h)
-      by (Some owner) e h = (
-        object_found object (rw e refl),
-        first_plain 1 owner name (all_slots basin.objects) (slots_plain 1 basin.objects (sound_objects basin valid)) h,
+      by None same is_some = absurd (cc is_some)
+      by (Some owner) same is_some = (
+        object_found object (rw same refl),
+        first_plain 1 owner name (all_slots basin.objects) (slots_plain 1 basin.objects (sound_objects basin valid)) is_some,
       )
 
   pub slot_texts : (object name : List ℕ) → IsSome (slot_named basin.objects object name) → IsUtf8 object × IsUtf8 name
-  slot_texts object name h = let plain = slot_found object name h in (plain_text object plain.0, plain_text name plain.1)
+  slot_texts object name is_some = let plain = slot_found object name is_some in (plain_text object plain.0, plain_text name plain.1)
 
 pub object_text : (basin : Draft) (name : List ℕ) → IsBasin basin → IsSome (object_named basin.objects name) → IsUtf8 name
-object_text basin name valid h = plain_text name (object_found basin valid name h)
+object_text basin name valid is_some = plain_text name (object_found basin valid name is_some)
 
 pub no_slot : (basin : Draft) (object name : List ℕ) → IsBasin basin → ¬ (IsUtf8 name) → slot_named basin.objects object name ≡ None
 no_slot basin object name valid not =

@@ -20,197 +20,244 @@ use Rattle.rpl_types.specs.Visited.{visited_all, with_variable, without_variable
 
 -- what is known behind an expression whose nodes have those types
 abbrev pub answered : Progress → Expression → Visit
-answered p e = visit e.own (record { scope = p.scope; types = p.types ++ nodes e })
+answered progress answer = visit answer.own (record { scope = progress.scope; types = progress.types ++ nodes answer })
 
 abbrev pub answered_all : List RplType → Progress → RowTypes → RowVisit
-answered_all found p row = row_visit (found ++ row.types) (record { scope = p.scope; types = p.types ++ row.all })
+answered_all found progress row = row_visit (found ++ row.types) (record { scope = progress.scope; types = progress.types ++ row.all })
 
 -- ---- one step, and then the rest
 
-then_same : {A B C : Type 0} (j : Judged A) (f : A → Judged C) (g : A → Judged B) (k : B → Judged C)
-    → ((x : A) → f x ≡ (g x >>= k)) → (j >>= f) ≡ ((j >>= g) >>= k)
-then_same (Ok x) f g k same = same x
-then_same (Err r) f g k same = refl
+then_same : {A B C : Type 0} (judged : Judged A) (whole_step : A → Judged C) (first_step : A → Judged B) (then_step : B → Judged C)
+    → ((made : A) → whole_step made ≡ (first_step made >>= then_step)) → (judged >>= whole_step) ≡ ((judged >>= first_step) >>= then_step)
+then_same (Ok made) whole_step first_step then_step same = same made
+then_same (Err why) whole_step first_step then_step same = refl
 
-pub seen_then_same : {A B C D : Type 0} (j : Judged A) (seen : A → B) (f : B → Judged D) (g : A → Judged C) (k : C → Judged D)
-    → ((x : A) → f (seen x) ≡ (g x >>= k)) → ((j >>= λ x. Ok (seen x)) >>= f) ≡ ((j >>= g) >>= k)
-seen_then_same (Ok x) seen f g k same = same x
-seen_then_same (Err r) seen f g k same = refl
+pub seen_then_same : {A B C D : Type 0} (judged : Judged A) (seen : A → B) (whole_step : B → Judged D) (first_step : A → Judged C)
+    (then_step : C → Judged D)
+    → ((made : A) → whole_step (seen made) ≡ (first_step made >>= then_step))
+    → ((judged >>= λ made. Ok (seen made)) >>= whole_step) ≡ ((judged >>= first_step) >>= then_step)
+seen_then_same (Ok made) seen whole_step first_step then_step same = same made
+seen_then_same (Err why) seen whole_step first_step then_step same = refl
 
 -- ---- the table
 
-filled_is : (p q : Progress) (below : Types) (t : RplType) → q.scope ≡ p.scope → q.types ≡ p.types ++ None ∷ below
-    → node_filled (next_node p) q t ≡ answered p (record { own = t; below = below })
-filled_is p q below t scope types i =
-    let place : length p.types + 1 - 1 ≡ length p.types = omega arith in
-    let kept = ap (λ (n : ℕ). slice_set q.types n (Some t)) place ∙ ap (λ (all : Types). slice_set all (length p.types) (Some t)) types
-    ∙ set-append_seam p.types None below (Some t) in
-    visit t (record { scope = scope i; types = kept i })
+filled_is : (progress later_progress : Progress) (below : Types) (its_type : RplType) → later_progress.scope ≡ progress.scope
+    → later_progress.types ≡ progress.types ++ None ∷ below
+    → node_filled (next_node progress) later_progress its_type ≡ answered progress (record { own = its_type; below = below })
+filled_is progress later_progress below its_type scope types i =
+    let place : length progress.types + 1 - 1 ≡ length progress.types = omega arith in
+    let kept = ap (λ (number : ℕ). slice_set later_progress.types number (Some its_type)) place
+    ∙ ap (λ (all : Types). slice_set all (length progress.types) (Some its_type)) types
+    ∙ set-append_seam progress.types None below (Some its_type) in
+    visit its_type (record { scope = scope i; types = kept i })
 
-ended : (p q : Progress) (below : Types) (t : Typed) → q.scope ≡ p.scope → q.types ≡ p.types ++ None ∷ below
-    → node_settled (next_node p) q t ≡ (expression (next_node p) below t >>= λ e. Ok (answered p e))
-ended p q below (Ok t) scope types = ap (λ (v : Visit). Ok v) (filled_is p q below t scope types)
-ended p q below (Err kind) scope types = refl
+ended : (progress later_progress : Progress) (below : Types) (judged_type : Typed) → later_progress.scope ≡ progress.scope
+    → later_progress.types ≡ progress.types ++ None ∷ below
+    → node_settled (next_node progress) later_progress judged_type
+    ≡ (expression (next_node progress) below judged_type >>= λ answer. Ok (answered progress answer))
+ended progress later_progress below (Ok t) scope types =
+    ap (λ (visited_so : Visit). Ok visited_so) (filled_is progress later_progress below t scope types)
+ended progress later_progress below (Err kind) scope types = refl
 
 -- a node, and the nodes of one, two or three parts
-pub one_more : (all a : Types) → (all ++ None ∷ []) ++ a ≡ all ++ None ∷ a
-one_more all a = append_assoc all (None ∷ []) a
+pub one_more : (all first : Types) → (all ++ None ∷ []) ++ first ≡ all ++ None ∷ first
+one_more all first = append_assoc all (None ∷ []) first
 
-pub two_more : (all a b : Types) → ((all ++ None ∷ []) ++ a) ++ b ≡ all ++ None ∷ (a ++ b)
-two_more all a b = append_assoc (all ++ None ∷ []) a b ∙ one_more all (a ++ b)
+pub two_more : (all first second : Types) → ((all ++ None ∷ []) ++ first) ++ second ≡ all ++ None ∷ (first ++ second)
+two_more all first second = append_assoc (all ++ None ∷ []) first second ∙ one_more all (first ++ second)
 
-pub three_more : (all a b c : Types) → (((all ++ None ∷ []) ++ a) ++ b) ++ c ≡ all ++ None ∷ ((a ++ b) ++ c)
-three_more all a b c =
-    append_assoc ((all ++ None ∷ []) ++ a) b c ∙ two_more all a (b ++ c) ∙ ap (λ (z : Types). all ++ None ∷ z) (sym (append_assoc a b c))
+pub three_more : (all first second third : Types) → (((all ++ None ∷ []) ++ first) ++ second) ++ third ≡ all ++ None ∷ ((first ++ second) ++ third)
+three_more all first second third =
+    append_assoc ((all ++ None ∷ []) ++ first) second third ∙ two_more all first (second ++ third)
+    ∙ ap (λ (nodes_there : Types). all ++ None ∷ nodes_there) (sym (append_assoc first second third))
 
 -- the numbers of the first node of a first, a second and a third part
 pub first_number : (all : Types) → length (all ++ None ∷ []) + 1 ≡ length all + 1 + 1
 first_number all = simp length-append (omega arith)
 
-pub second_number : (all a : Types) → length ((all ++ None ∷ []) ++ a) + 1 ≡ length all + 1 + 1 + length a
-second_number all a = simp length-append (omega arith)
+pub second_number : (all first : Types) → length ((all ++ None ∷ []) ++ first) + 1 ≡ length all + 1 + 1 + length first
+second_number all first = simp length-append (omega arith)
 
-pub third_number : (all a b : Types) → length (((all ++ None ∷ []) ++ a) ++ b) + 1 ≡ length all + 1 + 1 + length (a ++ b)
-third_number all a b = simp length-append (omega arith)
+pub third_number : (all first second : Types) → length (((all ++ None ∷ []) ++ first) ++ second) + 1 ≡ length all + 1 + 1 + length (first ++ second)
+third_number all first second = simp length-append (omega arith)
 
 module _ (basin : Draft) (callable : Callable) where
   abbrev pub Claim : Tree → Type 0
-  Claim t = (p : Progress) → visited basin callable p t ≡ (types_of basin callable p.scope (next_node p) t >>= λ e. Ok (answered p e))
+  Claim form = (progress : Progress)
+      → visited basin callable progress form
+      ≡ (types_of basin callable progress.scope (next_node progress) form >>= λ answer. Ok (answered progress answer))
 
   abbrev pub ClaimAll : Trees → Type 0
-  ClaimAll ts = (found : List RplType) (p : Progress) → visited_all basin callable found p ts
-      ≡ (types_of_all basin callable p.scope (next_node p) ts >>= λ row. Ok (answered_all found p row))
+  ClaimAll expressions = (found : List RplType) (progress : Progress) → visited_all basin callable found progress expressions
+      ≡ (types_of_all basin callable progress.scope (next_node progress) expressions >>= λ row. Ok (answered_all found progress row))
 
-  pub part : {B C : Type 0} (t : Tree) → Claim t → (q : Progress) (n : ℕ) (f : Visit → Judged C) (g : Expression → Judged B) (k : B → Judged C)
-      → length q.types + 1 ≡ n → ((e : Expression) → f (answered q e) ≡ (g e >>= k))
-      → (visited basin callable q t >>= f) ≡ ((types_of basin callable q.scope n t >>= g) >>= k)
-  part t claim q n f g k number same =
-      rw (claim q, number) (seen_then_same (types_of basin callable q.scope n t) (answered q) f g k same)
+  pub part : {B C : Type 0} (form : Tree) → Claim form
+      → (later_progress : Progress) (first_number : ℕ) (whole_step : Visit → Judged C) (first_step : Expression → Judged B) (then_step : B → Judged C)
+      → length later_progress.types + 1 ≡ first_number
+      → ((answer : Expression) → whole_step (answered later_progress answer) ≡ (first_step answer >>= then_step))
+      → (visited basin callable later_progress form >>= whole_step)
+      ≡ ((types_of basin callable later_progress.scope first_number form >>= first_step) >>= then_step)
+  part form claim_there later_progress first_number whole_step first_step then_step number same =
+      rw (claim_there later_progress, number)
+      (seen_then_same (types_of basin callable later_progress.scope first_number form)
+      (answered later_progress) whole_step first_step then_step same)
 
-  parts : {B : Type 0} (ts : Trees) → ClaimAll ts
-      → (q : Progress) (n : ℕ) (f : RowVisit → Judged Visit) (g : RowTypes → Judged B) (k : B → Judged Visit)
-      → length q.types + 1 ≡ n → ((row : RowTypes) → f (answered_all [] q row) ≡ (g row >>= k))
-      → (visited_all basin callable [] q ts >>= f) ≡ ((types_of_all basin callable q.scope n ts >>= g) >>= k)
-  parts ts claim q n f g k number same =
-      rw (claim [] q, number) (seen_then_same (types_of_all basin callable q.scope n ts) (answered_all [] q) f g k same)
+  parts : {B : Type 0} (expressions : Trees) → ClaimAll expressions
+      → (later_progress : Progress) (first_number : ℕ) (whole_step : RowVisit → Judged Visit) (first_step : RowTypes → Judged B)
+      (then_step : B → Judged Visit)
+      → length later_progress.types + 1 ≡ first_number
+      → ((row : RowTypes) → whole_step (answered_all [] later_progress row) ≡ (first_step row >>= then_step))
+      → (visited_all basin callable [] later_progress expressions >>= whole_step)
+      ≡ ((types_of_all basin callable later_progress.scope first_number expressions >>= first_step) >>= then_step)
+  parts expressions claim_there later_progress first_number whole_step first_step then_step number same =
+      rw (claim_there [] later_progress, number)
+      (seen_then_same (types_of_all basin callable later_progress.scope first_number expressions)
+      (answered_all [] later_progress) whole_step first_step then_step same)
 
-  on_leaf : (p : Progress) (t : Typed) → leaf p t ≡ (expression (next_node p) [] t >>= λ e. Ok (answered p e))
-  on_leaf p t = ended p (node_reserved p) [] t refl refl
+  on_leaf : (progress : Progress) (judged_type : Typed)
+      → leaf progress judged_type ≡ (expression (next_node progress) [] judged_type >>= λ answer. Ok (answered progress answer))
+  on_leaf progress judged_type = ended progress (node_reserved progress) [] judged_type refl refl
 
-  on_call : (x : List ℕ) (ts : Trees) → ClaimAll ts → Claim (call x ts)
-  on_call x ts all p =
-      parts ts all (node_reserved p) _ _ _ _ (first_number p.types) (λ row.
-      ended p (answered_all [] (node_reserved p) row).progress row.all (call_type callable x row.types) refl (one_more p.types row.all))
+  on_call : (function_name : List ℕ) (expressions : Trees) → ClaimAll expressions → Claim (call function_name expressions)
+  on_call function_name expressions claim_of_expressions progress =
+      parts expressions claim_of_expressions (node_reserved progress) _ _ _ _ (first_number progress.types) (λ row.
+      ended progress (answered_all [] (node_reserved progress) row).progress row.all (call_type callable function_name row.types) refl
+      (one_more progress.types row.all))
 
-  on_list : (ts : Trees) → ClaimAll ts → Claim (list ts)
-  on_list ts all p =
-      parts ts all (node_reserved p) _ _ _ _ (first_number p.types) (λ row.
-      ended p (answered_all [] (node_reserved p) row).progress row.all (list_type row.types) refl (one_more p.types row.all))
+  on_list : (expressions : Trees) → ClaimAll expressions → Claim (list expressions)
+  on_list expressions claim_of_expressions progress =
+      parts expressions claim_of_expressions (node_reserved progress) _ _ _ _ (first_number progress.types) (λ row.
+      ended progress (answered_all [] (node_reserved progress) row).progress row.all (list_type row.types) refl (one_more progress.types row.all))
 
-  on_brackets : (t : Tree) → Claim t → Claim (brackets t)
-  on_brackets t inside p =
-      part t inside (node_reserved p) _ _ _ _ (first_number p.types) (λ e.
-      ended p (answered (node_reserved p) e).progress (nodes e) (Ok e.own) refl (one_more p.types (nodes e)))
+  on_brackets : (form : Tree) → Claim form → Claim (brackets form)
+  on_brackets form claim_of_inside progress =
+      part form claim_of_inside (node_reserved progress) _ _ _ _ (first_number progress.types) (λ answer.
+      ended progress (answered (node_reserved progress) answer).progress (nodes answer) (Ok answer.own) refl (one_more progress.types (nodes answer)))
 
-  on_one : (word : OneWord) (t : Tree) → Claim t → Claim (one word t)
-  on_one word t inside p =
-      part t inside (node_reserved p) _ _ _ _ (first_number p.types) (λ e.
-      ended p (answered (node_reserved p) e).progress (nodes e) (one_type word (is_look t) e.own) refl (one_more p.types (nodes e)))
+  on_one : (word : OneWord) (operand : Tree) → Claim operand → Claim (one word operand)
+  on_one word operand claim_of_inside progress =
+      part operand claim_of_inside (node_reserved progress) _ _ _ _ (first_number progress.types) (λ answer.
+      ended progress (answered (node_reserved progress) answer).progress (nodes answer) (one_type word (is_look operand) answer.own) refl
+      (one_more progress.types (nodes answer)))
 
-  on_convert : (word : ConvertWord) (o : List ℕ) (t : Tree) → Claim t → Claim (convert word o t)
-  on_convert word o t inside p =
-      part t inside (node_reserved p) _ _ _ _ (first_number p.types) (λ e.
-      ended p (answered (node_reserved p) e).progress (nodes e)
-      (convert_type word (is_some (object_named basin.objects o)) (is_some (table_named basin o)) e.own) refl (one_more p.types (nodes e)))
+  on_convert : (word : ConvertWord) (object : List ℕ) (operand : Tree) → Claim operand → Claim (convert word object operand)
+  on_convert word object operand claim_of_inside progress =
+      part operand claim_of_inside (node_reserved progress) _ _ _ _ (first_number progress.types) (λ answer.
+      ended progress (answered (node_reserved progress) answer).progress (nodes answer)
+      (convert_type word (is_some (object_named basin.objects object)) (is_some (table_named basin object)) answer.own) refl
+      (one_more progress.types (nodes answer)))
 
-  on_two : (word : TwoWord) (l r : Tree) → Claim l → Claim r → Claim (two word l r)
-  on_two word l r left right p =
-      part l left (node_reserved p) _ _ _ _ (first_number p.types) (λ a.
-      part r right (answered (node_reserved p) a).progress _ _ _ _ (second_number p.types (nodes a)) (λ b.
-      ended p (answered (answered (node_reserved p) a).progress b).progress (nodes a ++ nodes b) (two_type word a.own b.own) refl
-      (two_more p.types (nodes a) (nodes b))))
+  on_two : (word : TwoWord) (left right : Tree) → Claim left → Claim right → Claim (two word left right)
+  on_two word left right claim_of_left claim_of_right progress =
+      part left claim_of_left (node_reserved progress) _ _ _ _ (first_number progress.types) (λ first_answer.
+      part right claim_of_right (answered (node_reserved progress) first_answer).progress _ _ _ _ (second_number progress.types (nodes first_answer))
+      (λ second_answer.
+      ended progress (answered (answered (node_reserved progress) first_answer).progress second_answer).progress
+      (nodes first_answer ++ nodes second_answer) (two_type word first_answer.own second_answer.own) refl
+      (two_more progress.types (nodes first_answer) (nodes second_answer))))
 
-  on_at : (s d : Tree) → Claim s → Claim d → Claim (at s d)
-  on_at s d place date p =
-      part s place (node_reserved p) _ _ _ _ (first_number p.types) (λ a.
-      part d date (answered (node_reserved p) a).progress _ _ _ _ (second_number p.types (nodes a)) (λ b.
-      ended p (answered (answered (node_reserved p) a).progress b).progress (nodes a ++ nodes b) (look_type a.own b.own) refl
-      (two_more p.types (nodes a) (nodes b))))
+  on_at : (slot_tree date : Tree) → Claim slot_tree → Claim date → Claim (at slot_tree date)
+  on_at slot_tree date claim_of_slot claim_of_date progress =
+      part slot_tree claim_of_slot (node_reserved progress) _ _ _ _ (first_number progress.types) (λ first_answer.
+      part date claim_of_date (answered (node_reserved progress) first_answer).progress _ _ _ _ (second_number progress.types (nodes first_answer))
+      (λ second_answer.
+      ended progress (answered (answered (node_reserved progress) first_answer).progress second_answer).progress
+      (nodes first_answer ++ nodes second_answer) (look_type first_answer.own second_answer.own) refl
+      (two_more progress.types (nodes first_answer) (nodes second_answer))))
 
-  on_choice : (c y d : Tree) → Claim c → Claim y → Claim d → Claim (choice c y d)
-  on_choice c y d test first second p =
-      part c test (node_reserved p) _ _ _ _ (first_number p.types) (λ a.
-      part y first (answered (node_reserved p) a).progress _ _ _ _ (second_number p.types (nodes a)) (λ b.
-      part d second (answered (answered (node_reserved p) a).progress b).progress _ _ _ _ (third_number p.types (nodes a) (nodes b)) (λ e.
-      ended p (answered (answered (answered (node_reserved p) a).progress b).progress e).progress (nodes a ++ nodes b ++ nodes e)
-      (choice_type a.own b.own e.own) refl (three_more p.types (nodes a) (nodes b) (nodes e)))))
+  on_choice : (condition if_true if_false : Tree) → Claim condition → Claim if_true → Claim if_false → Claim (choice condition if_true if_false)
+  on_choice condition if_true if_false claim_of_condition claim_of_true claim_of_false progress =
+      part condition claim_of_condition (node_reserved progress) _ _ _ _ (first_number progress.types) (λ first_answer.
+      part if_true claim_of_true (answered (node_reserved progress) first_answer).progress _ _ _ _ (second_number progress.types (nodes first_answer))
+      (λ second_answer.
+      part if_false claim_of_false (answered (answered (node_reserved progress) first_answer).progress second_answer).progress _ _ _ _
+      (third_number progress.types (nodes first_answer) (nodes second_answer)) (λ third_answer.
+      ended progress (answered (answered (answered (node_reserved progress) first_answer).progress second_answer).progress third_answer).progress
+      (nodes first_answer ++ nodes second_answer ++ nodes third_answer)
+      (choice_type first_answer.own second_answer.own third_answer.own) refl
+      (three_more progress.types (nodes first_answer) (nodes second_answer) (nodes third_answer)))))
 
-  on_bind : (x : List ℕ) (e b : Tree) → Claim e → Claim b → Claim (bind x e b)
-  on_bind x e b value body p =
-      part e value (node_reserved p) _ _ _ _ (first_number p.types) (λ a.
-      part b body (with_variable x a.own (answered (node_reserved p) a).progress) _ _ _ _ (second_number p.types (nodes a)) (λ inside.
-      ended p (without_variable (answered (with_variable x a.own (answered (node_reserved p) a).progress) inside).progress)
-      (nodes a ++ nodes inside) (Ok inside.own) refl (two_more p.types (nodes a) (nodes inside))))
+  on_bind : (new_name : List ℕ) (value_tree body : Tree) → Claim value_tree → Claim body → Claim (bind new_name value_tree body)
+  on_bind new_name value_tree body claim_of_value claim_of_body progress =
+      part value_tree claim_of_value (node_reserved progress) _ _ _ _ (first_number progress.types) (λ first_answer.
+      part body claim_of_body (with_variable new_name first_answer.own (answered (node_reserved progress) first_answer).progress) _ _ _ _
+      (second_number progress.types (nodes first_answer)) (λ inside.
+      ended progress
+      (without_variable
+      (answered (with_variable new_name first_answer.own (answered (node_reserved progress) first_answer).progress) inside).progress)
+      (nodes first_answer ++ nodes inside) (Ok inside.own) refl (two_more progress.types (nodes first_answer) (nodes inside))))
 
-  on_mapped : (x : List ℕ) (l b : Tree) → Claim l → Claim b → Claim (mapped x l b)
-  on_mapped x l b items body p =
-      part l items (node_reserved p) _ _ _ _ (first_number p.types) (λ a.
-      then_same (at_node (next_node p) (element_type a.own)) _ _ _ (λ item.
-      part b body (with_variable x item (answered (node_reserved p) a).progress) _ _ _ _ (second_number p.types (nodes a)) (λ inside.
-      ended p (without_variable (answered (with_variable x item (answered (node_reserved p) a).progress) inside).progress)
-      (nodes a ++ nodes inside) (mapped_type a.own inside.own) refl (two_more p.types (nodes a) (nodes inside)))))
+  on_mapped : (item_name : List ℕ) (source body : Tree) → Claim source → Claim body → Claim (mapped item_name source body)
+  on_mapped item_name source body claim_of_source claim_of_body progress =
+      part source claim_of_source (node_reserved progress) _ _ _ _ (first_number progress.types) (λ first_answer.
+      then_same (at_node (next_node progress) (element_type first_answer.own)) _ _ _ (λ item.
+      part body claim_of_body (with_variable item_name item (answered (node_reserved progress) first_answer).progress) _ _ _ _
+      (second_number progress.types (nodes first_answer)) (λ inside.
+      ended progress
+      (without_variable (answered (with_variable item_name item (answered (node_reserved progress) first_answer).progress) inside).progress)
+      (nodes first_answer ++ nodes inside) (mapped_type first_answer.own inside.own) refl
+      (two_more progress.types (nodes first_answer) (nodes inside)))))
 
-  on_each : (x : List ℕ) (l : Tree) (y : List ℕ) (f b : Tree) → Claim l → Claim f → Claim b → Claim (each x l y f b)
-  on_each x l y f b items first body p =
-      part l items (node_reserved p) _ _ _ _ (first_number p.types) (λ a.
-      part f first (answered (node_reserved p) a).progress _ _ _ _ (second_number p.types (nodes a)) (λ total.
-      then_same (at_node (next_node p) (element_type a.own)) _ _ _ (λ item.
-      let before = (answered (answered (node_reserved p) a).progress total).progress in
-      part b body (with_variable y total.own (with_variable x item before)) _ _ _ _ (third_number p.types (nodes a) (nodes total)) (λ inside.
-      ended p (without_variable (without_variable (answered (with_variable y total.own (with_variable x item before)) inside).progress))
-      (nodes a ++ nodes total ++ nodes inside) (total_type total.own inside.own) refl
-      (three_more p.types (nodes a) (nodes total) (nodes inside))))))
+  on_each : (item_name : List ℕ) (source : Tree) (total_name : List ℕ) (initial body : Tree) → Claim source → Claim initial → Claim body
+      → Claim (each item_name source total_name initial body)
+  on_each item_name source total_name initial body claim_of_source claim_of_initial claim_of_body progress =
+      part source claim_of_source (node_reserved progress) _ _ _ _ (first_number progress.types) (λ first_answer.
+      part initial claim_of_initial (answered (node_reserved progress) first_answer).progress _ _ _ _
+      (second_number progress.types (nodes first_answer)) (λ total.
+      then_same (at_node (next_node progress) (element_type first_answer.own)) _ _ _ (λ item.
+      let before = (answered (answered (node_reserved progress) first_answer).progress total).progress in
+      part body claim_of_body (with_variable total_name total.own (with_variable item_name item before)) _ _ _ _
+      (third_number progress.types (nodes first_answer) (nodes total)) (λ inside.
+      ended progress
+      (without_variable (without_variable (answered (with_variable total_name total.own (with_variable item_name item before)) inside).progress))
+      (nodes first_answer ++ nodes total ++ nodes inside) (total_type total.own inside.own) refl
+      (three_more progress.types (nodes first_answer) (nodes total) (nodes inside))))))
 
   on_none : ClaimAll no_trees
-  on_none found p =
-      ap (λ (r : RowVisit). Ok r) (λ i. row_visit (sym (append-nil found) i) (record { scope = p.scope; types = sym (append-nil p.types) i }))
+  on_none found progress =
+      ap (λ (row : RowVisit). Ok row)
+      (λ i. row_visit (sym (append-nil found) i) (record { scope = progress.scope; types = sym (append-nil progress.types) i }))
 
-  seen_all : (j : Judged RowTypes) (found : List RplType) (p : Progress) (e : Expression)
-      → (j >>= λ row. Ok (answered_all (found ++ e.own ∷ []) (answered p e).progress row))
-      ≡ ((j >>= λ rest. Ok (record { types = e.own ∷ rest.types; all = nodes e ++ rest.all })) >>= λ row. Ok (answered_all found p row))
-  seen_all (Ok row) found p e =
-      ap (λ (r : RowVisit). Ok r) (λ i. row_visit (append_assoc found (e.own ∷ []) row.types i)
-      (record { scope = p.scope; types = append_assoc p.types (nodes e) row.all i }))
-  seen_all (Err r) found p e = refl
+  seen_all : (judged : Judged RowTypes) (found : List RplType) (progress : Progress) (answer : Expression)
+      → (judged >>= λ row. Ok (answered_all (found ++ answer.own ∷ []) (answered progress answer).progress row))
+      ≡ ((judged >>= λ rest. Ok (record { types = answer.own ∷ rest.types; all = nodes answer ++ rest.all }))
+      >>= λ row. Ok (answered_all found progress row))
+  seen_all (Ok row) found progress answer =
+      ap (λ (r : RowVisit). Ok r) (λ i. row_visit (append_assoc found (answer.own ∷ []) row.types i)
+      (record { scope = progress.scope; types = append_assoc progress.types (nodes answer) row.all i }))
+  seen_all (Err r) found progress answer = refl
 
-  next_number : (p : Progress) (e : Expression) → length (p.types ++ nodes e) + 1 ≡ length p.types + 1 + length (nodes e)
-  next_number p e = simp length-append (omega arith)
+  next_number : (progress : Progress) (answer : Expression)
+      → length (progress.types ++ nodes answer) + 1 ≡ length progress.types + 1 + length (nodes answer)
+  next_number progress answer = simp length-append (omega arith)
 
-  on_tree : (t : Tree) (ts : Trees) → Claim t → ClaimAll ts → ClaimAll (tree t ts)
-  on_tree t ts first rest found p =
-      rw (first p) (seen_then_same (types_of basin callable p.scope (next_node p) t) (answered p) _ _ _ (λ e.
-      rest (found ++ e.own ∷ []) (answered p e).progress ∙ (rw (next_number p e)
-      (seen_all (types_of_all basin callable p.scope (node_behind (next_node p) (nodes e)) ts) found p e))))
+  on_tree : (form : Tree) (expressions : Trees) → Claim form → ClaimAll expressions → ClaimAll (tree form expressions)
+  on_tree form expressions claim_of_expression claim_of_others found progress =
+      rw (claim_of_expression progress)
+      (seen_then_same (types_of basin callable progress.scope (next_node progress) form) (answered progress) _ _ _ (λ answer.
+      claim_of_others (found ++ answer.own ∷ []) (answered progress answer).progress ∙ (rw (next_number progress answer)
+      (seen_all (types_of_all basin callable progress.scope (node_behind (next_node progress) (nodes answer)) expressions) found progress answer))))
 
   mutual
-    pub claim : (t : Tree) → Claim t
-    claim (literal z unit) = λ p. on_leaf p (literal_type z unit)
-    claim (truth b) = λ p. on_leaf p (Ok Boolean)
-    claim now = λ p. on_leaf p (Ok Datetime)
-    claim (slot o s) = λ p. on_leaf p (slot_type basin o s)
-    claim (name x) = λ p. on_leaf p (name_type p.scope x)
-    claim (call x ts) = on_call x ts (claim_all ts)
-    claim (brackets t) = on_brackets t (claim t)
-    claim (list ts) = on_list ts (claim_all ts)
-    claim (choice c y d) = on_choice c y d (claim c) (claim y) (claim d)
-    claim (bind x e b) = on_bind x e b (claim e) (claim b)
-    claim (each x l y f b) = on_each x l y f b (claim l) (claim f) (claim b)
-    claim (mapped x l b) = on_mapped x l b (claim l) (claim b)
-    claim (one word t) = on_one word t (claim t)
-    claim (two word l r) = on_two word l r (claim l) (claim r)
-    claim (convert word o t) = on_convert word o t (claim t)
-    claim (at s d) = on_at s d (claim s) (claim d)
+    pub claim : (expression : Tree) → Claim expression
+    claim (literal number unit) = λ progress. on_leaf progress (literal_type number unit)
+    claim (truth is_so) = λ progress. on_leaf progress (Ok Boolean)
+    claim now = λ progress. on_leaf progress (Ok Datetime)
+    claim (slot object slot_name) = λ progress. on_leaf progress (slot_type basin object slot_name)
+    claim (name sought) = λ progress. on_leaf progress (name_type progress.scope sought)
+    claim (call function_name arguments) = on_call function_name arguments (claim_all arguments)
+    claim (brackets inside) = on_brackets inside (claim inside)
+    claim (list items) = on_list items (claim_all items)
+    claim (choice condition if_true if_false) = on_choice condition if_true if_false (claim condition) (claim if_true) (claim if_false)
+    claim (bind new_name value_tree body) = on_bind new_name value_tree body (claim value_tree) (claim body)
+    claim (each item_name source total_name initial body) =
+        on_each item_name source total_name initial body (claim source) (claim initial) (claim body)
+    claim (mapped item_name source body) = on_mapped item_name source body (claim source) (claim body)
+    claim (one word operand) = on_one word operand (claim operand)
+    claim (two word left right) = on_two word left right (claim left) (claim right)
+    claim (convert word object operand) = on_convert word object operand (claim operand)
+    claim (at slot_tree date) = on_at slot_tree date (claim slot_tree) (claim date)
 
-    pub claim_all : (ts : Trees) → ClaimAll ts
+    pub claim_all : (expressions : Trees) → ClaimAll expressions
     claim_all no_trees = on_none
-    claim_all (tree t ts) = on_tree t ts (claim t) (claim_all ts)
+    claim_all (tree first others) = on_tree first others (claim first) (claim_all others)

@@ -33,7 +33,7 @@ use Rattle.rw_agenda.specs.declared.limits.TheConstants.{RULES_MAX}
 use Rattle.rw_agenda.proofs.Watches.{met_last, met_next, or_right}
 use Rattle.rw_agenda.proofs.Order.{high_turn, in_no_turn, low_turn, not_in_turn}
 use Rattle.rw_base.specs.Bit.{has_bit}
-use Rattle.rw_agenda.specs.Marks.{AreTurns, IsFirst, IsFirstMarked, IsFirstOf, Marks, MarksMore, is_flagged, is_marked_in, agenda_turn}
+use Rattle.rw_agenda.specs.Marks.{AreTurns, IsFirst, IsFirstMarked, IsFirstOf, Marks, MarksMore, is_flagged, is_marked_in, agenda_turn, with_mark}
 
 -- ---- turns
 
@@ -237,40 +237,66 @@ or_none : (x : Bool) → x ≡ (x || false)
 or_none true = refl
 or_none false = refl
 
-pub marks_last : (watches : List Watch) (times left number rule : ℕ) (mark : Bool) → times ≡ suc left → numbered watches number ≡ None
-    → mark ≡ (mark || is_met watches times number rule)
-marks_last watches times left number rule mark more none =
-    or_none mark ∙ ap (λ t. mark || t) (sym (met_last watches times left number rule more none))
+pub marks_last : (watches : List Watch) (times left number rule step : ℕ) (mark : Bool) → times ≡ suc left → numbered watches number ≡ None
+    → mark ≡ (mark || is_met watches times number rule step)
+marks_last watches times left number rule step mark more none =
+    or_none mark ∙ ap (λ t. mark || t) (sym (met_last watches times left number rule step more none))
 
-pub marks_next : (watches : List Watch) (times left number rule : ℕ) (watch : Watch) (old new : List Bool) → times ≡ suc left
-    → numbered watches number ≡ Some watch → rule < length old → new ≡ set old watch.rule true
-    → (slice_index_or new rule true || is_met watches left watch.before rule) ≡ (slice_index_or old rule true || is_met watches times number rule)
-marks_next watches times left number rule watch old new more found near is =
-    ap (λ marks. slice_index_or marks rule true || is_met watches left watch.before rule) is
-    ∙ by (nat_eq rule watch.rule) refl
-    ∙ ap (λ t. slice_index_or old rule true || t) (sym (met_next watches times left number rule watch more found))
+pub marks_next : (watches : List Watch) (times left number rule step : ℕ) (watch : Watch) (old new : Bool) → times ≡ suc left
+    → numbered watches number ≡ Some watch → new ≡ (old || (watch.rule == rule && watch.step == step))
+    → (new || is_met watches left watch.before rule step) ≡ (old || is_met watches times number rule step)
+marks_next watches times left number rule step watch old new more found is =
+    ap (λ mark. mark || is_met watches left watch.before rule step) is
+    ∙ regroup old (watch.rule == rule && watch.step == step) (is_met watches left watch.before rule step)
+    ∙ ap (λ t. old || t) (sym (met_next watches times left number rule step watch more found))
+  where
+    regroup : (x y z : Bool) → ((x || y) || z) ≡ (x || (y || z))
+    regroup true y z = refl
+    regroup false y z = refl
+
+-- the rule of a watch is marked, where the watch is of the timestep
+pub marks_one : (old new : Marks) (rule own time : ℕ) → (own == time) ≡ true → new ≡ with_mark old rule true
+    → MarksMore (λ other. rule == other && own == time) old new
+marks_one old new rule own time timely is = record {
+  order = ap (λ (m : Marks). m.order) is;
+  many = ap (λ (m : Marks). length m.flags) is ∙ length-set old.flags rule true;
+  marked = λ other near.
+      ap (λ (m : Marks). is_flagged m other) is
+      ∙ by other near (nat_eq other rule) refl
+      ∙ ap (λ t. is_flagged old other || (rule == other && t)) (sym timely);
+}
   where
     or_true : (x : Bool) → true ≡ (x || true)
     or_true true = refl
     or_true false = refl
 
-    by : (same : Bool) → nat_eq rule watch.rule ≡ same
-        → (slice_index_or (set old watch.rule true) rule true || is_met watches left watch.before rule)
-        ≡ (slice_index_or old rule true || (watch.rule == rule || is_met watches left watch.before rule))
-    by true same =
-        let here : rule ≡ watch.rule = grind (arith, nat_tests, same) in
-        let own : (watch.rule == rule) ≡ true = grind (arith, nat_tests, here) in
-        let set_now : slice_index_or (set old watch.rule true) rule true ≡ true =
-        ap (λ k. get_or (set old watch.rule true) k true) here
-        ∙ get_or-set_same old watch.rule true true (omega (arith, near, here)) in
-        ap (λ t. t || is_met watches left watch.before rule) set_now
-        ∙ or_true (slice_index_or old rule true)
-        ∙ ap (λ t. slice_index_or old rule true || (t || is_met watches left watch.before rule)) (sym own)
-    by false apart =
-        let away : rule ≢ watch.rule = grind (arith, nat_tests, apart) in
-        let other : (watch.rule == rule) ≡ false = grind (arith, nat_tests, away) in
-        ap (λ t. t || is_met watches left watch.before rule) (get_or-set_other old watch.rule rule true true away)
-        ∙ ap (λ t. slice_index_or old rule true || (t || is_met watches left watch.before rule)) (sym other)
+    by : (other : ℕ) → other < length old.flags → (same : Bool) → nat_eq other rule ≡ same
+        → is_flagged (with_mark old rule true) other ≡ (is_flagged old other || (rule == other && true))
+    by other near true same =
+        let here : other ≡ rule = grind (arith, nat_tests, same) in
+        let equal : (rule == other) ≡ true = grind (arith, nat_tests, here) in
+        ap (λ k. get_or (set old.flags rule true) k true) here
+        ∙ get_or-set_same old.flags rule true true (omega (arith, near, here))
+        ∙ or_true (is_flagged old other)
+        ∙ ap (λ t. is_flagged old other || (t && true)) (sym equal)
+    by other near false apart =
+        let away : other ≢ rule = grind (arith, nat_tests, apart) in
+        let different : (rule == other) ≡ false = grind (arith, nat_tests, away) in
+        get_or-set_other old.flags rule other true true away
+        ∙ or_none (is_flagged old other)
+        ∙ ap (λ t. is_flagged old other || (t && true)) (sym different)
+
+pub marks_none : (marks : Marks) (rule own time : ℕ) → (own == time) ≡ false → MarksMore (λ other. rule == other && own == time) marks marks
+marks_none marks rule own time late = record {
+  order = refl;
+  many = refl;
+  marked = λ other near. none (is_flagged marks other) (rule == other) ∙ ap (λ t. is_flagged marks other || (rule == other && t)) (sym late);
+}
+  where
+    none : (x y : Bool) → x ≡ (x || (y && false))
+    none true y = refl
+    none false true = refl
+    none false false = refl
 
 -- where no rule watches a cell none is marked
 pub unwatched : (index : CellIndex) (step : ℕ) (group : List ℕ) (marks : Marks) → ((cell : Cell) (rule : ℕ) → is_watching index cell rule ≡ false)
@@ -285,15 +311,16 @@ unwatched index step group marks none = record {
 }
 
 -- where a cell has no newest watch none is marked
-met_none : (watches : List Watch) (times rule : ℕ) → is_met watches times 0 rule ≡ false
-met_none watches zero rule = refl
-met_none watches (suc times) rule = refl
+met_none : (watches : List Watch) (times rule step : ℕ) → is_met watches times 0 rule step ≡ false
+met_none watches zero rule step = refl
+met_none watches (suc times) rule step = refl
 
-pub unmet : (watches : List Watch) (times number : ℕ) (marks : Marks) → number ≡ 0 → MarksMore (is_met watches times number) marks marks
-unmet watches times number marks none = record {
+pub unmet : (watches : List Watch) (times number step : ℕ) (marks : Marks) → number ≡ 0
+    → MarksMore (λ rule. is_met watches times number rule step) marks marks
+unmet watches times number step marks none = record {
   order = refl;
   many = refl;
   marked = λ rule near.
-      sym (ap (λ met. is_flagged marks rule || met) (ap (λ n. is_met watches times n rule) none ∙ met_none watches times rule)
+      sym (ap (λ met. is_flagged marks rule || met) (ap (λ n. is_met watches times n rule step) none ∙ met_none watches times rule step)
       ∙ or-false (is_flagged marks rule));
 }

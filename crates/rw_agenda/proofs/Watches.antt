@@ -1,5 +1,5 @@
 -- Rules that are met, going from watch to watch.
-use Rattle.rw_base.proofs.Common.{◌≡◌, ◌∙◌, ◌+◌, ◌-◌, ◌<◌, ◌≤◌, ◌==◌, ◌||◌, ℕ, zero, suc, Bool, true, false, List, [], ◌∷◌, ◌++◌, Option, None, Some}
+use Rattle.rw_base.proofs.Common.{◌≡◌, ◌∙◌, ◌+◌, ◌-◌, ◌<◌, ◌≤◌, ◌==◌, ◌||◌, ◌&&◌, ℕ, zero, suc, Bool, true, false, List, [], ◌∷◌, ◌++◌, Option, None, Some}
 use Rattle.rw_base.proofs.Common.{IfSome, IsSomeAnd, All, All-push, take, take_more, ap, ap₂, arith, if◌then◌else◌, false≢true, get_or}
 use Rattle.rw_base.proofs.Common.{get_or-set_other, get_or-set_same, get_or_append_left, get_or_from_slice_get, length, length-append, nat_eq}
 use Rattle.rw_base.proofs.Common.{nat_eq_equiv, nat_le, nat_tests, none-some, option_map, refl, set, slice_get-get_or, slice_get_within}
@@ -15,8 +15,9 @@ use Rattle.rw_agenda.specs.CellIndex.{CellIndex, before_in, is_met, is_watching,
 use Rattle.rw_agenda.specs.declared.watch.Watch.{Watch}
 
 -- what is found of a watch, and of what it leads to
-abbrev met_in : List Watch → ℕ → ℕ → Option Watch → Bool
-met_in watches times rule found = unwrap_or (option_map (λ (watch : Watch). watch.rule == rule || is_met watches times watch.before rule) found) false
+abbrev met_in : List Watch → ℕ → ℕ → ℕ → Option Watch → Bool
+met_in watches times rule step found =
+    unwrap_or (option_map (λ (watch : Watch). (watch.rule == rule && watch.step == step) || is_met watches times watch.before rule step) found) false
 
 numbered_first : (watches : List Watch) (number : ℕ) (watch : Watch) → numbered watches number ≡ Some watch → 1 ≤ number
 numbered_first watches zero watch is = absurd (none-some watch is)
@@ -36,33 +37,34 @@ or_either true y z gives is = refl
 or_either false y z gives is = gives is
 
 -- who was met still is, with more watches and more times
-pub met_more : (watches more : List Watch) (times most number rule : ℕ) → times ≤ most → is_met watches times number rule ≡ true
-    → is_met (watches ++ more) most number rule ≡ true
-met_more watches more zero most number rule few is = absurd (grind (arith, is))
-met_more watches more (suc times) zero number rule few is = absurd (omega (arith, few))
-met_more watches more (suc times) (suc most) number rule few is =
-    by (numbered watches number) refl (λ before. met_more watches more times most before rule (omega (arith, few))) is
+pub met_more : (watches more : List Watch) (times most number rule step : ℕ) → times ≤ most → is_met watches times number rule step ≡ true
+    → is_met (watches ++ more) most number rule step ≡ true
+met_more watches more zero most number rule step few is = absurd (grind (arith, is))
+met_more watches more (suc times) zero number rule step few is = absurd (omega (arith, few))
+met_more watches more (suc times) (suc most) number rule step few is =
+    by (numbered watches number) refl (λ before. met_more watches more times most before rule step (omega (arith, few))) is
   where
     by : (found : Option Watch) → numbered watches number ≡ found
-        → ((before : ℕ) → is_met watches times before rule ≡ true → is_met (watches ++ more) most before rule ≡ true)
-        → met_in watches times rule found ≡ true → met_in (watches ++ more) most rule (numbered (watches ++ more) number) ≡ true
+        → ((before : ℕ) → is_met watches times before rule step ≡ true → is_met (watches ++ more) most before rule step ≡ true)
+        → met_in watches times rule step found ≡ true → met_in (watches ++ more) most rule step (numbered (watches ++ more) number) ≡ true
     by None there later is = absurd (false≢true is)
     by (Some watch) there later is =
-        ap (met_in (watches ++ more) most rule) (numbered_more watches more number watch there)
-        ∙ or_either (watch.rule == rule) (is_met watches times watch.before rule) (is_met (watches ++ more) most watch.before rule)
+        ap (met_in (watches ++ more) most rule step) (numbered_more watches more number watch there)
+        ∙ or_either (watch.rule == rule && watch.step == step) (is_met watches times watch.before rule step)
+        (is_met (watches ++ more) most watch.before rule step)
         (later watch.before) is
 
 -- ---- going on from watch to watch
 
-pub met_last : (watches : List Watch) (times left number rule : ℕ) → times ≡ suc left → numbered watches number ≡ None
-    → is_met watches times number rule ≡ false
-met_last watches times left number rule is none =
-    ap (λ k. is_met watches k number rule) is ∙ ap (met_in watches left rule) none
+pub met_last : (watches : List Watch) (times left number rule step : ℕ) → times ≡ suc left → numbered watches number ≡ None
+    → is_met watches times number rule step ≡ false
+met_last watches times left number rule step is none =
+    ap (λ k. is_met watches k number rule step) is ∙ ap (met_in watches left rule step) none
 
-pub met_next : (watches : List Watch) (times left number rule : ℕ) (watch : Watch) → times ≡ suc left → numbered watches number ≡ Some watch
-    → is_met watches times number rule ≡ (watch.rule == rule || is_met watches left watch.before rule)
-met_next watches times left number rule watch is found =
-    ap (λ k. is_met watches k number rule) is ∙ ap (met_in watches left rule) found
+pub met_next : (watches : List Watch) (times left number rule step : ℕ) (watch : Watch) → times ≡ suc left → numbered watches number ≡ Some watch
+    → is_met watches times number rule step ≡ ((watch.rule == rule && watch.step == step) || is_met watches left watch.before rule step)
+met_next watches times left number rule step watch is found =
+    ap (λ k. is_met watches k number rule step) is ∙ ap (met_in watches left rule step) found
 
 last_watch : (watches : List Watch) (watch : Watch) → numbered (watches ++ watch ∷ []) (suc (length watches)) ≡ Some watch
 last_watch watches watch =
@@ -75,12 +77,12 @@ or_right true y is = refl
 or_right false y is = is
 
 -- the newest watch is met
-pub met_newest : (watches : List Watch) (watch : Watch) (rule : ℕ)
-    → is_met (watches ++ watch ∷ []) (length (watches ++ watch ∷ [])) (length (watches ++ watch ∷ [])) rule
-    ≡ (watch.rule == rule || is_met (watches ++ watch ∷ []) (length watches) watch.before rule)
-met_newest watches watch rule =
+pub met_newest : (watches : List Watch) (watch : Watch) (rule step : ℕ)
+    → is_met (watches ++ watch ∷ []) (length (watches ++ watch ∷ [])) (length (watches ++ watch ∷ [])) rule step
+    ≡ ((watch.rule == rule && watch.step == step) || is_met (watches ++ watch ∷ []) (length watches) watch.before rule step)
+met_newest watches watch rule step =
     let many : length (watches ++ watch ∷ []) ≡ suc (length watches) = omega (arith, length-append watches (watch ∷ [])) in
-    met_next (watches ++ watch ∷ []) (length (watches ++ watch ∷ [])) (length watches) (length (watches ++ watch ∷ [])) rule watch many
+    met_next (watches ++ watch ∷ []) (length (watches ++ watch ∷ [])) (length watches) (length (watches ++ watch ∷ [])) rule step watch many
     (ap (numbered (watches ++ watch ∷ [])) many ∙ last_watch watches watch)
 
 -- a watch that isn't there leads to none
@@ -88,18 +90,18 @@ numbered_past : (watches : List Watch) (number : ℕ) → length watches < numbe
 numbered_past watches number past =
     numbered-known watches number (omega (arith, past)) ∙ slice_get_past watches (number - 1) (omega (arith, past))
 
-pub met_past : (watches : List Watch) (times number rule : ℕ) → length watches < number → is_met watches times number rule ≡ false
-met_past watches zero number rule past = refl
-met_past watches (suc times) number rule past = ap (met_in watches times rule) (numbered_past watches number past)
+pub met_past : (watches : List Watch) (times number rule step : ℕ) → length watches < number → is_met watches times number rule step ≡ false
+met_past watches zero number rule step past = refl
+met_past watches (suc times) number rule step past = ap (met_in watches times rule step) (numbered_past watches number past)
 
 -- ---- an index with one watch more
 
-module _ (slots steps room : ℕ) (newest : List ℕ) (watches : List Watch) (full : Bool) (place rule : ℕ) where
+module _ (slots steps room : ℕ) (newest : List ℕ) (watches : List Watch) (full : Bool) (place rule step : ℕ) where
   abbrev before_it : ℕ
   before_it = before_in watches (slice_index_or newest place 0)
 
   abbrev whole : List Watch
-  whole = watches ++ record { rule = rule; place = place; before = before_it } ∷ []
+  whole = watches ++ record { rule = rule; step = step; place = place; before = before_it } ∷ []
 
   abbrev old : CellIndex
   old = record { slots = slots; steps = steps; newest = newest; watches = watches; room = room; is_full = full }
@@ -108,67 +110,75 @@ module _ (slots steps room : ℕ) (newest : List ℕ) (watches : List Watch) (fu
   new = record { slots = slots; steps = steps; newest = set newest place (length whole); watches = whole; room = room; is_full = full }
 
   -- who was met from the cell's newest watch is met from the one before the new one
-  met_before : (earlier : ℕ) → is_met watches (length watches) (slice_index_or newest place 0) earlier ≡ true
-      → is_met whole (length watches) before_it earlier ≡ true
-  met_before earlier is = by (nat_le (slice_index_or newest place 0) (length watches)) refl
+  met_before : (earlier time : ℕ) → is_met watches (length watches) (slice_index_or newest place 0) earlier time ≡ true
+      → is_met whole (length watches) before_it earlier time ≡ true
+  met_before earlier time is = by (nat_le (slice_index_or newest place 0) (length watches)) refl
     where
       by : (near : Bool) → nat_le (slice_index_or newest place 0) (length watches) ≡ near
-          → is_met whole (length watches) (if near then slice_index_or newest place 0 else 0) earlier ≡ true
-      by true near = met_more watches _ (length watches) (length watches) (slice_index_or newest place 0) earlier (omega arith) is
+          → is_met whole (length watches) (if near then slice_index_or newest place 0 else 0) earlier time ≡ true
+      by true near = met_more watches _ (length watches) (length watches) (slice_index_or newest place 0) earlier time (omega arith) is
       by false far =
-          absurd (false≢true (sym (met_past watches (length watches) (slice_index_or newest place 0) earlier (grind (arith, nat_tests, far))) ∙ is))
+          absurd (false≢true (sym (met_past watches (length watches) (slice_index_or newest place 0) earlier time
+          (grind (arith, nat_tests, far))) ∙ is))
 
-  met_here : (earlier : ℕ) → is_met watches (length watches) (slice_index_or newest place 0) earlier ≡ true
-      → is_met whole (length whole) (length whole) earlier ≡ true
-  met_here earlier is =
-      met_newest watches (record { rule = rule; place = place; before = before_it }) earlier ∙ or_right (rule == earlier) _ (met_before earlier is)
+  met_here : (earlier time : ℕ) → is_met watches (length watches) (slice_index_or newest place 0) earlier time ≡ true
+      → is_met whole (length whole) (length whole) earlier time ≡ true
+  met_here earlier time is =
+      met_newest watches (record { rule = rule; step = step; place = place; before = before_it }) earlier time
+      ∙ or_right (rule == earlier && step == time) _ (met_before earlier time is)
 
   pub kept_watch : place < length newest → (other : Cell) (earlier : ℕ) → is_watching old other earlier ≡ true → is_watching new other earlier ≡ true
   kept_watch near other earlier is =
-      or_either full (is_met watches (length watches) (newest_at old other) earlier) (is_met whole (length whole) (newest_at new other) earlier)
+      or_either full (is_met watches (length watches) (newest_at old other) earlier other.step.0)
+      (is_met whole (length whole) (newest_at new other) earlier other.step.0)
       (by (index_position slots steps other)) is
     where
-      by : (at : Option ℕ) → is_met watches (length watches) (unwrap_or (option_map (λ p. slice_index_or newest p 0) at) 0) earlier ≡ true
-          → is_met whole (length whole) (unwrap_or (option_map (λ p. slice_index_or (set newest place (length whole)) p 0) at) 0) earlier ≡ true
+      time : ℕ
+      time = other.step.0
+
+      by : (at : Option ℕ) → is_met watches (length watches) (unwrap_or (option_map (λ p. slice_index_or newest p 0) at) 0) earlier time ≡ true
+          → is_met whole (length whole) (unwrap_or (option_map (λ p. slice_index_or (set newest place (length whole)) p 0) at) 0) earlier time ≡ true
       by None met =
-          met_more watches _ (length watches) (length whole) 0 earlier
-          (omega (arith, length-append watches (record { rule = rule; place = place; before = before_it } ∷ []))) met
+          met_more watches _ (length watches) (length whole) 0 earlier time
+          (omega (arith, length-append watches (record { rule = rule; step = step; place = place; before = before_it } ∷ []))) met
       by (Some p) met = at (nat_eq p place) refl
         where
           at : (same : Bool) → nat_eq p place ≡ same
-              → is_met whole (length whole) (slice_index_or (set newest place (length whole)) p 0) earlier ≡ true
+              → is_met whole (length whole) (slice_index_or (set newest place (length whole)) p 0) earlier time ≡ true
           at true same =
               let is_place : p ≡ place = grind (arith, nat_tests, same) in
-              ap (λ n. is_met whole (length whole) n earlier)
+              ap (λ n. is_met whole (length whole) n earlier time)
               (ap (λ k. get_or (set newest place (length whole)) k 0) is_place ∙ get_or-set_same newest place (length whole) 0 near)
-              ∙ met_here earlier (ap (λ k. is_met watches (length watches) (get_or newest k 0) earlier) (sym is_place) ∙ met)
+              ∙ met_here earlier time (ap (λ k. is_met watches (length watches) (get_or newest k 0) earlier time) (sym is_place) ∙ met)
           at false apart =
-              ap (λ n. is_met whole (length whole) n earlier) (get_or-set_other newest place p (length whole) 0 (grind (arith, nat_tests, apart)))
-              ∙ met_more watches _ (length watches) (length whole) (get_or newest p 0) earlier
-              (omega (arith, length-append watches (record { rule = rule; place = place; before = before_it } ∷ []))) met
+              ap (λ n. is_met whole (length whole) n earlier time) (get_or-set_other newest place p (length whole) 0 (grind (arith, nat_tests, apart)))
+              ∙ met_more watches _ (length watches) (length whole) (get_or newest p 0) earlier time
+              (omega (arith, length-append watches (record { rule = rule; step = step; place = place; before = before_it } ∷ []))) met
 
-  pub new_watch : place < length newest → (cell : Cell) → index_position slots steps cell ≡ Some place → is_watching new cell rule ≡ true
-  new_watch near cell is =
+  pub new_watch : place < length newest → (cell : Cell) → cell.step.0 ≡ step → index_position slots steps cell ≡ Some place
+      → is_watching new cell rule ≡ true
+  new_watch near cell same is =
       or_right full _
-      (ap (λ at. is_met whole (length whole) (unwrap_or (option_map (λ p. slice_index_or (set newest place (length whole)) p 0) at) 0) rule) is
-      ∙ ap (λ n. is_met whole (length whole) n rule) (get_or-set_same newest place (length whole) 0 near)
-      ∙ met_newest watches (record { rule = rule; place = place; before = before_it }) rule
-      ∙ ap (λ t. t || is_met whole (length watches) before_it rule) (nat_eq_equiv.refl rule))
+      (ap (is_met whole (length whole) (newest_at new cell) rule) same
+      ∙ ap (λ at. is_met whole (length whole) (unwrap_or (option_map (λ p. slice_index_or (set newest place (length whole)) p 0) at) 0) rule step) is
+      ∙ ap (λ n. is_met whole (length whole) n rule step) (get_or-set_same newest place (length whole) 0 near)
+      ∙ met_newest watches (record { rule = rule; step = step; place = place; before = before_it }) rule step
+      ∙ ap₂ (λ a b. (a && b) || is_met whole (length watches) before_it rule step) (nat_eq_equiv.refl rule) (nat_eq_equiv.refl step))
 
   -- the same of what the code has
   module _ (seen count : ℕ) (pushed : List Watch) (saw : seen ≡ slice_index_or newest place 0)
-      (is : pushed ≡ watches ++ record { rule = rule; place = place; before = before_in watches seen } ∷ []) (many : count ≡ length pushed) where
+      (is : pushed ≡ watches ++ record { rule = rule; step = step; place = place; before = before_in watches seen } ∷ []) (many : count ≡ length pushed) where
     abbrev made : List Watch → ℕ → CellIndex
     made all number = record { slots = slots; steps = steps; newest = set newest place number; watches = all; room = room; is_full = full }
 
     whole_is : pushed ≡ whole
-    whole_is = is ∙ ap (λ n. watches ++ record { rule = rule; place = place; before = before_in watches n } ∷ []) saw
+    whole_is = is ∙ ap (λ n. watches ++ record { rule = rule; step = step; place = place; before = before_in watches n } ∷ []) saw
 
-    pub watching_now : place < length newest → (cell : Cell) → index_position slots steps cell ≡ Some place
+    pub watching_now : place < length newest → (cell : Cell) → cell.step.0 ≡ step → index_position slots steps cell ≡ Some place
         → is_watching (made pushed count) cell rule ≡ true
-    watching_now near cell at =
+    watching_now near cell same at =
         subst (λ k. is_watching (made pushed k) cell rule ≡ true) (sym many)
-        (subst (λ all. is_watching (made all (length all)) cell rule ≡ true) (sym whole_is) (new_watch near cell at))
+        (subst (λ all. is_watching (made all (length all)) cell rule ≡ true) (sym whole_is) (new_watch near cell same at))
 
     pub watching_still : place < length newest → (other : Cell) (earlier : ℕ) → is_watching old other earlier ≡ true
         → is_watching (made pushed count) other earlier ≡ true
@@ -194,4 +204,4 @@ pub idle : (slots steps room : ℕ) (newest : List ℕ) (watches : List Watch) (
     → is_watching (record { slots = slots; steps = steps; newest = newest; watches = watches; room = room; is_full = full }) cell rule ≡ false
 idle slots steps room newest watches full spare none cell rule =
     ap₂ (λ f n. f || is_met watches n (newest_at
-    (record { slots = slots; steps = steps; newest = newest; watches = watches; room = room; is_full = full }) cell) rule) spare none
+    (record { slots = slots; steps = steps; newest = newest; watches = watches; room = room; is_full = full }) cell) rule cell.step.0) spare none

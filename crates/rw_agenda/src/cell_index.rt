@@ -1,4 +1,4 @@
-ghost use Rattle.std.specs.Prelude.{◌≡◌, ◌≤◌, ◌<◌, ◌+◌, ◌*◌, ◌-◌, ◌||◌, ◌++◌, ◌∷◌, [], ℕ, All, IfOk, IfSome, IsSomeAnd, Some, None, true, false, length, option_map, slice_index_or, vec_len};
+ghost use Rattle.std.specs.Prelude.{◌≡◌, ◌≤◌, ◌<◌, ◌+◌, ◌*◌, ◌-◌, ◌==◌, ◌||◌, ◌&&◌, ◌++◌, ◌∷◌, [], ℕ, All, IfOk, IfSome, IsSomeAnd, Some, None, true, false, length, option_map, slice_index_or, vec_len};
 ghost use Rattle.std.specs.List.{list_any, slice_get};
 ghost use Rattle.rw_base.specs.declared.number.Cell.{Cell};
 ghost use Rattle.rw_model.specs.Kept.{numbers_of};
@@ -9,6 +9,7 @@ ghost use Rattle.rw_agenda.specs.CellIndex.{CanWatch, before_in, is_met, is_watc
 ghost use Rattle.rw_agenda.specs.Marks.{MarksMore};
 ghost use Rattle.rw_agenda.specs.declared.watch.Watch.{Watch};
 
+use crate::limits::INDEX_STEPS;
 use crate::marks::Marks;
 use crate::watch::Watch;
 use rw_base::{Cell, NoMemory, SlotNo, StepNo};
@@ -18,8 +19,9 @@ use std::alloc::Global;
 use std::marker::Model;
 
 /// For each cell the rules that looked there, so that they are found without the looks of all rules. A rule watches each cell
-/// at which it looked, until all watches are taken out. Where there was no room for a watch, every rule counts as one that looked
-/// everywhere: one too many is marked, and its looks are compared for nothing.
+/// at which it looked, until all watches are taken out. Timesteps that lie `INDEX_STEPS` apart share their places: a run looks
+/// around its timestep, and what it asks over and over stays small. Where there was no room for a watch, every rule counts as one
+/// that looked everywhere: one too many is marked, and its looks are compared for nothing.
 #[derive(Drop)]
 pub(crate) struct CellIndex {
     slots: u16,
@@ -45,8 +47,7 @@ impl Model for CellIndex {
     } };
 
     ghost invariant = { λ index.
-        specs.HasWatchRoom index.slots index.steps index.newest.items index.room
-        index.watches.cap };
+        specs.HasWatchRoom index.slots index.newest.items index.room index.watches.cap };
 }
 
 impl CellIndex {
@@ -57,7 +58,7 @@ impl CellIndex {
     {
         let slots = slots_for(basin, room);
         let steps = basin.control().stamps.count();
-        let newest = Vec::from_elem(alloc, 0, usize::from(slots) * usize::from(steps))?;
+        let newest = Vec::from_elem(alloc, 0, usize::from(slots) * usize::from(INDEX_STEPS))?;
         let watches = Vec::with_capacity(alloc, room as usize)?;
         Ok(CellIndex {
             slots,
@@ -91,14 +92,15 @@ impl CellIndex {
             return;
         };
         let newest = self.newest[place];
-        if is_known(self.watches.as_slice(), newest, rule, again) {
+        let step = cell.step.0;
+        if is_known(self.watches.as_slice(), newest, rule, step, again) {
             return;
         }
         if self.watches.len() >= self.room as usize {
             self.full = true;
             return;
         }
-        push_watch(&mut self.watches, rule, place, newest);
+        push_watch(&mut self.watches, rule, step, place, newest);
         self.newest[place] = self.watches.len() as u32;
     }
 
@@ -186,11 +188,16 @@ impl CellIndex {
         if self.full {
             marks.set_all();
         } else {
-            mark_from(marks, self.watches.as_slice(), self.newest_at(cell));
+            mark_from(
+                marks,
+                self.watches.as_slice(),
+                self.newest_at(cell),
+                cell.step.0,
+            );
         }
     }
 
-    // The number of a cell's newest watch, 0 where there is none.
+    // The number of the newest watch of a cell's place, 0 where there is none.
     fn newest_at(&self, cell: Cell) -> u32
         ensures { result ≡ newest_at self.now cell }
     {
@@ -206,17 +213,34 @@ fn slots_for(basin: &Basin, room: u32) -> u16 {
     if room == 0 { 0 } else { basin.slot_count() }
 }
 
-// The place of a cell.
+// The place of a cell, which it shares with those of its slot that lie so many timesteps away.
 fn position_of(slots: u16, steps: u16, cell: Cell) -> Option<usize>
     ensures is { result ≡ index_position slots steps cell }
-    ensures within { IfSome result (λ place. place < slots * steps) }
+    ensures within { IfSome result (λ place. place < slots * INDEX_STEPS) }
 {
     let (slot, step) = (cell.slot.0, cell.step.0);
     if (1 <= slot && slot <= slots) && (1 <= step && step <= steps) {
-        Some(usize::from(step - 1) * usize::from(slots) + usize::from(slot - 1))
+        Some(place_in_row(slots, (step - 1) % INDEX_STEPS, slot - 1))
     } else {
         None
     }
+}
+
+// The place in a row of so many slots.
+fn place_in_row(slots: u16, row: u16, slot: u16) -> usize
+    requires row { row < INDEX_STEPS }
+    requires slot { slot < slots }
+    ensures is { result ≡ row * slots + slot }
+    ensures within { result < slots * INDEX_STEPS }
+{
+    usize::from(row) * usize::from(slots) + usize::from(slot)
+}
+
+// Whether a watch is of this rule and this timestep.
+fn is_of(watch: Watch, rule: u16, step: u16) -> bool
+    ensures { result ≡ (watch.rule == rule && watch.step == step) }
+{
+    watch.rule == rule && watch.step == step
 }
 
 // The watch of a number, counted from 1.
@@ -230,16 +254,16 @@ fn watch_of(watches: &[Watch], number: u32) -> Option<Watch>
     }
 }
 
-// Whether the rule is met, going from the watch of this number to the one before, and so on.
-fn is_met(watches: &[Watch], newest: u32, rule: u16) -> bool
-    ensures { result ≡ is_met watches.now (length watches.now) newest rule }
+// Whether the rule is met at the timestep, going from the watch of this number to the one before, and so on.
+fn is_met(watches: &[Watch], newest: u32, rule: u16, step: u16) -> bool
+    ensures { result ≡ is_met watches.now (length watches.now) newest rule step }
 {
     let mut number = newest;
     for turn in 0..watches.len() {
         let Some(watch) = watch_of(watches, number) else {
             return false;
         };
-        if watch.rule == rule {
+        if is_of(watch, rule, step) {
             return true;
         }
         number = watch.before;
@@ -247,25 +271,25 @@ fn is_met(watches: &[Watch], newest: u32, rule: u16) -> bool
     false
 }
 
-// Whether the rule is the newest watch's.
-fn is_newest(watches: &[Watch], newest: u32, rule: u16) -> bool
-    ensures { result ≡ true → is_met watches.now (length watches.now) newest rule ≡ true }
+// Whether the rule is the newest watch's, and the timestep too.
+fn is_newest(watches: &[Watch], newest: u32, rule: u16, step: u16) -> bool
+    ensures { result ≡ true → is_met watches.now (length watches.now) newest rule step ≡ true }
 {
     match watch_of(watches, newest) {
-        Some(watch) => watch.rule == rule,
+        Some(watch) => is_of(watch, rule, step),
         None => false,
     }
 }
 
 // Whether the rule is known to be met, going from the newest watch of a cell. Where it didn't fire before in the timestep, its
 // firing made the newest watches of the cells that it watches.
-fn is_known(watches: &[Watch], newest: u32, rule: u16, again: bool) -> bool
-    ensures { result ≡ true → is_met watches.now (length watches.now) newest rule ≡ true }
+fn is_known(watches: &[Watch], newest: u32, rule: u16, step: u16, again: bool) -> bool
+    ensures { result ≡ true → is_met watches.now (length watches.now) newest rule step ≡ true }
 {
     if again {
-        is_met(watches, newest, rule)
+        is_met(watches, newest, rule, step)
     } else {
-        is_newest(watches, newest, rule)
+        is_newest(watches, newest, rule, step)
     }
 }
 
@@ -289,11 +313,15 @@ fn is_in_place(looks: &[Look], place: usize, cell: Cell) -> bool
     }
 }
 
-// Adds a watch that leads to the cell's newest one, if there is one.
-fn push_watch(watches: &mut Vec<Watch>, rule: u16, place: usize, newest: u32)
+// Adds a watch that leads to the newest one of its place, if there is one.
+fn push_watch(watches: &mut Vec<Watch>, rule: u16, step: u16, place: usize, newest: u32)
     requires room { length watches.old.items < watches.old.cap }
-    ensures added { watches.new.items ≡ watches.old.items
-        ++ record { rule = rule; place = place; before = before_in watches.old.items newest } ∷ [] }
+    ensures added { watches.new.items ≡ watches.old.items ++ record {
+      rule = rule;
+      step = step;
+      place = place;
+      before = before_in watches.old.items newest;
+    } ∷ [] }
     ensures room { watches.new.cap ≡ watches.old.cap }
 {
     let before = if newest as usize <= watches.len() {
@@ -303,6 +331,7 @@ fn push_watch(watches: &mut Vec<Watch>, rule: u16, place: usize, newest: u32)
     };
     watches.push_reserved(Watch {
         rule,
+        step,
         place,
         before,
     });
@@ -319,26 +348,37 @@ fn forget_newest(newest: &mut Vec<u32>, watches: &[Watch])
     }
 }
 
-// Marks each rule that is met, going from the newest watch of a cell, if it has one.
+// Marks each rule that is met at the timestep, going from the newest watch of a place, if it has one.
 #[inline(always)]
-fn mark_from(marks: &mut Marks, watches: &[Watch], newest: u32)
-    ensures { MarksMore (is_met watches.now (length watches.now) newest) marks.old marks.new }
+fn mark_from(marks: &mut Marks, watches: &[Watch], newest: u32, step: u16)
+    ensures { MarksMore (λ rule. is_met watches.now (length watches.now) newest rule step)
+        marks.old marks.new }
 {
     if newest != 0 {
-        mark_met(marks, watches, newest);
+        mark_met(marks, watches, newest, step);
     }
 }
 
-// Marks each rule that is met, going from the watch of this number to the one before, and so on.
-fn mark_met(marks: &mut Marks, watches: &[Watch], newest: u32)
-    ensures { MarksMore (is_met watches.now (length watches.now) newest) marks.old marks.new }
+// Marks the rule of a watch, if it is of the timestep.
+fn mark_one(marks: &mut Marks, watch: Watch, step: u16)
+    ensures { MarksMore (λ rule. watch.rule == rule && watch.step == step) marks.old marks.new }
+{
+    if watch.step == step {
+        marks.set(watch.rule);
+    }
+}
+
+// Marks each rule that is met at the timestep, going from the watch of this number to the one before, and so on.
+fn mark_met(marks: &mut Marks, watches: &[Watch], newest: u32, step: u16)
+    ensures { MarksMore (λ rule. is_met watches.now (length watches.now) newest rule step)
+        marks.old marks.new }
 {
     let mut number = newest;
     for turn in 0..watches.len() {
         let Some(watch) = watch_of(watches, number) else {
             return;
         };
-        marks.set(watch.rule);
+        mark_one(marks, watch, step);
         number = watch.before;
     }
 }

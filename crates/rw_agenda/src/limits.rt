@@ -4,5 +4,8 @@ use rw_base::limits;
 /// The most rules.
 pub const RULES_MAX: usize = limits::RULES_MAX as usize;
 
+/// How many timesteps have places of their own in an index of cells. Those that lie so far apart share them.
+pub(crate) const INDEX_STEPS: u16 = 16;
+
 /// How many words of 64 bits have a bit for each of them.
 pub(crate) const TURN_WORDS: usize = 4;

@@ -19,6 +19,7 @@ use rw_report::section;
 use rw_rerun::Session;
 use std::alloc::Global;
 use std::marker::Brand;
+use std::mem::drop;
 use std::process::Abort;
 use std::test::Fail;
 
@@ -280,9 +281,13 @@ fn check_session<L: Ledger>(
     let inputs = read_inputs(alloc, basin, INFLOWS.as_bytes()).expect(rt, "inputs");
     let batches = read_edits(alloc, basin, EDITS.as_bytes()).expect(rt, "edits");
     match Session::start(alloc, basin, methods, policy, predefs, inputs, true, steps) {
-        Ok(mut session) => check_batches(rt, alloc, basin, &mut session, &batches, steps),
+        Ok(mut session) => {
+            check_batches(rt, alloc, basin, &mut session, &batches, steps);
+            drop(session);
+        }
         Err(NoMemory) => panic!(rt; "memory"),
     }
+    drop(batches);
 }
 
 fn check<L: Ledger>(

@@ -37,14 +37,15 @@ pub(crate) fn all_methods(alloc: Global) -> Result<Vec<Box<dyn Method>>, AllocEr
 
 /// The predefined functions.
 pub(crate) fn predefs(alloc: Global) -> Result<Predefs, Fail> {
-    let mut functions = Vec::new(alloc);
-    functions.push(Predef::of(1, least))?;
-    functions.push(Predef::of(2, greatest))?;
-    functions.push(Predef::of(3, absolute))?;
-    functions.push(Predef::of(4, clamped))?;
-    functions.push(Predef::of(5, rounded_down))?;
-    functions.push(Predef::of(6, sign))?;
-    functions.push(Predef::of(7, mul_div))?;
+    let functions = vec![in alloc;
+        Predef::of(1, least),
+        Predef::of(2, greatest),
+        Predef::of(3, absolute),
+        Predef::of(4, clamped),
+        Predef::of(5, rounded_down),
+        Predef::of(6, sign),
+        Predef::of(7, mul_div),
+    ]?;
     match Predefs::of(functions) {
         Ok(predefs) => Ok(predefs),
         Err(_) => Err(Fail::from("no predefined functions")),

@@ -1,11 +1,11 @@
 -- A run, timestep by timestep.
 use Rattle.rw_engine.proofs.Common.{ComesTo, Draft, Engine, Event, Inputs, IsBefore, IsOver, IsRunOf, List, Log, RunFault, Shows, [], ap, arith}
 use Rattle.rw_engine.proofs.Common.{placings, Policy, with_inputs, refl, rests, standing, subst, sym, ℕ, ◌++◌, ◌+◌, ◌<◌, ◌∙◌, ◌∷◌, ◌≡◌}
-use Rattle.std.specs.Prelude.{Err, IsErrAnd, Ok, Result, ◌-◌, ◌^◌, ◌≤◌}
+use Rattle.std.specs.Prelude.{Err, IsErrAnd, MatchResult, Ok, Result, ◌-◌, ◌^◌, ◌≤◌}
 use Rattle.rw_base.specs.declared.memory.NoMemory.{NoMemory}
 use Rattle.rpl_verify.specs.Verified.{Accepted}
 use Rattle.rw_dispatch.specs.Pick.{IsPickedRun, Picking}
-use Rattle.rw_engine.specs.Picked.{ComesToPicked, LeadsBy, PassesBy, RunsAllBy, StandsPicked, turns_after}
+use Rattle.rw_engine.specs.Picked.{ComesToPicked, Finishes, LeadsBy, PassesBy, RunsAllBy, StandsPicked, turns_after}
 use Rattle.rw_run.specs.declared.run.Run.{Run}
 use Rattle.rw_engine.specs.declared.step_end.StepEnd.TheVariants.{Closed as IsClosed, Fault as IsFault}
 use Rattle.rw_run.specs.declared.run.RunEnd.{RunEnd}
@@ -135,3 +135,12 @@ unrun basin policy rule engine before after (Err fault) why is rises few = recor
   rises = rises;
   few = few;
 }
+
+-- no engine is left of which a run could be handed out
+pub unpassed : (basin : Draft) (policy : Accepted) (rule : Picking) (old new : Engine) (before after : ℕ) (result : Result (Unit {0}) NoMemory)
+    (why : NoMemory) → IsErrAnd result (λ fault. fault ≡ why) → before ≤ after → after ≤ before + basin.control.stamps.count
+    → MatchResult result (λ done. (run : Run) → Finishes new run → RunsAllBy basin policy rule old before after (Ok run))
+    (λ fault. RunsAllBy basin policy rule old before after (Err fault))
+unpassed basin policy rule old new before after (Ok done) why is rises few = absurd is
+unpassed basin policy rule old new before after (Err fault) why is rises few =
+    unrun basin policy rule old before after (Err fault) fault refl rises few

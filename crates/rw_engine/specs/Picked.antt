@@ -126,6 +126,12 @@ pub record StandsPicked (basin : Draft) (policy : Policy) (rule : Picking) (inpu
   pub rest : standing log ≡ rests step
   pub turned : engine.turns ≡ turns_after 0 events
 
+-- an engine hands out what it shows
+pub record Finishes (engine : Engine) (run : Run) : Type 0 where
+  pub run_is : (basin : Draft) (policy : Accepted) (log : Log) → IsEngineOf basin policy engine → Shows basin engine log → IsRunOf basin log run
+  pub closed_steps : (basin : Draft) (policy : Accepted) → IsEngineOf basin policy engine → run.closed ≤ basin.control.stamps.count
+  pub same : (run.closed ≡ engine.closed) × (run.trace ≡ engine.trace)
+
 -- all timesteps were passed, or as many as memory was there for: it comes to the run of the inputs that the engine began with
 pub record RunsAllBy (basin : Draft) (policy : Accepted) (rule : Picking) (engine : Engine) (before after : ℕ) (result : Result Run NoMemory) : Type 0 where
   pub comes : (inputs : Inputs) → Shows basin engine (with_inputs [] (placings basin inputs)) → IfOk result (ComesToPicked basin (policy_in basin policy) rule inputs)

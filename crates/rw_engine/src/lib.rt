@@ -9,6 +9,7 @@ mod counts;
 mod engine;
 pub mod law;
 mod noting;
+mod parts;
 mod placing;
 mod replaying;
 mod running;

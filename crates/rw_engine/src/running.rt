@@ -1,8 +1,9 @@
-ghost use Rattle.std.specs.Prelude.{◌≡◌, ◌≤◌, map, IfOk, IsSome, IsTrue};
+ghost use Rattle.std.specs.Prelude.{◌≡◌, ◌≤◌, map, Err, IfOk, IsSome, IsTrue, MatchResult, Ok};
 ghost use Rattle.rw_method.specs.Catalogue.{AreInOrder};
 ghost use Rattle.rw_rules.specs.Rules.{policy_in};
 ghost use Rattle.rw_engine.specs.Passing.{BeginsRun, CanRun, ComesTo, CountsSteps};
-ghost use Rattle.rw_engine.specs.Picked.{ComesToPicked, RunsAllBy};
+ghost use Rattle.rw_engine.specs.Picked.{ComesToPicked, Finishes, RunsAllBy};
+ghost use Rattle.rw_run.specs.declared.run.Run.{Run};
 ghost use Rattle.rw_engine.specs.Shows.{IsEngineOf};
 
 use crate::engine::Engine;
@@ -17,8 +18,38 @@ use rw_method::Catalogue;
 use rw_model::Basin;
 use rw_run::Run;
 use std::alloc::Global;
+use std::mem::drop;
 
 // Passes timestep after timestep, up to the last one or to a fault.
+fn pass_steps<L: Ledger, P: Pick>(
+    engine: &mut Engine,
+    setup: &RunSetup,
+    pick: &P,
+    steps: &mut Steps<L>,
+) -> Result<(), NoMemory>
+    requires made { IsEngineOf setup.now.basin.now setup.now.policy.now engine.old }
+    requires begun { engine.old.closed ≡ 0 }
+    requires turns { engine.old.turns ≡ 0 }
+    requires order { AreInOrder
+        (map (λ b. code (b.vtable, b.value)) setup.now.methods.now.methods.items) }
+    ensures { MatchResult result
+        (λ done. (run : Run) → Finishes engine.new run
+        → RunsAllBy setup.now.basin.now setup.now.policy.now (P.rule pick.now) engine.old
+        steps.old steps.new (Ok run))
+        (λ why. RunsAllBy setup.now.basin.now setup.now.policy.now (P.rule pick.now) engine.old
+        steps.old steps.new (Err why)) }
+{
+    for before in 0..setup.basin.control().stamps.count() {
+        let end = engine.run_step_by(setup, pick, StepNo(before + 1), steps)?;
+        match end {
+            StepEnd::Closed => {}
+            StepEnd::Fault(_) => return Ok(()),
+        }
+    }
+    Ok(())
+}
+
+// The same with an engine that ends with it, and what that shows.
 fn pass_all<L: Ledger, P: Pick>(
     mut engine: Engine,
     setup: &RunSetup,
@@ -33,14 +64,13 @@ fn pass_all<L: Ledger, P: Pick>(
     ensures { RunsAllBy setup.now.basin.now setup.now.policy.now (P.rule pick.now) engine
         steps.old steps.new result }
 {
-    for before in 0..setup.basin.control().stamps.count() {
-        let end = engine.run_step_by(setup, pick, StepNo(before + 1), steps)?;
-        match end {
-            StepEnd::Closed => {}
-            StepEnd::Fault(_) => return Ok(engine.finish()),
+    match pass_steps(&mut engine, setup, pick, steps) {
+        Ok(()) => Ok(engine.finish()),
+        Err(NoMemory) => {
+            drop(engine);
+            Err(NoMemory)
         }
     }
-    Ok(engine.finish())
 }
 
 // The engine of a run before its first timestep, with a trace where one is asked for.

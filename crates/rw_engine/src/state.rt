@@ -21,6 +21,7 @@ ghost use Rattle.rw_engine.specs.Records.{CanWriteLines, HasNoted, IsUntold, Rec
 
 use crate::counts::Counts;
 use crate::noting::{note_dispatch, note_firing};
+use crate::parts::{Parts, parts_of};
 use crate::placing::{input, place};
 use crate::replaying::{retell, write_again};
 use crate::setup::RunSetup;
@@ -74,11 +75,14 @@ impl State {
         ensures trace { IfOk result (λ state. state.run.trace ≡ trace) }
         ensures noted { IfOk result (λ state. state.noted ≡ noted) }
     {
-        let mut series = Series::sized(alloc, basin)?;
-        let queue = Queue::for_basin(alloc, basin)?;
-        let rules = Rules::for_policy(alloc, policy, basin)?;
-        let counts = Counts::zero(alloc, basin.object_count())?;
-        let firings = Counts::zero(alloc, policy.rule_count())?;
+        let parts = parts_of(alloc, policy, basin)?;
+        let Parts {
+            counts,
+            firings,
+            queue,
+            mut series,
+            rules,
+        } = parts;
         let lines = trace_where(alloc, noted.is_kept());
         place(basin, inputs, &mut series);
         Ok(State {

@@ -3,7 +3,7 @@ use Rattle.rw_base.proofs.Common.{◌≡◌, ◌≤◌, ℕ, List, [], ◌++◌,
 use Rattle.rw_io.specs.Causes.{Rose}
 use Rattle.rw_io.specs.Known.{GrowsBy, PrefixGrew}
 use Rattle.rw_io.specs.Outside.{SinkView}
-use Rattle.rw_io.specs.Handed.{IsOnItsWay, BrokeOff, HandsOn}
+use Rattle.rw_io.specs.Handed.{IsOnItsWay, BrokeOff, PassesOn}
 use Rattle.rw_io.proofs.KnownLemmas.{GrowsBy-trans, PrefixGrew-left, PrefixGrew-right}
 
 -- no text is under way from any sink

@@ -17,7 +17,7 @@ pub record BrokeOff (before now : SinkView) (text : List ℕ) : Type 0 where
   pub rose : Rose before.faults now.faults
 
 -- a text that is under way before a call is so afterwards, with these words behind it, or it broke off
-abbrev pub HandsOn : {A E : Type 0} → (old new : SinkView) → (had has words : List ℕ) → Result A E → Type 0
-HandsOn old new had has words result =
+abbrev pub PassesOn : {A E : Type 0} → (old new : SinkView) → (had has words : List ℕ) → Result A E → Type 0
+PassesOn old new had has words result =
     (before : SinkView) (text : List ℕ) → IsOnItsWay before old had text
     → MatchResult result (λ _. IsOnItsWay before new has (text ++ words)) (λ _. BrokeOff before new (text ++ words))

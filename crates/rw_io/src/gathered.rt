@@ -1,5 +1,5 @@
 ghost use Rattle.std.specs.Prelude.{◌≡◌, ◌≤◌, ◌+◌, ◌++◌, [], IfOk, IsTrue, length, OnOk, vec_capacity};
-ghost use Rattle.rw_io.specs.Handed.{HandsOn};
+ghost use Rattle.rw_io.specs.Handed.{PassesOn};
 
 use crate::{Sink, WriteFault, write_all};
 use rw_base::NoMemory;
@@ -38,7 +38,7 @@ impl Gathered {
     /// Adds a piece, and hands over what was gathered where there is no room for both. The one error is a write that failed:
     /// then a front of the text was handed over.
     pub fn put<K: Sink>(&mut self, piece: &[u8], out: &mut K) -> Result<(), WriteFault>
-        ensures { HandsOn (K.seen out.old) (K.seen out.new) self.old self.new piece.now result }
+        ensures { PassesOn (K.seen out.old) (K.seen out.new) self.old self.new piece.now result }
     {
         if self.has_room(piece) {
             self.add(piece);
@@ -52,7 +52,7 @@ impl Gathered {
 
     /// Hands over what was gathered. The one error is a write that failed: then a front of it was handed over.
     pub fn hand_over<K: Sink>(&mut self, out: &mut K) -> Result<(), WriteFault>
-        ensures hands { HandsOn (K.seen out.old) (K.seen out.new) self.old self.new [] result }
+        ensures hands { PassesOn (K.seen out.old) (K.seen out.new) self.old self.new [] result }
         ensures none { OnOk result (self.new ≡ []) }
     {
         match write_all(out, &self.bytes) {
@@ -67,7 +67,7 @@ impl Gathered {
     // Adds a piece where none is gathered, or hands it over where it is too long.
     fn put_first<K: Sink>(&mut self, piece: &[u8], out: &mut K) -> Result<(), WriteFault>
         requires { self.old ≡ [] }
-        ensures { HandsOn (K.seen out.old) (K.seen out.new) self.old self.new piece.now result }
+        ensures { PassesOn (K.seen out.old) (K.seen out.new) self.old self.new piece.now result }
     {
         if self.has_room(piece) {
             self.add(piece);

@@ -18,4 +18,3 @@ pub all_kept : {A : Type 0} (P : A → Type 0) (p : A → Bool) (xs : List A) �
 all_kept P p [] all = tt
 all_kept P p (x ∷ xs) all =
     all_if P (p x) (x ∷ filter p xs) (filter p xs) (all.0, all_kept P p xs all.1) (all_kept P p xs all.1)
-

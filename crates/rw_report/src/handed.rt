@@ -1,7 +1,7 @@
 // A section that is handed over to a sink in pieces, so that no text holds its table. What wants memory is made before the first
 // piece: where there is none, nothing was written.
 ghost use Rattle.std.specs.Prelude.{◌≡◌, ◌≤◌, ◌+◌, ◌++◌, ℕ, List, [], IfOk, codes, drop, length, MatchResult, option_map, string_bytes};
-ghost use Rattle.rw_io.specs.Handed.{BrokeOff, HandsOn, IsOnItsWay};
+ghost use Rattle.rw_io.specs.Handed.{BrokeOff, PassesOn, IsOnItsWay};
 ghost use Rattle.rw_io.specs.Outside.{SinkView};
 ghost use Rattle.rw_series.specs.Series.{held};
 ghost use Rattle.rw_report.specs.Handed.{Grew, IsPrepared, WritesText};
@@ -97,7 +97,7 @@ fn hand_cells<K: Sink>(
     cells: &StepCells,
     count: u16,
 ) -> Result<(), WriteFault>
-    ensures { HandsOn (K.seen out.old) (K.seen out.new) gathered.old gathered.new
+    ensures { PassesOn (K.seen out.old) (K.seen out.new) gathered.old gathered.new
         (for_each (words_at (held cells.now)) count) result }
 {
     let mut buffer = [0; ROOM];
@@ -120,7 +120,7 @@ fn hand_values<K: Sink>(
     series: &Series,
     step: StepNo,
 ) -> Result<(), WriteFault>
-    ensures { HandsOn (K.seen out.old) (K.seen out.new) gathered.old gathered.new
+    ensures { PassesOn (K.seen out.old) (K.seen out.new) gathered.old gathered.new
         (for_slots basin.now
         (λ slot. codes "," ++ value_words (values_in (held series.now) slot step.0)) ++ codes "\n")
         result }
@@ -141,7 +141,7 @@ fn hand_row<K: Sink>(
     step: StepNo,
 ) -> Result<(), WriteFault>
     requires { front.now ≡ row_front basin.now step.0 }
-    ensures { HandsOn (K.seen out.old) (K.seen out.new) gathered.old gathered.new
+    ensures { PassesOn (K.seen out.old) (K.seen out.new) gathered.old gathered.new
         (row basin.now (values_in (held series.now)) step.0) result }
 {
     match gathered.put(front.as_bytes(), out) {
@@ -161,7 +161,7 @@ fn hand_rows<K: Sink>(
 ) -> Result<(), WriteFault>
     requires count { length fronts.now ≡ closed }
     requires fronts { AreTexts (row_front basin.now) fronts.now }
-    ensures { HandsOn (K.seen out.old) (K.seen out.new) gathered.old gathered.new
+    ensures { PassesOn (K.seen out.old) (K.seen out.new) gathered.old gathered.new
         (rows basin.now (values_in (held series.now)) closed) result }
 {
     for before in 0..closed {
@@ -235,7 +235,7 @@ fn hand_section<K: Sink>(
     }
 }
 
-/// WritesText the text of `section` to a sink, in pieces of up to 65,536 bytes and what is told besides the table in one of its
+/// Writes the text of `section` to a sink, in pieces of up to 65,536 bytes and what is told besides the table in one of its
 /// own. What wants memory is made before the first piece.
 pub fn write_section<K: Sink>(
     alloc: Global,

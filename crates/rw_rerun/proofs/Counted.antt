@@ -1,17 +1,14 @@
 -- What a call tells where memory wants, and where it goes on.
-use Rattle.rw_base.proofs.Common.{◌≡◌, ◌≤◌, ◌+◌, ℕ, Bool, Err, List, Ok, Option, Result}
+use Rattle.rw_base.proofs.Common.{◌≡◌, ◌≤◌, ◌+◌, ℕ, Err, List, Ok, Option, Result}
 use Rattle.std.specs.Prelude.{IsErrAnd}
 use Rattle.rw_base.specs.declared.memory.NoMemory.{NoMemory}
 use Rattle.rw_model.specs.Draft.{Draft}
-use Rattle.rw_inputs.specs.Inputs.{Inputs}
 use Rattle.rw_record.specs.Record.{StepRecord}
 use Rattle.rpl_verify.specs.Verified.{Accepted}
 use Rattle.rw_base.specs.declared.number.StepNo.{StepNo}
 use Rattle.rw_rerun.specs.Session.{CountsRuns}
-use Rattle.rw_rerun.specs.Next.{PassesFrom}
-use Rattle.rw_rerun.specs.UnderWay.{GoesOn, PassesAll, PassesRest}
+use Rattle.rw_rerun.specs.UnderWay.{GoesOn, PassesRest}
 use Rattle.rw_rerun.specs.declared.pass.Pass.{Pass}
-use Rattle.rw_rerun.specs.declared.spare.Spare.{Spare}
 
 pub wants : (basin : Draft) (policy : Accepted) (step : ℕ) (Fits : Option StepRecord → Type 0) (old new : Pass) (before after : ℕ)
     (result : Result (Unit {0}) NoMemory) (why : NoMemory) → IsErrAnd result (λ fault. fault ≡ why) → before ≤ after → after ≤ before + 1
@@ -27,20 +24,6 @@ wants basin policy step Fits old new before after (Err fault) why is rises few =
   few = few;
 }
 
-pub wants_all : (basin : Draft) (policy : Accepted) (inputs : Inputs) (traced : Bool) (was : List (Option StepRecord)) (before after : ℕ)
-    (result : Result Pass NoMemory)
-    (why : NoMemory) → IsErrAnd result (λ fault. fault ≡ why) → before ≤ after → after ≤ before + basin.control.stamps.count
-    → PassesAll basin policy inputs traced was before after result
-wants_all basin policy inputs traced was before after (Ok pass) why is rises few = absurd is
-wants_all basin policy inputs traced was before after (Err fault) why is rises few = record {
-  made = tt;
-  kept = tt;
-  goes = λ earlier kept. tt;
-  each = tt;
-  rises = rises;
-  few = few;
-}
-
 pub wants_rest : (basin : Draft) (policy : Accepted) (was : List (Option StepRecord)) (behind : ℕ) (old new : Pass) (before after : ℕ)
     (result : Result (Unit {0}) NoMemory) (why : NoMemory) → IsErrAnd result (λ fault. fault ≡ why) → before ≤ after
     → after ≤ before + basin.control.stamps.count → PassesRest basin policy was behind old new before after result
@@ -50,21 +33,6 @@ wants_rest basin policy was behind old new before after (Err fault) why is rises
   kept = tt;
   goes = λ inputs earlier kept way. tt;
   grows = tt;
-  each = tt;
-  rises = rises;
-  few = few;
-}
-
-pub wants_from : (basin : Draft) (policy : Accepted) (was : List (Option StepRecord)) (spare : Spare) (before after : ℕ)
-    (result : Result Pass NoMemory)
-    (why : NoMemory) → IsErrAnd result (λ fault. fault ≡ why) → before ≤ after → after ≤ before + basin.control.stamps.count
-    → PassesFrom basin policy was spare before after result
-wants_from basin policy was spare before after (Ok pass) why is rises few = absurd is
-wants_from basin policy was spare before after (Err fault) why is rises few = record {
-  made = tt;
-  kept = tt;
-  goes = λ inputs earlier log kept shows taken. tt;
-  stay = tt;
   each = tt;
   rises = rises;
   few = few;

@@ -15,16 +15,17 @@ use Rattle.rw_run.specs.Runs.{with_inputs}
 use Rattle.rw_run.proofs.OneRun.{one_run}
 use Rattle.rw_record.specs.Record.{StepRecord}
 use Rattle.rw_engine.specs.Engine.{Engine}
-use Rattle.rw_engine.specs.Shows.{KeepsOn}
+use Rattle.rw_engine.specs.Shows.{KeepsOn, Shows}
 use Rattle.rpl_verify.specs.Verified.{Accepted}
 use Rattle.rw_rules.specs.Rules.{policy_in}
+use Rattle.rw_rerun.specs.Begun.{HasTakenOver}
 use Rattle.rw_rerun.specs.Edited.{AreEdited, BecomesSpare, LeavesFirst}
-use Rattle.rw_rerun.specs.Kept.{AreStepLinks, changed}
-use Rattle.rw_rerun.specs.Next.{IsNext, IsSpareReady, PassesBehind, PassesFrom, PassesNext, StayFirst}
+use Rattle.rw_rerun.specs.Kept.{AreKept, AreStepLinks, changed}
+use Rattle.rw_rerun.specs.Next.{BeginsReady, IsNext, PassesBehind, PassesNext, StayFirst}
 use Rattle.rw_rerun.specs.Session.{Applies, HoldAsBefore, IsSessionOf, Session}
 use Rattle.rw_rerun.specs.Spare.{BeginsBy, IsSpare, IsSpareIn, MayBeSpare, StandsIn}
 use Rattle.rw_rerun.specs.Touched.{CountsUntouched}
-use Rattle.rw_rerun.specs.UnderWay.{PassesRest}
+use Rattle.rw_rerun.specs.UnderWay.{HandsOn, IsPassOf, IsUnderWay, PassesAll}
 use Rattle.rw_rerun.specs.declared.pass.Pass.{Pass}
 use Rattle.rw_rerun.specs.declared.spare.Spare.{Spare}
 use Rattle.rw_rerun.proofs.Gives.{gives_keep, keeps_between, keeps_more}
@@ -33,12 +34,33 @@ use Rattle.rw_rerun.proofs.Sessions.{applies, session_behind}
 use Rattle.rw_rerun.proofs.Taken.{comes_behind, first_are_kept, same_end, stands_behind_all}
 use Rattle.rw_rerun.proofs.Ways.{whole_way}
 
+-- a call comes from behind the timesteps that a spare engine has taken over behind all, and counts those that it runs
+record PassesFrom (basin : Draft) (policy : Accepted) (was : List (Option StepRecord)) (spare : Spare) (before after : ℕ) (result : Result Pass NoMemory) : Type 0 where
+  pub made : IfOk result (λ pass. IsPassOf basin policy pass)
+  pub kept : IfOk result (λ pass. KeepsOn spare.engine pass.engine)
+  pub goes : (inputs : Inputs) (earlier log : Log) → AreKept basin (policy_in basin policy) earlier 1 was → Shows basin spare.engine log
+      → HasTakenOver basin (policy_in basin policy) inputs earlier (take spare.behind was) log spare.behind
+      → IfOk result (λ pass. IsUnderWay basin (policy_in basin policy) inputs earlier was pass basin.control.stamps.count)
+  pub stay : IfOk result (StayFirst was spare.behind)
+  pub each : IfOk result (λ pass. after ≡ before + length pass.reran.items)
+  pub rises : before ≤ after
+  pub few : after ≤ before + basin.control.stamps.count
+
 -- the other timesteps are passed, one by one
-pub passes_from : (basin : Draft) (policy : Accepted) (was : List (Option StepRecord)) (spare : Spare) (first last : Pass) (before after : ℕ)
-    (done : Unit {0})
-    → spare.behind ≤ length was → BeginsBy spare first → PassesRest basin policy was spare.behind first last before after (Ok done)
-    → PassesFrom basin policy was spare before after (Ok last)
-passes_from basin policy was spare first last before after done near begins rest =
+passes_from : (basin : Draft) (policy : Accepted) (was : List (Option StepRecord)) (spare : Spare) (first : Pass) (before after : ℕ)
+    (result : Result Pass NoMemory)
+    → spare.behind ≤ length was → BeginsBy spare first → HandsOn basin policy was spare.behind first before after result
+    → PassesFrom basin policy was spare before after result
+passes_from basin policy was spare first before after (Err why) near begins ends = record {
+  made = tt;
+  kept = tt;
+  goes = λ inputs earlier log kept shows taken. tt;
+  stay = tt;
+  each = tt;
+  rises = ends.0;
+  few = ends.1;
+}
+passes_from basin policy was spare first before after (Ok last) near begins rest =
     let in_run = policy_in basin policy in
     let more = rest.grows in
     let none = ap length begins.none in
@@ -48,6 +70,25 @@ passes_from basin policy was spare first last before after done near begins rest
       goes = λ inputs earlier log kept shows taken. rest.goes inputs earlier kept (begins.goes basin in_run inputs earlier log was near shows taken);
       stay = ap (λ changes. take spare.behind (changed was changes)) (more.1 ∙ ap (λ changes. changes ++ more.0) begins.unchanged)
           ∙ stay_first was spare.behind more.0 near;
+      each = omega (arith, none, counted);
+      rises = rest.rises;
+      few = rest.few;
+    }
+
+-- and from the first one on
+pub passes_all : (basin : Draft) (policy : Accepted) (inputs : Inputs) (traced : Bool) (was : List (Option StepRecord)) (first : Pass)
+    (before after : ℕ)
+    (result : Result Pass NoMemory) → is_some first.engine.trace ≡ traced → first.reran.items ≡ []
+    → ((earlier : Log) → IsUnderWay basin (policy_in basin policy) inputs earlier was first 0)
+    → HandsOn basin policy was 0 first before after result → PassesAll basin policy inputs traced was before after result
+passes_all basin policy inputs traced was first before after (Err why) told none way ends =
+    record { made = tt; kept = tt; goes = λ earlier kept. tt; each = tt; rises = ends.0; few = ends.1 }
+passes_all basin policy inputs traced was first before after (Ok last) told none way rest =
+    let none = ap length none in
+    let counted = rest.each in record {
+      made = rest.made;
+      kept = rest.kept.trace ∙ told;
+      goes = λ earlier kept. rest.goes inputs earlier kept (way earlier);
       each = omega (arith, none, counted);
       rises = rest.rises;
       few = rest.few;
@@ -65,12 +106,19 @@ kept_first one other (Err fault) first kept = tt
 kept_first one other (Ok pass) first kept = keeps_more one other pass.engine first kept
 
 pub passes_behind : (basin : Draft) (policy : Accepted) (inputs : Inputs) (cells : List Cell) (was : List (Option StepRecord)) (behind : ℕ)
-    (old new : Spare)
-    (before after : ℕ) (result : Result Pass NoMemory) → IsFramed (policy_in basin policy) → IsSpareReady basin inputs cells was behind old new
-    → PassesFrom basin policy was new before after result → PassesBehind basin policy inputs cells was behind old before after result
-passes_behind basin policy inputs cells was behind old new before after result framed ready passes =
+    (old : Spare) (first : Pass)
+    (before after : ℕ) (result : Result Pass NoMemory) → IsFramed (policy_in basin policy) → behind ≤ length was
+    → BeginsReady basin inputs cells was behind old first → HandsOn basin policy was behind first before after result
+    → PassesBehind basin policy inputs cells was behind old before after result
+passes_behind basin policy inputs cells was behind old first before after result framed near begins hands =
     let in_run = policy_in basin policy in
-    let at : ready.mid.behind ≡ behind = ready.brings.behind_is in record {
+    let new = begins.new in
+    let ready = begins.ready in
+    let at : ready.mid.behind ≡ behind = ready.brings.behind_is in
+    let there : new.behind ≡ behind = ready.same ∙ at in
+    let passes : PassesFrom basin policy was new before after result =
+    passes_from basin policy was new first before after result (subst (λ n. n ≤ length was) (sym there) near) begins.begins
+    (subst (λ n. HandsOn basin policy was n first before after result) (sym there) hands) in record {
       made = passes.made;
       kept =
           kept_first old.engine new.engine result (keeps_more old.engine ready.mid.engine new.engine ready.brings.kept
@@ -80,7 +128,7 @@ passes_behind basin policy inputs cells was behind old new before after result f
           (subst (LeavesFirst basin batch cells given inputs was) (sym at) leaves) kept
           (ready.brings.stands policy (with_inputs [] (placings basin given)) earlier stands) ready.same ready.gives in
           passes.goes inputs earlier comes.log kept comes.shows comes.taken;
-      stay = stays_first was behind new.behind result (ready.same ∙ at) passes.stay;
+      stay = stays_first was behind new.behind result there passes.stay;
       each = passes.each;
       rises = passes.rises;
       few = passes.few;

@@ -9,14 +9,13 @@ use Rattle.rw_inputs.specs.Inputs.{Inputs}
 use Rattle.rw_run.specs.Log.{Log}
 use Rattle.rw_run.specs.Runs.{with_inputs}
 use Rattle.rw_record.specs.Record.{StepRecord}
-use Rattle.rw_engine.specs.Shows.{KeepsOn, Shows}
+use Rattle.rw_engine.specs.Shows.{KeepsOn}
 use Rattle.rpl_verify.specs.Verified.{Accepted}
 use Rattle.rw_rules.specs.Rules.{policy_in}
-use Rattle.rw_rerun.specs.Begun.{HasTakenOver}
 use Rattle.rw_rerun.specs.Edited.{LeavesFirst}
 use Rattle.rw_rerun.specs.Kept.{AreKept, changed}
 use Rattle.rw_rerun.specs.Session.{IsSessionOf, Session}
-use Rattle.rw_rerun.specs.Spare.{BringsTo, GivesAll, StandsIn}
+use Rattle.rw_rerun.specs.Spare.{BeginsBy, BringsTo, GivesAll, StandsIn}
 use Rattle.rw_rerun.specs.UnderWay.{IsPassOf, IsUnderWay}
 use Rattle.rw_rerun.specs.declared.pass.Pass.{Pass}
 use Rattle.rw_rerun.specs.declared.spare.Spare.{Spare}
@@ -32,17 +31,11 @@ pub record IsSpareReady (basin : Draft) (inputs : Inputs) (cells : List Cell) (w
   pub same : new.behind ≡ mid.behind
   pub gives : GivesAll basin inputs cells mid.engine new.engine
 
--- a call comes from behind the timesteps that a spare engine has taken over behind all, and counts those that it runs
-pub record PassesFrom (basin : Draft) (policy : Accepted) (was : List (Option StepRecord)) (spare : Spare) (before after : ℕ) (result : Result Pass NoMemory) : Type 0 where
-  pub made : IfOk result (λ pass. IsPassOf basin policy pass)
-  pub kept : IfOk result (λ pass. KeepsOn spare.engine pass.engine)
-  pub goes : (inputs : Inputs) (earlier log : Log) → AreKept basin (policy_in basin policy) earlier 1 was → Shows basin spare.engine log
-      → HasTakenOver basin (policy_in basin policy) inputs earlier (take spare.behind was) log spare.behind
-      → IfOk result (λ pass. IsUnderWay basin (policy_in basin policy) inputs earlier was pass basin.control.stamps.count)
-  pub stay : IfOk result (StayFirst was spare.behind)
-  pub each : IfOk result (λ pass. after ≡ before + length pass.reran.items)
-  pub rises : before ≤ after
-  pub few : after ≤ before + basin.control.stamps.count
+-- a run is on its way by a spare engine that was made ready
+pub record BeginsReady (basin : Draft) (inputs : Inputs) (cells : List Cell) (was : List (Option StepRecord)) (behind : ℕ) (old : Spare) (pass : Pass) : Type 0 where
+  pub new : Spare
+  pub ready : IsSpareReady basin inputs cells was behind old new
+  pub begins : BeginsBy new pass
 
 -- by the spare engine of the run before a call comes behind all timesteps of the run after a batch, and counts those that it runs
 pub record PassesBehind (basin : Draft) (policy : Accepted) (inputs : Inputs) (cells : List Cell) (was : List (Option StepRecord)) (behind : ℕ) (spare : Spare)

@@ -1,5 +1,5 @@
 -- A run on its way, timestep by timestep, with an earlier one to go by.
-use Rattle.std.specs.Prelude.{◌≡◌, ◌≤◌, ◌<◌, ◌+◌, ◌++◌, ℕ, Bool, true, false, List, [], length, IfOk, IfSome, IsSome, is_some, Option, Some, Result, slice_get}
+use Rattle.std.specs.Prelude.{◌≡◌, ◌≤◌, ◌<◌, ◌+◌, ◌++◌, ℕ, Bool, true, false, List, [], length, Err, IfOk, IfSome, IsSome, is_some, Ok, Option, Some, Result, slice_get}
 use Rattle.rw_base.specs.declared.memory.NoMemory.{NoMemory}
 use Rattle.rw_model.specs.Draft.{Draft}
 use Rattle.rw_inputs.specs.Placings.{placings}
@@ -97,6 +97,11 @@ pub record PassesRest (basin : Draft) (policy : Accepted) (was : List (Option St
   pub each : IfOk result (λ done. after + length old.reran.items ≡ before + length new.reran.items)
   pub rises : before ≤ after
   pub few : after ≤ before + basin.control.stamps.count
+
+-- a call hands a run on its way on, behind all timesteps, and counts those that it ran
+abbrev pub HandsOn : Draft → Accepted → List (Option StepRecord) → ℕ → Pass → ℕ → ℕ → Result Pass NoMemory → Type 0
+HandsOn basin policy was behind old before after (Ok new) = PassesRest basin policy was behind old new before after (Ok tt)
+HandsOn basin policy was behind old before after (Err why) = (before ≤ after) × (after ≤ before + basin.control.stamps.count)
 
 -- a call comes behind all timesteps from inputs on, and counts those that it runs
 pub record PassesAll (basin : Draft) (policy : Accepted) (inputs : Inputs) (traced : Bool) (was : List (Option StepRecord)) (before after : ℕ) (result : Result Pass NoMemory) : Type 0 where

@@ -6,7 +6,7 @@ ghost use Rattle.rw_method.specs.Catalogue.{AreInOrder};
 ghost use Rattle.rw_model.specs.Turn.{IsStep};
 ghost use Rattle.rw_record.specs.Noted.{AreHeld};
 ghost use Rattle.rw_series.specs.Series.{held};
-ghost use Rattle.rw_rerun.specs.UnderWay.{CanGoBy, IsReplayable, GoesOn, IsPassOf, IsUnlike, PassesAll, PassesRest};
+ghost use Rattle.rw_rerun.specs.UnderWay.{CanGoBy, IsReplayable, GoesOn, HandsOn, IsPassOf, IsUnlike, PassesAll, PassesRest};
 
 use crate::pass::Pass;
 use rpl_policy::law::code_keeps_promises;
@@ -16,6 +16,7 @@ use rw_engine::{Engine, RunSetup, StepEnd, StepRecord};
 use rw_inputs::Inputs;
 use rw_record::law::how_many;
 use std::alloc::Global;
+use std::mem::drop;
 
 // No timestep is opened behind a fault, and none is kept.
 fn skip(pass: &mut Pass, _setup: &RunSetup<'_>, _step: StepNo) -> Result<(), NoMemory>
@@ -112,8 +113,8 @@ fn pass_step<L: Ledger>(
     }
 }
 
-/// Passes the other timesteps, from behind so many, with what is kept of an earlier run to go by.
-pub(crate) fn pass_rest<L: Ledger>(
+// Passes the other timesteps, from behind so many, with what is kept of an earlier run to go by.
+fn pass_rest<L: Ledger>(
     alloc: Global,
     pass: &mut Pass,
     setup: &RunSetup<'_>,
@@ -140,6 +141,34 @@ pub(crate) fn pass_rest<L: Ledger>(
     Ok(())
 }
 
+/// The same of a run on its way that is handed on, where memory is there for it.
+pub(crate) fn passed<L: Ledger>(
+    alloc: Global,
+    mut pass: Pass,
+    setup: &RunSetup<'_>,
+    kept: &[Option<StepRecord>],
+    behind: u16,
+    steps: &mut Steps<L>,
+) -> Result<Pass, NoMemory>
+    requires fits { verified setup.now.basin.now setup.now.policy.now.blocks
+        ≡ Ok setup.now.policy.now }
+    requires order { AreInOrder
+        (map (λ b. code (b.vtable, b.value)) setup.now.methods.now.methods.items) }
+    requires made { IsPassOf setup.now.basin.now setup.now.policy.now pass }
+    requires kept { CanGoBy setup.now.basin.now kept.now }
+    requires some { behind ≤ setup.now.basin.now.control.stamps.count }
+    ensures { HandsOn setup.now.basin.now setup.now.policy.now kept.now behind pass
+        steps.old steps.new result }
+{
+    match pass_rest(alloc, &mut pass, setup, kept, behind, steps) {
+        Ok(()) => Ok(pass),
+        Err(NoMemory) => {
+            drop(pass);
+            Err(NoMemory)
+        }
+    }
+}
+
 /// Passes all timesteps from inputs, with what is kept of an earlier run to go by.
 pub(crate) fn pass_all<L: Ledger>(
     alloc: Global,
@@ -157,12 +186,11 @@ pub(crate) fn pass_all<L: Ledger>(
         steps.old steps.new result }
 {
     let engine = Engine::for_reuse(alloc, setup.basin, setup.policy, inputs, traced)?;
-    let mut pass = Pass {
+    let pass = Pass {
         engine,
         reran: Vec::new(alloc),
         changes: Vec::new(alloc),
         over: false,
     };
-    pass_rest(alloc, &mut pass, setup, kept, 0, steps)?;
-    Ok(pass)
+    passed(alloc, pass, setup, kept, 0, steps)
 }

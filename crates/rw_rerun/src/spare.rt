@@ -7,9 +7,8 @@ ghost use Rattle.rw_engine.specs.Shows.{CanReplay};
 ghost use Rattle.rw_model.specs.Turn.{IsStep};
 ghost use Rattle.rw_rerun.specs.Edited.{BecomesSpare};
 ghost use Rattle.rw_rerun.specs.Session.{IsSessionOf, Session};
-ghost use Rattle.rw_rerun.specs.Spare.{AreKeptFrom, BeginsBy, BringsTo, GivesAll, IsSpare, IsSpareIn};
+ghost use Rattle.rw_rerun.specs.Spare.{AreKeptFrom, BringsTo, GivesAll, IsSpare, IsSpareIn};
 
-use crate::pass::Pass;
 use rpl_policy::law::code_keeps_promises;
 use rpl_verify::Verified;
 use rpl_verify::law::answered_code_is_safe;
@@ -18,6 +17,7 @@ use rw_engine::{Engine, StepRecord};
 use rw_inputs::Inputs;
 use rw_model::Basin;
 use std::alloc::Global;
+use std::mem::drop;
 
 /// An engine that has come behind the first timesteps of a session's run, so many of them.
 #[derive(Drop)]
@@ -179,6 +179,44 @@ fn are_kept(kept: &[Option<StepRecord>], behind: u16) -> bool
     true
 }
 
+// Whether at least half of the timesteps are left, and each of the others is kept.
+fn can_come_back(kept: &[Option<StepRecord>], behind: u16) -> bool
+    ensures { (result ≡ true) → AreKeptFrom kept.now behind (length kept.now) }
+{
+    kept.len() <= usize::from(behind) * 2 && are_kept(kept, behind)
+}
+
+// The engine of a run, taken back behind the timesteps that are left, and given the cells anew.
+fn come_back(
+    engine: Engine,
+    basin: &Basin,
+    kept: &[Option<StepRecord>],
+    inputs: &Inputs,
+    cells: &[Cell],
+    behind: u16,
+) -> Spare
+    requires many { length kept.now ≡ basin.now.control.stamps.count }
+    requires some { behind ≤ basin.now.control.stamps.count }
+    requires stands { IsSpare basin.now kept.now (record {
+      engine = engine;
+      behind = basin.now.control.stamps.count;
+    }) }
+    requires inputs { IsInputsOf basin.now inputs.now }
+    requires known { All (IsCell basin.now) cells.now }
+    requires others { AreKeptFrom kept.now behind (length kept.now) }
+    ensures { BecomesSpare basin.now inputs.now cells.now kept.now behind engine result }
+{
+    answered_code_is_safe();
+    code_keeps_promises();
+    let mut spare = Spare {
+        engine,
+        behind: basin.control().stamps.count(),
+    };
+    bring_back(&mut spare, basin, kept, behind);
+    give_all(&mut spare.engine, basin, inputs, cells);
+    spare
+}
+
 /// The engine of a run, behind all timesteps, as a spare one of the next run, behind those that a batch leaves. There is none where
 /// less than half of them are left, since bringing it back would cost more than it gives, nor where one of the others isn't kept.
 pub(crate) fn spare_of(
@@ -200,22 +238,19 @@ pub(crate) fn spare_of(
     ensures { IfSome result
         (BecomesSpare basin.now inputs.now cells.now kept.now behind engine) }
 {
-    answered_code_is_safe();
-    code_keeps_promises();
-    if usize::from(behind) * 2 < kept.len() || !are_kept(kept, behind) {
-        return None;
+    if can_come_back(kept, behind) {
+        Some(come_back(engine, basin, kept, inputs, cells, behind))
+    } else {
+        drop(engine);
+        None
     }
-    let mut spare = Spare {
-        engine,
-        behind: basin.control().stamps.count(),
-    };
-    bring_back(&mut spare, basin, kept, behind);
-    give_all(&mut spare.engine, basin, inputs, cells);
-    Some(spare)
 }
 
-// So many timesteps change nothing of what is kept.
-fn unchanged(alloc: Global, behind: u16) -> Result<Vec<Option<Option<StepRecord>>>, NoMemory>
+/// So many timesteps change nothing of what is kept.
+pub(crate) fn unchanged(
+    alloc: Global,
+    behind: u16,
+) -> Result<Vec<Option<Option<StepRecord>>>, NoMemory>
     ensures { IfOk result (λ changes. changes.items ≡ replicate behind None) }
 {
     let mut changes = Vec::new(alloc);
@@ -223,17 +258,4 @@ fn unchanged(alloc: Global, behind: u16) -> Result<Vec<Option<Option<StepRecord>
         changes.push(None)?;
     }
     Ok(changes)
-}
-
-/// A run on its way that has taken over the timesteps behind which the engine stands.
-pub(crate) fn pass_from(alloc: Global, spare: Spare) -> Result<Pass, NoMemory>
-    ensures { IfOk result (BeginsBy spare) }
-{
-    let changes = unchanged(alloc, spare.behind)?;
-    Ok(Pass {
-        engine: spare.engine,
-        reran: Vec::new(alloc),
-        changes,
-        over: false,
-    })
 }

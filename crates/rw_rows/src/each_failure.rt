@@ -3,7 +3,7 @@ ghost use Rattle.std.specs.Prelude.{◌≡◌, map};
 ghost use Rattle.rw_method.specs.Catalogue.{AreInOrder};
 
 use crate::runs::none_is_wrong;
-use crate::statuses::{Ends, all_methods, call, file, one_call, owned};
+use crate::statuses::{Ends, all_methods, call, files, one_call, owned};
 use rw_base::NoMemory;
 use rw_io::{MemShelf, MemSink};
 use rw_method::Catalogue;
@@ -90,12 +90,16 @@ struct Failing {
 }
 
 fn ends_of(alloc: Global, failing: Failing) -> Result<Ends, NoMemory> {
-    let mut files = Vec::new(alloc);
-    files.push(file(alloc, "m.toml", MODEL)?)?;
-    files.push(file(alloc, "p.rpl", RULES)?)?;
-    files.push(file(alloc, "i.csv", INPUTS)?)?;
-    files.push(file(alloc, "e.csv", EDITS)?)?;
-    files.push(file(alloc, "t.csv", TRACES)?)?;
+    let files = files(
+        alloc,
+        &[
+            ("m.toml", MODEL),
+            ("p.rpl", RULES),
+            ("i.csv", INPUTS),
+            ("e.csv", EDITS),
+            ("t.csv", TRACES),
+        ],
+    )?;
     Ok(Ends {
         shelf: MemShelf::of(alloc, files, one_call(alloc, failing.shelf)?)?,
         out: MemSink::of(alloc, one_call(alloc, failing.out)?),

@@ -79,16 +79,21 @@ pub(crate) fn owned(alloc: Global, words: &[&str]) -> Result<Vec<String>, NoMemo
     Ok(owned)
 }
 
-pub(crate) fn file(alloc: Global, path: &str, text: &[u8]) -> Result<(String, Vec<u8>), NoMemory> {
+fn file(alloc: Global, path: &str, text: &[u8]) -> Result<(String, Vec<u8>), NoMemory> {
     let path = String::from_str(alloc, path)?;
     let bytes = Vec::from_slice(alloc, text)?;
     Ok((path, bytes))
 }
 
-fn files(alloc: Global, model: &[u8], inputs: &[u8]) -> Result<Vec<(String, Vec<u8>)>, NoMemory> {
+/// Files with these texts at these paths.
+pub(crate) fn files(
+    alloc: Global,
+    rows: &[(&str, &[u8])],
+) -> Result<Vec<(String, Vec<u8>)>, NoMemory> {
     let mut files = Vec::new(alloc);
-    files.push(file(alloc, "m.toml", model)?)?;
-    files.push(file(alloc, "i.csv", inputs)?)?;
+    for (path, text) in rows {
+        files.push(file(alloc, *path, *text)?)?;
+    }
     Ok(files)
 }
 
@@ -173,14 +178,15 @@ pub(crate) fn call(
 
 /// The predefined functions.
 pub(crate) fn all_functions(alloc: Global) -> Result<Predefs, NoMemory> {
-    let mut functions = Vec::new(alloc);
-    functions.push(Predef::of(1, least))?;
-    functions.push(Predef::of(2, greatest))?;
-    functions.push(Predef::of(3, absolute))?;
-    functions.push(Predef::of(4, clamped))?;
-    functions.push(Predef::of(5, rounded_down))?;
-    functions.push(Predef::of(6, sign))?;
-    functions.push(Predef::of(7, mul_div))?;
+    let functions = vec![in alloc;
+        Predef::of(1, least),
+        Predef::of(2, greatest),
+        Predef::of(3, absolute),
+        Predef::of(4, clamped),
+        Predef::of(5, rounded_down),
+        Predef::of(6, sign),
+        Predef::of(7, mul_div),
+    ]?;
     match Predefs::of(functions) {
         Ok(predefs) => Ok(predefs),
         Err(_) => Err(NoMemory),
@@ -223,7 +229,8 @@ fn is_met(
     failing: Failing,
     want: Simulation<'_>,
 ) -> Result<bool, NoMemory> {
-    let mut ends = ends_of(alloc, files(alloc, want.model, want.inputs)?, failing)?;
+    let files = files(alloc, &[("m.toml", want.model), ("i.csv", want.inputs)])?;
+    let mut ends = ends_of(alloc, files, failing)?;
     comes_to(alloc, &all_methods(alloc)?, words, &mut ends, want)
 }
 
@@ -240,9 +247,15 @@ pub(crate) fn runs_with(
 ) -> Result<bool, NoMemory>
     requires { AreInOrder (map (λ b. code (b.vtable, b.value)) methods.now.methods.items) }
 {
-    let mut files = files(alloc, want.model, want.inputs)?;
-    files.push(file(alloc, "p.rpl", policy)?)?;
-    files.push(file(alloc, "e.csv", edits)?)?;
+    let files = files(
+        alloc,
+        &[
+            ("m.toml", want.model),
+            ("i.csv", want.inputs),
+            ("p.rpl", policy),
+            ("e.csv", edits),
+        ],
+    )?;
     let mut ends = ends_of(alloc, files, failing)?;
     comes_to(alloc, methods, words, &mut ends, want)
 }
@@ -270,11 +283,8 @@ pub(crate) fn runs_by(
 /// Whether `migrate` writes another model, with which `simulate` comes to what is wanted.
 pub(crate) fn migrates(alloc: Global, want: Simulation<'_>) -> Result<bool, NoMemory> {
     let words = owned(alloc, &["migrate", "m.toml"])?;
-    let mut ends = ends_of(
-        alloc,
-        files(alloc, want.model, want.inputs)?,
-        Failing::Nothing,
-    )?;
+    let files = files(alloc, &[("m.toml", want.model), ("i.csv", want.inputs)])?;
+    let mut ends = ends_of(alloc, files, Failing::Nothing)?;
     let status = call(alloc, &all_methods(alloc)?, &words, &mut ends)?;
     let model = ends.out.held();
     let again = Simulation { model, ..want };

@@ -3,7 +3,7 @@ ghost use Rattle.std.specs.Prelude.{◌≡◌, ◌<◌, map};
 ghost use Rattle.rw_method.specs.Catalogue.{AreInOrder};
 
 use crate::kept::{MENDED, MENDING, QUOTIENT, RUN};
-use crate::statuses::{all_functions, all_methods, file, is_text, owned};
+use crate::statuses::{all_functions, all_methods, files, is_text, owned};
 use rpl_predef::Predefs;
 use rw_base::NoMemory;
 use rw_io::{SureShelf, SureSink};
@@ -24,11 +24,15 @@ struct SureEnds {
 }
 
 fn sure_ends(alloc: Global) -> Result<SureEnds, NoMemory> {
-    let mut files = Vec::new(alloc);
-    files.push(file(alloc, "m.toml", MENDED.model)?)?;
-    files.push(file(alloc, "i.csv", MENDED.inputs)?)?;
-    files.push(file(alloc, "p.rpl", QUOTIENT)?)?;
-    files.push(file(alloc, "e.csv", MENDING)?)?;
+    let files = files(
+        alloc,
+        &[
+            ("m.toml", MENDED.model),
+            ("i.csv", MENDED.inputs),
+            ("p.rpl", QUOTIENT),
+            ("e.csv", MENDING),
+        ],
+    )?;
     Ok(SureEnds {
         shelf: SureShelf::of(files),
         out: SureSink::of(alloc, ROOM)?,

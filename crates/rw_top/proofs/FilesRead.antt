@@ -125,26 +125,21 @@ cell_there basin (Some cell) known some = known
 
 -- or one that isn't
 pub no_cell : (command : Command) (shelf : Change ShelfView) (basin : Draft) (behind : Behind) (why : Refusal)
-    → ReadsModel command shelf.before.holds basin → (now : Holds) → ((path : List ℕ) → now path ≡ shelf.before.holds path)
-    → AreBehind command now basin behind → IsCellRead command basin (Err why) → FileCause command shelf why
-no_cell command shelf basin behind why model now same others lacks =
+    → ReadsModel command shelf.before.holds basin → AreBehind command shelf.before.holds basin behind → IsCellRead command basin (Err why)
+    → FileCause command shelf why
+no_cell command shelf basin behind why model others lacks =
     let holds = shelf.before.holds in
-    let one : now ≡ holds = λ i path. same path i in
-    let policy = subst (λ h. SaysAt command Policy (option_map policy_of behind.policy) (ReadsPolicy command h basin)) one
-    (seen_policy command now basin behind.policy others.policy) in
-    let inputs = subst (λ h. SaysAt command Inputs behind.inputs (ReadsInputs command h basin)) one others.inputs in
-    let edits = subst (λ h. SaysAt command Edits (option_map (λ batches. batches.items) behind.edits) (ReadsBatches command h Edits basin)) one
-    (seen_batches command now Edits basin behind.edits (λ batches. batches.items) others.edits) in
-    let scenarios =
-    subst (λ h. SaysAt command Traces (option_map (λ batches. batches.items) behind.scenarios) (ReadsBatches command h Traces basin)) one
-    (seen_batches command now Traces basin behind.scenarios (λ batches. batches.items) others.scenarios) in
     let its : LacksCell command holds = record {
       basin = basin;
       model = model;
       accepted =
           accepts_all command holds basin (option_map policy_of behind.policy) behind.inputs (option_map (λ batches. batches.items) behind.edits)
           (option_map (λ batches. batches.items) behind.scenarios)
-          model policy inputs edits scenarios;
+          model
+          (seen_policy command holds basin behind.policy others.policy)
+          others.inputs
+          (seen_batches command holds Edits basin behind.edits (λ batches. batches.items) others.edits)
+          (seen_batches command holds Traces basin behind.scenarios (λ batches. batches.items) others.scenarios);
       seeks = lacks.1;
       none = lacks.2;
     } in

@@ -1,5 +1,5 @@
 -- Sections that are written one behind another.
-use Rattle.rw_top.proofs.Common.{Change, Err, FilesRead, GrowsBy, GrowsBy-trans, IsSomeAnd, Job, List, MatchResult, None, Ok, Option, PrefixGrew}
+use Rattle.rw_top.proofs.Common.{Change, Err, FilesRead, GrowsBy, GrowsBy-trans, IfOk, IsSomeAnd, Job, List, MatchResult, None, Ok, Option, PrefixGrew}
 use Rattle.rw_top.proofs.Common.{PrefixGrew-right, Refusal, Result, RunEnd, SinkView, Some, [], ap, change, inl, inr, length, refl, status_of_end, subst}
 use Rattle.rw_top.proofs.Common.{sym, ℕ, ◌++◌, ◌+◌, ◌∙◌, ◌∷◌, ◌≡◌, ◌≤◌}
 use Rattle.rw_base.proofs.Common.{All, append-nil, append_assoc, arith}
@@ -148,8 +148,14 @@ module _ (files : FilesRead) (policy : Rules) (inputs : Inputs) (has_policy : fi
   with_both P is =
       subst (λ o. IsSomeAnd o (λ p. IsSomeAnd files.inputs (P p))) (sym has_policy) (subst (λ o. IsSomeAnd o (P policy)) (sym has_inputs) is)
 
-  pub rules_counted : (steps : Change ℕ) → CountsSections files.basin policy inputs (batches_in files) steps → CountsOfFiles files steps
-  rules_counted steps counts = with_both (λ p i. CountsSections files.basin p i (batches_in files) steps) counts
+  pub rules_counted : (batches : List Batch) (steps : Change ℕ) → batches ≡ batches_in files → (ended : Result RunEnd Refusal)
+      (result : Result ℕ Refusal) → MatchResult ended (λ end. result ≡ Ok (status_of_end end)) (λ why. result ≡ Err why)
+      → IfOk ended (λ end. CountsSections files.basin policy inputs batches steps) → IfOk result (λ status. CountsOfFiles files steps)
+  rules_counted batches steps same (Ok end) result is counts =
+      subst (λ r. IfOk r (λ status. CountsOfFiles files steps)) (sym is)
+      (with_both (λ p i. CountsSections files.basin p i (batches_in files) steps)
+      (subst (λ bs. CountsSections files.basin policy inputs bs steps) same counts))
+  rules_counted batches steps same (Err why) result is counts = subst (λ r. IfOk r (λ status. CountsOfFiles files steps)) (sym is) tt
 
   module _ (extras : Extras) (out : Change SinkView) where
     pub rules_appended : (end : RunEnd) (status : ℕ) → status ≡ status_of_end end
@@ -167,3 +173,17 @@ module _ (files : FilesRead) (policy : Rules) (inputs : Inputs) (has_policy : fi
     pub rules_stopped : (why : Refusal) → StopsAmong (IsRulesText files.basin policy extras) 0 (first_given inputs) (batches_in files) out why
         → Stops Run extras files out why
     rules_stopped why stops = pieces_stopped Run extras files out _ (inl refl) front why stops
+
+    -- their status, where they were written
+    pub rules_written : (batches : List Batch) → batches ≡ batches_in files → (ended : Result RunEnd Refusal) (result : Result ℕ Refusal)
+        → MatchResult ended (λ end. result ≡ Ok (status_of_end end)) (λ why. result ≡ Err why)
+        → MatchResult ended (AppendsAll (IsRulesText files.basin policy extras) 0 (first_given inputs) batches out)
+        (StopsAmong (IsRulesText files.basin policy extras) 0 (first_given inputs) batches out)
+        → MatchResult result (Appends Run extras files out) (Stops Run extras files out)
+    rules_written batches same (Ok end) result is all =
+        subst (λ r. MatchResult r (Appends Run extras files out) (Stops Run extras files out)) (sym is)
+        (rules_appended end (status_of_end end) refl
+        (subst (λ bs. AppendsAll (IsRulesText files.basin policy extras) 0 (first_given inputs) bs out end) same all))
+    rules_written batches same (Err why) result is stops =
+        subst (λ r. MatchResult r (Appends Run extras files out) (Stops Run extras files out)) (sym is)
+        (rules_stopped why (subst (λ bs. StopsAmong (IsRulesText files.basin policy extras) 0 (first_given inputs) bs out why) same stops))

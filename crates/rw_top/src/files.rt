@@ -1,11 +1,11 @@
 // The files of a command, read or made, and judged, each before the next.
-ghost use Rattle.std.specs.Prelude.{◌≡◌, ℕ, ◌≤◌, List, MatchResult, IfOk, IfSome, IsSome, IsSomeAnd, IsTrue, Some, length, option_map};
+ghost use Rattle.std.specs.Prelude.{◌≡◌, ℕ, ◌≤◌, List, MatchResult, IfOk, IfSome, IsSome, IsSomeAnd, IsTrue, Ok, Some, length, option_map};
 ghost use Rattle.rw_base.specs.declared.limits.TheConstants.{TEXT_MAX};
 ghost use Rattle.rw_model.specs.Draft.{IsSlot};
 ghost use Rattle.rw_io.specs.Causes.{NoneFell};
 ghost use Rattle.rw_io.specs.Outside.{Change, ShelfView, change};
 ghost use Rattle.rw_top.specs.Command.{AtPath, OfSample, command_said, seeks_cell, source_of, source_seen, wants_text};
-ghost use Rattle.rw_top.specs.Reading.{AreRead, Reaches, ReadsInputs, ReadsModel, ReadsModelText, SaysAt, WasRead, reads_code, text_wanted};
+ghost use Rattle.rw_top.specs.Reading.{AreRead, IsCellRead, Reaches, ReadsInputs, ReadsModel, ReadsModelText, SaysAt, WasRead, reads_code, text_wanted};
 ghost use Rattle.rw_top.specs.Refusal.{FileCause, IsPolicyRefusal};
 ghost use Rattle.rw_top.specs.Ready.{AreBehind, AreEdits, AreReadAs, IsFit, IsMadeOf, IsReadAs};
 ghost use Rattle.rw_top.specs.Seen.{files_seen};
@@ -22,6 +22,7 @@ use rw_inputs::{Batch, Inputs};
 use rw_io::{Shelf, read_all};
 use rw_model::Basin;
 use std::alloc::Global;
+use std::mem::drop;
 
 /// What the files of a command say: the policy, the inputs, the edits and the scenarios, where it names them; the cell that it asks
 /// for; and the text of its model, where it wants that.
@@ -346,6 +347,33 @@ fn read_others<S: Shelf>(
     }
 }
 
+// Reads and judges the files behind the model, and finds the cell that the command asks for.
+fn read_rest<S: Shelf>(
+    alloc: Global,
+    command: &Command<'_>,
+    basin: &Basin,
+    shelf: &mut S,
+) -> Result<(Behind, Option<Cell>), Refusal>
+    requires model { ReadsModel (command_said command.now) (S.seen shelf.old).holds basin.now }
+    ensures read { MatchResult result (λ pair.
+        AreBehind (command_said command.now) (S.seen shelf.old).holds basin.now pair.0
+        × IsCellRead (command_said command.now) basin.now (Ok pair.1))
+        (FileCause (command_said command.now) (change (S.seen shelf.old) (S.seen shelf.new))) }
+    ensures held { (p : List ℕ) → (S.seen shelf.new).holds p ≡ (S.seen shelf.old).holds p }
+{
+    let behind = match read_others(alloc, command, basin, shelf) {
+        Ok(behind) => behind,
+        Err(refusal) => return Err(refusal),
+    };
+    match find_cell(command, basin) {
+        Ok(cell) => Ok((behind, cell)),
+        Err(refusal) => {
+            drop(behind);
+            Err(refusal)
+        }
+    }
+}
+
 /// Reads and judges the files of the command: its model, its policy, its inputs, its edits and its traces, in this order, where it
 /// names them, and finds the cell that it asks for.
 pub(crate) fn read_files<S: Shelf>(
@@ -371,12 +399,8 @@ pub(crate) fn read_files<S: Shelf>(
         Ok(pair) => pair,
         Err(refusal) => return Err(refusal),
     };
-    let behind = match read_others(alloc, command, &basin, shelf) {
-        Ok(behind) => behind,
-        Err(refusal) => return Err(refusal),
-    };
-    match find_cell(command, &basin) {
-        Ok(cell) => Ok(Files {
+    match read_rest(alloc, command, &basin, shelf) {
+        Ok((behind, cell)) => Ok(Files {
             basin,
             policy: behind.policy,
             inputs: behind.inputs,
@@ -385,6 +409,10 @@ pub(crate) fn read_files<S: Shelf>(
             cell,
             text,
         }),
-        Err(refusal) => Err(refusal),
+        Err(refusal) => {
+            drop(basin);
+            drop(text);
+            Err(refusal)
+        }
     }
 }

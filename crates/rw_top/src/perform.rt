@@ -1,4 +1,4 @@
-ghost use Rattle.std.specs.Prelude.{◌≡◌, ◌≢◌, ◌≤◌, ℕ, List, [], length, map, option_map, unwrap_or, IfErr, IfOk, IsTrue, MatchResult, Ok};
+ghost use Rattle.std.specs.Prelude.{◌≡◌, ◌≢◌, ◌≤◌, ℕ, Err, List, [], length, map, option_map, unwrap_or, IfErr, IfOk, IsTrue, MatchResult, Ok};
 ghost use Rattle.std.specs.List.{All};
 ghost use Rattle.rw_inputs.specs.Edits.{IsBatch};
 ghost use Rattle.rw_inputs.specs.Inputs.{IsInputsOf};
@@ -39,6 +39,7 @@ use rw_io::{Shelf, Sink, WriteFault, write_all};
 use rw_method::Catalogue;
 use rw_words::Job;
 use std::alloc::Global;
+use std::mem::drop;
 
 // The status of a run that was written.
 fn status_of_run(end: &RunEnd) -> u8
@@ -284,10 +285,20 @@ fn write_runs<K: Sink, L: Ledger>(
     }
 }
 
-// Writes the sections of the runs of the files by their policy.
+// The status of runs that were written, where they were.
+fn status_after(ended: Result<RunEnd, Refusal>) -> Result<u8, Refusal>
+    ensures { MatchResult ended (λ end. result ≡ Ok (status_of_end end)) (λ why. result ≡ Err why) }
+{
+    match ended {
+        Ok(end) => Ok(status_of_run(&end)),
+        Err(refusal) => Err(refusal),
+    }
+}
+
+// Writes the sections of the runs of the files by their policy. They are left without their policy and their inputs.
 fn run<K: Sink, L: Ledger>(
     alloc: Global,
-    files: Files,
+    files: &mut Files,
     methods: &Catalogue,
     predefs: &Predefs,
     extras: Extras,
@@ -295,86 +306,66 @@ fn run<K: Sink, L: Ledger>(
     out: &mut K,
 ) -> Result<u8, Refusal>
     requires order { AreInOrder (map (λ b. code (b.vtable, b.value)) methods.now.methods.items) }
-    requires ready { AreReady J.Run files }
+    requires ready { AreReady J.Run files.old }
     ensures text { MatchResult result
-        (Appends J.Run extras (files_seen files) (change (K.seen out.old) (K.seen out.new)))
-        (Stops J.Run extras (files_seen files) (change (K.seen out.old) (K.seen out.new))) }
+        (Appends J.Run extras (files_seen files.old) (change (K.seen out.old) (K.seen out.new)))
+        (Stops J.Run extras (files_seen files.old) (change (K.seen out.old) (K.seen out.new))) }
     ensures counted { IsTrue extras.reuse → IfOk result
-        (λ status. CountsOfFiles (files_seen files) (change steps.old steps.new)) }
+        (λ status. CountsOfFiles (files_seen files.old) (change steps.old steps.new)) }
 {
-    let Files {
-        basin,
-        policy,
-        inputs,
-        edits,
-        scenarios: _,
-        cell: _,
-        text: _,
-    } = files;
-    let Some(policy) = policy else {
+    let Some(policy) = files.policy.take() else {
         unreachable!();
     };
-    let Some(inputs) = inputs else {
-        unreachable!();
-    };
-    let by = match code_of(alloc, policy, &basin) {
+    let by = match code_of(alloc, policy, &files.basin) {
         Ok(by) => by,
         Err(NoMemory) => return Err(Refusal::NoMemory),
     };
-    let batches = batches_of(&edits);
+    let Some(inputs) = files.inputs.take() else {
+        unreachable!();
+    };
+    let batches = batches_of(&files.edits);
     let setup = RunSetup {
-        basin: &basin,
+        basin: &files.basin,
         methods,
         policy: &by,
         predefs,
     };
-    match write_runs(alloc, &setup, extras, inputs, batches, steps, out) {
-        Ok(end) => Ok(status_of_run(&end)),
-        Err(refusal) => Err(refusal),
-    }
+    status_after(write_runs(alloc, &setup, extras, inputs, batches, steps, out))
 }
 
-// Writes the sections of the runs of the files' scenarios by their policy, and the summary.
+// Writes the sections of the runs of the files' scenarios by their policy, and the summary. They are left without their policy.
 fn many<K: Sink, L: Ledger>(
     alloc: Global,
-    files: Files,
+    files: &mut Files,
     methods: &Catalogue,
     predefs: &Predefs,
     steps: &mut Steps<L>,
     out: &mut K,
 ) -> Result<u8, Refusal>
     requires order { AreInOrder (map (λ b. code (b.vtable, b.value)) methods.now.methods.items) }
-    requires ready { AreReady J.Mrm files }
+    requires ready { AreReady J.Mrm files.old }
     ensures { (extras : Extras) → MatchResult result
-        (Appends J.Mrm extras (files_seen files) (change (K.seen out.old) (K.seen out.new)))
-        (Stops J.Mrm extras (files_seen files) (change (K.seen out.old) (K.seen out.new))) }
+        (Appends J.Mrm extras (files_seen files.old) (change (K.seen out.old) (K.seen out.new)))
+        (Stops J.Mrm extras (files_seen files.old) (change (K.seen out.old) (K.seen out.new))) }
 {
-    let Files {
-        basin,
-        policy,
-        inputs,
-        edits: _,
-        scenarios,
-        cell: _,
-        text: _,
-    } = files;
-    let Some(policy) = policy else {
+    let Some(policy) = files.policy.take() else {
         unreachable!();
     };
-    let Some(inputs) = inputs else {
-        unreachable!();
-    };
-    let by = match code_of(alloc, policy, &basin) {
+    let by = match code_of(alloc, policy, &files.basin) {
         Ok(by) => by,
         Err(NoMemory) => return Err(Refusal::NoMemory),
     };
+    let Some(inputs) = &files.inputs else {
+        unreachable!();
+    };
+    let scenarios = batches_of(&files.scenarios);
     let setup = RunSetup {
-        basin: &basin,
+        basin: &files.basin,
         methods,
         policy: &by,
         predefs,
     };
-    write_many(alloc, &setup, &inputs, batches_of(&scenarios), steps, out)
+    write_many(alloc, &setup, inputs, scenarios, steps, out)
 }
 
 // The one text of a job that lends its files and makes it whole, and the status with which it is written.
@@ -408,10 +399,40 @@ fn text_of_job<L: Ledger>(
 }
 
 // Writes the text of a job by what its files say, and answers the status of that.
+fn write_of<K: Sink, L: Ledger>(
+    alloc: Global,
+    job: Job,
+    files: &mut Files,
+    methods: &Catalogue,
+    predefs: &Predefs,
+    extras: Extras,
+    steps: &mut Steps<L>,
+    out: &mut K,
+) -> Result<u8, Refusal>
+    requires order { AreInOrder (map (λ b. code (b.vtable, b.value)) methods.now.methods.items) }
+    requires ready { AreReady job files.old }
+    ensures text { MatchResult result
+        (Appends job extras (files_seen files.old) (change (K.seen out.old) (K.seen out.new)))
+        (Stops job extras (files_seen files.old) (change (K.seen out.old) (K.seen out.new))) }
+    ensures counted { job ≡ J.Run → IsTrue extras.reuse → IfOk result
+        (λ status. CountsOfFiles (files_seen files.old) (change steps.old steps.new)) }
+{
+    match job {
+        Job::Mrm => many(alloc, files, methods, predefs, steps, out),
+        Job::Run => run(alloc, files, methods, predefs, extras, steps, out),
+        Job::Simulate => simulate(alloc, files, methods, predefs, extras, steps, out),
+        _ => {
+            let made = text_of_job(alloc, job, files, methods, predefs, extras, steps);
+            write_made(job, extras, files, made, out)
+        }
+    }
+}
+
+// The same of files that end with it.
 fn write_job<K: Sink, L: Ledger>(
     alloc: Global,
     job: Job,
-    files: Files,
+    mut files: Files,
     methods: &Catalogue,
     predefs: &Predefs,
     extras: Extras,
@@ -426,15 +447,9 @@ fn write_job<K: Sink, L: Ledger>(
     ensures counted { job ≡ J.Run → IsTrue extras.reuse → IfOk result
         (λ status. CountsOfFiles (files_seen files) (change steps.old steps.new)) }
 {
-    match job {
-        Job::Mrm => many(alloc, files, methods, predefs, steps, out),
-        Job::Run => run(alloc, files, methods, predefs, extras, steps, out),
-        Job::Simulate => simulate(alloc, &files, methods, predefs, extras, steps, out),
-        _ => {
-            let made = text_of_job(alloc, job, &files, methods, predefs, extras, steps);
-            write_made(job, extras, &files, made, out)
-        }
-    }
+    let written = write_of(alloc, job, &mut files, methods, predefs, extras, steps, out);
+    drop(files);
+    written
 }
 
 /// Writes the text that the command asks for, and answers the status of that.

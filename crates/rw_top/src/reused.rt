@@ -1,5 +1,5 @@
 // The sections of a run by a policy that takes timesteps over after a batch of edits.
-ghost use Rattle.std.specs.Prelude.{◌≡◌, ◌≤◌, ◌+◌, length, map, option_map, IfOk, MatchResult, Ok, true};
+ghost use Rattle.std.specs.Prelude.{◌≡◌, ◌≤◌, ◌+◌, length, map, option_map, IfOk, MatchResult, Ok, is_some, true};
 ghost use Rattle.std.specs.List.{All};
 ghost use Rattle.rpl_verify.specs.Verified.{verified};
 ghost use Rattle.rw_inputs.specs.Edits.{IsBatch};
@@ -7,6 +7,7 @@ ghost use Rattle.rw_inputs.specs.Inputs.{IsInputsOf};
 ghost use Rattle.rw_io.specs.Outside.{change};
 ghost use Rattle.rw_method.specs.Catalogue.{AreInOrder};
 ghost use Rattle.rw_report.specs.Sheet.{AreToldOf};
+ghost use Rattle.rw_rerun.specs.Session.{IsSessionOf};
 ghost use Rattle.rw_series.specs.Series.{held};
 ghost use Rattle.rw_top.specs.Policy.{PolicyFile as Rules};
 ghost use Rattle.rw_top.specs.Reused.{CanTell, IsNextSection, WritesFrom, told_of};
@@ -24,6 +25,7 @@ use rw_report::law::texts_of_runs;
 use rw_report::{Sheet, Telling};
 use rw_rerun::Session;
 use std::alloc::Global;
+use std::mem::drop;
 
 // The timesteps that are told in the section of this number.
 fn told<'s>(session: &'s Session<'_>, number: u32) -> Option<&'s [StepNo]>
@@ -137,6 +139,62 @@ fn write_from<K: Sink, L: Ledger>(
     }
 }
 
+// The same from a session's first run on, on a sheet of its own.
+fn write_on_sheet<K: Sink, L: Ledger>(
+    alloc: Global,
+    session: &mut Session<'_>,
+    extras: Extras,
+    batches: &[Batch],
+    steps: &mut Steps<L>,
+    out: &mut K,
+) -> Result<RunEnd, Refusal>
+    requires made { IsSessionOf session.old.setup.basin.now session.old.setup.policy.now
+        session.old.state }
+    requires traced { is_some session.old.state.engine.trace ≡ extras.trace }
+    requires reuse { extras.reuse ≡ true }
+    requires order { AreInOrder
+        (map (λ b. code (b.vtable, b.value)) session.old.setup.methods.now.methods.items) }
+    requires batches { All (IsBatch session.old.setup.basin.now) batches.now }
+    requires few { length batches.now ≤ 64 }
+    ensures { (policy : Rules) (given : GivenInputs)
+        → IsCodeOf session.old.setup.basin.now policy session.old.setup.policy.now
+        → IsNextSection session.old.setup.basin.now policy 0 given session.old.state
+        → WritesFrom session.old.setup.basin.now policy extras 0 given batches.now
+        (length session.old.state.reran) (change (K.seen out.old) (K.seen out.new))
+        (change steps.old steps.new) result }
+{
+    let mut sheet = Sheet::new(alloc, session.setup.basin, !batches.is_empty());
+    write_from(session, extras, 0, batches, steps, &mut sheet, out)
+}
+
+// The same of a session that ends with it.
+fn write_session<K: Sink, L: Ledger>(
+    alloc: Global,
+    mut session: Session<'_>,
+    extras: Extras,
+    batches: &[Batch],
+    steps: &mut Steps<L>,
+    out: &mut K,
+) -> Result<RunEnd, Refusal>
+    requires made { IsSessionOf session.setup.basin.now session.setup.policy.now session.state }
+    requires traced { is_some session.state.engine.trace ≡ extras.trace }
+    requires reuse { extras.reuse ≡ true }
+    requires order { AreInOrder
+        (map (λ b. code (b.vtable, b.value)) session.setup.methods.now.methods.items) }
+    requires batches { All (IsBatch session.setup.basin.now) batches.now }
+    requires few { length batches.now ≤ 64 }
+    ensures { (policy : Rules) (given : GivenInputs)
+        → IsCodeOf session.entry.setup.basin.now policy session.entry.setup.policy.now
+        → IsNextSection session.entry.setup.basin.now policy 0 given session.entry.state
+        → WritesFrom session.entry.setup.basin.now policy extras 0 given batches.now
+        (length session.entry.state.reran) (change (K.seen out.old) (K.seen out.new))
+        (change steps.old steps.new) result }
+{
+    let ended = write_on_sheet(alloc, &mut session, extras, batches, steps, out);
+    drop(session);
+    ended
+}
+
 /// Writes a section for inputs and one after each batch of edits, after which the timesteps alone are run again that a batch
 /// touches, and answers how the run of the last one ended.
 pub(crate) fn write_reused<K: Sink, L: Ledger>(
@@ -172,10 +230,8 @@ pub(crate) fn write_reused<K: Sink, L: Ledger>(
         policy: setup.policy,
         predefs: setup.predefs,
     };
-    let mut session = match Session::start_of(alloc, own, inputs, extras.trace, steps) {
-        Ok(session) => session,
-        Err(NoMemory) => return Err(Refusal::NoMemory),
-    };
-    let mut sheet = Sheet::new(alloc, setup.basin, !batches.is_empty());
-    write_from(&mut session, extras, 0, batches, steps, &mut sheet, out)
+    match Session::start_of(alloc, own, inputs, extras.trace, steps) {
+        Ok(session) => write_session(alloc, session, extras, batches, steps, out),
+        Err(NoMemory) => Err(Refusal::NoMemory),
+    }
 }

@@ -14,7 +14,7 @@ act-returns-in_ok-second-in-If-clause-found t c =
     let found = first.found ∙ ap₂ (λ ns ss. pass_acts functions (names_of ns) (acts_in ss)) test.names c.deref.ensures.value in
     let other = c.in_ok-second-in-If.ensures.found
     ∙ ap₂ (λ ns ss. pass_acts functions (names_of ns) (acts_in ss)) (first.names ∙ test.names) c.deref-in-If.ensures.value in
-    c.branched.ensures ∙ ap (λ (m : Measured). load_of_branches m.load c.in_ok-first-in-If.first c.in_ok-second-in-If.second) test.found
+    c.branched.ensures ∙ ap (λ (of_part : Measured). load_of_branches of_part.load c.in_ok-first-in-If.first c.in_ok-second-in-If.second) test.found
     ∙ ap₂ (load_of_branches (pass functions names (tree_of c.in-If.condition)).load) found other
     ∙ ap (pass_act functions names) (sym (act_of_branch c.in-If.condition c.in-If.yes c.in-If.no) ∙ ap act_of (sym c.in-If.is))
 
@@ -30,6 +30,7 @@ act-returns-in_ok-inside-in-With-clause-found t c =
     ∙ ap₂ (λ ns ss. pass_acts functions ((c.in-With.name.items, kind) ∷ names_of ns) (acts_in ss)) value.ensures.names
     c.deref-in-With-2.ensures.value in
     c.bound.ensures ∙ ap (measured_binding (measured_seen value.value)) found
-    ∙ ap (λ (m : Measured). measured_binding m (pass_acts functions ((c.in-With.name.items, m.kind) ∷ names) (acts_in c.in-With.body.items)))
+    ∙ ap (λ (of_part : Measured).
+    measured_binding of_part (pass_acts functions ((c.in-With.name.items, of_part.kind) ∷ names) (acts_in c.in-With.body.items)))
     value.ensures.found
     ∙ ap (pass_act functions names) (sym (act_of_with c.in-With.name c.in-With.value c.in-With.body) ∙ ap act_of (sym c.in-With.is))

@@ -18,7 +18,7 @@ arguments-loop-k-preserved t c =
     c.loop-k.invariant.found ∙ ap (λ n. pass_arguments functions names (tree_kinds_seen (drop n c.args.takes.now))
     (trees_in (drop n c.args.args.now))) next in
     record {
-      found = c.argument-others.ensures ∙ ap (λ ks. argument (tree_kinds_seen ks) value c.loop-k.others) c.from_place.ensures
+      found = c.argument-others.ensures ∙ ap (λ kinds. argument (tree_kinds_seen kinds) value c.loop-k.others) c.from_place.ensures
           ∙ arguments_on functions names c.args.takes.now c.args.args.now k c.index-args-k.result value c.loop-k.others within c.index-args-k.is
           found behind;
       same = c.in_ok-value.ensures.names ∙ c.loop-k.invariant.same;

@@ -8,19 +8,22 @@ code-returns-in-Call t c =
     let same = ap₂ call c.deref-in-Call.ensures.value (ap trees_in c.deref-in-Call-2.ensures.value)
     ∙ sym (tree_of_call c.in-Call.name c.in-Call.args) in
     rw c.in-Call.is
-    (subst (λ (x : Tree). WritesKind c.call.new.w c.call.result (compiled (callees_of c.args.known.now) (written_of c.args.w.now) x)) same
+    (subst (λ (expression : Tree).
+    WritesKind c.call.new.w c.call.result (compiled (callees_of c.args.known.now) (written_of c.args.w.now) expression)) same
     c.call.ensures)
 
 pub code-returns-in-If : goal.code-returns-in-If
 code-returns-in-If t c =
     rw c.in-If.is
-    (subst (λ (x : Tree). WritesKind c.choice.new.w c.choice.result (compiled (callees_of c.args.known.now) (written_of c.args.w.now) x))
+    (subst (λ (expression : Tree).
+    WritesKind c.choice.new.w c.choice.result (compiled (callees_of c.args.known.now) (written_of c.args.w.now) expression))
     (λ i. choice (tree_of (c.deref-in-If.ensures i)) (tree_of (c.deref-in-If-2.ensures i)) (tree_of (c.deref-in-If-3.ensures i))) c.choice.ensures)
 
 pub code-returns-in-For : goal.code-returns-in-For
 code-returns-in-For t c =
     rw c.in-For.is
-    (subst (λ (x : Tree). WritesKind c.each.new.w c.each.result (compiled (callees_of c.args.known.now) (written_of c.args.w.now) x))
+    (subst (λ (expression : Tree).
+    WritesKind c.each.new.w c.each.result (compiled (callees_of c.args.known.now) (written_of c.args.w.now) expression))
     (λ i. each (c.deref-in-For.ensures.value i) (tree_of (c.deref-in-For-2.ensures i)) (c.deref-in-For-3.ensures.value i) (tree_of
     (c.deref-in-For-4.ensures i)) (tree_of (c.deref-in-For-5.ensures i)))
     c.each.ensures)
@@ -28,5 +31,5 @@ code-returns-in-For t c =
 pub code-returns-in-Two : goal.code-returns-in-Two
 code-returns-in-Two t c =
     rw c.in-Two.is
-    (subst (λ (x : Tree). WritesKind c.two.new.w c.two.result (compiled (callees_of c.args.known.now) (written_of c.args.w.now) x))
+    (subst (λ (expression : Tree). WritesKind c.two.new.w c.two.result (compiled (callees_of c.args.known.now) (written_of c.args.w.now) expression))
     (λ i. two c.in-Two.word (tree_of (c.deref-in-Two.ensures i)) (tree_of (c.deref-in-Two-2.ensures i))) c.two.ensures)

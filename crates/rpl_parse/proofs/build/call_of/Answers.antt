@@ -7,4 +7,4 @@ use Rattle.rpl_parse.proofs.build.call_of.Goals as goal
 pub returns-clause-ok : goal.returns-clause-ok
 returns-clause-ok c =
     tree_of_call c.in_ok-name.name c.args.args
-    ∙ ap (λ (n : List ℕ). call n (trees_of (map tree_of c.args.args.items))) c.in_ok-name.ensures.ok
+    ∙ ap (λ (called_so : List ℕ). call called_so (trees_of (map tree_of c.args.args.items))) c.in_ok-name.ensures.ok

@@ -12,7 +12,7 @@ statements-loop-turn-init t c =
     record {
       same = rw c.new-acts.ensures.items
           (acts_is c.args.limit _ (toks c.args.text.now c.args.tokens.now)
-          (let l = length-map c.args.tokens.now (λ (t : TokenAt). token_seen c.args.text.now t.token) in omega (arith, l)));
+          (let l = length-map c.args.tokens.now (λ (a_token : TokenAt). token_seen c.args.text.now a_token.token) in omega (arith, l)));
       within = omega arith;
     }
 

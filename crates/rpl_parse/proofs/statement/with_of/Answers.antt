@@ -7,4 +7,4 @@ use Rattle.rpl_parse.proofs.statement.with_of.Goals as goal
 pub returns-clause-ok : goal.returns-clause-ok
 returns-clause-ok c =
     act_of_with c.in_ok-name.name c.args.value c.args.body
-    ∙ ap (λ (n : List ℕ). with_name n (tree_of c.args.value) (acts_of (map act_of c.args.body.items))) c.in_ok-name.ensures.ok
+    ∙ ap (λ (called_so : List ℕ). with_name called_so (tree_of c.args.value) (acts_of (map act_of c.args.body.items))) c.in_ok-name.ensures.ok

@@ -8,8 +8,8 @@ loop-behind-preserved c =
     let params = c.args.params.now in
     let left = length params - c.loop-behind.behind in
     let low = c.loop-behind-test.true in
-    let at : length params - (c.loop-behind.behind + 1) + 1 ≡ left = omega (arith, low) in
+    let counted : length params - (c.loop-behind.behind + 1) + 1 ≡ left = omega (arith, low) in
     let step : drop (length params - (c.loop-behind.behind + 1)) params ≡ c.index-params-params.result ∷ drop left params =
-    grind (arith, common_steps, c.index-params-params.is, at) in
+    grind (arith, common_steps, c.index-params-params.is, counted) in
     one_before c.loop-behind.scope c.push.new.self c.type_here.result (parameter_of c.index-params-params.result) _ _
     (rw c.deref.ensures.value at c.in-Ok.ensures.ok) (ap (map parameter_of) step) c.type_here.ensures c.loop-behind.invariant

@@ -8,4 +8,4 @@ visit-returns-in-Call t c =
     let same = ap₂ call c.deref-in-Call.ensures.value (ap trees_in c.deref-in-Call-2.ensures.value)
     ∙ sym (tree_of_call c.in-Call.name c.in-Call.args) in
     rw c.in-Call.is
-    (subst (λ (x : Tree). Visits c.args.known.now c.args.progress.now c.call.new.progress c.call.result x) same c.call.ensures)
+    (subst (λ (expression : Tree). Visits c.args.known.now c.args.progress.now c.call.new.progress c.call.result expression) same c.call.ensures)

@@ -1,4 +1,4 @@
-use Rattle.rw_base.proofs.Common.{get_or_read, length, rules, slice_index_or, Some, subst, sym, true, ◌<◌, ◌∙◌, ◌≡◌}
+use Rattle.rw_base.proofs.Common.{get_or_read, length, refl, rules, slice_index_or, Some, subst, sym, true, ◌<◌, ◌∙◌, ◌≡◌}
 use Rattle.rw_agenda.specs.CellIndex.{is_watching, index_position}
 use Rattle.rw_agenda.proofs.Watches.{watching_now, watching_still}
 use Rattle.rw_agenda.proofs.cell_index.CellIndex.watch.Goals as goal
@@ -12,8 +12,8 @@ returns-clause-watching c =
     get_or_read c.self.inside.newest.items c.in-Some.place c.index-newest.result.now near c.index-newest.ensures 0 in
     let many : c.len-2.result ≡ length c.push_watch.new.watches.items = search rules in
     watching_now c.self.inside.slots c.self.inside.steps c.self.inside.room c.self.inside.newest.items c.self.inside.watches.items c.self.inside.full
-    c.in-Some.place c.args.rule c.index-newest.result.now c.len-2.result c.push_watch.new.watches.items saw c.push_watch.ensures.added many near
-    c.args.cell at
+    c.in-Some.place c.args.rule c.args.cell.step.0 c.index-newest.result.now c.len-2.result c.push_watch.new.watches.items saw c.push_watch.ensures.added many near
+    c.args.cell refl at
 
 pub returns-clause-kept : goal.returns-clause-kept
 returns-clause-kept c other earlier watching =
@@ -23,6 +23,6 @@ returns-clause-kept c other earlier watching =
     let many : c.len-2.result ≡ length c.push_watch.new.watches.items = search rules in
     watching_still c.self.inside.slots c.self.inside.steps c.self.inside.room c.self.inside.newest.items c.self.inside.watches.items
     c.self.inside.full
-    c.in-Some.place c.args.rule c.index-newest.result.now c.len-2.result c.push_watch.new.watches.items saw c.push_watch.ensures.added many near
+    c.in-Some.place c.args.rule c.args.cell.step.0 c.index-newest.result.now c.len-2.result c.push_watch.new.watches.items saw c.push_watch.ensures.added many near
     other earlier
     (subst (λ index. is_watching index other earlier ≡ true) (sym c.self.view_is) watching)

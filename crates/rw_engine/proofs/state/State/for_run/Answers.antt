@@ -6,8 +6,8 @@ use Rattle.rw_engine.proofs.state.State.for_run.Goals as goal
 
 pub place-requires-clause-made : goal.place-requires-clause-made
 place-requires-clause-made c = record {
-  made = c.in_ok-series.ensures.made;
-  bounded = λ cell content known is. let none = sym (c.in_ok-series.ensures.unknown cell) ∙ is in absurd (cc);
+  made = c.in_ok-parts.ensures.series;
+  bounded = λ cell content known is. let none = sym (c.in_ok-parts.ensures.unknown cell) ∙ is in absurd (cc);
 }
 
 pub returns-clause-begun : goal.returns-clause-begun
@@ -18,9 +18,14 @@ returns-clause-begun c =
       traced = c.requires.notes;
     } in
     let given = placings c.args.basin.now c.args.inputs.now in record {
-      made = search (rules, notes, fits);
+      made = record {
+        engine = search (rules, notes, fits);
+        keeps = c.new.ensures ∙ c.is_kept-2.ensures;
+        counts = c.in_ok-parts.ensures.counts;
+        firings = c.in_ok-parts.ensures.firings ∙ sym c.in_ok-parts.ensures.rules.many;
+      };
       shows = record {
-        cells = c.place.ensures.placed [] c.in_ok-series.ensures.unknown;
+        cells = c.place.ensures.placed [] c.in_ok-parts.ensures.unknown;
         trace = shows_nothing c.args.trace _ (trace-placed [] given) c.requires.fresh;
         closed_steps = sym (closed-placed [] given);
         end = sym (end-placed [] given refl);

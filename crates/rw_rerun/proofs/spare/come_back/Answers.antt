@@ -1,14 +1,20 @@
 use Rattle.rw_base.proofs.Common.{ap, refl, subst, sym, ◌∙◌, ◌≡◌}
 use Rattle.rw_model.specs.declared.control.RunControl.{RunControl}
-use Rattle.rw_rerun.specs.Spare.{IsSpare}
+use Rattle.rw_rerun.specs.Spare.{AreKeptFrom, IsSpare}
 use Rattle.rw_rerun.proofs.Taken.{becomes_spare, can_give}
-use Rattle.rw_rerun.proofs.spare.spare_of.Goals as goal
+use Rattle.rw_rerun.proofs.spare.come_back.Goals as goal
 
 pub bring_back-requires-clause-stands : goal.bring_back-requires-clause-stands
 bring_back-requires-clause-stands c =
     let count : c.count.result ≡ c.args.basin.now.control.stamps.count =
     c.count.ensures.value ∙ ap (λ (k : RunControl). k.stamps.count) c.control.ensures in
     subst (λ n. IsSpare c.args.basin.now c.args.kept.now (record { engine = c.args.engine; behind = n })) (sym count) c.requires.stands
+
+pub bring_back-requires-clause-known : goal.bring_back-requires-clause-known
+bring_back-requires-clause-known c =
+    let count : c.count.result ≡ c.args.basin.now.control.stamps.count =
+    c.count.ensures.value ∙ ap (λ (k : RunControl). k.stamps.count) c.control.ensures in
+    subst (AreKeptFrom c.args.kept.now c.args.behind) (c.requires.many ∙ sym count) c.requires.others
 
 pub give_all-requires-clause-made : goal.give_all-requires-clause-made
 give_all-requires-clause-made c =

@@ -2,7 +2,7 @@ use Rattle.rw_engine.proofs.Common.{Inputs, IsEngineOf, IsSome, Shows, [], placi
 use Rattle.std.specs.Prelude.{◌*◌}
 use Rattle.rw_engine.specs.Picked.{StandsPicked, most_turns}
 use Rattle.rw_rules.specs.Rules.{policy_in}
-use Rattle.rw_engine.proofs.running.pass_all.Given as goal
+use Rattle.rw_engine.proofs.running.pass_steps.Given as goal
 
 abbrev pub invariant-loop-before : goal.invariant-loop-before
 invariant-loop-before g l = record {

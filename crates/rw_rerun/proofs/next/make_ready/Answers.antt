@@ -1,5 +1,5 @@
 use Rattle.rw_base.proofs.Common.{refl}
-use Rattle.rw_rerun.proofs.next.made_ready.Goals as goal
+use Rattle.rw_rerun.proofs.next.make_ready.Goals as goal
 
 pub bring-requires-clause-near : goal.bring-requires-clause-near
 bring-requires-clause-near c = c.requires.left.near
@@ -13,5 +13,5 @@ give_all-requires-clause-made c =
     let brought = c.in_ok-bring.ensures.stands is.policy is.start is.end is.stands in
     record { series = brought.made.series; notes = brought.made.notes }
 
-pub returns : goal.returns
-returns c = record { mid = _; brings = c.in_ok-bring.ensures; same = refl; gives = c.give_all.ensures }
+pub returns-clause-ready : goal.returns-clause-ready
+returns-clause-ready c = record { mid = _; brings = c.in_ok-bring.ensures; same = refl; gives = c.give_all.ensures }
