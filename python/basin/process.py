@@ -78,7 +78,8 @@ class Program:
 
 @contextlib.contextmanager
 def at_work(words: Sequence[str], program: PathLike | None = None) -> Iterator[Program]:
-    """The program while it writes to a pipe. Behind it `Refused` where it answered nothing."""
+    """The program while it writes to a pipe. Behind it `Refused` where it answered nothing; where its reader breaks
+    off it is ended."""
     path = find_program(program)
     with tempfile.TemporaryFile() as errors:
         try:
@@ -94,7 +95,11 @@ def at_work(words: Sequence[str], program: PathLike | None = None) -> Iterator[P
             raise NoProgram(f"cannot run {plain(path)}: {error.strerror}") from None
         with process:
             running = Program(process, errors)
-            yield running
+            try:
+                yield running
+            except BaseException:
+                running.leave()
+                raise
         running.judge()
 
 

@@ -146,6 +146,16 @@ def test_large_numbers_are_exact_or_refused() -> None:
         basin.run(model(), policy(), given)
 
 
+def test_a_program_whose_reader_breaks_off_is_ended(tmp_path: Path) -> None:
+    header = ",".join(("step", "stamp", *model().slots))
+    row = ",".join(("1", "2020-01-02T00:00", *[str(10**16 + 1)] * len(model().slots)))
+    (tmp_path / "told").write_text(f"# trace 1 settled\n{header}\n{row}\n# trace 2 settled\n")
+    program = script(tmp_path / "basin", f"cat {tmp_path}/told; exec sleep 1000")
+    frames = [pd.DataFrame({"Dam.Inflow": [5]}, index=[1])] * 2
+    with pytest.raises(OverflowError):
+        basin.mrm(model(), policy(), inputs(), frames, program=program)
+
+
 def test_why_and_check() -> None:
     cell = basin.why(*VALLEY, "Upper.Inflow", "2021-02-01")
     assert (cell.value, cell.flag, cell.given, len(cell.history)) == (320, "I0", True, 0)
