@@ -102,7 +102,7 @@ def execute(
     tell = progress or Lines()
     done: list[Done] = []
     failed: list[tuple[int, BaseException]] = []
-    here = client is None and workers == 0
+    here = client is None and workers == 0 or not missing
     ended = outcomes(told.folder, missing) if here else _by_workers(told, missing, client, workers, retries)
     for number, found in ended:
         if isinstance(found, BaseException):
@@ -144,8 +144,9 @@ def _client(client: Client | None, workers: int | None) -> Iterator[Client]:
     from distributed import Client as NewClient
     from distributed import LocalCluster
 
-    settings = {  # without them workers take a quarter more time: they look after themselves 160 times a second, and
-        # hand back all memory as soon as it is free, to be asked for again
+    # Without these workers take a quarter more of a processor: they look after themselves 160 times a second, and
+    # hand back memory as soon as it is free, to ask for it again.
+    settings = {
         "distributed.worker.profile.enabled": False,
         "distributed.worker.memory.monitor-interval": "1s",
         "distributed.admin.tick.interval": "1s",

@@ -352,7 +352,7 @@ def test_resumption_and_another_ensemble(tmp_path: Path) -> None:
     assert again == told and again.missing() == [2]
     assert [done.part for done in ensemble.execute(again, workers=0)] == [2]
     assert {path: path.read_bytes() for path in (told.folder / "parts").iterdir()} == before
-    assert ensemble.execute(again, workers=0) == []
+    assert ensemble.execute(again) == []  # and starts no worker
     for changed in (inflows(20, seed=2), inflows(19)):
         with pytest.raises(basin.Stale, match="another ensemble"):
             planned(tmp_path / "a", changed, size=5)
