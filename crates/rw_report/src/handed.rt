@@ -216,9 +216,11 @@ fn hand_section<K: Sink>(
     ensures { (top tail : List ℕ) → IsPrepared basin.now closed top tail prepared.old
         → MatchResult result
         (λ _. Grew (K.seen out.old) (K.seen out.new)
-        (top ++ ((columns basin.now ++ rows basin.now (values_in (held series.now)) closed) ++ tail)))
+        (top ++ ((columns basin.now
+        ++ rows basin.now (values_in (held series.now)) closed) ++ tail)))
         (λ _. BrokeOff (K.seen out.old) (K.seen out.new)
-        (top ++ ((columns basin.now ++ rows basin.now (values_in (held series.now)) closed) ++ tail))) }
+        (top ++ ((columns basin.now
+        ++ rows basin.now (values_in (held series.now)) closed) ++ tail))) }
 {
     match prepared.gathered.put(prepared.head.as_bytes(), out) {
         Ok(()) => {}
