@@ -1,6 +1,6 @@
 -- The budget of a declaration's block is what the declaration costs.
-use Rattle.rpl_compile.proofs.Common.{Acts, AreKindedActs, Before, Block, Budget, C, Callee, Costed, Draft, Head, Instruction, IsKindedBody, Kind}
-use Rattle.rpl_compile.proofs.Common.{List, Names, Ok, Option, Parameter, Price, Scope, Tree, W, [], acts_local_kinds, ap, ap₂, arith, before}
+use Rattle.rpl_compile.proofs.Common.{Acts, AreKindedActs, Before, Block, Budget, costs_ahead, Callee, Costed, Draft, Head, Instruction, IsKindedBody, Kind}
+use Rattle.rpl_compile.proofs.Common.{List, Names, Ok, Option, Parameter, Price, Scope, Tree, words_ahead, [], acts_local_kinds, ap, ap₂, arith, before}
 use Rattle.rpl_compile.proofs.Common.{befores, budget, budget_by, call_by, callee_heads, capped, code_kind, code_kinds, costed_heads, function_block}
 use Rattle.rpl_compile.proofs.Common.{heads_of, height, height_of_acts, limits, local_kinds, looks_of, max, most_of_acts, most_of_body, names_in}
 use Rattle.rpl_compile.proofs.Common.{param_kinds, param_names, parameters_from, price_of_looks, price_of_puts, price_of_steps, puts_of, refl}
@@ -52,10 +52,10 @@ module _ (scope : Scope) (lines : List Instruction) (befores_there : List Before
 -- what a block comes to, in each measure
 pub record Comes (scope : Scope) (lines : List Instruction) (befores_there : List Before) (budgets : List Budget)
     (count looks puts words : ℕ) : Type 0 where
-  pub by_count : C scope budgets (count_of scope budgets) lines befores_there 0 ≡ count
-  pub by_looks : C scope budgets (looks_of scope budgets) lines befores_there 0 ≡ looks
-  pub by_puts : C scope budgets (puts_of scope budgets) lines befores_there 0 ≡ puts
-  pub by_words : W scope budgets lines befores_there 0 ≡ words
+  pub by_count : costs_ahead scope budgets (count_of scope budgets) lines befores_there 0 ≡ count
+  pub by_looks : costs_ahead scope budgets (looks_of scope budgets) lines befores_there 0 ≡ looks
+  pub by_puts : costs_ahead scope budgets (puts_of scope budgets) lines befores_there 0 ≡ puts
+  pub by_words : words_ahead scope budgets lines befores_there 0 ≡ words
 
 pub comes_to : (scope : Scope) (lines : List Instruction) (befores_there : List Before) (budgets : List Budget) (count looks puts words : ℕ)
     → Comes scope lines befores_there budgets count looks puts words
@@ -63,8 +63,9 @@ pub comes_to : (scope : Scope) (lines : List Instruction) (befores_there : List 
     ≡ budget (capped limits.count count) (capped limits.looks looks) (capped limits.puts puts) (capped limits.words words)
 comes_to scope lines befores_there budgets count looks puts words comes =
     ap₂ (λ a b.
-    budget (capped limits.count a) (capped limits.looks b) (capped limits.puts (C scope budgets (puts_of scope budgets) lines befores_there 0))
-    (capped limits.words (W scope budgets lines befores_there 0))) comes.by_count comes.by_looks
+    budget (capped limits.count a) (capped limits.looks b)
+    (capped limits.puts (costs_ahead scope budgets (puts_of scope budgets) lines befores_there 0))
+    (capped limits.words (words_ahead scope budgets lines befores_there 0))) comes.by_count comes.by_looks
     ∙ ap₂ (λ a b. budget (capped limits.count count) (capped limits.looks looks) (capped limits.puts a) (capped limits.words b)) comes.by_puts
     comes.by_words
 

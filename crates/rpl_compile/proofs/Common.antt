@@ -71,9 +71,9 @@ pub use Rattle.rpl_types.specs.Judged.{and_function, cost_refusal, function_name
 pub use Rattle.rpl_types.specs.declared.type_kind.TypeKind.{TypeKind}
 pub use Rattle.rpl_types.specs.declared.type_kind.TypeKind.TheVariants.{DuplicateName, ListTooLong, LiteralRange, NotEarlier, TooCostly, UnknownName}
 pub use Rattle.rpl_types.specs.declared.type_kind.TypeKind.TheVariants.{WrongCount}
-pub use Rattle.rpl_verify.proofs.Common.{Accepted, Before, C, Frame, IsOperation, IsRoomy, Loop, Open, Running, Scope, State, W, and_true, answered}
+pub use Rattle.rpl_verify.proofs.Common.{Accepted, Before, Frame, IsOperation, IsRoomy, Loop, Open, Running, Scope, State, and_true, answered}
 pub use Rattle.rpl_verify.proofs.Common.{appended, are_same_kinds, before, before_at, befores, begin, behind_loop, blank, call_misfit, call_row}
-pub use Rattle.rpl_verify.proofs.Common.{carried, element_kind as code_element_of, element_picked, end_kinds, end_of_list, entered, first_frame}
+pub use Rattle.rpl_verify.proofs.Common.{carried, costs_ahead, element_kind as code_element_of, element_picked, end_kinds, end_of_list, entered, first_frame}
 pub use Rattle.rpl_verify.proofs.Common.{found, function_named, goes_by, handed_back, heads_of, heads_of as block_heads, invoke_row, invoked}
 pub use Rattle.rpl_verify.proofs.Common.{is_alike, is_same_loop, is_same_value_kind, is_that_kind, jumped, kind_of as code_kind_of, kinds_append}
 pub use Rattle.rpl_verify.proofs.Common.{kinds_length, kinds_of, list_room as code_room_of, list_value_kind as code_list_kind, load_row, loaded}
@@ -82,7 +82,7 @@ pub use Rattle.rpl_verify.proofs.Common.{numbered_is, of_function, of_list, oper
 pub use Rattle.rpl_verify.proofs.Common.{or_wrong, put_misfit, puts_of, refusal, misfit_refusal_of, rest_of, returned, room_on_top, row_in, rule_from}
 pub use Rattle.rpl_verify.proofs.Common.{run}
 pub use Rattle.rpl_verify.proofs.Common.{scope_of, step, step_at, step_by, step_in, store_row, taken, takes, then_do, truth_is as truth_of, turned}
-pub use Rattle.rpl_verify.proofs.Common.{unless_there, verified, visiting, with_made, words_of_all, words_of_kind}
+pub use Rattle.rpl_verify.proofs.Common.{unless_there, verified, visiting, with_made, words_ahead, words_of_all, words_of_kind}
 pub use Rattle.rpl_verify.proofs.KindFacts.{is_kind_refl, same_kind_refl, same_kinds_refl}
 pub use Rattle.rpl_verify.specs.Budget.{IsWithinLimits, at_a_time, block_ruling, budget_by, entering, going_of, onward, part_of, ruling, summed}
 pub use Rattle.rpl_verify.specs.Budget.{turning, within_limits, words_at, words_of_parameters}

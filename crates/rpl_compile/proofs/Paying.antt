@@ -1,10 +1,10 @@
 -- The account of a block that fits: what the table of its budgets has at each place. Each law of an account is one of that table's.
-use Rattle.rpl_compile.proofs.Common.{Before, Budget, C, Instruction, List, None, Ok, Open, Option, Price, Result, Scope, Some, ValueKind, VerifyKind}
-use Rattle.rpl_compile.proofs.Common.{W, [], ap, ap₂, arith, at_a_time, before, before_at, befores, bracket, end_of_list, ends_before, entering}
+use Rattle.rpl_compile.proofs.Common.{Before, Budget, costs_ahead, Instruction, List, None, Ok, Open, Option, Price, Result, Scope, Some, ValueKind, VerifyKind}
+use Rattle.rpl_compile.proofs.Common.{words_ahead, [], ap, ap₂, arith, at_a_time, before, before_at, befores, bracket, end_of_list, ends_before, entering}
 use Rattle.rpl_compile.proofs.Common.{going_of, judged_at, length, max, onward, refl, room_on_top, slice_get, slice_get_within, slice_index, spots}
 use Rattle.rpl_compile.proofs.Common.{subst, suc, summed, sym, turning, words_at, words_kept, ℕ, ◌*◌, ◌+◌, ◌<◌, ◌∙◌, ◌∷◌, ◌≡◌, ◌≤◌}
 use Rattle.rpl_code.specs.declared.instruction.Instruction.TheVariants as I
-use Rattle.rpl_verify.proofs.Loops.{Linked, P, ends_at, first_is, linked, past, spot}
+use Rattle.rpl_verify.proofs.Loops.{Linked, ends_ahead, ends_at, first_is, linked, past, judged_there}
 use Rattle.rpl_verify.proofs.Costs.{by_far_branch, by_far_entry, by_jump, by_next, by_turn, end_is, words_fit, words_fit_at_end}
 use Rattle.rpl_compile.proofs.Counting.{Account, IsInvoke, IsUnit, Prices}
 
@@ -32,17 +32,17 @@ module _ (scope : Scope) (lines : List Instruction) (befores_there : List Before
 
   -- the most that there is from a place on, and the most words
   abbrev sum_from : ℕ → ℕ
-  sum_from place = C scope budgets price lines befores_there place
+  sum_from place = costs_ahead scope budgets price lines befores_there place
 
   abbrev high_from : ℕ → ℕ
-  high_from place = W scope budgets lines befores_there place
+  high_from place = words_ahead scope budgets lines befores_there place
 
   -- from a place to a later one
   pub record Pays (place comes most end : ℕ) (at_end : Before) : Type 0 where
     pub there : found_at end ≡ at_end
     pub within : end ≤ length lines
-    pub sum : C scope budgets price lines befores_there place ≡ comes + C scope budgets price lines befores_there end
-    pub high : W scope budgets lines befores_there place ≡ max most (W scope budgets lines befores_there end)
+    pub sum : costs_ahead scope budgets price lines befores_there place ≡ comes + costs_ahead scope budgets price lines befores_there end
+    pub high : words_ahead scope budgets lines befores_there place ≡ max most (words_ahead scope budgets lines befores_there end)
 
   abbrev pub Way : ℕ → Before → ℕ → ℕ → ℕ → Before → Type 0
   Way place here sum high second_place there = before_at befores_there place ≡ here → place ≤ length lines → Pays place sum high second_place there
@@ -77,7 +77,7 @@ module _ (scope : Scope) (lines : List Instruction) (befores_there : List Before
       → found_at place ≡ here → found_at (suc place) ≡ there
   on place here there line stands judged is_here =
       same_before (found_at (suc place)) there
-      (sym (spot scope lines befores_there spotted fits place line stands) ∙ ap (λ b. judged_at scope place b line) is_here ∙ judged)
+      (sym (judged_there scope lines befores_there spotted fits place line stands) ∙ ap (λ b. judged_at scope place b line) is_here ∙ judged)
 
   inside : (place : ℕ) (line : Instruction) → slice_get lines place ≡ Some line → suc place ≤ length lines
   inside place line stands = let within_so = slice_get_within lines place line stands in omega (arith, within_so)
@@ -237,12 +237,12 @@ module _ (scope : Scope) (lines : List Instruction) (befores_there : List Before
       let in_end : suc last ≤ length lines = inside last end_line at_last in
       -- the loop's end
       let open_loops : (found_at last).loops ≡ open_loop ∷ outside.loops = ap (λ (here : Before). here.loops) turn_so.there ∙ open_there in
-      let link = subst (Linked scope lines befores_there spotted fits (P scope lines befores_there spotted fits last) 0) open_loops
+      let link = subst (Linked scope lines befores_there spotted fits (ends_ahead scope lines befores_there spotted fits last) 0) open_loops
       (linked scope lines befores_there spotted fits last) in
       let ends : past scope lines befores_there spotted fits place ≡ suc last =
       ap (past scope lines befores_there spotted fits) (sym start) ∙ link.0
       ∙ ap (λ (ns : List ℕ). slice_index ns 0) (ends_at scope lines befores_there spotted fits last end_line at_last)
-      ∙ closes_at end_line last (P scope lines befores_there spotted fits (suc last)) turning_so in
+      ∙ closes_at end_line last (ends_ahead scope lines befores_there spotted fits (suc last)) turning_so in
       let far : place < past scope lines befores_there spotted fits place = omega (arith, ends, less) in
       let entry_sum = by_far_entry summing lines befores_there place line stands entering_so far in
       let entry_high = by_far_entry keeping lines befores_there place line stands entering_so far in
@@ -284,7 +284,7 @@ module _ (scope : Scope) (lines : List Instruction) (befores_there : List Before
   -- what the whole block comes to
   pub whole : (sum high : ℕ) (there : Before) → paying_account.Way 0 (before [] []) sum high (0 + length lines) there
       → words_kept scope.locals there ≤ high
-      → (C scope budgets price lines befores_there 0 ≡ sum) × (W scope budgets lines befores_there 0 ≡ high)
+      → (costs_ahead scope budgets price lines befores_there 0 ≡ sum) × (words_ahead scope budgets lines befores_there 0 ≡ high)
   unfolding paying_account
   whole sum high there way tall =
       let way_so = way (first_is scope lines befores_there spotted fits) (omega arith) in

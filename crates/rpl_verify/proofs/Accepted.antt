@@ -1,5 +1,6 @@
 -- Accepted code is safe: its blocks fit, and their budgets are what they may come to.
 use Rattle.rw_base.proofs.Common.{◌≡◌, ℕ, zero, suc, ◌+◌, ◌-◌, ◌≤◌, ◌<◌, ◌==◌, ℤ, Bool, true, false, nat_lt, nat_le, List, [], ◌∷◌, ◌++◌, length}
+use Rattle.rw_base.specs.declared.limits.TheConstants.{RULES_MAX}
 use Rattle.rw_base.proofs.Common.{take, Option, Some, None, Result, Ok, Err, refl, sym, ap, ap₂, ◌∙◌, subst, arith, append_assoc, append-nil}
 use Rattle.rw_base.proofs.Common.{length-append, if◌then◌else◌, slice_get, option_and_then, option_map, slice_get_within, length-take, nat_tests}
 use Rattle.rw_base.specs.declared.number.Cell.{Cell}
@@ -17,280 +18,345 @@ use Rattle.rpl_verify.specs.Budget.{AreAccepted, IsWithinLimits, at_a_time, bloc
 use Rattle.rpl_verify.specs.Budget.{summed, within_limits}
 use Rattle.rpl_verify.specs.Machine.{Frame, begin, fired, first_frame, most_steps, rule_from, run}
 use Rattle.rpl_verify.specs.Safety.{AreSafe, firing_from, look_count_in, most_words, puts_from, states}
-use Rattle.rpl_verify.proofs.Rulings.{at_place_ok, in_block_ok, same_budget, then_do_ok, within}
-use Rattle.rpl_verify.proofs.Costs.{C, W}
+use Rattle.rpl_verify.proofs.Rulings.{at_place_ok, in_block_ok, same_budget, within}
+use Rattle.rpl_verify.proofs.KindFacts.{then_do_ok}
+use Rattle.rpl_verify.proofs.Costs.{costs_ahead, words_ahead}
 use Rattle.rpl_verify.proofs.States.{Covers, Fits, begun, block_or}
 use Rattle.rpl_verify.proofs.Running.{EndsOn, Ran, runs}
 
 -- ---- lists
 
-pub numbered_is : {A : Type 0} (xs : List A) (n : ℕ) (x : A) → numbered xs n ≡ Some x → (slice_get xs (n - 1) ≡ Some x) × (1 ≤ n)
-numbered_is xs n x h = by (nat_le 1 n) refl h
+pub numbered_is : {A : Type 0} (things : List A) (number : ℕ) (thing : A) → numbered things number ≡ Some thing
+    → (slice_get things (number - 1) ≡ Some thing) × (1 ≤ number)
+numbered_is things number thing numbered_so = by (nat_le 1 number) refl numbered_so
   where
-    by : (t : Bool) → nat_le 1 n ≡ t → (if t then slice_get xs (n - 1) else None) ≡ Some x → (slice_get xs (n - 1) ≡ Some x) × (1 ≤ n)
-    by true e h = (h, grind (arith, nat_tests, e))
-    by false e h = absurd (cc h)
+    by : (truth : Bool) → nat_le 1 number ≡ truth → (if truth then slice_get things (number - 1) else None) ≡ Some thing
+        → (slice_get things (number - 1) ≡ Some thing) × (1 ≤ number)
+    by true nat_le_is if_is = (if_is, grind (arith, nat_tests, nat_le_is))
+    by false nat_le_is if_is = absurd (cc if_is)
 
-pub numbered_by : {A : Type 0} (xs : List A) (n : ℕ) (x : A) → slice_get xs (n - 1) ≡ Some x → 1 ≤ n → numbered xs n ≡ Some x
-numbered_by xs n x h le = by (nat_le 1 n) (grind (arith, nat_tests, le))
+pub numbered_by : {A : Type 0} (things : List A) (number : ℕ) (thing : A) → slice_get things (number - 1) ≡ Some thing → 1 ≤ number
+    → numbered things number ≡ Some thing
+numbered_by things number thing found at_most = by (nat_le 1 number) (grind (arith, nat_tests, at_most))
   where
-    by : (t : Bool) → t ≡ true → (if t then slice_get xs (n - 1) else None) ≡ Some x
-    by true e = h
-    by false e = absurd (cc e)
+    by : (truth : Bool) → truth ≡ true → (if truth then slice_get things (number - 1) else None) ≡ Some thing
+    by true truth_is = found
+    by false truth_is = absurd (cc truth_is)
 
-pub get_behind : {A : Type 0} (xs ys : List A) (x : A) → slice_get ((xs ++ x ∷ []) ++ ys) (length xs) ≡ Some x
-get_behind [] ys x = refl
-get_behind (z ∷ xs) ys x = get_behind xs ys x
+pub get_behind : {A : Type 0} (things other_things : List A) (thing : A)
+    → slice_get ((things ++ thing ∷ []) ++ other_things) (length things) ≡ Some thing
+get_behind [] other_things thing = refl
+get_behind (thing ∷ things) other_things other_thing = get_behind things other_things other_thing
 
-take_front : {A : Type 0} (xs ys : List A) → take (length xs) (xs ++ ys) ≡ xs
-take_front [] ys = refl
-take_front (x ∷ xs) ys = ap (λ l. x ∷ l) (take_front xs ys)
+take_front : {A : Type 0} (things other_things : List A) → take (length things) (things ++ other_things) ≡ things
+take_front [] other_things = refl
+take_front (thing ∷ things) other_things = ap (λ l. thing ∷ l) (take_front things other_things)
 
-get_taken : {A : Type 0} (n k : ℕ) (xs : List A) (x : A) → k < n → slice_get xs k ≡ Some x → slice_get (take n xs) k ≡ Some x
-get_taken zero k xs x lt h = absurd (omega (arith, lt))
-get_taken (suc n) k [] x lt h = absurd (cc h)
-get_taken (suc n) zero (y ∷ xs) x lt h = h
-get_taken (suc n) (suc k) (y ∷ xs) x lt h = get_taken n k xs x (omega (arith, lt)) h
+get_taken : {A : Type 0} (n index : ℕ) (things : List A) (thing : A) → index < n → slice_get things index ≡ Some thing
+    → slice_get (take n things) index ≡ Some thing
+get_taken zero index things thing below found = absurd (omega (arith, below))
+get_taken (suc n) index [] thing below found = absurd (cc found)
+get_taken (suc n) zero (thing ∷ things) other_thing below found = found
+get_taken (suc n) (suc index) (thing ∷ things) other_thing below found = get_taken n index things other_thing (omega (arith, below)) found
 
 -- ---- blocks, one after the other
 
 module _ {A : Type 0} (judge : List Block → List A → Block → Result A Misplaced) where
-  front : (earlier : List Block) (done : List A) (xs : List Block) (all : List A) → each_block judge earlier done xs ≡ Ok all
-      → (ds : List A) × (done ++ ds ≡ all)
-  front earlier done [] all h = ([], append-nil done ∙ cc h)
-  front earlier done (x ∷ xs) all h =
-      let q = in_block_ok (suc (length earlier)) (judge earlier done x) (λ a. each_block judge (earlier ++ x ∷ []) (done ++ a ∷ []) xs) all h in
-      let r = front (earlier ++ x ∷ []) (done ++ q.0 ∷ []) xs all q.2 in
-      (q.0 ∷ r.0, sym (append_assoc done (q.0 ∷ []) r.0) ∙ r.1)
+  front : (earlier : List Block) (done : List A) (blocks : List Block) (all : List A) → each_block judge earlier done blocks ≡ Ok all
+      → (things : List A) × (done ++ things ≡ all)
+  front earlier done [] all each_block_is = ([], append-nil done ∙ cc each_block_is)
+  front earlier done (block ∷ blocks) all each_block_is =
+      let in_block_ok_so =
+      in_block_ok (suc (length earlier)) (judge earlier done block) (λ a. each_block judge (earlier ++ block ∷ []) (done ++ a ∷ []) blocks)
+      all each_block_is in
+      let front_so = front (earlier ++ block ∷ []) (done ++ in_block_ok_so.0 ∷ []) blocks all in_block_ok_so.2 in
+      (in_block_ok_so.0 ∷ front_so.0, sym (append_assoc done (in_block_ok_so.0 ∷ []) front_so.0) ∙ front_so.1)
 
-  pub judged_at : (earlier : List Block) (done : List A) (xs : List Block) (all : List A) (k : ℕ) (x : Block)
-      → each_block judge earlier done xs ≡ Ok all → slice_get xs k ≡ Some x
-      → (a : A) × (judge (earlier ++ take k xs) (take (length done + k) all) x ≡ Ok a) × (slice_get all (length done + k) ≡ Some a)
-  judged_at earlier done [] all k x h e = absurd (cc e)
-  judged_at earlier done (y ∷ xs) all zero x h e =
-      let q = in_block_ok (suc (length earlier)) (judge earlier done y) (λ a. each_block judge (earlier ++ y ∷ []) (done ++ a ∷ []) xs) all h in
-      let r = front (earlier ++ y ∷ []) (done ++ q.0 ∷ []) xs all q.2 in
-      let o : y ≡ x = cc e in
-      let z : length done ≡ length done + 0 = omega arith in
-      let d : take (length done) all ≡ done = ap (take (length done)) (sym r.1 ∙ append_assoc done (q.0 ∷ []) r.0) ∙ take_front done (q.0 ∷ r.0) in (
-        q.0,
-        ap₂ (λ es ds. judge es ds x) (append-nil earlier) (ap (λ n. take n all) (sym z) ∙ d) ∙ ap (judge earlier done) (sym o) ∙ q.1,
-        ap₂ (λ ds n. slice_get ds n) (sym r.1) (sym z) ∙ get_behind done r.0 q.0,
+  pub judged_at : (earlier : List Block) (done : List A) (blocks : List Block) (all : List A) (index : ℕ) (block : Block)
+      → each_block judge earlier done blocks ≡ Ok all → slice_get blocks index ≡ Some block
+      → (thing : A) × (judge (earlier ++ take index blocks) (take (length done + index) all) block ≡ Ok thing)
+      × (slice_get all (length done + index) ≡ Some thing)
+  judged_at earlier done [] all index block each_block_is found = absurd (cc found)
+  judged_at earlier done (other_block ∷ blocks) all zero block each_block_is found =
+      let in_block_ok_so =
+      in_block_ok (suc (length earlier)) (judge earlier done other_block)
+      (λ a. each_block judge (earlier ++ other_block ∷ []) (done ++ a ∷ []) blocks) all each_block_is in
+      let front_so = front (earlier ++ other_block ∷ []) (done ++ in_block_ok_so.0 ∷ []) blocks all in_block_ok_so.2 in
+      let other_block_is : other_block ≡ block = cc found in
+      let length_is : length done ≡ length done + 0 = omega arith in
+      let take_is : take (length done) all ≡ done =
+      ap (take (length done)) (sym front_so.1 ∙ append_assoc done (in_block_ok_so.0 ∷ []) front_so.0)
+      ∙ take_front done (in_block_ok_so.0 ∷ front_so.0) in (
+        in_block_ok_so.0,
+        ap₂ (λ es ds. judge es ds block) (append-nil earlier) (ap (λ n. take n all) (sym length_is) ∙ take_is)
+            ∙ ap (judge earlier done) (sym other_block_is) ∙ in_block_ok_so.1,
+        ap₂ (λ ds n. slice_get ds n) (sym front_so.1) (sym length_is) ∙ get_behind done front_so.0 in_block_ok_so.0,
       )
-  judged_at earlier done (y ∷ xs) all (suc k) x h e =
-      let q = in_block_ok (suc (length earlier)) (judge earlier done y) (λ a. each_block judge (earlier ++ y ∷ []) (done ++ a ∷ []) xs) all h in
-      let r = judged_at (earlier ++ y ∷ []) (done ++ q.0 ∷ []) xs all k x q.2 e in
-      let z : length (done ++ q.0 ∷ []) + k ≡ length done + suc k = omega (arith, length-append done (q.0 ∷ [])) in (
-        r.0,
-        ap₂ (λ es n. judge es (take n all) x) (sym (append_assoc earlier (y ∷ []) (take k xs))) (sym z) ∙ r.1,
-        ap (slice_get all) (sym z) ∙ r.2,
+  judged_at earlier done (other_block ∷ blocks) all (suc index) block each_block_is found =
+      let in_block_ok_so =
+      in_block_ok (suc (length earlier)) (judge earlier done other_block)
+      (λ a. each_block judge (earlier ++ other_block ∷ []) (done ++ a ∷ []) blocks) all each_block_is in
+      let judged_at_so = judged_at (earlier ++ other_block ∷ []) (done ++ in_block_ok_so.0 ∷ []) blocks all index block in_block_ok_so.2 found in
+      let length_is : length (done ++ in_block_ok_so.0 ∷ []) + index ≡ length done + suc index =
+      omega (arith, length-append done (in_block_ok_so.0 ∷ [])) in (
+        judged_at_so.0,
+        ap₂ (λ es n. judge es (take n all) block) (sym (append_assoc earlier (other_block ∷ []) (take index blocks))) (sym length_is)
+            ∙ judged_at_so.1,
+        ap (slice_get all) (sym length_is) ∙ judged_at_so.2,
       )
 
 uncapped : (limit n : ℕ) → capped limit n ≤ limit → capped limit n ≡ n
-uncapped limit n h = omega (arith, h)
+uncapped limit n at_most = omega (arith, at_most)
 
 abbrev pub befores_or : Result (List Before) Misplaced → List Before
-befores_or (Ok bs) = bs
-befores_or (Err e) = []
+befores_or (Ok befores_there) = befores_there
+befores_or (Err misplaced) = []
 
 module _ (basin : Draft) (code : List Block) (budgets : List Budget) (accepted : AreAccepted basin code budgets) where
   -- what is before each place of each block, and the budgets of the blocks before it
-  abbrev pub bs : ℕ → List Before
-  bs n = befores_or (befores (scope_of basin code n (block_or (numbered code n))) 0 (before [] []) (block_or (numbered code n)).lines)
+  abbrev pub accepted_befores : ℕ → List Before
+  accepted_befores number =
+      befores_or (befores (scope_of basin code number (block_or (numbered code number))) 0 (before [] []) (block_or (numbered code number)).lines)
 
   abbrev pub earlier : ℕ → List Budget
   earlier n = take (n - 1) budgets
 
-  pub record Ruled (n : ℕ) (x : Block) : Type 0 where
+  pub record Ruled (number : ℕ) (block : Block) : Type 0 where
     pub places : List Before
-    pub fit : befores (scope_of basin code n x) 0 (before [] []) x.lines ≡ Ok places
+    pub fit : befores (scope_of basin code number block) 0 (before [] []) block.lines ≡ Ok places
     pub budget_is : Budget
-    pub at : numbered budgets n ≡ Some budget_is
-    pub same : budget_by (scope_of basin code n x) (earlier n) places x.lines ≡ budget_is
+    pub at : numbered budgets number ≡ Some budget_is
+    pub same : budget_by (scope_of basin code number block) (earlier number) places block.lines ≡ budget_is
     pub limited : IsWithinLimits budget_is
 
-  pub ruled : (n : ℕ) (x : Block) → numbered code n ≡ Some x → Ruled n x
-  ruled n x h =
-      let s = numbered_is code n x h in
-      let k : ℕ = n - 1 in
-      let j = judged_at (block_ruling basin code) [] [] code budgets k x accepted s.0 in
-      let z : 0 + k ≡ k = omega arith in
-      let y : suc (length (take k code)) ≡ n = omega (arith, length-take k code, slice_get_within code k x s.0, s.1) in
-      let b = then_do_ok (block_befores basin code (take k code) x) (λ (places : List Before).
-      at_place (length x.lines) (within_limits (budget_by (scope_of basin code (suc (length (take k code))) x) (take (0 + k) budgets) places x.lines))
-      (λ d. Ok d)) j.0 j.1 in
-      let spends : Budget = budget_by (scope_of basin code (suc (length (take k code))) x) (take (0 + k) budgets) b.0 x.lines in
-      let w = at_place_ok (length x.lines) (within_limits spends) j.0 b.2 in
+  pub ruled : (number : ℕ) (block : Block) → numbered code number ≡ Some block → Ruled number block
+  ruled number block numbered_so =
+      let stands = numbered_is code number block numbered_so in
+      let index : ℕ = number - 1 in
+      let judged_at_so = judged_at (block_ruling basin code) [] [] code budgets index block accepted stands.0 in
+      let same : 0 + index ≡ index = omega arith in
+      let same_so : suc (length (take index code)) ≡ number =
+      omega (arith, length-take index code, slice_get_within code index block stands.0, stands.1) in
+      let judged = then_do_ok (block_befores basin code (take index code) block) (λ (places : List Before).
+      at_place (length block.lines) (within_limits
+      (budget_by (scope_of basin code (suc (length (take index code))) block) (take (0 + index) budgets) places block.lines))
+      (λ d. Ok d)) judged_at_so.0 judged_at_so.1 in
+      let spends : Budget = budget_by (scope_of basin code (suc (length (take index code))) block) (take (0 + index) budgets) judged.0 block.lines in
+      let at_place_ok_so = at_place_ok (length block.lines) (within_limits spends) judged_at_so.0 judged.2 in
       record {
-        places = b.0;
+        places = judged.0;
         fit =
-            ap (λ m. befores (scope_of basin code m x) 0 (before [] []) x.lines) (sym y)
-            ∙ few (nat_lt (count_alike x.head (take k code)) 200) _ b.0 b.1;
-        budget_is = j.0;
-        at = numbered_by budgets n j.0 (ap (slice_get budgets) (sym z) ∙ j.2) s.1;
-        same = ap₂ (λ m i. budget_by (scope_of basin code m x) (take i budgets) b.0 x.lines) (sym y) (sym z) ∙ same_budget spends j.0 w;
-        limited = within spends j.0 w;
+            ap (λ m. befores (scope_of basin code m block) 0 (before [] []) block.lines) (sym same_so)
+            ∙ few (nat_lt (count_alike block.head (take index code)) RULES_MAX) _ judged.0 judged.1;
+        budget_is = judged_at_so.0;
+        at = numbered_by budgets number judged_at_so.0 (ap (slice_get budgets) (sym same) ∙ judged_at_so.2) stands.1;
+        same =
+            ap₂ (λ m i. budget_by (scope_of basin code m block) (take i budgets) judged.0 block.lines) (sym same_so) (sym same)
+            ∙ same_budget spends judged_at_so.0 at_place_ok_so;
+        limited = within spends judged_at_so.0 at_place_ok_so;
       }
     where
-      few : (t : Bool) (r : Result (List Before) Misplaced) (l : List Before)
-          → (if t then r else Err (record { misfit = TooMany; place = 0 })) ≡ Ok l → r ≡ Ok l
-      few true r l h = h
-      few false r l h = absurd (cc h)
+      few : (truth : Bool) (result : Result (List Before) Misplaced) (befores_there : List Before)
+          → (if truth then result else Err (record { misfit = TooMany; place = 0 })) ≡ Ok befores_there → result ≡ Ok befores_there
+      few true result befores_there if_is = if_is
+      few false result befores_there if_is = absurd (cc if_is)
 
-  bs_is : (n : ℕ) (x : Block) (e : numbered code n ≡ Some x) → bs n ≡ (ruled n x e).places
-  bs_is n x e =
-      ap (λ (y : Block). befores_or (befores (scope_of basin code n y) 0 (before [] []) y.lines)) (ap block_or e) ∙ ap befores_or (ruled n x e).fit
+  befores_are : (number : ℕ) (block : Block) (numbered_so : numbered code number ≡ Some block)
+      → accepted_befores number ≡ (ruled number block numbered_so).places
+  befores_are number block numbered_so =
+      ap (λ (y : Block). befores_or (befores (scope_of basin code number y) 0 (before [] []) y.lines)) (ap block_or numbered_so)
+      ∙ ap befores_or (ruled number block numbered_so).fit
 
-  pub fits : (n : ℕ) (x : Block) → numbered code n ≡ Some x → befores (scope_of basin code n x) 0 (before [] []) x.lines ≡ Ok (bs n)
-  fits n x e = (ruled n x e).fit ∙ ap Ok (sym (bs_is n x e))
+  pub fits : (number : ℕ) (block : Block) → numbered code number ≡ Some block
+      → befores (scope_of basin code number block) 0 (before [] []) block.lines ≡ Ok (accepted_befores number)
+  fits number block numbered_so = (ruled number block numbered_so).fit ∙ ap Ok (sym (befores_are number block numbered_so))
 
   -- a block's budget is what it may come to
-  pub record Exact (n : ℕ) (x : Block) (d : Budget) : Type 0 where
-    pub count : C (scope_of basin code n x) (earlier n) (count_of (scope_of basin code n x) (earlier n)) x.lines (bs n) 0 ≡ d.count
-    pub looks : C (scope_of basin code n x) (earlier n) (looks_of (scope_of basin code n x) (earlier n)) x.lines (bs n) 0 ≡ d.looks
-    pub puts : C (scope_of basin code n x) (earlier n) (puts_of (scope_of basin code n x) (earlier n)) x.lines (bs n) 0 ≡ d.puts
-    pub words : W (scope_of basin code n x) (earlier n) x.lines (bs n) 0 ≡ d.words
+  pub record Exact (n : ℕ) (block : Block) (its_budget : Budget) : Type 0 where
+    pub count : costs_ahead (scope_of basin code n block) (earlier n) (count_of (scope_of basin code n block) (earlier n)) block.lines
+        (accepted_befores n) 0 ≡ its_budget.count
+    pub looks : costs_ahead (scope_of basin code n block) (earlier n) (looks_of (scope_of basin code n block) (earlier n)) block.lines
+        (accepted_befores n) 0 ≡ its_budget.looks
+    pub puts : costs_ahead (scope_of basin code n block) (earlier n) (puts_of (scope_of basin code n block) (earlier n)) block.lines
+        (accepted_befores n) 0 ≡ its_budget.puts
+    pub words : words_ahead (scope_of basin code n block) (earlier n) block.lines (accepted_befores n) 0 ≡ its_budget.words
 
-  pub exact : (n : ℕ) (x : Block) (e : numbered code n ≡ Some x) → Exact n x (ruled n x e).budget_is
-  exact n x e =
-      let r = ruled n x e in
-      let sc : Scope = scope_of basin code n x in
-      let same : budget_by sc (earlier n) (bs n) x.lines ≡ r.budget_is = ap (λ l. budget_by sc (earlier n) l x.lines) (bs_is n x e) ∙ r.same in
-      let m1 : capped limits.count (most (summed sc (earlier n) (count_of sc (earlier n))) (bs n) x.lines) ≡ r.budget_is.count =
+  pub exact : (number : ℕ) (block : Block) (numbered_so : numbered code number ≡ Some block)
+      → Exact number block (ruled number block numbered_so).budget_is
+  exact number block numbered_so =
+      let ruling = ruled number block numbered_so in
+      let scope : Scope = scope_of basin code number block in
+      let same : budget_by scope (earlier number) (accepted_befores number) block.lines ≡ ruling.budget_is =
+      ap (λ l. budget_by scope (earlier number) l block.lines) (befores_are number block numbered_so) ∙ ruling.same in
+      let count_is : capped limits.count (most (summed scope (earlier number) (count_of scope (earlier number))) (accepted_befores number)
+      block.lines) ≡ ruling.budget_is.count =
       ap (λ (d : Budget). d.count) same in
-      let m2 : capped limits.looks (most (summed sc (earlier n) (looks_of sc (earlier n))) (bs n) x.lines) ≡ r.budget_is.looks =
+      let looks_is : capped limits.looks (most (summed scope (earlier number) (looks_of scope (earlier number))) (accepted_befores number)
+      block.lines) ≡ ruling.budget_is.looks =
       ap (λ (d : Budget). d.looks) same in
-      let m3 : capped limits.puts (most (summed sc (earlier n) (puts_of sc (earlier n))) (bs n) x.lines) ≡ r.budget_is.puts =
+      let puts_is : capped limits.puts (most (summed scope (earlier number) (puts_of scope (earlier number))) (accepted_befores number) block.lines)
+      ≡ ruling.budget_is.puts =
       ap (λ (d : Budget). d.puts) same in
-      let m4 : capped limits.words (most (at_a_time sc (earlier n)) (bs n) x.lines) ≡ r.budget_is.words = ap (λ (d : Budget). d.words) same in
+      let words_is : capped limits.words (most (at_a_time scope (earlier number)) (accepted_befores number) block.lines) ≡ ruling.budget_is.words =
+      ap (λ (d : Budget). d.words) same in
       record {
-        count = sym (uncapped limits.count _ (omega (arith, m1, r.limited.count))) ∙ m1;
-        looks = sym (uncapped limits.looks _ (omega (arith, m2, r.limited.looks))) ∙ m2;
-        puts = sym (uncapped limits.puts _ (omega (arith, m3, r.limited.puts))) ∙ m3;
-        words = sym (uncapped limits.words _ (omega (arith, m4, r.limited.words))) ∙ m4;
+        count = sym (uncapped limits.count _ (omega (arith, count_is, ruling.limited.count))) ∙ count_is;
+        looks = sym (uncapped limits.looks _ (omega (arith, looks_is, ruling.limited.looks))) ∙ looks_is;
+        puts = sym (uncapped limits.puts _ (omega (arith, puts_is, ruling.limited.puts))) ∙ puts_is;
+        words = sym (uncapped limits.words _ (omega (arith, words_is, ruling.limited.words))) ∙ words_is;
       }
 
   module _ (values : Cell → Option ℤ) (now : ℕ) where
-    pub covered : (n k : ℕ) (x y : Block) → numbered code n ≡ Some x → nat_lt k n ≡ true → numbered code k ≡ Some y
-        → Covers basin code values now bs earlier fits n k
-    covered n k x y h lt e =
-        let r = ruled k y e in
-        let q = exact k y e in
-        let b : block_or (numbered code k) ≡ y = ap block_or e in
-        let s = numbered_is budgets k r.budget_is r.at in
-        let less : k < n = grind (arith, nat_tests, lt) in
-        let d : numbered (earlier n) k ≡ Some r.budget_is =
-        numbered_by (earlier n) k r.budget_is (get_taken (n - 1) (k - 1) budgets r.budget_is (omega (arith, less, s.1)) s.0) s.1 in
-        let m1 : C (scope_of basin code k (block_or (numbered code k))) (earlier k)
-        (count_of (scope_of basin code k (block_or (numbered code k))) (earlier k)) (block_or (numbered code k)).lines (bs k) 0
-        ≡ r.budget_is.count =
-        ap (λ (z : Block). C (scope_of basin code k z) (earlier k) (count_of (scope_of basin code k z) (earlier k)) z.lines (bs k) 0) b ∙ q.count in
-        let m2 : C (scope_of basin code k (block_or (numbered code k))) (earlier k)
-        (looks_of (scope_of basin code k (block_or (numbered code k))) (earlier k)) (block_or (numbered code k)).lines (bs k) 0
-        ≡ r.budget_is.looks =
-        ap (λ (z : Block). C (scope_of basin code k z) (earlier k) (looks_of (scope_of basin code k z) (earlier k)) z.lines (bs k) 0) b ∙ q.looks in
-        let m3 : C (scope_of basin code k (block_or (numbered code k))) (earlier k)
-        (puts_of (scope_of basin code k (block_or (numbered code k))) (earlier k)) (block_or (numbered code k)).lines (bs k) 0
-        ≡ r.budget_is.puts =
-        ap (λ (z : Block). C (scope_of basin code k z) (earlier k) (puts_of (scope_of basin code k z) (earlier k)) z.lines (bs k) 0) b ∙ q.puts in
-        let m4 : W (scope_of basin code k (block_or (numbered code k))) (earlier k) (block_or (numbered code k)).lines (bs k) 0 ≡ r.budget_is.words =
-        ap (λ (z : Block). W (scope_of basin code k z) (earlier k) z.lines (bs k) 0) b ∙ q.words in
+    pub covered : (number callee : ℕ) (block other_block : Block) → numbered code number ≡ Some block → nat_lt callee number ≡ true
+        → numbered code callee ≡ Some other_block
+        → Covers basin code values now accepted_befores earlier fits number callee
+    covered number callee block other_block numbered_so nat_lt_is numbered_too =
+        let ruling = ruled callee other_block numbered_too in
+        let comes_to = exact callee other_block numbered_too in
+        let block_or_is : block_or (numbered code callee) ≡ other_block = ap block_or numbered_too in
+        let stands = numbered_is budgets callee ruling.budget_is ruling.at in
+        let less : callee < number = grind (arith, nat_tests, nat_lt_is) in
+        let numbered_here : numbered (earlier number) callee ≡ Some ruling.budget_is =
+        numbered_by (earlier number) callee ruling.budget_is
+        (get_taken (number - 1) (callee - 1) budgets ruling.budget_is (omega (arith, less, stands.1)) stands.0) stands.1 in
+        let count_is : costs_ahead (scope_of basin code callee (block_or (numbered code callee))) (earlier callee)
+        (count_of (scope_of basin code callee (block_or (numbered code callee))) (earlier callee)) (block_or (numbered code callee)).lines
+        (accepted_befores callee) 0
+        ≡ ruling.budget_is.count =
+        ap (λ (z : Block). costs_ahead (scope_of basin code callee z) (earlier callee) (count_of (scope_of basin code callee z) (earlier callee))
+        z.lines (accepted_befores callee) 0) block_or_is ∙ comes_to.count in
+        let looks_is : costs_ahead (scope_of basin code callee (block_or (numbered code callee))) (earlier callee)
+        (looks_of (scope_of basin code callee (block_or (numbered code callee))) (earlier callee)) (block_or (numbered code callee)).lines
+        (accepted_befores callee) 0
+        ≡ ruling.budget_is.looks =
+        ap (λ (z : Block). costs_ahead (scope_of basin code callee z) (earlier callee) (looks_of (scope_of basin code callee z) (earlier callee))
+        z.lines (accepted_befores callee) 0) block_or_is ∙ comes_to.looks in
+        let puts_is : costs_ahead (scope_of basin code callee (block_or (numbered code callee))) (earlier callee)
+        (puts_of (scope_of basin code callee (block_or (numbered code callee))) (earlier callee)) (block_or (numbered code callee)).lines
+        (accepted_befores callee) 0
+        ≡ ruling.budget_is.puts =
+        ap (λ (z : Block). costs_ahead (scope_of basin code callee z) (earlier callee) (puts_of (scope_of basin code callee z) (earlier callee))
+        z.lines (accepted_befores callee) 0) block_or_is ∙ comes_to.puts in
+        let words_is : words_ahead (scope_of basin code callee (block_or (numbered code callee))) (earlier callee)
+        (block_or (numbered code callee)).lines (accepted_befores callee) 0 ≡ ruling.budget_is.words =
+        ap (λ (z : Block). words_ahead (scope_of basin code callee z) (earlier callee) z.lines (accepted_befores callee) 0) block_or_is
+        ∙ comes_to.words in
         record {
-          count = omega (arith, m1, ap (part_of (λ (d : Budget). d.count)) d);
-          looks = omega (arith, m2, ap (part_of (λ (d : Budget). d.looks)) d);
-          puts = omega (arith, m3, ap (part_of (λ (d : Budget). d.puts)) d);
-          words = omega (arith, m4, ap (part_of (λ (d : Budget). d.words)) d);
+          count = omega (arith, count_is, ap (part_of (λ (d : Budget). d.count)) numbered_here);
+          looks = omega (arith, looks_is, ap (part_of (λ (d : Budget). d.looks)) numbered_here);
+          puts = omega (arith, puts_is, ap (part_of (λ (d : Budget). d.puts)) numbered_here);
+          words = omega (arith, words_is, ap (part_of (λ (d : Budget). d.words)) numbered_here);
         }
 
     abbrev pub the_world : World
     the_world = record { basin = basin; values = values; step = now }
 
     -- a rule that there is begins, with no arguments
-    alike_rule : (h : BlockHead) → is_alike Rule h ≡ true → h ≡ Rule
-    alike_rule Rule e = refl
-    alike_rule (Function result ps) e = absurd (cc e)
+    alike_rule : (head : BlockHead) → is_alike Rule head ≡ true → head ≡ Rule
+    alike_rule Rule is_alike_is = refl
+    alike_rule (Function result kinds) is_alike_is = absurd (cc is_alike_is)
 
-    pub rule_there : (m : ℕ) (xs : List Block) (rule n : ℕ) → rule_from m xs rule ≡ Some n
-        → (x : Block) × (slice_get xs (n - m) ≡ Some x) × (x.head ≡ Rule) × (m ≤ n)
-    rule_there m [] rule n h = absurd (cc h)
-    rule_there m (x ∷ xs) rule n h = by (is_alike Rule x.head) refl h (λ r e. further (rule_there (suc m) xs r n e))
+    pub rule_there : (m : ℕ) (blocks : List Block) (rule number : ℕ) → rule_from m blocks rule ≡ Some number
+        → (block : Block) × (slice_get blocks (number - m) ≡ Some block) × (block.head ≡ Rule) × (m ≤ number)
+    rule_there m [] rule number rule_from_is = absurd (cc rule_from_is)
+    rule_there m (block ∷ blocks) rule number rule_from_is =
+        by (is_alike Rule block.head) refl rule_from_is (λ r e. further (rule_there (suc m) blocks r number e))
       where
-        shifted : (d : ℕ) (y : Block) → suc m ≤ n → n - suc m ≡ d → slice_get xs d ≡ Some y → slice_get (x ∷ xs) (n - m) ≡ Some y
-        shifted d y le e g = let z : n - m ≡ suc d = omega (arith, e, le) in ap (slice_get (x ∷ xs)) z ∙ g
+        shifted : (more : ℕ) (other_block : Block) → suc m ≤ number → number - suc m ≡ more → slice_get blocks more ≡ Some other_block
+            → slice_get (block ∷ blocks) (number - m) ≡ Some other_block
+        shifted more other_block at_most number_is found =
+            let number_is_so : number - m ≡ suc more = omega (arith, number_is, at_most) in ap (slice_get (block ∷ blocks)) number_is_so ∙ found
 
-        further : (y : Block) × (slice_get xs (n - suc m) ≡ Some y) × (y.head ≡ Rule) × (suc m ≤ n)
-            → (y : Block) × (slice_get (x ∷ xs) (n - m) ≡ Some y) × (y.head ≡ Rule) × (m ≤ n)
-        further q = (q.0, shifted (n - suc m) q.0 q.3 refl q.1, q.2, omega (arith, q.3))
+        further : (other_block : Block) × (slice_get blocks (number - suc m) ≡ Some other_block) × (other_block.head ≡ Rule) × (suc m ≤ number)
+            → (other_block : Block) × (slice_get (block ∷ blocks) (number - m) ≡ Some other_block) × (other_block.head ≡ Rule) × (m ≤ number)
+        further both = (both.0, shifted (number - suc m) both.0 both.3 refl both.1, both.2, omega (arith, both.3))
 
-        here : is_alike Rule x.head ≡ true → Some m ≡ Some n → (y : Block) × (slice_get (x ∷ xs) (n - m) ≡ Some y) × (y.head ≡ Rule) × (m ≤ n)
-        here e f = let q : m ≡ n = cc f in let z : n - m ≡ 0 =
-            omega (arith, q) in (x, ap (slice_get (x ∷ xs)) z, alike_rule x.head e, omega (arith, q))
+        here : is_alike Rule block.head ≡ true → Some m ≡ Some number
+            → (other_block : Block) × (slice_get (block ∷ blocks) (number - m) ≡ Some other_block) × (other_block.head ≡ Rule) × (m ≤ number)
+        here is_alike_is some_is = let m_is : m ≡ number = cc some_is in let number_is : number - m ≡ 0 =
+            omega (arith, m_is) in (block, ap (slice_get (block ∷ blocks)) number_is, alike_rule block.head is_alike_is, omega (arith, m_is))
 
-        by_number : (t : Bool) → is_alike Rule x.head ≡ true → (if t then Some m else rule_from (suc m) xs (rule - 1)) ≡ Some n
-            → ((r : ℕ) → rule_from (suc m) xs r ≡ Some n → (y : Block) × (slice_get (x ∷ xs) (n - m) ≡ Some y) × (y.head ≡ Rule) × (m ≤ n))
-            → (y : Block) × (slice_get (x ∷ xs) (n - m) ≡ Some y) × (y.head ≡ Rule) × (m ≤ n)
-        by_number true e f later = here e f
-        by_number false e f later = later (rule - 1) f
+        by_number : (truth : Bool) → is_alike Rule block.head ≡ true → (if truth then Some m else rule_from (suc m) blocks (rule - 1)) ≡ Some number
+            → ((other_number : ℕ) → rule_from (suc m) blocks other_number ≡ Some number
+            → (other_block : Block) × (slice_get (block ∷ blocks) (number - m) ≡ Some other_block) × (other_block.head ≡ Rule) × (m ≤ number))
+            → (other_block : Block) × (slice_get (block ∷ blocks) (number - m) ≡ Some other_block) × (other_block.head ≡ Rule) × (m ≤ number)
+        by_number true is_alike_is if_is later = here is_alike_is if_is
+        by_number false is_alike_is if_is later = later (rule - 1) if_is
 
-        by : (t : Bool) → is_alike Rule x.head ≡ t
-            → (if t then (if rule == 1 then Some m else rule_from (suc m) xs (rule - 1)) else rule_from (suc m) xs rule) ≡ Some n
-            → ((r : ℕ) → rule_from (suc m) xs r ≡ Some n → (y : Block) × (slice_get (x ∷ xs) (n - m) ≡ Some y) × (y.head ≡ Rule) × (m ≤ n))
-            → (y : Block) × (slice_get (x ∷ xs) (n - m) ≡ Some y) × (y.head ≡ Rule) × (m ≤ n)
-        by true e f later = by_number (rule == 1) e f later
-        by false e f later = later rule f
+        by : (truth : Bool) → is_alike Rule block.head ≡ truth
+            → (if truth then (if rule == 1 then Some m else rule_from (suc m) blocks (rule - 1)) else rule_from (suc m) blocks rule) ≡ Some number
+            → ((other_number : ℕ) → rule_from (suc m) blocks other_number ≡ Some number
+            → (other_block : Block) × (slice_get (block ∷ blocks) (number - m) ≡ Some other_block) × (other_block.head ≡ Rule) × (m ≤ number))
+            → (other_block : Block) × (slice_get (block ∷ blocks) (number - m) ≡ Some other_block) × (other_block.head ≡ Rule) × (m ≤ number)
+        by true is_alike_is if_is later = by_number (rule == 1) is_alike_is if_is later
+        by false is_alike_is if_is later = later rule if_is
 
     -- what a firing comes to that is not stuck
-    record Comes (f : Frame) (a : Answer (Unit {0})) (t : Trail) : Type 0 where
+    record Comes (frame : Frame) (answer : Answer (Unit {0})) (trail : Trail) : Type 0 where
       fire : Fire
-      is : fire_of a t ≡ Some fire
-      ran : Ran basin code values now bs earlier fits (f ∷ []) (states code the_world most_steps (f ∷ [])) t
-      count : fire.count ≡ t.count
-      looked : fire.looked ≡ t.looked
+      is : fire_of answer trail ≡ Some fire
+      ran : Ran basin code values now accepted_befores earlier fits (frame ∷ []) (states code the_world most_steps (frame ∷ [])) trail
+      count : fire.count ≡ trail.count
+      looked : fire.looked ≡ trail.looked
 
-    comes : (f : Frame) (a : Answer (Unit {0})) (t : Trail)
-        → EndsOn basin code values now bs earlier fits (f ∷ []) (states code the_world most_steps (f ∷ [])) a t → Comes f a t
-    comes f (value done) t e = record { fire = _; is = refl; ran = e; count = refl; looked = refl }
-    comes f (ended end) t e = record { fire = _; is = refl; ran = e; count = refl; looked = refl }
-    comes f stuck t e = absurd e
+    comes : (frame : Frame) (answer : Answer (Unit {0})) (trail : Trail)
+        → EndsOn basin code values now accepted_befores earlier fits (frame ∷ []) (states code the_world most_steps (frame ∷ [])) answer trail
+        → Comes frame answer trail
+    comes frame (value done) trail ends_on = record { fire = _; is = refl; ran = ends_on; count = refl; looked = refl }
+    comes frame (ended end) trail ends_on = record { fire = _; is = refl; ran = ends_on; count = refl; looked = refl }
+    comes frame stuck trail ends_on = absurd ends_on
 
   pub safe : AreSafe basin code budgets
-  safe rule n step values h =
-      let r = rule_there values step 1 code rule n h in
-      let e = numbered_by code n r.0 r.1 r.3 in
-      let d = ruled n r.0 e in
-      let b : Budget = d.budget_is in
-      let x = exact n r.0 e in
-      let f : Frame = begin n r.0 [] in
-      let fits_first : Fits basin code values step bs earlier fits [] f =
-      begun basin code values step bs earlier fits n r.0 [] e (ap parameters_of (sym r.2)) tt in
-      let y : block_or (numbered code n) ≡ r.0 = ap block_or e in
-      let m1 : C (scope_of basin code n (block_or (numbered code n))) (earlier n)
-      (count_of (scope_of basin code n (block_or (numbered code n))) (earlier n)) (block_or (numbered code n)).lines (bs n) 0 ≡ b.count =
-      ap (λ (z : Block). C (scope_of basin code n z) (earlier n) (count_of (scope_of basin code n z) (earlier n)) z.lines (bs n) 0) y ∙ x.count in
-      let m2 : C (scope_of basin code n (block_or (numbered code n))) (earlier n)
-      (looks_of (scope_of basin code n (block_or (numbered code n))) (earlier n)) (block_or (numbered code n)).lines (bs n) 0 ≡ b.looks =
-      ap (λ (z : Block). C (scope_of basin code n z) (earlier n) (looks_of (scope_of basin code n z) (earlier n)) z.lines (bs n) 0) y ∙ x.looks in
-      let m3 : C (scope_of basin code n (block_or (numbered code n))) (earlier n)
-      (puts_of (scope_of basin code n (block_or (numbered code n))) (earlier n)) (block_or (numbered code n)).lines (bs n) 0 ≡ b.puts =
-      ap (λ (z : Block). C (scope_of basin code n z) (earlier n) (puts_of (scope_of basin code n z) (earlier n)) z.lines (bs n) 0) y ∙ x.puts in
-      let m4 : W (scope_of basin code n (block_or (numbered code n))) (earlier n) (block_or (numbered code n)).lines (bs n) 0 ≡ b.words =
-      ap (λ (z : Block). W (scope_of basin code n z) (earlier n) z.lines (bs n) 0) y ∙ x.words in
-      let limit : b.count ≤ 1000000 = d.limited.count in
+  safe rule number step values rule_is =
+      let its_rule = rule_there values step 1 code rule number rule_is in
+      let stands = numbered_by code number its_rule.0 its_rule.1 its_rule.3 in
+      let ruling = ruled number its_rule.0 stands in
+      let its_budget : Budget = ruling.budget_is in
+      let comes_to = exact number its_rule.0 stands in
+      let frame : Frame = begin number its_rule.0 [] in
+      let fits_first : Fits basin code values step accepted_befores earlier fits [] frame =
+      begun basin code values step accepted_befores earlier fits number its_rule.0 [] stands (ap parameters_of (sym its_rule.2)) tt in
+      let block_or_is : block_or (numbered code number) ≡ its_rule.0 = ap block_or stands in
+      let count_is : costs_ahead (scope_of basin code number (block_or (numbered code number))) (earlier number)
+      (count_of (scope_of basin code number (block_or (numbered code number))) (earlier number)) (block_or (numbered code number)).lines
+      (accepted_befores number) 0 ≡ its_budget.count =
+      ap (λ (z : Block). costs_ahead (scope_of basin code number z) (earlier number) (count_of (scope_of basin code number z) (earlier number))
+      z.lines (accepted_befores number) 0) block_or_is ∙ comes_to.count in
+      let looks_is : costs_ahead (scope_of basin code number (block_or (numbered code number))) (earlier number)
+      (looks_of (scope_of basin code number (block_or (numbered code number))) (earlier number)) (block_or (numbered code number)).lines
+      (accepted_befores number) 0 ≡ its_budget.looks =
+      ap (λ (z : Block). costs_ahead (scope_of basin code number z) (earlier number) (looks_of (scope_of basin code number z) (earlier number))
+      z.lines (accepted_befores number) 0) block_or_is ∙ comes_to.looks in
+      let puts_is : costs_ahead (scope_of basin code number (block_or (numbered code number))) (earlier number)
+      (puts_of (scope_of basin code number (block_or (numbered code number))) (earlier number)) (block_or (numbered code number)).lines
+      (accepted_befores number) 0 ≡ its_budget.puts =
+      ap (λ (z : Block). costs_ahead (scope_of basin code number z) (earlier number) (puts_of (scope_of basin code number z) (earlier number)) z.lines
+      (accepted_befores number) 0) block_or_is ∙ comes_to.puts in
+      let words_is : words_ahead (scope_of basin code number (block_or (numbered code number))) (earlier number)
+      (block_or (numbered code number)).lines (accepted_befores number) 0 ≡ its_budget.words =
+      ap (λ (z : Block). words_ahead (scope_of basin code number z) (earlier number) z.lines (accepted_befores number) 0) block_or_is
+      ∙ comes_to.words in
+      let limit : its_budget.count ≤ limits.count = ruling.limited.count in
       let done =
-      comes values step f (run code (the_world values step) most_steps (f ∷ [])).answer
-      (run code (the_world values step) most_steps (f ∷ [])).trail
-      (runs basin code values step bs earlier fits (covered values step) most_steps (f ∷ []) (fits_first, tt) (omega (arith, m1, limit))) in
-      let q : first_frame code rule ≡ Some f =
-      ap (option_and_then (λ n. option_map (λ x. begin n x []) (numbered code n))) h ∙ ap (option_map (λ x. begin n x [])) e in (
-        b,
-        d.at,
+      comes values step frame (run code (the_world values step) most_steps (frame ∷ [])).answer
+      (run code (the_world values step) most_steps (frame ∷ [])).trail
+      (runs basin code values step accepted_befores earlier fits (covered values step) most_steps (frame ∷ []) (fits_first, tt)
+      (omega (arith, count_is, limit))) in
+      let first_frame_is : first_frame code rule ≡ Some frame =
+      ap (option_and_then (λ n. option_map (λ x. begin n x []) (numbered code n))) rule_is ∙ ap (option_map (λ x. begin number x [])) stands in (
+        its_budget,
+        ruling.at,
         record {
           fire = done.fire;
-          fires = ap (fired code (the_world values step)) q ∙ done.is;
-          count = omega (arith, done.count, done.ran.count, m1);
-          cells = omega (arith, ap (λ (l : List _). length l) done.looked, done.ran.cells, done.ran.looks, m2);
-          looks = subst (λ o. look_count_in code (firing_from code (the_world values step) o) ≤ b.looks) (sym q) (omega (arith, done.ran.looks, m2));
-          puts = subst (λ o. puts_from code (the_world values step) o ≤ b.puts) (sym q) (omega (arith, done.ran.puts, m3));
-          words = subst (λ o. most_words (firing_from code (the_world values step) o) ≤ b.words) (sym q) (omega (arith, done.ran.words, m4));
+          fires = ap (fired code (the_world values step)) first_frame_is ∙ done.is;
+          count = omega (arith, done.count, done.ran.count, count_is);
+          cells = omega (arith, ap (λ (l : List _). length l) done.looked, done.ran.cells, done.ran.looks, looks_is);
+          looks =
+              subst (λ o. look_count_in code (firing_from code (the_world values step) o) ≤ its_budget.looks) (sym first_frame_is)
+              (omega (arith, done.ran.looks, looks_is));
+          puts = subst (λ o. puts_from code (the_world values step) o ≤ its_budget.puts) (sym first_frame_is) (omega (arith, done.ran.puts, puts_is));
+          words =
+              subst (λ o. most_words (firing_from code (the_world values step) o) ≤ its_budget.words) (sym first_frame_is)
+              (omega (arith, done.ran.words, words_is));
         },
       )

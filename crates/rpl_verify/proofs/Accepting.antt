@@ -1,5 +1,6 @@
 -- Code is accepted exactly where it fits and the budgets that its ways have keep within the limits.
 use Rattle.rw_base.proofs.Common.{◌≡◌, ℕ, suc, ◌+◌, ◌≤◌, Bool, true, false, nat_lt, List, [], ◌∷◌, ◌++◌, length, take, Some, None, Result, Ok, Err}
+use Rattle.rw_base.specs.declared.limits.TheConstants.{RULES_MAX}
 use Rattle.rw_base.proofs.Common.{if◌then◌else◌, refl, sym, ap, ap₂, ◌∙◌, subst, arith, nat_tests, slice_get, slice_get_within, All-get_or}
 use Rattle.rw_base.proofs.Common.{append-nil, append_assoc, get_or_from_slice_get, length-append, take_all, take_more, ◌-◌}
 use Rattle.rw_model.specs.Draft.{Draft}
@@ -17,36 +18,38 @@ use Rattle.rpl_verify.specs.Budget.{AreAccepted, IsWithinLimits, block_ruling, b
 use Rattle.rpl_verify.specs.Ways.{AreAcceptable, AreBudgets, HasBudget, IsBudget, IsMost, sum_on, words_on}
 use Rattle.rpl_verify.proofs.KindFacts.{same_ok}
 use Rattle.rpl_verify.proofs.Rulings.{accepted_fits, accepted_within, in_block_ok}
-use Rattle.rpl_verify.proofs.Accepted.{bs as bs_of, earlier, exact, fits as fits_of, get_behind, numbered_by, numbered_is, ruled}
+use Rattle.rpl_verify.proofs.Accepted.{accepted_befores as bs_of, earlier, exact, fits as fits_of, get_behind, numbered_by, numbered_is, ruled}
 use Rattle.rpl_verify.proofs.VerifiedFacts.{each}
 use Rattle.rpl_verify.proofs.Ways.{sums_are_most, words_are_most}
 
 -- ---- accepted code is acceptable
 
-each_budget : (basin : Draft) (code : List Block) (budgets : List Budget) → AreAccepted basin code budgets → (n : ℕ) (x : Block)
-    → numbered code n ≡ Some x → HasBudget basin code budgets n x
-each_budget basin code budgets accepted n x e =
-    let sc : Scope = scope_of basin code n x in
-    let before_all : List Before = bs_of basin code budgets accepted n in
-    let fitting = fits_of basin code budgets accepted n x e in
-    let r = ruled basin code budgets accepted n x e in
-    let q = exact basin code budgets accepted n x e in
-    let prior : List Budget = earlier basin code budgets accepted n in (
+each_budget : (basin : Draft) (code : List Block) (budgets : List Budget) → AreAccepted basin code budgets → (number : ℕ) (block : Block)
+    → numbered code number ≡ Some block → HasBudget basin code budgets number block
+each_budget basin code budgets accepted number block numbered_so =
+    let scope : Scope = scope_of basin code number block in
+    let before_all : List Before = bs_of basin code budgets accepted number in
+    let fitting = fits_of basin code budgets accepted number block numbered_so in
+    let ruling = ruled basin code budgets accepted number block numbered_so in
+    let comes_to = exact basin code budgets accepted number block numbered_so in
+    let prior : List Budget = earlier basin code budgets accepted number in (
       before_all,
-      r.budget_is,
+      ruling.budget_is,
       fitting,
-      r.at,
+      ruling.at,
       record {
         count =
-            subst (IsMost x.lines (sum_on before_all x.lines (count_of sc prior))) q.count
-            (sums_are_most sc x.lines before_all refl fitting prior (count_of sc prior));
+            subst (IsMost block.lines (sum_on before_all block.lines (count_of scope prior))) comes_to.count
+            (sums_are_most scope block.lines before_all refl fitting prior (count_of scope prior));
         looks =
-            subst (IsMost x.lines (sum_on before_all x.lines (looks_of sc prior))) q.looks
-            (sums_are_most sc x.lines before_all refl fitting prior (looks_of sc prior));
+            subst (IsMost block.lines (sum_on before_all block.lines (looks_of scope prior))) comes_to.looks
+            (sums_are_most scope block.lines before_all refl fitting prior (looks_of scope prior));
         puts =
-            subst (IsMost x.lines (sum_on before_all x.lines (puts_of sc prior))) q.puts
-            (sums_are_most sc x.lines before_all refl fitting prior (puts_of sc prior));
-        words = subst (IsMost x.lines (words_on before_all x.lines sc prior)) q.words (words_are_most sc x.lines before_all refl fitting prior);
+            subst (IsMost block.lines (sum_on before_all block.lines (puts_of scope prior))) comes_to.puts
+            (sums_are_most scope block.lines before_all refl fitting prior (puts_of scope prior));
+        words =
+            subst (IsMost block.lines (words_on before_all block.lines scope prior)) comes_to.words
+            (words_are_most scope block.lines before_all refl fitting prior);
       },
     )
 
@@ -63,104 +66,119 @@ acceptable basin code budgets accepted =
 
 -- ---- code that is acceptable is accepted
 
-one_most : (lines : List Instruction) (come : List ℕ → ℕ) (n k : ℕ) → IsMost lines come n → IsMost lines come k → n ≡ k
-one_most lines come n k a b = omega (arith, a.each b.one b.is_way, b.reached, b.each a.one a.is_way, a.reached)
+one_most : (lines : List Instruction) (come : List ℕ → ℕ) (n index : ℕ) → IsMost lines come n → IsMost lines come index → n ≡ index
+one_most lines come n index most most_so =
+    omega (arith, most.each most_so.one most_so.is_way, most_so.reached, most_so.each most.one most.is_way, most.reached)
 
-lets : (t : Bool) (misfit : VerifyKind) (r : Result Budget VerifyKind) → t ≡ false → (if t then Err misfit else r) ≡ r
-lets false misfit r h = refl
-lets true misfit r h = absurd (cc h)
+lets : (truth : Bool) (misfit : VerifyKind) (result : Result Budget VerifyKind) → truth ≡ false → (if truth then Err misfit else result) ≡ result
+lets false misfit result truth_is = refl
+lets true misfit result truth_is = absurd (cc truth_is)
 
 not_above : (n m : ℕ) → n ≤ m → nat_lt m n ≡ false
-not_above n m h = grind (arith, nat_tests)
+not_above n m at_most = grind (arith, nat_tests)
 
-passes_limits : (b : Budget) → IsWithinLimits b → within_limits b ≡ Ok b
-passes_limits b w =
-    lets (nat_lt limits.count b.count) TooCostly _ (not_above b.count limits.count w.count)
-    ∙ lets (nat_lt limits.looks b.looks) TooManyReads _ (not_above b.looks limits.looks w.looks)
-    ∙ lets (nat_lt limits.puts b.puts) TooManyPuts _ (not_above b.puts limits.puts w.puts)
-    ∙ lets (nat_lt limits.words b.words) TooDeep _ (not_above b.words limits.words w.words)
+passes_limits : (its_budget : Budget) → IsWithinLimits its_budget → within_limits its_budget ≡ Ok its_budget
+passes_limits its_budget within_limits =
+    lets (nat_lt limits.count its_budget.count) TooCostly _ (not_above its_budget.count limits.count within_limits.count)
+    ∙ lets (nat_lt limits.looks its_budget.looks) TooManyReads _ (not_above its_budget.looks limits.looks within_limits.looks)
+    ∙ lets (nat_lt limits.puts its_budget.puts) TooManyPuts _ (not_above its_budget.puts limits.puts within_limits.puts)
+    ∙ lets (nat_lt limits.words its_budget.words) TooDeep _ (not_above its_budget.words limits.words within_limits.words)
 
-stays : (limit n k : ℕ) → n ≡ k → k ≤ limit → capped limit n ≡ k
-stays limit n k h le = omega (arith, h, le)
+stays : (limit n index : ℕ) → n ≡ index → index ≤ limit → capped limit n ≡ index
+stays limit n index n_is at_most = omega (arith, n_is, at_most)
 
-budget_is : (sc : Scope) (prior : List Budget) (places : List Before) (lines : List Instruction) (b : Budget) → sc.spots ≡ spots lines
-    → befores sc 0 (before [] []) lines ≡ Ok places
-    → IsBudget sc prior places lines b → IsWithinLimits b → budget_by sc prior places lines ≡ b
-budget_is sc prior places lines b spotted fits is w =
-    let sums : (price : Before → Instruction → ℕ) → IsMost lines (sum_on places lines price) (most (summed sc prior price) places lines) =
-    sums_are_most sc lines places spotted fits prior in
-    let a = stays limits.count _ b.count (one_most lines _ _ b.count (sums (count_of sc prior)) is.count) w.count in
-    let l = stays limits.looks _ b.looks (one_most lines _ _ b.looks (sums (looks_of sc prior)) is.looks) w.looks in
-    let p = stays limits.puts _ b.puts (one_most lines _ _ b.puts (sums (puts_of sc prior)) is.puts) w.puts in
-    let v = stays limits.words _ b.words (one_most lines _ _ b.words (words_are_most sc lines places spotted fits prior) is.words) w.words in
-    ap₂ (λ x y. budget x y (budget_by sc prior places lines).puts (budget_by sc prior places lines).words) a l ∙ ap₂ (budget b.count b.looks) p v
+budget_is : (scope : Scope) (prior : List Budget) (places : List Before) (lines : List Instruction) (its_budget : Budget) → scope.spots ≡ spots lines
+    → befores scope 0 (before [] []) lines ≡ Ok places
+    → IsBudget scope prior places lines its_budget → IsWithinLimits its_budget → budget_by scope prior places lines ≡ its_budget
+budget_is scope prior places lines its_budget spotted fits is within_limits =
+    let sums : (price : Before → Instruction → ℕ) → IsMost lines (sum_on places lines price) (most (summed scope prior price) places lines) =
+    sums_are_most scope lines places spotted fits prior in
+    let stays_so =
+    stays limits.count _ its_budget.count (one_most lines _ _ its_budget.count (sums (count_of scope prior)) is.count) within_limits.count in
+    let stays_too =
+    stays limits.looks _ its_budget.looks (one_most lines _ _ its_budget.looks (sums (looks_of scope prior)) is.looks) within_limits.looks in
+    let stays_here =
+    stays limits.puts _ its_budget.puts (one_most lines _ _ its_budget.puts (sums (puts_of scope prior)) is.puts) within_limits.puts in
+    let stays_again =
+    stays limits.words _ its_budget.words (one_most lines _ _ its_budget.words (words_are_most scope lines places spotted fits prior) is.words)
+    within_limits.words in
+    ap₂ (λ x y. budget x y (budget_by scope prior places lines).puts (budget_by scope prior places lines).words) stays_so stays_too
+    ∙ ap₂ (budget its_budget.count its_budget.looks) stays_here stays_again
 
 module _ (basin : Draft) (code : List Block) (budgets : List Budget) (good : AreAcceptable basin code budgets) where
-  counted_few : (t : Bool) (r : Result (List Before) Misplaced) (l : List Before)
-      → (if t then r else Err (record { misfit = TooMany; place = 0 })) ≡ Ok l → r ≡ Ok l
-  counted_few true r l h = h
-  counted_few false r l h = absurd (cc h)
+  counted_few : (truth : Bool) (result : Result (List Before) Misplaced) (befores_there : List Before)
+      → (if truth then result else Err (record { misfit = TooMany; place = 0 })) ≡ Ok befores_there → result ≡ Ok befores_there
+  counted_few true result befores_there if_is = if_is
+  counted_few false result befores_there if_is = absurd (cc if_is)
 
-  within_at : (k : ℕ) (b : Budget) → slice_get budgets k ≡ Some b → IsWithinLimits b
-  within_at k b e =
-      subst IsWithinLimits (get_or_from_slice_get budgets k b b e)
-      (All-get_or IsWithinLimits budgets k b (slice_get_within budgets k b e) good.within)
+  within_at : (index : ℕ) (its_budget : Budget) → slice_get budgets index ≡ Some its_budget → IsWithinLimits its_budget
+  within_at index its_budget found =
+      subst IsWithinLimits (get_or_from_slice_get budgets index its_budget its_budget found)
+      (All-get_or IsWithinLimits budgets index its_budget (slice_get_within budgets index its_budget found) good.within)
 
-  taken_one : (k : ℕ) (b : Budget) → slice_get budgets k ≡ Some b → take k budgets ++ b ∷ [] ≡ take (k + 1) budgets
-  taken_one k b e =
-      sym (take_more budgets k b (slice_get_within budgets k b e) ∙ ap (λ d. take k budgets ++ d ∷ []) (get_or_from_slice_get budgets k b b e))
+  taken_one : (index : ℕ) (its_budget : Budget) → slice_get budgets index ≡ Some its_budget
+      → take index budgets ++ its_budget ∷ [] ≡ take (index + 1) budgets
+  taken_one index its_budget found =
+      sym (take_more budgets index its_budget (slice_get_within budgets index its_budget found)
+      ∙ ap (λ d. take index budgets ++ d ∷ []) (get_or_from_slice_get budgets index its_budget its_budget found))
 
   -- a block behind others
-  ruled_so : (prior : List Block) (x : Block) (places : List Before) → numbered code (suc (length prior)) ≡ Some x
-      → block_befores basin code prior x ≡ Ok places
-      → (b : Budget) × (block_ruling basin code prior (take (length prior) budgets) x ≡ Ok b) × (slice_get budgets (length prior) ≡ Some b)
-  ruled_so prior x places e h =
+  ruled_so : (prior : List Block) (block : Block) (places : List Before) → numbered code (suc (length prior)) ≡ Some block
+      → block_befores basin code prior block ≡ Ok places
+      → (its_budget : Budget) × (block_ruling basin code prior (take (length prior) budgets) block ≡ Ok its_budget)
+      × (slice_get budgets (length prior) ≡ Some its_budget)
+  ruled_so prior block places numbered_so block_befores_is =
       let n : ℕ = suc (length prior) in
-      let sc : Scope = scope_of basin code n x in
-      let z : n - 1 ≡ length prior = omega arith in
-      let has = good.are_budgets.1 n x e in
-      let b : Budget = has.1 in
-      let fit : befores sc 0 (before [] []) x.lines ≡ Ok places = counted_few (nat_lt (count_alike x.head prior) 200) _ places h in
+      let scope : Scope = scope_of basin code n block in
+      let n_is : n - 1 ≡ length prior = omega arith in
+      let has = good.are_budgets.1 n block numbered_so in
+      let its_budget : Budget = has.1 in
+      let fit : befores scope 0 (before [] []) block.lines ≡ Ok places =
+      counted_few (nat_lt (count_alike block.head prior) RULES_MAX) _ places block_befores_is in
       let one : has.0 ≡ places = same_ok has.0 places (sym has.2 ∙ fit) in
-      let at : slice_get budgets (length prior) ≡ Some b = ap (slice_get budgets) (sym z) ∙ (numbered_is budgets n b has.3).0 in
-      let w = within_at (length prior) b at in
-      let is : IsBudget sc (take (length prior) budgets) places x.lines b =
-      subst (λ k. IsBudget sc (take k budgets) places x.lines b) z (subst (λ l. IsBudget sc (take (n - 1) budgets) l x.lines b) one has.4) in
-      let s : budget_by sc (take (length prior) budgets) places x.lines ≡ b =
-      budget_is sc (take (length prior) budgets) places x.lines b refl fit is w in (
-        b,
-        ap (λ r. then_do r (λ l. at_place (length x.lines) (within_limits (budget_by sc (take (length prior) budgets) l x.lines)) (λ d. Ok d))) h
-            ∙ ap (λ d. at_place (length x.lines) (within_limits d) (λ d. Ok d)) s
-            ∙ ap (λ r. at_place (length x.lines) r (λ d. Ok d)) (passes_limits b w),
+      let at : slice_get budgets (length prior) ≡ Some its_budget = ap (slice_get budgets) (sym n_is) ∙ (numbered_is budgets n its_budget has.3).0 in
+      let within_at_so = within_at (length prior) its_budget at in
+      let is : IsBudget scope (take (length prior) budgets) places block.lines its_budget =
+      subst (λ k. IsBudget scope (take k budgets) places block.lines its_budget) n_is
+      (subst (λ l. IsBudget scope (take (n - 1) budgets) l block.lines its_budget) one has.4) in
+      let budget_by_is : budget_by scope (take (length prior) budgets) places block.lines ≡ its_budget =
+      budget_is scope (take (length prior) budgets) places block.lines its_budget refl fit is within_at_so in (
+        its_budget,
+        ap (λ r. then_do r (λ l. at_place (length block.lines) (within_limits (budget_by scope (take (length prior) budgets) l block.lines))
+            (λ d. Ok d))) block_befores_is
+            ∙ ap (λ d. at_place (length block.lines) (within_limits d) (λ d. Ok d)) budget_by_is
+            ∙ ap (λ r. at_place (length block.lines) r (λ d. Ok d)) (passes_limits its_budget within_at_so),
         at,
       )
 
-  accepted_from : (prior xs : List Block) (done all : List (List Before)) → prior ++ xs ≡ code
-      → each_block (λ (prior : List Block) (done : List (List Before)) (x : Block). block_befores basin code prior x) prior done xs ≡ Ok all
-      → each_block (block_ruling basin code) prior (take (length prior) budgets) xs ≡ Ok budgets
-  accepted_from prior [] done all h f =
-      let l = ap (λ (l : List Block). length l) (sym (append-nil prior) ∙ h) in
-      ap Ok (take_all (length prior) budgets (omega (arith, l, good.are_budgets.0)))
-  accepted_from prior (x ∷ xs) done all h f =
-      let q =
-      in_block_ok (suc (length prior)) (block_befores basin code prior x)
-      (λ a. each_block (λ (prior : List Block) (done : List (List Before)) (x : Block). block_befores basin code prior x) (prior ++ x ∷ [])
-      (done ++ a ∷ []) xs) all f in
-      let whole : (prior ++ x ∷ []) ++ xs ≡ code = append_assoc prior (x ∷ []) xs ∙ h in
-      let z : suc (length prior) - 1 ≡ length prior = omega arith in
-      let e : numbered code (suc (length prior)) ≡ Some x =
-      numbered_by code (suc (length prior)) x (ap (slice_get code) z ∙ ap (λ l. slice_get l (length prior)) (sym whole) ∙ get_behind prior xs x)
+  accepted_from : (prior blocks : List Block) (done all : List (List Before)) → prior ++ blocks ≡ code
+      → each_block (λ (prior : List Block) (done : List (List Before)) (x : Block). block_befores basin code prior x) prior done blocks ≡ Ok all
+      → each_block (block_ruling basin code) prior (take (length prior) budgets) blocks ≡ Ok budgets
+  accepted_from prior [] done all prior_is each_block_is =
+      let lengths = ap (λ (l : List Block). length l) (sym (append-nil prior) ∙ prior_is) in
+      ap Ok (take_all (length prior) budgets (omega (arith, lengths, good.are_budgets.0)))
+  accepted_from prior (block ∷ blocks) done all prior_is each_block_is =
+      let in_block_ok_so =
+      in_block_ok (suc (length prior)) (block_befores basin code prior block)
+      (λ a. each_block (λ (prior : List Block) (done : List (List Before)) (x : Block). block_befores basin code prior x) (prior ++ block ∷ [])
+      (done ++ a ∷ []) blocks) all each_block_is in
+      let whole : (prior ++ block ∷ []) ++ blocks ≡ code = append_assoc prior (block ∷ []) blocks ∙ prior_is in
+      let same : suc (length prior) - 1 ≡ length prior = omega arith in
+      let numbered_so : numbered code (suc (length prior)) ≡ Some block =
+      numbered_by code (suc (length prior)) block (ap (slice_get code) same ∙ ap (λ l. slice_get l (length prior)) (sym whole)
+      ∙ get_behind prior blocks block)
       (omega arith) in
-      let r = ruled_so prior x q.0 e q.1 in
-      let y : length prior + 1 ≡ length (prior ++ x ∷ []) = omega (arith, length-append prior (x ∷ [])) in
+      let ruled_so_so = ruled_so prior block in_block_ok_so.0 numbered_so in_block_ok_so.1 in
+      let length_is : length prior + 1 ≡ length (prior ++ block ∷ []) = omega (arith, length-append prior (block ∷ [])) in
       ap (λ r. in_block (suc (length prior)) r
-      (λ b. each_block (block_ruling basin code) (prior ++ x ∷ []) (take (length prior) budgets ++ b ∷ []) xs)) r.1
-      ∙ ap (λ ds. each_block (block_ruling basin code) (prior ++ x ∷ []) ds xs) (taken_one (length prior) r.0 r.2 ∙ ap (λ k. take k budgets) y)
-      ∙ accepted_from (prior ++ x ∷ []) xs (done ++ q.0 ∷ []) all whole q.2
+      (λ b. each_block (block_ruling basin code) (prior ++ block ∷ []) (take (length prior) budgets ++ b ∷ []) blocks)) ruled_so_so.1
+      ∙ ap (λ ds. each_block (block_ruling basin code) (prior ++ block ∷ []) ds blocks) (taken_one (length prior) ruled_so_so.0 ruled_so_so.2
+      ∙ ap (λ k. take k budgets) length_is)
+      ∙ accepted_from (prior ++ block ∷ []) blocks (done ++ in_block_ok_so.0 ∷ []) all whole in_block_ok_so.2
 
-  all_fit : (r : Result (List (List Before)) Refusal) → refusal_in_result r ≡ None → (l : List (List Before)) × (r ≡ Ok l)
-  all_fit (Ok l) h = (l, refl)
-  all_fit (Err why) h = absurd (cc h)
+  all_fit : (result : Result (List (List Before)) Refusal) → refusal_in_result result ≡ None → (list : List (List Before)) × (result ≡ Ok list)
+  all_fit (Ok list) refusal_in_result_is = (list, refl)
+  all_fit (Err why) refusal_in_result_is = absurd (cc refusal_in_result_is)
 
   pub accepts : AreAccepted basin code budgets
-  accepts = let f = all_fit (fitting basin code) good.fit in accepted_from [] code [] f.0 refl f.1
+  accepts = let all_fit_so = all_fit (fitting basin code) good.fit in accepted_from [] code [] all_fit_so.0 refl all_fit_so.1

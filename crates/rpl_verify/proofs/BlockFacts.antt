@@ -25,50 +25,57 @@ at_spots scope spots = record {
 
 -- what the two walks make
 abbrev pub noting : Scope → List Budget → ℕ → List Before → List Instruction → List Note
-noting scope budgets p bs is = notes_of scope budgets bs is
+noting scope budgets place befores_there lines = notes_of scope budgets befores_there lines
 
 abbrev pub resolving : List Block → Scope → ℕ → List Before → List Instruction → List Resolved
-resolving blocks scope p bs is = resolved blocks scope p bs is
+resolving blocks scope place befores_there lines = resolved blocks scope place befores_there lines
 
 -- what is made of a block of this scope, place by place, by what is before each
 module _ {A : Type 0} (scope : Scope) (made : ℕ → List Before → List Instruction → List A) (all : List Instruction) where
   -- what is made already, and what of the lines that are left
   abbrev pub left_of : ℕ → Before → List A → List Instruction → Result (List A) Misplaced
-  left_of p b done is = then_do (befores scope p b is) (λ bs. Ok (done ++ made p bs is))
+  left_of place here done lines = then_do (befores scope place here lines) (λ bs. Ok (done ++ made place bs lines))
 
-  pub record IsLeft (p : ℕ) (w : Walked) (done : List A) (is : List Instruction) : Type 0 where
-    pub placed : w.spots ≡ scope.spots
-    pub left : then_do (befores scope 0 (before [] []) all) (λ bs. Ok (made 0 bs all)) ≡ left_of p w.before done is
+  pub record IsLeft (place : ℕ) (walked : Walked) (done : List A) (lines : List Instruction) : Type 0 where
+    pub placed : walked.spots ≡ scope.spots
+    pub left : then_do (befores scope 0 (before [] []) all) (λ bs. Ok (made 0 bs all)) ≡ left_of place walked.before done lines
 
   -- one thing is made of a place
   abbrev pub Makes : ℕ → Before → Instruction → List Instruction → A → Type 0
-  Makes p b i is x = (cs : List Before) → made p (b ∷ cs) (i ∷ is) ≡ x ∷ made (suc p) cs is
+  Makes place here instruction lines thing =
+      (befores_there : List Before) → made place (here ∷ befores_there) (instruction ∷ lines) ≡ thing ∷ made (suc place) befores_there lines
 
-  joins : (p : ℕ) (b : Before) (i : Instruction) (is : List Instruction) (x : A) (done : List A) (v : Result (List Before) Misplaced)
-      → Makes p b i is x
-      → then_do (then_do v (λ cs. Ok (b ∷ cs))) (λ bs. Ok (done ++ made p bs (i ∷ is)))
-      ≡ then_do v (λ bs. Ok ((done ++ x ∷ []) ++ made (suc p) bs is))
-  joins p b i is x done (Ok cs) m = ap (λ l. Ok (done ++ l)) (m cs) ∙ ap Ok (sym (append_assoc done (x ∷ []) (made (suc p) cs is)))
-  joins p b i is x done (Err wrong) m = refl
+  joins : (place : ℕ) (here : Before) (instruction : Instruction) (lines : List Instruction) (thing : A) (done : List A)
+      (result : Result (List Before) Misplaced)
+      → Makes place here instruction lines thing
+      → then_do (then_do result (λ cs. Ok (here ∷ cs))) (λ bs. Ok (done ++ made place bs (instruction ∷ lines)))
+      ≡ then_do result (λ bs. Ok ((done ++ thing ∷ []) ++ made (suc place) bs lines))
+  joins place here instruction lines thing done (Ok befores_there) makes =
+      ap (λ l. Ok (done ++ l)) (makes befores_there) ∙ ap Ok (sym (append_assoc done (thing ∷ []) (made (suc place) befores_there lines)))
+  joins place here instruction lines thing done (Err wrong) makes = refl
 
-  pub left_on : (p : ℕ) (w w2 : Walked) (done done2 : List A) (x : A) (i : Instruction) (is left : List Instruction) → IsLeft p w done left
-      → left ≡ i ∷ is → done2 ≡ done ++ x ∷ [] → Makes p w.before i is x
-      → judged_at (at_spots scope w.spots) p w.before i ≡ Ok w2.before → w2.spots ≡ w.spots → IsLeft (p + 1) w2 done2 is
-  left_on p w w2 done done2 x i is left h l d m j s =
-      let j2 : judged_at scope p w.before i ≡ Ok w2.before = subst (λ ss. judged_at (at_spots scope ss) p w.before i ≡ Ok w2.before) h.placed j in
-      let z : suc p ≡ p + 1 = omega arith in
+  pub left_on : (place : ℕ) (walked next_walked : Walked) (done done2 : List A) (thing : A) (instruction : Instruction)
+      (lines left : List Instruction) → IsLeft place walked done left
+      → left ≡ instruction ∷ lines → done2 ≡ done ++ thing ∷ [] → Makes place walked.before instruction lines thing
+      → judged_at (at_spots scope walked.spots) place walked.before instruction ≡ Ok next_walked.before → next_walked.spots ≡ walked.spots
+      → IsLeft (place + 1) next_walked done2 lines
+  left_on place walked next_walked done done2 thing instruction lines left left_so left_is done2_is makes judged_at_is spots_is =
+      let judged_at_is_so : judged_at scope place walked.before instruction ≡ Ok next_walked.before =
+      subst (λ ss. judged_at (at_spots scope ss) place walked.before instruction ≡ Ok next_walked.before) left_so.placed judged_at_is in
+      let same : suc place ≡ place + 1 = omega arith in
       record {
-        placed = s ∙ h.placed;
-        left = h.left ∙ ap (left_of p w.before done) l
-            ∙ ap (λ v. then_do (at_place p v (λ c. then_do (befores scope (suc p) c is) (λ bs. Ok (w.before ∷ bs))))
-            (λ bs. Ok (done ++ made p bs (i ∷ is)))) j2
-            ∙ joins p w.before i is x done (befores scope (suc p) w2.before is) m
-            ∙ ap₂ (λ n ds. left_of n w2.before ds is) z (sym d);
+        placed = spots_is ∙ left_so.placed;
+        left = left_so.left ∙ ap (left_of place walked.before done) left_is
+            ∙ ap (λ v. then_do (at_place place v (λ c. then_do (befores scope (suc place) c lines) (λ bs. Ok (walked.before ∷ bs))))
+            (λ bs. Ok (done ++ made place bs (instruction ∷ lines)))) judged_at_is_so
+            ∙ joins place walked.before instruction lines thing done (befores scope (suc place) next_walked.before lines) makes
+            ∙ ap₂ (λ n ds. left_of n next_walked.before ds lines) same (sym done2_is);
       }
 
-  pub left_ended : (p : ℕ) (w : Walked) (done done2 : List A) (left : List Instruction) → IsLeft p w done left → left ≡ []
-      → done2 ≡ done ++ made p (w.before ∷ []) [] → ended_block scope.head w.before w.before.loops ≡ Ok w.before
+  pub left_ended : (place : ℕ) (walked : Walked) (done done2 : List A) (left : List Instruction) → IsLeft place walked done left → left ≡ []
+      → done2 ≡ done ++ made place (walked.before ∷ []) [] → ended_block scope.head walked.before walked.before.loops ≡ Ok walked.before
       → then_do (befores scope 0 (before [] []) all) (λ bs. Ok (made 0 bs all)) ≡ Ok done2
-  left_ended p w done done2 left h l d e =
-      h.left ∙ ap (left_of p w.before done) l ∙ ap (λ v. then_do (at_place p v (λ c. Ok (c ∷ []))) (λ bs. Ok (done ++ made p bs []))) e
-      ∙ ap Ok (sym d)
+  left_ended place walked done done2 left left_so left_is done2_is ended_block_is =
+      left_so.left ∙ ap (left_of place walked.before done) left_is
+      ∙ ap (λ v. then_do (at_place place v (λ c. Ok (c ∷ []))) (λ bs. Ok (done ++ made place bs []))) ended_block_is
+      ∙ ap Ok (sym done2_is)

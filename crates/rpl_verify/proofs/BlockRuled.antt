@@ -1,5 +1,6 @@
 -- The code's two passes over a block are its ruling.
 use Rattle.rw_base.proofs.Common.{◌≡◌, ◌<◌, ◌+◌, ℕ, suc, Bool, true, nat_lt, List, [], ◌∷◌, length, Result, Ok, Err, refl, sym, ap, ◌∙◌, arith}
+use Rattle.rw_base.specs.declared.limits.TheConstants.{RULES_MAX}
 use Rattle.rw_base.proofs.Common.{if◌then◌else◌, nat_tests}
 use Rattle.rw_model.specs.Draft.{Draft}
 use Rattle.rpl_code.specs.declared.block.Block.{Block}
@@ -20,23 +21,25 @@ use Rattle.rpl_verify.proofs.KindFacts.{then_do_ok, same_ok}
 use Rattle.rpl_verify.proofs.Caps.{most_is}
 
 module _ (scope : Scope) (budgets : List Budget) where
-  budget_is : (bs : List Before) (is : List Instruction) → budget_noted (notes_of scope budgets bs is) is ≡ budget_by scope budgets bs is
-  budget_is bs is =
+  budget_is : (befores_there : List Before) (lines : List Instruction)
+      → budget_noted (notes_of scope budgets befores_there lines) lines ≡ budget_by scope budgets befores_there lines
+  budget_is befores_there lines =
       rw (
-        most_is scope budgets Count bs is,
-        most_is scope budgets Looks bs is,
-        most_is scope budgets Puts bs is,
-        most_is scope budgets Words bs is,
+        most_is scope budgets Count befores_there lines,
+        most_is scope budgets Looks befores_there lines,
+        most_is scope budgets Puts befores_there lines,
+        most_is scope budgets Words befores_there lines,
       ) refl
 
-  length-notes : (bs : List Before) (is : List Instruction) → length (notes_of scope budgets bs is) ≡ length is + 1
-  length-notes bs [] = refl
-  length-notes bs (i ∷ is) = let e = length-notes (rest_of bs) is in omega (arith, e)
+  length-notes : (befores_there : List Before) (lines : List Instruction) → length (notes_of scope budgets befores_there lines) ≡ length lines + 1
+  length-notes befores_there [] = refl
+  length-notes befores_there (instruction ∷ lines) =
+      let length_notes_so = length-notes (rest_of befores_there) lines in omega (arith, length_notes_so)
 
-  pub length-noted : (is : List Instruction) (ns : List Note) → noted_block scope budgets is ≡ Ok ns → length ns ≡ length is + 1
-  length-noted is ns h =
-      let q = then_do_ok (befores scope 0 (before [] []) is) (λ bs. Ok (notes_of scope budgets bs is)) ns h in
-      ap length (sym (same_ok (notes_of scope budgets q.0 is) ns q.2)) ∙ length-notes q.0 is
+  pub length-noted : (lines : List Instruction) (notes : List Note) → noted_block scope budgets lines ≡ Ok notes → length notes ≡ length lines + 1
+  length-noted lines notes noted_block_is =
+      let judged = then_do_ok (befores scope 0 (before [] []) lines) (λ bs. Ok (notes_of scope budgets bs lines)) notes noted_block_is in
+      ap length (sym (same_ok (notes_of scope budgets judged.0 lines) notes judged.2)) ∙ length-notes judged.0 lines
 
 module _ (basin : Draft) (blocks earlier : List Block) (budgets : List Budget) (block : Block) where
   abbrev here : Scope
@@ -45,29 +48,32 @@ module _ (basin : Draft) (blocks earlier : List Block) (budgets : List Budget) (
   pub same_noted : (number : ℕ) (locals : List ValueKind) (lines : List Instruction) → number ≡ suc (length earlier) → locals ≡ locals_of block
       → lines ≡ block.lines
       → noted_block (scope_in basin blocks number block.head locals (spots lines)) budgets lines ≡ noted_block here budgets block.lines
-  same_noted number locals lines n k l = rw (n, k, l) refl
+  same_noted number locals lines number_is locals_is lines_is = rw (number_is, locals_is, lines_is) refl
 
   abbrev measured : Result (List Before) Misplaced → Result Budget Misplaced
   measured found = then_do found (λ bs. at_place (length block.lines) (within_limits (budget_by here budgets bs block.lines)) (λ b. Ok b))
 
-  few : count_alike block.head earlier < 200 → block_befores basin blocks earlier block ≡ befores here 0 (before [] []) block.lines
-  few h = let e : nat_lt (count_alike block.head earlier) 200 ≡ true = grind (arith, nat_tests) in
-      ap (λ (t : Bool). if t then befores here 0 (before [] []) block.lines else Err (record { misfit = TooMany; place = 0 })) e
+  few : count_alike block.head earlier < RULES_MAX → block_befores basin blocks earlier block ≡ befores here 0 (before [] []) block.lines
+  few below = let nat_lt_is : nat_lt (count_alike block.head earlier) RULES_MAX ≡ true = grind (arith, nat_tests) in
+      ap (λ (t : Bool). if t then befores here 0 (before [] []) block.lines else Err (record { misfit = TooMany; place = 0 })) nat_lt_is
 
-  pub ruled : count_alike block.head earlier < 200 → (ns : List Note) → noted_block here budgets block.lines ≡ Ok ns
-      → block_ruling basin blocks earlier budgets block ≡ at_place (length block.lines) (within_limits (budget_noted ns block.lines)) (λ b. Ok b)
-  ruled h ns e = ap measured (few h) ∙ by (befores here 0 (before [] []) block.lines) e
+  pub ruled : count_alike block.head earlier < RULES_MAX → (notes : List Note) → noted_block here budgets block.lines ≡ Ok notes
+      → block_ruling basin blocks earlier budgets block ≡ at_place (length block.lines) (within_limits (budget_noted notes block.lines)) (λ b. Ok b)
+  ruled below notes noted_block_is = ap measured (few below) ∙ by (befores here 0 (before [] []) block.lines) noted_block_is
     where
-      by : (found : Result (List Before) Misplaced) → then_do found (λ bs. Ok (notes_of here budgets bs block.lines)) ≡ Ok ns
-          → measured found ≡ at_place (length block.lines) (within_limits (budget_noted ns block.lines)) (λ b. Ok b)
-      by (Ok bs) e =
-          let same : notes_of here budgets bs block.lines ≡ ns = same_ok (notes_of here budgets bs block.lines) ns e in
+      by : (found : Result (List Before) Misplaced) → then_do found (λ bs. Ok (notes_of here budgets bs block.lines)) ≡ Ok notes
+          → measured found ≡ at_place (length block.lines) (within_limits (budget_noted notes block.lines)) (λ b. Ok b)
+      by (Ok befores_there) then_do_is =
+          let same : notes_of here budgets befores_there block.lines ≡ notes =
+          same_ok (notes_of here budgets befores_there block.lines) notes then_do_is in
           ap (λ b. at_place (length block.lines) (within_limits b) (λ b. Ok b))
-          (sym (budget_is here budgets bs block.lines) ∙ ap (λ ns. budget_noted ns block.lines) same)
-      by (Err other) e = absurd (cc e)
+          (sym (budget_is here budgets befores_there block.lines) ∙ ap (λ ns. budget_noted ns block.lines) same)
+      by (Err other) then_do_is = absurd (cc then_do_is)
 
   -- a budget that a limit refuses, or that keeps them all
-  pub ruled_by : (ns : List Note) (b : Budget) (r : Result Budget VerifyKind) → count_alike block.head earlier < 200
-      → noted_block here budgets block.lines ≡ Ok ns → b ≡ budget_noted ns block.lines → within_limits b ≡ r
-      → block_ruling basin blocks earlier budgets block ≡ at_place (length block.lines) r (λ b. Ok b)
-  ruled_by ns b r h e k w = ruled h ns e ∙ ap (λ r. at_place (length block.lines) r (λ b. Ok b)) (ap within_limits (sym k) ∙ w)
+  pub ruled_by : (notes : List Note) (its_budget : Budget) (result : Result Budget VerifyKind) → count_alike block.head earlier < RULES_MAX
+      → noted_block here budgets block.lines ≡ Ok notes → its_budget ≡ budget_noted notes block.lines → within_limits its_budget ≡ result
+      → block_ruling basin blocks earlier budgets block ≡ at_place (length block.lines) result (λ b. Ok b)
+  ruled_by notes its_budget result below noted_block_is its_budget_is within_limits_is =
+      ruled below notes noted_block_is ∙ ap (λ r. at_place (length block.lines) r (λ b. Ok b)) (ap within_limits (sym its_budget_is)
+      ∙ within_limits_is)

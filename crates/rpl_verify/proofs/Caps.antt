@@ -13,149 +13,184 @@ use Rattle.rpl_verify.specs.Budget.{Going, onward, jumping, branching, entering,
 use Rattle.rpl_verify.specs.Notes.{end_note, part_joined, limit_of, measure_of, note_of, noted, notes_of, price_in, repeated, stopping}
 
 -- a product with a number at least 1 is at least the other
-at_least : (m b : ℕ) → b ≤ suc m * b
-at_least m b = omega arith
+at_least : (m second : ℕ) → second ≤ suc m * second
+at_least m second = omega arith
 
-below : (l m b : ℕ) → b ≤ l + 1 → capped l (m * capped l b) ≡ capped l (m * b)
-below l m b h = let e : capped l b ≡ b = omega arith in ap (λ x. capped l (m * x)) e
+below : (number m second : ℕ) → second ≤ number + 1 → capped number (m * capped number second) ≡ capped number (m * second)
+below number m second at_most = let capped_is : capped number second ≡ second = omega arith in ap (λ x. capped number (m * x)) capped_is
 
-above : (l m b : ℕ) → l + 1 ≤ b → capped l (m * capped l b) ≡ capped l (m * b)
-above l zero b h = omega arith
-above l (suc m) b h =
-    let e : capped l b ≡ l + 1 = omega arith in
-    let p = at_least m b in
-    let q = at_least m (l + 1) in
-    let a : capped l (suc m * (l + 1)) ≡ l + 1 = omega (arith, q) in
-    let d : capped l (suc m * b) ≡ l + 1 = omega (arith, p, h) in
-    ap (λ x. capped l (suc m * x)) e ∙ a ∙ sym d
+above : (number m second : ℕ) → number + 1 ≤ second → capped number (m * capped number second) ≡ capped number (m * second)
+above number zero second at_most = omega arith
+above number (suc m) second at_most =
+    let capped_is : capped number second ≡ number + 1 = omega arith in
+    let at_least_so = at_least m second in
+    let at_least_too = at_least m (number + 1) in
+    let capped_is_so : capped number (suc m * (number + 1)) ≡ number + 1 = omega (arith, at_least_too) in
+    let capped_is_too : capped number (suc m * second) ≡ number + 1 = omega (arith, at_least_so, at_most) in
+    ap (λ x. capped number (suc m * x)) capped_is ∙ capped_is_so ∙ sym capped_is_too
 
-pub capped_times : (l m b : ℕ) → capped l (m * capped l b) ≡ capped l (m * b)
-capped_times l m b = by (nat_lt (l + 1) b) refl
+pub capped_times : (number m second : ℕ) → capped number (m * capped number second) ≡ capped number (m * second)
+capped_times number m second = by (nat_lt (number + 1) second) refl
   where
-    by : (t : Bool) → nat_lt (l + 1) b ≡ t → capped l (m * capped l b) ≡ capped l (m * b)
-    by true e = let h : l + 1 < b = grind (arith, nat_tests) in above l m b (omega (arith, h))
-    by false e = let h : b ≤ l + 1 = grind (arith, nat_tests) in below l m b h
+    by : (truth : Bool) → nat_lt (number + 1) second ≡ truth → capped number (m * capped number second) ≡ capped number (m * second)
+    by true nat_lt_is = let below : number + 1 < second = grind (arith, nat_tests) in above number m second (omega (arith, below))
+    by false nat_lt_is = let at_most : second ≤ number + 1 = grind (arith, nat_tests) in below number m second at_most
 
-capped_sum : (l a b x y : ℕ) → a ≡ capped l x → b ≡ capped l y → capped l (a + b) ≡ capped l (x + y)
-capped_sum l a b x y h g = omega (arith, h, g)
+capped_sum : (number first second number_here other_second : ℕ) → first ≡ capped number number_here → second ≡ capped number other_second
+    → capped number (first + second) ≡ capped number (number_here + other_second)
+capped_sum number first second number_here other_second first_is second_is = omega (arith, first_is, second_is)
 
-capped_most : (l a b x y : ℕ) → a ≡ capped l x → b ≡ capped l y → capped l (max a b) ≡ capped l (max x y)
-capped_most l a b x y h g = omega (arith, h, g)
+capped_most : (number first second number_here other_second : ℕ) → first ≡ capped number number_here → second ≡ capped number other_second
+    → capped number (max first second) ≡ capped number (max number_here other_second)
+capped_most number first second number_here other_second first_is second_is = omega (arith, first_is, second_is)
 
-max_capped : (l a b x y : ℕ) → a ≡ capped l x → b ≡ capped l y → max a b ≡ capped l (max x y)
-max_capped l a b x y h g = omega (arith, h, g)
+max_capped : (number first second number_here other_second : ℕ) → first ≡ capped number number_here → second ≡ capped number other_second
+    → max first second ≡ capped number (max number_here other_second)
+max_capped number first second number_here other_second first_is second_is = omega (arith, first_is, second_is)
 
 -- what is joined of numbers that stop
-pub joined_stops : (part : Part) (a b x y : ℕ) → a ≡ capped (limit_of part) x → b ≡ capped (limit_of part) y
-    → capped (limit_of part) (part_joined part a b) ≡ capped (limit_of part) (part_joined part x y)
-joined_stops Count a b x y h g = capped_sum limits.count a b x y h g
-joined_stops Looks a b x y h g = capped_sum limits.looks a b x y h g
-joined_stops Puts a b x y h g = capped_sum limits.puts a b x y h g
-joined_stops Words a b x y h g = capped_most limits.words a b x y h g
+pub joined_stops : (part : Part) (first second number_here other_second : ℕ) → first ≡ capped (limit_of part) number_here
+    → second ≡ capped (limit_of part) other_second
+    → capped (limit_of part) (part_joined part first second) ≡ capped (limit_of part) (part_joined part number_here other_second)
+joined_stops Count first second number_here other_second first_is second_is =
+    capped_sum limits.count first second number_here other_second first_is second_is
+joined_stops Looks first second number_here other_second first_is second_is =
+    capped_sum limits.looks first second number_here other_second first_is second_is
+joined_stops Puts first second number_here other_second first_is second_is =
+    capped_sum limits.puts first second number_here other_second first_is second_is
+joined_stops Words first second number_here other_second first_is second_is =
+    capped_most limits.words first second number_here other_second first_is second_is
 
-times_stops : (l room a x : ℕ) → a ≡ capped l x → capped l (room * a) ≡ capped l (room * x)
-times_stops l room a x h = ap (λ n. capped l (room * n)) h ∙ capped_times l room x
+times_stops : (number room first number_here : ℕ) → first ≡ capped number number_here
+    → capped number (room * first) ≡ capped number (room * number_here)
+times_stops number room first number_here first_is = ap (λ n. capped number (room * n)) first_is ∙ capped_times number room number_here
 
-pub repeated_stops : (part : Part) (room a x : ℕ) → a ≡ capped (limit_of part) x
-    → capped (limit_of part) (repeated part room a) ≡ capped (limit_of part) (repeated part room x)
-repeated_stops Count room a x h = times_stops limits.count room a x h
-repeated_stops Looks room a x h = times_stops limits.looks room a x h
-repeated_stops Puts room a x h = times_stops limits.puts room a x h
-repeated_stops Words room a x h = omega (arith, h)
+pub repeated_stops : (part : Part) (room first number_here : ℕ) → first ≡ capped (limit_of part) number_here
+    → capped (limit_of part) (repeated part room first) ≡ capped (limit_of part) (repeated part room number_here)
+repeated_stops Count room first number_here first_is = times_stops limits.count room first number_here first_is
+repeated_stops Looks room first number_here first_is = times_stops limits.looks room first number_here first_is
+repeated_stops Puts room first number_here first_is = times_stops limits.puts room first number_here first_is
+repeated_stops Words room first number_here first_is = omega (arith, first_is)
 
-pub index_capped : (l : ℕ) (ns : List ℕ) (k : ℕ) → slice_index (map (capped l) ns) k ≡ capped l (slice_index ns k)
-index_capped l [] k = omega arith
-index_capped l (n ∷ ns) zero = refl
-index_capped l (n ∷ ns) (suc k) = index_capped l ns k
+pub index_capped : (number : ℕ) (counts : List ℕ) (index : ℕ)
+    → slice_index (map (capped number) counts) index ≡ capped number (slice_index counts index)
+index_capped number [] index = omega arith
+index_capped number (n ∷ counts) zero = refl
+index_capped number (n ∷ counts) (suc index) = index_capped number counts index
 
 module _ (scope : Scope) (budgets : List Budget) where
   -- what the table joins and repeats by
-  measure_joins : (part : Part) (a b : ℕ) → (measure_of scope budgets part).joined a b ≡ part_joined part a b
-  measure_joins Count a b = refl
-  measure_joins Looks a b = refl
-  measure_joins Puts a b = refl
-  measure_joins Words a b = refl
+  measure_joins : (part : Part) (first second : ℕ) → (measure_of scope budgets part).joined first second ≡ part_joined part first second
+  measure_joins Count first second = refl
+  measure_joins Looks first second = refl
+  measure_joins Puts first second = refl
+  measure_joins Words first second = refl
 
-  measure_repeats : (part : Part) (room a : ℕ) → (measure_of scope budgets part).repeated room a ≡ repeated part room a
-  measure_repeats Count room a = refl
-  measure_repeats Looks room a = refl
-  measure_repeats Puts room a = refl
-  measure_repeats Words room a = refl
+  measure_repeats : (part : Part) (room first : ℕ) → (measure_of scope budgets part).repeated room first ≡ repeated part room first
+  measure_repeats Count room first = refl
+  measure_repeats Looks room first = refl
+  measure_repeats Puts room first = refl
+  measure_repeats Words room first = refl
 
   module _ (part : Part) where
-    join_stops : (a b x y : ℕ) → a ≡ capped (limit_of part) x → b ≡ capped (limit_of part) y
-        → capped (limit_of part) (part_joined part a b) ≡ capped (limit_of part) ((measure_of scope budgets part).joined x y)
-    join_stops a b x y h g = joined_stops part a b x y h g ∙ ap (capped (limit_of part)) (sym (measure_joins part x y))
+    join_stops : (first second number_here other_second : ℕ) → first ≡ capped (limit_of part) number_here
+        → second ≡ capped (limit_of part) other_second
+        → capped (limit_of part) (part_joined part first second)
+        ≡ capped (limit_of part) ((measure_of scope budgets part).joined number_here other_second)
+    join_stops first second number_here other_second first_is second_is =
+        joined_stops part first second number_here other_second first_is second_is
+        ∙ ap (capped (limit_of part)) (sym (measure_joins part number_here other_second))
 
-    repeat_stops : (room a x : ℕ) → a ≡ capped (limit_of part) x
-        → capped (limit_of part) (repeated part room a) ≡ capped (limit_of part) ((measure_of scope budgets part).repeated room x)
-    repeat_stops room a x h = repeated_stops part room a x h ∙ ap (capped (limit_of part)) (sym (measure_repeats part room x))
+    repeat_stops : (room first number_here : ℕ) → first ≡ capped (limit_of part) number_here
+        → capped (limit_of part) (repeated part room first) ≡ capped (limit_of part) ((measure_of scope budgets part).repeated room number_here)
+    repeat_stops room first number_here first_is =
+        repeated_stops part room first number_here first_is ∙ ap (capped (limit_of part)) (sym (measure_repeats part room number_here))
 
     -- an entry made of numbers that stop is the entry that stops
-    pub most_stops : (place : ℕ) (way : Going) (price price2 room room2 : ℕ) (is : List Instruction) (from from2 : ℕ → ℕ)
-        → price2 ≡ capped (limit_of part) price → room2 ≡ room → ((d : ℕ) → from2 d ≡ capped (limit_of part) (from d))
-        → most_from (stopping part) place way price2 room2 is from2
-        ≡ capped (limit_of part) (most_from (measure_of scope budgets part) place way price room is from)
-    most_stops place onward price price2 room room2 is from from2 p r h = join_stops price2 _ price _ p (h (suc place))
-    most_stops place (jumping to) price price2 room room2 is from from2 p r h = join_stops price2 _ price _ p (h to)
-    most_stops place (branching to) price price2 room room2 is from from2 p r h =
-        join_stops price2 _ price _ p (max_capped (limit_of part) (from2 (suc place)) (from2 to) (from (suc place)) (from to) (h (suc place)) (h to))
-    most_stops place entering price price2 room room2 is from from2 p r h =
-        join_stops price2 _ price _ p (join_stops _ _ _ _
-        (repeat_stops room2 (from2 (suc place)) (from (suc place)) (h (suc place))
-        ∙ ap (λ n. capped (limit_of part) ((measure_of scope budgets part).repeated n (from (suc place)))) r) (h (loop_end (suc place) is)))
-    most_stops place turning price price2 room room2 is from from2 p r h = p
+    pub most_stops : (place : ℕ) (way : Going) (price price2 room room2 : ℕ) (lines : List Instruction) (from from2 : ℕ → ℕ)
+        → price2 ≡ capped (limit_of part) price → room2 ≡ room → ((more : ℕ) → from2 more ≡ capped (limit_of part) (from more))
+        → most_from (stopping part) place way price2 room2 lines from2
+        ≡ capped (limit_of part) (most_from (measure_of scope budgets part) place way price room lines from)
+    most_stops place onward price price2 room room2 lines from from2 price2_is room2_is from2_is =
+        join_stops price2 _ price _ price2_is (from2_is (suc place))
+    most_stops place (jumping to) price price2 room room2 lines from from2 price2_is room2_is from2_is =
+        join_stops price2 _ price _ price2_is (from2_is to)
+    most_stops place (branching to) price price2 room room2 lines from from2 price2_is room2_is from2_is =
+        join_stops price2 _ price _ price2_is
+        (max_capped (limit_of part) (from2 (suc place)) (from2 to) (from (suc place)) (from to) (from2_is (suc place)) (from2_is to))
+    most_stops place entering price price2 room room2 lines from from2 price2_is room2_is from2_is =
+        join_stops price2 _ price _ price2_is (join_stops _ _ _ _
+        (repeat_stops room2 (from2 (suc place)) (from (suc place)) (from2_is (suc place))
+        ∙ ap (λ n. capped (limit_of part) ((measure_of scope budgets part).repeated n (from (suc place)))) room2_is)
+        (from2_is (loop_end (suc place) lines)))
+    most_stops place turning price price2 room room2 lines from from2 price2_is room2_is from2_is = price2_is
 
-    price_stops : (q : Part) (b : Before) (i : Instruction)
-        → price_in q (note_of scope budgets b i) ≡ capped (limit_of q) ((measure_of scope budgets q).price b i)
-    price_stops Count b i = refl
-    price_stops Looks b i = refl
-    price_stops Puts b i = refl
-    price_stops Words b i = refl
+    price_stops : (part_so : Part) (here : Before) (instruction : Instruction)
+        → price_in part_so (note_of scope budgets here instruction)
+        ≡ capped (limit_of part_so) ((measure_of scope budgets part_so).price here instruction)
+    price_stops Count here instruction = refl
+    price_stops Looks here instruction = refl
+    price_stops Puts here instruction = refl
+    price_stops Words here instruction = refl
 
-    end_stops : (q : Part) (b : Before) → price_in q (end_note scope budgets b) ≡ capped (limit_of q) ((measure_of scope budgets q).at_end b)
-    end_stops Count b = omega arith
-    end_stops Looks b = omega arith
-    end_stops Puts b = omega arith
-    end_stops Words b = refl
+    end_stops : (part_so : Part) (here : Before)
+        → price_in part_so (end_note scope budgets here) ≡ capped (limit_of part_so) ((measure_of scope budgets part_so).at_end here)
+    end_stops Count here = omega arith
+    end_stops Looks here = omega arith
+    end_stops Puts here = omega arith
+    end_stops Words here = refl
 
     -- the table by notes is the table of all numbers, each of which stops
-    pub noted_is : (place : ℕ) (bs : List Before) (is : List Instruction)
-        → noted part place (notes_of scope budgets bs is) is ≡ map (capped (limit_of part)) (table (measure_of scope budgets part) place bs is)
-    noted_is place bs [] = ap (λ n. n ∷ []) (end_stops part (first_before bs))
-    noted_is place bs (i ∷ is) =
-        let m = measure_of scope budgets part in
-        let b = first_before bs in
-        let behind = table m (suc place) (rest_of bs) is in
-        let e = noted_is (suc place) (rest_of bs) is in
-        let stops : (d : ℕ) → slice_index (noted part (suc place) (notes_of scope budgets (rest_of bs) is) is) (d - suc place)
-        ≡ capped (limit_of part) (slice_index behind (d - suc place)) =
-        λ d. ap (λ ns. slice_index ns (d - suc place)) e ∙ index_capped (limit_of part) behind (d - suc place) in
+    pub noted_is : (place : ℕ) (befores_there : List Before) (lines : List Instruction)
+        → noted part place (notes_of scope budgets befores_there lines) lines
+        ≡ map (capped (limit_of part)) (table (measure_of scope budgets part) place befores_there lines)
+    noted_is place befores_there [] = ap (λ n. n ∷ []) (end_stops part (first_before befores_there))
+    noted_is place befores_there (instruction ∷ lines) =
+        let measure_of_so = measure_of scope budgets part in
+        let first_before_so = first_before befores_there in
+        let behind = table measure_of_so (suc place) (rest_of befores_there) lines in
+        let noted_is_so = noted_is (suc place) (rest_of befores_there) lines in
+        let stops : (more : ℕ) → slice_index (noted part (suc place) (notes_of scope budgets (rest_of befores_there) lines) lines) (more - suc place)
+        ≡ capped (limit_of part) (slice_index behind (more - suc place)) =
+        λ d. ap (λ ns. slice_index ns (d - suc place)) noted_is_so ∙ index_capped (limit_of part) behind (d - suc place) in
         ap₂ (λ n ns. n ∷ ns)
-        (most_stops place (going_of i) (m.price b i) (price_in part (note_of scope budgets b i)) (room_on_top b.kinds) (room_on_top b.kinds) is
+        (most_stops place (going_of instruction) (measure_of_so.price first_before_so instruction)
+        (price_in part (note_of scope budgets first_before_so instruction)) (room_on_top first_before_so.kinds) (room_on_top first_before_so.kinds)
+        lines
         (λ to. slice_index behind (to - suc place))
-        (λ to. slice_index (noted part (suc place) (notes_of scope budgets (rest_of bs) is) is) (to - suc place)) (price_stops part b i) refl stops)
-        e
+        (λ to. slice_index (noted part (suc place) (notes_of scope budgets (rest_of befores_there) lines) lines) (to - suc place))
+        (price_stops part first_before_so instruction) refl stops)
+        noted_is_so
 
-    pub most_is : (bs : List Before) (is : List Instruction)
-        → slice_index (noted part 0 (notes_of scope budgets bs is) is) 0 ≡ capped (limit_of part) (most (measure_of scope budgets part) bs is)
-    most_is bs is = ap (λ ns. slice_index ns 0) (noted_is 0 bs is) ∙ index_capped (limit_of part) (table (measure_of scope budgets part) 0 bs is) 0
+    pub most_is : (befores_there : List Before) (lines : List Instruction)
+        → slice_index (noted part 0 (notes_of scope budgets befores_there lines) lines) 0
+        ≡ capped (limit_of part) (most (measure_of scope budgets part) befores_there lines)
+    most_is befores_there lines =
+        ap (λ ns. slice_index ns 0) (noted_is 0 befores_there lines)
+        ∙ index_capped (limit_of part) (table (measure_of scope budgets part) 0 befores_there lines) 0
 
 -- one place of the table, from those behind it
-pub noted_on : (part : Part) (most most2 : List ℕ) (p q : ℕ) (n : Note) (ns left : List Note) (i : Instruction) (is on : List Instruction) (x : ℕ)
-    → q ≡ p + 1 → drop q most ≡ noted part q ns is → left ≡ n ∷ ns → on ≡ i ∷ is → p < length most → most2 ≡ set most p x
-    → x ≡ most_from (stopping part) p (going_of i) (price_in part n) n.room is (λ to. slice_index (drop (suc p) most) (to - suc p))
-    → drop p most2 ≡ noted part p left on
-noted_on part most most2 p q n ns left i is on x z h l o lt s v =
-    let z2 : q ≡ suc p = omega (arith, z) in
-    let z3 : p + 1 ≡ suc p = omega arith in
-    let h2 : drop (suc p) most ≡ noted part (suc p) ns is = subst (λ j. drop j most ≡ noted part j ns is) z2 h in
-    let w : x ≡ most_from (stopping part) p (going_of i) (price_in part n) n.room is (λ to. slice_index (noted part (suc p) ns is) (to - suc p)) =
-    v ∙ ap (λ xs. most_from (stopping part) p (going_of i) (price_in part n) n.room is (λ to. slice_index xs (to - suc p))) h2 in
-    ap (drop p) s ∙ drop-set most p x lt ∙ ap₂ (λ y ys. y ∷ ys) w (ap (λ j. drop j most) z3 ∙ h2) ∙ ap₂ (noted part p) (sym l) (sym o)
+pub noted_on : (part : Part) (most most2 : List ℕ) (place next_place : ℕ) (note : Note) (notes left : List Note) (instruction : Instruction)
+    (lines on : List Instruction) (first : ℕ)
+    → next_place ≡ place + 1 → drop next_place most ≡ noted part next_place notes lines → left ≡ note ∷ notes → on ≡ instruction ∷ lines
+    → place < length most → most2 ≡ set most place first
+    → first ≡ most_from (stopping part) place (going_of instruction) (price_in part note) note.room lines
+    (λ to. slice_index (drop (suc place) most) (to - suc place))
+    → drop place most2 ≡ noted part place left on
+noted_on part most most2 place next_place note notes left instruction lines on first next_place_is drop_is left_is on_is below most2_is first_is =
+    let next_place_is_so : next_place ≡ suc place = omega (arith, next_place_is) in
+    let place_is : place + 1 ≡ suc place = omega arith in
+    let drop_is_so : drop (suc place) most ≡ noted part (suc place) notes lines =
+    subst (λ j. drop j most ≡ noted part j notes lines) next_place_is_so drop_is in
+    let first_is_so : first ≡ most_from (stopping part) place (going_of instruction) (price_in part note) note.room lines
+    (λ to. slice_index (noted part (suc place) notes lines) (to - suc place)) =
+    first_is ∙ ap (λ xs. most_from (stopping part) place (going_of instruction) (price_in part note) note.room lines
+    (λ to. slice_index xs (to - suc place))) drop_is_so in
+    ap (drop place) most2_is ∙ drop-set most place first below ∙ ap₂ (λ y ys. y ∷ ys) first_is_so (ap (λ j. drop j most) place_is ∙ drop_is_so)
+    ∙ ap₂ (noted part place) (sym left_is) (sym on_is)
 
-pub index-drop : (n : ℕ) (ns : List ℕ) (d k : ℕ) → n + d ≡ k → slice_index (drop n ns) d ≡ slice_index ns k
-index-drop zero ns d k h = ap (slice_index ns) (omega (arith, h))
-index-drop (suc n) [] d k h = refl
-index-drop (suc n) (x ∷ ns) d zero h = absurd (omega (arith, h))
-index-drop (suc n) (x ∷ ns) d (suc k) h = index-drop n ns d k (omega (arith, h))
+pub index-drop : (n : ℕ) (counts : List ℕ) (more index : ℕ) → n + more ≡ index → slice_index (drop n counts) more ≡ slice_index counts index
+index-drop zero counts more index n_is = ap (slice_index counts) (omega (arith, n_is))
+index-drop (suc n) [] more index n_is = refl
+index-drop (suc n) (first ∷ counts) more zero n_is = absurd (omega (arith, n_is))
+index-drop (suc n) (first ∷ counts) more (suc index) n_is = index-drop n counts more index (omega (arith, n_is))

@@ -1,16 +1,16 @@
 -- The names that proofs cite, passed on from one place. Declares nothing.
-pub use Rattle.rpl_verify.proofs.Accepted.{bs, covered, earlier, exact, fits, numbered_by, numbered_is, rule_there, ruled}
+pub use Rattle.rpl_verify.proofs.Accepted.{accepted_befores, covered, earlier, exact, fits, numbered_by, numbered_is, rule_there, ruled}
 pub use Rattle.rpl_verify.proofs.Acting.{fits_behind, good_branch, good_enter, good_jump, good_next, good_put, good_target, good_yield, names_there}
 pub use Rattle.rpl_verify.proofs.Acting.{on_top, row_takes}
-pub use Rattle.rpl_verify.proofs.Costs.{C, W}
-pub use Rattle.rpl_verify.proofs.Frames.{Acted, ActedOn, AreRunning, Fr, IsRunning, elements_are}
+pub use Rattle.rpl_verify.proofs.Costs.{costs_ahead, words_ahead}
+pub use Rattle.rpl_verify.proofs.Frames.{Acted, ActedOn, AreRunning, FrameFits, IsRunning, elements_are}
 pub use Rattle.rpl_verify.proofs.Judged.{Opens, closes_by, opens_by, same_loop_true, taken_is, taken_ok}
 pub use Rattle.rpl_verify.proofs.KindFacts.{AreRoomy, IsRoomy, and_true, date_is, is_kind_true, kinds_append, kinds_blank, kinds_get, kinds_length}
 pub use Rattle.rpl_verify.proofs.KindFacts.{kinds_take, number_is, roomy_blank, roomy_get, roomy_take, same_kind_true, slot_is, then_do_ok, truth_is}
 pub use Rattle.rpl_verify.proofs.Loops.{Opened, opened, shut_at}
 pub use Rattle.rpl_verify.proofs.Operated.{AreAll, IsOperation}
-pub use Rattle.rpl_verify.proofs.Running.{Cost, Looks, Puts, Reach, state_words}
-pub use Rattle.rpl_verify.proofs.States.{GoodOn, Inv, Waiting, acts, begun, block_at, block_or, frame_fits, good_step}
+pub use Rattle.rpl_verify.proofs.Running.{count_left, looks_left, puts_left, words_reached, state_words}
+pub use Rattle.rpl_verify.proofs.States.{GoodOn, StateFits, Waiting, acts, begun, block_at, block_or, frame_fits, good_step}
 pub use Rattle.rpl_verify.proofs.Stepping.{IsCall, end_of_list}
 pub use Rattle.rpl_verify.proofs.VerifiedFacts.{answered, answered_resolved, few, rules_and_functions}
 pub use Rattle.rpl_verify.specs.Budget.{AreAccepted, count_of, first_before, looks_of, puts_of, words_of_kind, words_of_loop}

@@ -17,7 +17,7 @@ mutual
   at_jump world (suc n) = at_target world n
 
 nothing_of : (answer : Answer (Unit {0})) (trail : Trail) → answer ≡ stuck → fire_of answer trail ≡ None
-nothing_of answer trail e = ap (λ a. fire_of a trail) e
+nothing_of answer trail answer_is = ap (λ a. fire_of a trail) answer_is
 
 pub nothing_fired : (world : World) (n : ℕ)
     → fire_of (run endless world n (standing 0 ∷ [])).answer (run endless world n (standing 0 ∷ [])).trail ≡ None

@@ -14,81 +14,93 @@ use Rattle.rpl_verify.specs.Fits.{lands_on}
 use Rattle.rpl_verify.proofs.KindFacts.{same_ok, test_ok}
 use Rattle.rpl_verify.proofs.Judged.{OpenRel, begins, carried_is, end_shut, named, parts, places_fit, rel_of, same_loop_refl}
 
-pub drop_at : {A : Type 0} (xs : List A) (p : ℕ) (x : A) → slice_get xs p ≡ Some x → drop p xs ≡ x ∷ drop (suc p) xs
-drop_at [] p x h = absurd (cc h)
-drop_at (y ∷ xs) zero x h = let e : y ≡ x = cc h in ap (λ z. z ∷ xs) e
-drop_at (y ∷ xs) (suc p) x h = drop_at xs p x h
+pub drop_at : {A : Type 0} (things : List A) (place : ℕ) (thing : A) → slice_get things place ≡ Some thing
+    → drop place things ≡ thing ∷ drop (suc place) things
+drop_at [] place thing found = absurd (cc found)
+drop_at (thing ∷ things) zero other_thing found = let thing_is : thing ≡ other_thing = cc found in ap (λ z. z ∷ things) thing_is
+drop_at (thing ∷ things) (suc place) other_thing found = drop_at things place other_thing found
 
-none_on : {A : Type 0} (xs : List A) (p : ℕ) → slice_get xs p ≡ None → slice_get xs (suc p) ≡ None
-none_on [] p h = refl
-none_on (y ∷ xs) zero h = absurd (cc h)
-none_on (y ∷ xs) (suc p) h = none_on xs p h
+none_on : {A : Type 0} (things : List A) (place : ℕ) → slice_get things place ≡ None → slice_get things (suc place) ≡ None
+none_on [] place found = refl
+none_on (thing ∷ things) zero found = absurd (cc found)
+none_on (thing ∷ things) (suc place) found = none_on things place found
 
 abbrev pub openers : List Open → List Opener
 openers [] = []
-openers (o ∷ os) = record { start = o.start; loop = o.loop } ∷ openers os
+openers (open_loop ∷ open_loops) = record { start = open_loop.start; loop = open_loop.loop } ∷ openers open_loops
 
-innermost_is : (os : List Open) → start_of (top_of (openers os)) ≡ innermost os
+innermost_is : (open_loops : List Open) → start_of (top_of (openers open_loops)) ≡ innermost open_loops
 innermost_is [] = refl
-innermost_is (o ∷ os) = refl
+innermost_is (open_loop ∷ open_loops) = refl
 
-openers_by : (p : ℕ) (b : Bracket) (os : List Open) (c : Before) → OpenRel p b os c → openers_behind b p (openers os) ≡ openers c.loops
-openers_by p (opening loop) os c r =
-    let z : openers_behind (opening loop) p (openers os) ≡ openers (r.0 ∷ os) =
-    ap₂ (λ n l. record { start = n; loop = l } ∷ openers os) (sym r.3) (sym r.4) in
-    z ∙ ap openers (sym r.1)
-openers_by p (closing loop) os c r =
-    ap (λ os. closed_by loop (openers os)) r.1 ∙ ap (λ l. closed_by l (openers (r.0 ∷ c.loops))) (sym r.3)
-    ∙ by (is_same_loop r.0.loop r.0.loop) (same_loop_refl r.0.loop)
+openers_by : (place : ℕ) (bracket : Bracket) (open_loops : List Open) (there : Before) → OpenRel place bracket open_loops there
+    → openers_behind bracket place (openers open_loops) ≡ openers there.loops
+openers_by place (opening loop) open_loops there open_rel =
+    let openers_behind_is : openers_behind (opening loop) place (openers open_loops) ≡ openers (open_rel.0 ∷ open_loops) =
+    ap₂ (λ n l. record { start = n; loop = l } ∷ openers open_loops) (sym open_rel.3) (sym open_rel.4) in
+    openers_behind_is ∙ ap openers (sym open_rel.1)
+openers_by place (closing loop) open_loops there open_rel =
+    ap (λ os. closed_by loop (openers os)) open_rel.1 ∙ ap (λ l. closed_by l (openers (open_rel.0 ∷ there.loops))) (sym open_rel.3)
+    ∙ by (is_same_loop open_rel.0.loop open_rel.0.loop) (same_loop_refl open_rel.0.loop)
   where
-    by : (t : Bool) → t ≡ true → (if t then openers c.loops else openers (r.0 ∷ c.loops)) ≡ openers c.loops
-    by true h = refl
-    by false h = absurd (cc h)
-openers_by p level os c r = ap openers (sym r)
+    by : (truth : Bool) → truth ≡ true → (if truth then openers there.loops else openers (open_rel.0 ∷ there.loops)) ≡ openers there.loops
+    by true truth_is = refl
+    by false truth_is = absurd (cc truth_is)
+openers_by place level open_loops there open_rel = ap openers (sym open_rel)
 
-same_place_is : (a b : Option ℕ) → is_same_place a b ≡ true → a ≡ b
-same_place_is None None h = refl
-same_place_is (Some a) (Some b) h = let e : a ≡ b = search rules in ap Some e
-same_place_is _ _ h = absurd (cc h)
+same_place_is : (found an_option : Option ℕ) → is_same_place found an_option ≡ true → found ≡ an_option
+same_place_is None None is_same_place_is = refl
+same_place_is (Some found) (Some an_option) is_same_place_is = let found_is : found ≡ an_option = search rules in ap Some found_is
+same_place_is _ _ is_same_place_is = absurd (cc is_same_place_is)
 
 module _ (scope : Scope) where
   -- what a jump asks of a place is what is there
-  spot_is : (q : ℕ) (b : Before) (is : List Instruction) (bs : List Before) (k : ℕ) (s : Spot) → befores scope q b is ≡ Ok bs
-      → slice_get (spots_from q (openers b.loops) is) k ≡ Some s
-      → (i : Instruction) × (slice_get is k ≡ Some i) × (s.declares ≡ declared_by i) × (s.innermost ≡ innermost (before_at bs k).loops)
-  spot_is q b [] bs k s h e = absurd (cc e)
-  spot_is q b (i ∷ is) bs zero s h e =
-      let z : record { innermost = start_of (top_of (openers b.loops)); declares = declared_by i } ≡ s = cc e in
-      let n = begins scope q b (i ∷ is) bs h in (
-        i,
+  spot_is : (place : ℕ) (here : Before) (lines : List Instruction) (befores_there : List Before) (index : ℕ) (spot : Spot)
+      → befores scope place here lines ≡ Ok befores_there
+      → slice_get (spots_from place (openers here.loops) lines) index ≡ Some spot
+      → (instruction : Instruction) × (slice_get lines index ≡ Some instruction) × (spot.declares ≡ declared_by instruction)
+      × (spot.innermost ≡ innermost (before_at befores_there index).loops)
+  spot_is place here [] befores_there index spot befores_is found = absurd (cc found)
+  spot_is place here (instruction ∷ lines) befores_there zero spot befores_is found =
+      let is_spot : record { innermost = start_of (top_of (openers here.loops)); declares = declared_by instruction } ≡ spot = cc found in
+      let begins_so = begins scope place here (instruction ∷ lines) befores_there befores_is in (
+        instruction,
         refl,
-        ap (λ (s : Spot). s.declares) (sym z),
-        ap (λ (s : Spot). s.innermost) (sym z) ∙ innermost_is b.loops ∙ ap (λ (k : Before). innermost k.loops) (sym n),
+        ap (λ (s : Spot). s.declares) (sym is_spot),
+        ap (λ (s : Spot). s.innermost) (sym is_spot) ∙ innermost_is here.loops ∙ ap (λ (k : Before). innermost k.loops) (sym begins_so),
       )
-  spot_is q b (i ∷ is) bs (suc k) s h e =
-      let p = parts scope q b i is bs h in
-      let st = openers_by q (bracket i) b.loops p.onto (rel_of scope q b i p.onto p.here) in
-      let r = spot_is (suc q) p.onto is p.others k s p.there (ap (λ os. slice_get (spots_from (suc q) os is) k) (sym st) ∙ e) in
-      (r.0, r.1, r.2, r.3 ∙ ap (λ l. innermost (before_at l (suc k)).loops) p.whole)
+  spot_is place here (instruction ∷ lines) befores_there (suc index) spot befores_is found =
+      let parts_so = parts scope place here instruction lines befores_there befores_is in
+      let openers_by_so =
+      openers_by place (bracket instruction) here.loops parts_so.onto (rel_of scope place here instruction parts_so.onto parts_so.here) in
+      let spot_is_so =
+      spot_is (suc place) parts_so.onto lines parts_so.others index spot parts_so.there
+      (ap (λ os. slice_get (spots_from (suc place) os lines) index) (sym openers_by_so) ∙ found) in
+      (spot_is_so.0, spot_is_so.1, spot_is_so.2, spot_is_so.3 ∙ ap (λ l. innermost (before_at l (suc index)).loops) parts_so.whole)
 
-module _ (scope : Scope) (lines : List Instruction) (bs : List Before) (spotted : scope.spots ≡ spots lines)
-    (fits : befores scope 0 (before [] []) lines ≡ Ok bs) where
-  abbrev pub B : ℕ → Before
-  B p = before_at bs p
+module _ (scope : Scope) (lines : List Instruction) (befores_there : List Before) (spotted : scope.spots ≡ spots lines)
+    (fits : befores scope 0 (before [] []) lines ≡ Ok befores_there) where
+  abbrev pub before_place : ℕ → Before
+  before_place place = before_at befores_there place
 
-  abbrev pub P : ℕ → List ℕ
-  P p = loop_ends p (drop p lines)
+  abbrev pub ends_ahead : ℕ → List ℕ
+  ends_ahead place = loop_ends place (drop place lines)
 
-  pub spot : (p : ℕ) (i : Instruction) → slice_get lines p ≡ Some i → judged_at scope p (B p) i ≡ Ok (B (suc p))
-  spot p i h =
-      let z : 0 + p ≡ p = omega arith in
-      subst (λ n. judged_at scope n (B p) i ≡ Ok (B (suc p))) z (places_fit scope 0 (before [] []) lines bs p i fits h)
+  pub judged_there : (place : ℕ) (instruction : Instruction) → slice_get lines place ≡ Some instruction
+      → judged_at scope place (before_place place) instruction ≡ Ok (before_place (suc place))
+  judged_there place instruction found =
+      let same : 0 + place ≡ place = omega arith in
+      subst (λ n. judged_at scope n (before_place place) instruction ≡ Ok (before_place (suc place))) same
+      (places_fit scope 0 (before [] []) lines befores_there place instruction fits found)
 
-  pub rel : (p : ℕ) (i : Instruction) → slice_get lines p ≡ Some i → OpenRel p (bracket i) ((B p).loops) (B (suc p))
-  rel p i h = rel_of scope p (B p) i (B (suc p)) (spot p i h)
+  pub loops_related : (place : ℕ) (instruction : Instruction) → slice_get lines place ≡ Some instruction
+      → OpenRel place (bracket instruction) ((before_place place).loops) (before_place (suc place))
+  loops_related place instruction found =
+      rel_of scope place (before_place place) instruction (before_place (suc place)) (judged_there place instruction found)
 
-  pub ends_at : (p : ℕ) (i : Instruction) → slice_get lines p ≡ Some i → P p ≡ ends_before (bracket i) p (P (suc p))
-  ends_at p i h = ap (loop_ends p) (drop_at lines p i h)
+  pub ends_at : (place : ℕ) (instruction : Instruction) → slice_get lines place ≡ Some instruction
+      → ends_ahead place ≡ ends_before (bracket instruction) place (ends_ahead (suc place))
+  ends_at place instruction found = ap (loop_ends place) (drop_at lines place instruction found)
 
   -- where the loop that begins at a place ends
   abbrev pub past : ℕ → ℕ
@@ -96,188 +108,248 @@ module _ (scope : Scope) (lines : List Instruction) (bs : List Before) (spotted 
 
   -- where each open loop goes on is what is found from here
   abbrev pub Linked : List ℕ → ℕ → List Open → Type 0
-  Linked ends d [] = Unit {0}
-  Linked ends d (o ∷ os) = (past o.start ≡ slice_index ends d) × Linked ends (suc d) os
+  Linked ends depth [] = Unit {0}
+  Linked ends depth (open_loop ∷ open_loops) = (past open_loop.start ≡ slice_index ends depth) × Linked ends (suc depth) open_loops
 
-  index_rest : (ends : List ℕ) (d : ℕ) → slice_index (rest_of ends) d ≡ slice_index ends (suc d)
-  index_rest [] d = refl
-  index_rest (c ∷ ends) d = refl
+  index_rest : (ends : List ℕ) (depth : ℕ) → slice_index (rest_of ends) depth ≡ slice_index ends (suc depth)
+  index_rest [] depth = refl
+  index_rest (end ∷ ends) depth = refl
 
-  linked_up : (ends : List ℕ) (d : ℕ) (os : List Open) → Linked (rest_of ends) d os → Linked ends (suc d) os
-  linked_up ends d [] l = tt
-  linked_up ends d (o ∷ os) l = (l.0 ∙ index_rest ends d, linked_up ends (suc d) os l.1)
+  linked_up : (ends : List ℕ) (depth : ℕ) (open_loops : List Open) → Linked (rest_of ends) depth open_loops → Linked ends (suc depth) open_loops
+  linked_up ends depth [] linked = tt
+  linked_up ends depth (open_loop ∷ open_loops) linked = (linked.0 ∙ index_rest ends depth, linked_up ends (suc depth) open_loops linked.1)
 
-  linked_down : (c : ℕ) (ends : List ℕ) (d : ℕ) (os : List Open) → Linked (c ∷ ends) (suc d) os → Linked ends d os
-  linked_down c ends d [] l = tt
-  linked_down c ends d (o ∷ os) l = (l.0, linked_down c ends (suc d) os l.1)
+  linked_down : (end : ℕ) (ends : List ℕ) (depth : ℕ) (open_loops : List Open) → Linked (end ∷ ends) (suc depth) open_loops
+      → Linked ends depth open_loops
+  linked_down end ends depth [] linked = tt
+  linked_down end ends depth (open_loop ∷ open_loops) linked = (linked.0, linked_down end ends (suc depth) open_loops linked.1)
 
-  linked_by : (p : ℕ) (b : Bracket) (os : List Open) (c : Before) → P p ≡ ends_before b p (P (suc p)) → OpenRel p b os c → Linked (P p) 0 os
-      → Linked (P (suc p)) 0 c.loops
-  linked_by p (opening loop) os c h r l =
-      let z : past r.0.start ≡ slice_index (P (suc p)) 0 = ap past r.3 in
-      subst (λ l. Linked (P (suc p)) 0 l) (sym r.1) (z, linked_up (P (suc p)) 0 os (subst (λ ends. Linked ends 0 os) h l))
-  linked_by p (closing loop) os c h r l =
-      linked_down (suc p) (P (suc p)) 0 c.loops ((subst (λ os. Linked (suc p ∷ P (suc p)) 0 os) r.1 (subst (λ ends. Linked ends 0 os) h l)).1)
-  linked_by p level os c h r l = subst (λ l. Linked (P (suc p)) 0 l) (sym r) (subst (λ ends. Linked ends 0 os) h l)
+  linked_by : (place : ℕ) (bracket : Bracket) (open_loops : List Open) (there : Before)
+      → ends_ahead place ≡ ends_before bracket place (ends_ahead (suc place)) → OpenRel place bracket open_loops there
+      → Linked (ends_ahead place) 0 open_loops
+      → Linked (ends_ahead (suc place)) 0 there.loops
+  linked_by place (opening loop) open_loops there ends_ahead_is open_rel linked =
+      let past_is : past open_rel.0.start ≡ slice_index (ends_ahead (suc place)) 0 = ap past open_rel.3 in
+      subst (λ l. Linked (ends_ahead (suc place)) 0 l) (sym open_rel.1)
+      (past_is, linked_up (ends_ahead (suc place)) 0 open_loops (subst (λ ends. Linked ends 0 open_loops) ends_ahead_is linked))
+  linked_by place (closing loop) open_loops there ends_ahead_is open_rel linked =
+      linked_down (suc place) (ends_ahead (suc place)) 0 there.loops
+      ((subst (λ os. Linked (suc place ∷ ends_ahead (suc place)) 0 os) open_rel.1 (subst (λ ends. Linked ends 0 open_loops) ends_ahead_is linked)).1)
+  linked_by place level open_loops there ends_ahead_is open_rel linked =
+      subst (λ l. Linked (ends_ahead (suc place)) 0 l) (sym open_rel) (subst (λ ends. Linked ends 0 open_loops) ends_ahead_is linked)
 
-  pub shut_at : (p : ℕ) → slice_get lines p ≡ None → (B p).loops ≡ []
-  shut_at p h = end_shut scope 0 (before [] []) lines bs p fits h
+  pub shut_at : (place : ℕ) → slice_get lines place ≡ None → (before_place place).loops ≡ []
+  shut_at place found = end_shut scope 0 (before [] []) lines befores_there place fits found
 
-  linked_next : (p : ℕ) (o : Option Instruction) → slice_get lines p ≡ o → Linked (P p) 0 ((B p).loops) → Linked (P (suc p)) 0 ((B (suc p)).loops)
-  linked_next p None h l = subst (λ l. Linked (P (suc p)) 0 l) (sym (shut_at (suc p) (none_on lines p h))) tt
-  linked_next p (Some i) h l = linked_by p (bracket i) ((B p).loops) (B (suc p)) (ends_at p i h) (rel p i h) l
+  linked_next : (place : ℕ) (found : Option Instruction) → slice_get lines place ≡ found → Linked (ends_ahead place) 0 ((before_place place).loops)
+      → Linked (ends_ahead (suc place)) 0 ((before_place (suc place)).loops)
+  linked_next place None found linked = subst (λ l. Linked (ends_ahead (suc place)) 0 l) (sym (shut_at (suc place) (none_on lines place found))) tt
+  linked_next place (Some instruction) found linked =
+      linked_by place (bracket instruction) ((before_place place).loops) (before_place (suc place)) (ends_at place instruction found)
+      (loops_related place instruction found) linked
 
-  pub first_is : B 0 ≡ before [] []
-  first_is = begins scope 0 (before [] []) lines bs fits
+  pub first_is : before_place 0 ≡ before [] []
+  first_is = begins scope 0 (before [] []) lines befores_there fits
 
-  pub linked : (p : ℕ) → Linked (P p) 0 ((B p).loops)
-  linked zero = subst (λ (b : Before). Linked (P 0) 0 b.loops) (sym first_is) tt
-  linked (suc p) = linked_next p (slice_get lines p) refl (linked p)
+  pub linked : (place : ℕ) → Linked (ends_ahead place) 0 ((before_place place).loops)
+  linked zero = subst (λ (b : Before). Linked (ends_ahead 0) 0 b.loops) (sym first_is) tt
+  linked (suc place) = linked_next place (slice_get lines place) refl (linked place)
 
   -- behind its beginning each open loop was the newest
   abbrev pub Opened : List Open → Type 0
   Opened [] = Unit {0}
-  Opened (o ∷ os) = ((B (suc o.start)).kinds ≡ o.under) × ((B (suc o.start)).loops ≡ o ∷ os) × Opened os
+  Opened (open_loop ∷ open_loops) =
+      ((before_place (suc open_loop.start)).kinds ≡ open_loop.under) × ((before_place (suc open_loop.start)).loops ≡ open_loop ∷ open_loops)
+      × Opened open_loops
 
-  opened_by : (p : ℕ) (b : Bracket) (os : List Open) → OpenRel p b os (B (suc p)) → Opened os → Opened ((B (suc p)).loops)
-  opened_by p (opening loop) os r l =
-      let z : suc p ≡ suc r.0.start = ap suc (sym r.3) in
-      subst Opened (sym r.1) (subst (λ n. (B n).kinds ≡ r.0.under) z r.2, subst (λ n. (B n).loops ≡ r.0 ∷ os) z r.1, l)
-  opened_by p (closing loop) os r l = (subst Opened r.1 l).2
-  opened_by p level os r l = subst Opened (sym r) l
+  opened_by : (place : ℕ) (bracket : Bracket) (open_loops : List Open) → OpenRel place bracket open_loops (before_place (suc place))
+      → Opened open_loops → Opened ((before_place (suc place)).loops)
+  opened_by place (opening loop) open_loops open_rel opened =
+      let same : suc place ≡ suc open_rel.0.start = ap suc (sym open_rel.3) in
+      subst Opened (sym open_rel.1) (
+        subst (λ n. (before_place n).kinds ≡ open_rel.0.under) same open_rel.2,
+        subst (λ n. (before_place n).loops ≡ open_rel.0 ∷ open_loops) same open_rel.1,
+        opened,
+      )
+  opened_by place (closing loop) open_loops open_rel opened = (subst Opened open_rel.1 opened).2
+  opened_by place level open_loops open_rel opened = subst Opened (sym open_rel) opened
 
-  opened_next : (p : ℕ) (o : Option Instruction) → slice_get lines p ≡ o → Opened ((B p).loops) → Opened ((B (suc p)).loops)
-  opened_next p None h l = subst Opened (sym (shut_at (suc p) (none_on lines p h))) tt
-  opened_next p (Some i) h l = opened_by p (bracket i) ((B p).loops) (rel p i h) l
+  opened_next : (place : ℕ) (found : Option Instruction) → slice_get lines place ≡ found → Opened ((before_place place).loops)
+      → Opened ((before_place (suc place)).loops)
+  opened_next place None found opened = subst Opened (sym (shut_at (suc place) (none_on lines place found))) tt
+  opened_next place (Some instruction) found opened =
+      opened_by place (bracket instruction) ((before_place place).loops) (loops_related place instruction found) opened
 
-  pub opened : (p : ℕ) → Opened ((B p).loops)
+  pub opened : (place : ℕ) → Opened ((before_place place).loops)
   opened zero = subst (λ (b : Before). Opened b.loops) (sym first_is) tt
-  opened (suc p) = opened_next p (slice_get lines p) refl (opened p)
+  opened (suc place) = opened_next place (slice_get lines place) refl (opened place)
 
   -- two places whose innermost loops begin at one place lie in the same loops
-  same_loops : (os ls : List Open) → Opened os → Opened ls → innermost os ≡ innermost ls → os ≡ ls
-  same_loops [] [] a b h = refl
-  same_loops (o ∷ os) (l ∷ ls) a b h = let e : o.start ≡ l.start = cc h in sym a.1 ∙ ap (λ n. (B (suc n)).loops) e ∙ b.1
-  same_loops [] (l ∷ ls) a b h = absurd (cc h)
-  same_loops (o ∷ os) [] a b h = absurd (cc h)
+  same_loops : (open_loops other_open_loops : List Open) → Opened open_loops → Opened other_open_loops
+      → innermost open_loops ≡ innermost other_open_loops → open_loops ≡ other_open_loops
+  same_loops [] [] opened opened_so innermost_is = refl
+  same_loops (open_loop ∷ open_loops) (other_open_loop ∷ other_open_loops) opened opened_so innermost_is =
+      let start_is : open_loop.start ≡ other_open_loop.start = cc innermost_is in
+      sym opened.1 ∙ ap (λ n. (before_place (suc n)).loops) start_is ∙ opened_so.1
+  same_loops [] (open_loop ∷ other_open_loops) opened opened_so innermost_is = absurd (cc innermost_is)
+  same_loops (open_loop ∷ open_loops) [] opened opened_so innermost_is = absurd (cc innermost_is)
 
   -- a jump lands at a target that declares these operands, in the same loops
-  pub record Landed (q : ℕ) (ks : List ValueKind) (os : List Open) : Type 0 where
+  pub record Landed (place : ℕ) (kinds : List ValueKind) (open_loops : List Open) : Type 0 where
     pub target : Instruction
-    pub at : slice_get lines q ≡ Some target
-    pub declares : declared_by target ≡ Some ks
-    pub same : (B q).loops ≡ os
-    pub known : (B q).kinds ≡ ks
+    pub at : slice_get lines place ≡ Some target
+    pub declares : declared_by target ≡ Some kinds
+    pub same : (before_place place).loops ≡ open_loops
+    pub known : (before_place place).kinds ≡ kinds
 
-  target_known : (q : ℕ) (i : Instruction) (ks : List ValueKind) → declared_by i ≡ Some ks → slice_get lines q ≡ Some i → (B q).kinds ≡ ks
-  target_known q (I.Target kinds) ks d e =
-      let k : reverse kinds ≡ ks = cc d in
-      sym ((carried_is scope (reverse kinds) (B q) (B (suc q))
-      ((named scope q (B q) (I.Target kinds) (B (suc q)) (spot q (I.Target kinds) e)).1)).0) ∙ k
-  target_known q _ ks d e = absurd (cc d)
+  target_known : (place : ℕ) (instruction : Instruction) (kinds : List ValueKind) → declared_by instruction ≡ Some kinds
+      → slice_get lines place ≡ Some instruction → (before_place place).kinds ≡ kinds
+  target_known place (I.Target kinds) its_kinds declared_by_is found =
+      let reverse_is : reverse kinds ≡ its_kinds = cc declared_by_is in
+      sym ((carried_is scope (reverse kinds) (before_place place) (before_place (suc place))
+      ((named scope place (before_place place) (I.Target kinds) (before_place (suc place)) (judged_there place (I.Target kinds) found)).1)).0)
+      ∙ reverse_is
+  target_known place _ kinds declared_by_is found = absurd (cc declared_by_is)
 
-  pub land : (p q : ℕ) (ls : List ValueKind) → found scope p q (B p) ≡ Ok ls → (p < q) × Landed q ls ((B p).loops)
-  land p q ls h =
-      let t = test_ok (nat_lt p q) (landing (innermost (B p).loops) (slice_get scope.spots q)) BackwardJump ls h in
-      (grind (arith, nat_tests, t.0), by (slice_get scope.spots q) refl t.1)
+  pub land : (place next_place : ℕ) (left_kinds : List ValueKind) → found scope place next_place (before_place place) ≡ Ok left_kinds
+      → (place < next_place) × Landed next_place left_kinds ((before_place place).loops)
+  land place next_place left_kinds found_is =
+      let test_ok_so =
+      test_ok (nat_lt place next_place) (landing (innermost (before_place place).loops) (slice_get scope.spots next_place))
+      BackwardJump left_kinds found_is in
+      (grind (arith, nat_tests, test_ok_so.0), by (slice_get scope.spots next_place) refl test_ok_so.1)
     where
-      told : (s : Spot) (o : Option (List ValueKind)) → slice_get scope.spots q ≡ Some s → s.declares ≡ o
-          → lands_on (innermost (B p).loops) s o ≡ Ok ls → Landed q ls ((B p).loops)
-      told s None e f h = absurd (cc h)
-      told s (Some ks) e f h =
-          let t = test_ok (is_same_place (innermost (B p).loops) s.innermost) (Ok ks) JumpOutside ls h in
-          let k : ks ≡ ls = same_ok ks ls t.1 in
-          let r = spot_is scope 0 (before [] []) lines bs q s fits (ap (λ ss. slice_get ss q) (sym spotted) ∙ e) in
-          let d : declared_by r.0 ≡ Some ls = sym r.2 ∙ f ∙ ap Some k in
+      told : (spot : Spot) (found : Option (List ValueKind)) → slice_get scope.spots next_place ≡ Some spot → spot.declares ≡ found
+          → lands_on (innermost (before_place place).loops) spot found ≡ Ok left_kinds → Landed next_place left_kinds ((before_place place).loops)
+      told spot None found declares_is lands_on_is = absurd (cc lands_on_is)
+      told spot (Some kinds) found declares_is lands_on_is =
+          let test_ok_so =
+          test_ok (is_same_place (innermost (before_place place).loops) spot.innermost) (Ok kinds) JumpOutside left_kinds lands_on_is in
+          let kinds_is : kinds ≡ left_kinds = same_ok kinds left_kinds test_ok_so.1 in
+          let spot_is_so =
+          spot_is scope 0 (before [] []) lines befores_there next_place spot fits (ap (λ ss. slice_get ss next_place) (sym spotted) ∙ found) in
+          let declared_by_is : declared_by spot_is_so.0 ≡ Some left_kinds = sym spot_is_so.2 ∙ declares_is ∙ ap Some kinds_is in
           record {
-            target = r.0;
-            at = r.1;
-            declares = d;
-            same = same_loops ((B q).loops) ((B p).loops) (opened q) (opened p) (sym (same_place_is _ s.innermost t.0 ∙ r.3));
-            known = target_known q r.0 ls d r.1;
+            target = spot_is_so.0;
+            at = spot_is_so.1;
+            declares = declared_by_is;
+            same =
+                same_loops ((before_place next_place).loops) ((before_place place).loops) (opened next_place) (opened place)
+                (sym (same_place_is _ spot.innermost test_ok_so.0 ∙ spot_is_so.3));
+            known = target_known next_place spot_is_so.0 left_kinds declared_by_is spot_is_so.1;
           }
 
-      by : (o : Option Spot) → slice_get scope.spots q ≡ o → landing (innermost (B p).loops) o ≡ Ok ls → Landed q ls ((B p).loops)
-      by None e h = absurd (cc h)
-      by (Some s) e h = told s s.declares e refl h
+      by : (found : Option Spot) → slice_get scope.spots next_place ≡ found → landing (innermost (before_place place).loops) found ≡ Ok left_kinds
+          → Landed next_place left_kinds ((before_place place).loops)
+      by None found landing_is = absurd (cc landing_is)
+      by (Some spot) found landing_is = told spot spot.declares found refl landing_is
 
   -- the loops opened since
   abbrev pub Since : ℕ → List Open → List Open → Type 0
-  Since zero os now = now ≡ os
-  Since (suc d) os now = (o : Open) × (later : List Open) × (now ≡ o ∷ later) × Since d os later
+  Since zero open_loops now = now ≡ open_loops
+  Since (suc depth) open_loops now = (open_loop : Open) × (later : List Open) × (now ≡ open_loop ∷ later) × Since depth open_loops later
 
   -- behind the beginning of a loop its end is found
-  pub record Closed (p ends : ℕ) (os : List Open) : Type 0 where
+  pub record Closed (place ends : ℕ) (open_loops : List Open) : Type 0 where
     pub end : ℕ
     pub is : ends ≡ suc end
-    pub later : p ≤ end
+    pub later : place ≤ end
     pub loop : Loop
     pub closer : Instruction
     pub at : slice_get lines end ≡ Some closer
     pub closes : bracket closer ≡ closing loop
-    pub same : (B end).loops ≡ os
+    pub same : (before_place end).loops ≡ open_loops
 
-  inside : (d : ℕ) (o : Open) (os now : List Open) → Since d (o ∷ os) now → now ≡ [] → ⊥
-  inside zero o os now w e = cc (w, e)
-  inside (suc d) o os now w e = cc (w.2, e)
+  inside : (depth : ℕ) (open_loop : Open) (open_loops now : List Open) → Since depth (open_loop ∷ open_loops) now → now ≡ [] → ⊥
+  inside zero open_loop open_loops now since now_is = cc (since, now_is)
+  inside (suc depth) open_loop open_loops now since now_is = cc (since.2, now_is)
 
-  past_end : (xs : List Instruction) (p : ℕ) (i : Instruction) → slice_get xs p ≡ Some i → length xs ≤ p → ⊥
-  past_end [] p i e l = cc e
-  past_end (x ∷ xs) zero i e l = omega (arith, l)
-  past_end (x ∷ xs) (suc p) i e l = past_end xs p i e (omega (arith, l))
+  past_end : (instructions : List Instruction) (place : ℕ) (instruction : Instruction) → slice_get instructions place ≡ Some instruction
+      → length instructions ≤ place → ⊥
+  past_end [] place instruction found at_most = cc found
+  past_end (instruction ∷ instructions) zero line found at_most = omega (arith, at_most)
+  past_end (instruction ∷ instructions) (suc place) line found at_most = past_end instructions place line found (omega (arith, at_most))
 
-  further : (p ends : ℕ) (os : List Open) → Closed (suc p) ends os → Closed p ends os
-  further p ends os c =
-      record { end = c.end; is = c.is; later = omega (arith, c.later); loop = c.loop; closer = c.closer; at = c.at; closes = c.closes; same = c.same }
+  further : (place ends : ℕ) (open_loops : List Open) → Closed (suc place) ends open_loops → Closed place ends open_loops
+  further place ends open_loops closed =
+      record {
+        end = closed.end;
+        is = closed.is;
+        later = omega (arith, closed.later);
+        loop = closed.loop;
+        closer = closed.closer;
+        at = closed.at;
+        closes = closed.closes;
+        same = closed.same;
+      }
 
   -- so many instructions are left, at most
-  close : (left p d : ℕ) (o : Open) (os : List Open) (x : Option Instruction) → slice_get lines p ≡ x → length lines ≤ p + left
-      → Since d (o ∷ os) ((B p).loops) → Closed p (slice_index (P p) d) (o ∷ os)
-  close left p d o os None e lt w = absurd (inside d o os _ w (shut_at p e))
-  close zero p d o os (Some i) e lt w = absurd (past_end lines p i e (omega (arith, lt)))
-  close (suc left) p d o os (Some i) e lt w =
-      by (bracket i) d refl (ends_at p i e) (rel p i e) w (λ m v. close left (suc p) m o os (slice_get lines (suc p)) refl (omega (arith, lt)) v)
+  close : (left place depth : ℕ) (open_loop : Open) (open_loops : List Open) (found : Option Instruction) → slice_get lines place ≡ found
+      → length lines ≤ place + left
+      → Since depth (open_loop ∷ open_loops) ((before_place place).loops)
+      → Closed place (slice_index (ends_ahead place) depth) (open_loop ∷ open_loops)
+  close left place depth open_loop open_loops None found at_most since = absurd (inside depth open_loop open_loops _ since (shut_at place found))
+  close zero place depth open_loop open_loops (Some instruction) found at_most since =
+      absurd (past_end lines place instruction found (omega (arith, at_most)))
+  close (suc left) place depth open_loop open_loops (Some instruction) found at_most since =
+      by (bracket instruction) depth refl (ends_at place instruction found) (loops_related place instruction found) since
+      (λ m v. close left (suc place) m open_loop open_loops (slice_get lines (suc place)) refl (omega (arith, at_most)) v)
     where
-      by : (b : Bracket) (d : ℕ) → bracket i ≡ b → P p ≡ ends_before b p (P (suc p)) → OpenRel p b ((B p).loops) (B (suc p))
-          → Since d (o ∷ os) ((B p).loops)
-          → ((m : ℕ) → Since m (o ∷ os) ((B (suc p)).loops) → Closed (suc p) (slice_index (P (suc p)) m) (o ∷ os))
-          → Closed p (slice_index (P p) d) (o ∷ os)
-      by (opening loop) d f h r w k =
-          subst (λ n. Closed p n (o ∷ os)) (sym (ap (λ ends. slice_index ends d) h ∙ index_rest (P (suc p)) d))
-          (further p _ (o ∷ os) (k (suc d) (r.0, (B p).loops, r.1, w)))
-      by (closing loop) zero f h r w k =
-          record { end = p; is = ap (λ ends. slice_index ends 0) h; later = omega arith; loop = loop; closer = i; at = e; closes = f; same = w }
-      by (closing loop) (suc d) f h r w k =
-          let q : w.1 ≡ (B (suc p)).loops = cc (w.2, r.1) in
-          subst (λ n. Closed p n (o ∷ os)) (sym (ap (λ ends. slice_index ends (suc d)) h))
-          (further p _ (o ∷ os) (k d (subst (λ l. Since d (o ∷ os) l) q w.3)))
-      by level d f h r w k =
-          subst (λ n. Closed p n (o ∷ os)) (sym (ap (λ ends. slice_index ends d) h))
-          (further p _ (o ∷ os) (k d (subst (λ l. Since d (o ∷ os) l) (sym r) w)))
+      by : (its_bracket : Bracket) (depth : ℕ) → bracket instruction ≡ its_bracket
+          → ends_ahead place ≡ ends_before its_bracket place (ends_ahead (suc place))
+          → OpenRel place its_bracket ((before_place place).loops) (before_place (suc place))
+          → Since depth (open_loop ∷ open_loops) ((before_place place).loops)
+          → ((m : ℕ) → Since m (open_loop ∷ open_loops) ((before_place (suc place)).loops)
+          → Closed (suc place) (slice_index (ends_ahead (suc place)) m) (open_loop ∷ open_loops))
+          → Closed place (slice_index (ends_ahead place) depth) (open_loop ∷ open_loops)
+      by (opening loop) depth bracket_is ends_ahead_is open_rel since closed =
+          subst (λ n. Closed place n (open_loop ∷ open_loops))
+          (sym (ap (λ ends. slice_index ends depth) ends_ahead_is ∙ index_rest (ends_ahead (suc place)) depth))
+          (further place _ (open_loop ∷ open_loops) (closed (suc depth) (open_rel.0, (before_place place).loops, open_rel.1, since)))
+      by (closing loop) zero bracket_is ends_ahead_is open_rel since closed =
+          record {
+            end = place;
+            is = ap (λ ends. slice_index ends 0) ends_ahead_is;
+            later = omega arith;
+            loop = loop;
+            closer = instruction;
+            at = found;
+            closes = bracket_is;
+            same = since;
+          }
+      by (closing loop) (suc depth) bracket_is ends_ahead_is open_rel since closed =
+          let 1_is : since.1 ≡ (before_place (suc place)).loops = cc (since.2, open_rel.1) in
+          subst (λ n. Closed place n (open_loop ∷ open_loops)) (sym (ap (λ ends. slice_index ends (suc depth)) ends_ahead_is))
+          (further place _ (open_loop ∷ open_loops) (closed depth (subst (λ l. Since depth (open_loop ∷ open_loops) l) 1_is since.3)))
+      by level depth bracket_is ends_ahead_is open_rel since closed =
+          subst (λ n. Closed place n (open_loop ∷ open_loops)) (sym (ap (λ ends. slice_index ends depth) ends_ahead_is))
+          (further place _ (open_loop ∷ open_loops) (closed depth (subst (λ l. Since depth (open_loop ∷ open_loops) l) (sym open_rel) since)))
 
   -- behind a loop: its end lies behind its beginning, with the operands and loops that were there before, and a mapping's list
-  pub record Past (start : ℕ) (o : Open) (os : List Open) : Type 0 where
+  pub record Past (start : ℕ) (open_loop : Open) (open_loops : List Open) : Type 0 where
     pub end : ℕ
     pub is : past start ≡ suc end
     pub later : suc start ≤ end
     pub closer : Instruction
     pub at : slice_get lines end ≡ Some closer
-    pub kinds : (B (suc end)).kinds ≡ behind_loop o.loop o.room o.under
-    pub loops : (B (suc end)).loops ≡ os
+    pub kinds : (before_place (suc end)).kinds ≡ behind_loop open_loop.loop open_loop.room open_loop.under
+    pub loops : (before_place (suc end)).loops ≡ open_loops
 
-  pub past_it : (start : ℕ) (o : Open) (os : List Open) → (B (suc start)).loops ≡ o ∷ os → Past start o os
-  past_it start o os h =
-      let c = close (length lines) (suc start) 0 o os (slice_get lines (suc start)) refl (omega arith) h in
-      let r : OpenRel c.end (closing c.loop) ((B c.end).loops) (B (suc c.end)) =
-      subst (λ b. OpenRel c.end b ((B c.end).loops) (B (suc c.end))) c.closes (rel c.end c.closer c.at) in
-      let a : o ≡ r.0 = cc (c.same, r.1) in
-      let l : (B (suc c.end)).loops ≡ os = cc (c.same, r.1) in
+  pub past_it : (start : ℕ) (open_loop : Open) (open_loops : List Open) → (before_place (suc start)).loops ≡ open_loop ∷ open_loops
+      → Past start open_loop open_loops
+  past_it start open_loop open_loops same =
+      let close_so = close (length lines) (suc start) 0 open_loop open_loops (slice_get lines (suc start)) refl (omega arith) same in
+      let open_rel : OpenRel close_so.end (closing close_so.loop) ((before_place close_so.end).loops) (before_place (suc close_so.end)) =
+      subst (λ b. OpenRel close_so.end b ((before_place close_so.end).loops) (before_place (suc close_so.end))) close_so.closes
+      (loops_related close_so.end close_so.closer close_so.at) in
+      let open_loop_is : open_loop ≡ open_rel.0 = cc (close_so.same, open_rel.1) in
+      let same_so : (before_place (suc close_so.end)).loops ≡ open_loops = cc (close_so.same, open_rel.1) in
       record {
-        end = c.end;
-        is = c.is;
-        later = c.later;
-        closer = c.closer;
-        at = c.at;
-        kinds = r.2 ∙ ap (λ (o : Open). behind_loop o.loop o.room o.under) (sym a);
-        loops = l;
+        end = close_so.end;
+        is = close_so.is;
+        later = close_so.later;
+        closer = close_so.closer;
+        at = close_so.at;
+        kinds = open_rel.2 ∙ ap (λ (o : Open). behind_loop o.loop o.room o.under) (sym open_loop_is);
+        loops = same_so;
       }

@@ -16,43 +16,44 @@ record Here (objects : List Object) (place : ℕ) : Type 0 where
   rest : drop place objects ≡ object ∷ drop (place + 1) objects
 
 here : (objects : List Object) (place : ℕ) → place < length objects → Here objects place
-here [] place h = absurd (omega (arith, h))
-here (o ∷ os) zero h = record { object = o; is = refl; rest = refl }
-here (o ∷ os) (suc place) h =
-    let g = here os place (omega (arith, h)) in
-    let z : suc (place + 1) ≡ suc place + 1 = omega arith in
-    record { object = g.object; is = g.is; rest = g.rest ∙ ap (λ n. g.object ∷ drop n (o ∷ os)) z }
+here [] place below = absurd (omega (arith, below))
+here (object ∷ objects) zero below = record { object = object; is = refl; rest = refl }
+here (object ∷ objects) (suc place) below =
+    let here_so = here objects place (omega (arith, below)) in
+    let same : suc (place + 1) ≡ suc place + 1 = omega arith in
+    record { object = here_so.object; is = here_so.is; rest = here_so.rest ∙ ap (λ n. here_so.object ∷ drop n (object ∷ objects)) same }
 
 at_is : (objects : List Object) (place : ℕ) → object_at objects (place + 1) ≡ slice_get objects place
 at_is objects place =
-    let z : place + 1 ≡ suc place = omega arith in
-    let b : nat_le 1 (suc place) ≡ true = grind (arith, nat_tests) in
-    let m : suc place - 1 ≡ place = omega arith in
-    ap (object_at objects) z ∙ ap (λ t. if t then slice_get objects (suc place - 1) else None) b ∙ ap (slice_get objects) m
+    let place_is : place + 1 ≡ suc place = omega arith in
+    let nat_le_is : nat_le 1 (suc place) ≡ true = grind (arith, nat_tests) in
+    let same : suc place - 1 ≡ place = omega arith in
+    ap (object_at objects) place_is ∙ ap (λ t. if t then slice_get objects (suc place - 1) else None) nat_le_is ∙ ap (slice_get objects) same
 
-name_is : (objects : List Object) (place : ℕ) (text : List ℕ) (h : Here objects place)
-    → option_map (λ (o : Object). o.name) (object_at objects (place + 1)) ≡ Some text → h.object.name ≡ text
-name_is objects place text h e = let a = ap (option_map (λ (o : Object). o.name)) (sym h.is ∙ sym (at_is objects place)) ∙ e in cc a
+name_is : (objects : List Object) (place : ℕ) (text : List ℕ) (here : Here objects place)
+    → option_map (λ (o : Object). o.name) (object_at objects (place + 1)) ≡ Some text → here.object.name ≡ text
+name_is objects place text here option_map_is =
+    let option_map_so = ap (option_map (λ (o : Object). o.name)) (sym here.is ∙ sym (at_is objects place)) ∙ option_map_is in cc option_map_so
 
 next : (objects : List Object) (name text : List ℕ) (place : ℕ) → place < length objects
     → option_map (λ (o : Object). o.name) (object_at objects (place + 1)) ≡ Some text
     → object_from (place + 1) (drop place objects) name
     ≡ (if bytes_eq name text then Some (place + 1) else object_from (place + 1 + 1) (drop (place + 1) objects) name)
-next objects name text place lt e =
-    let h = here objects place lt in
-    ap (λ l. object_from (place + 1) l name) h.rest
+next objects name text place below option_map_is =
+    let here_so = here objects place below in
+    ap (λ l. object_from (place + 1) l name) here_so.rest
     ∙ ap (λ t. if bytes_eq name t then Some (place + 1) else object_from (place + 1 + 1) (drop (place + 1) objects) name)
-    (name_is objects place text h e)
+    (name_is objects place text here_so option_map_is)
 
 pub left_on : (objects : List Object) (name text : List ℕ) (place : ℕ) → IsLeft objects name place → place < length objects
     → option_map (λ (o : Object). o.name) (object_at objects (place + 1)) ≡ Some text → bytes_eq name text ≡ false → IsLeft objects name (place + 1)
-left_on objects name text place l lt e n =
-    sym (next objects name text place lt e ∙ ap
-    (λ b. if b then Some (place + 1) else object_from (place + 1 + 1) (drop (place + 1) objects) name) n) ∙ l
+left_on objects name text place left below option_map_is bytes_eq_is =
+    sym (next objects name text place below option_map_is ∙ ap
+    (λ b. if b then Some (place + 1) else object_from (place + 1 + 1) (drop (place + 1) objects) name) bytes_eq_is) ∙ left
 
 pub found_here : (objects : List Object) (name text : List ℕ) (place : ℕ) → IsLeft objects name place → place < length objects
     → option_map (λ (o : Object). o.name) (object_at objects (place + 1)) ≡ Some text → bytes_eq name text ≡ true
     → object_named objects name ≡ Some (place + 1)
-found_here objects name text place l lt e y =
-    sym l ∙ next objects name text place lt e
-    ∙ ap (λ b. if b then Some (place + 1) else object_from (place + 1 + 1) (drop (place + 1) objects) name) y
+found_here objects name text place left below option_map_is bytes_eq_is =
+    sym left ∙ next objects name text place below option_map_is
+    ∙ ap (λ b. if b then Some (place + 1) else object_from (place + 1 + 1) (drop (place + 1) objects) name) bytes_eq_is

@@ -1,4 +1,5 @@
 -- Lists by number.
+use Rattle.rw_base.proofs.Lists.{got_last}
 use Rattle.rw_base.proofs.Common.{◌≡◌, ◌≢◌, ℕ, zero, suc, ◌≤◌, ◌<◌, ◌+◌, ◌==◌, ◌&&◌, Bool, true, false, cond, List, [], ◌∷◌, ◌++◌, length, Option}
 use Rattle.rw_base.proofs.Common.{Some, None, nat_tests, refl, sym, ap, ap₂, ◌∙◌, subst, arith, length-append, ◌⊎◌, slice_get, lookup, take, inl, inr}
 use Rattle.rw_base.proofs.Common.{◌-◌, get_or, Equal-is, nat_cmp, BTreeMap, get, Updates, is_at, exact_unsigned, slice_get_within, slice_get_read}
@@ -10,354 +11,406 @@ use Rattle.rpl_verify.specs.Kinds.{are_same_kinds, is_same_value_kind, words_of_
 use Rattle.rpl_verify.specs.Stacks.{at, lists_after, lists, kind_code, key_of, IsNode, IsKept, IsKnown, Grows, IsPushed, is_next, stands_on}
 use Rattle.rpl_verify.proofs.KindFacts.{and_true, same_kind_refl, same_kind_true, same_kinds_true}
 
-pub at-append : (ls ms : List (List ValueKind)) (n : ℕ) → n < length ls → at (ls ++ ms) n ≡ at ls n
-at-append [] ms n h = absurd (omega (arith, h))
-at-append (l ∷ ls) ms zero h = refl
-at-append (l ∷ ls) ms (suc n) h = at-append ls ms n (omega (arith, h))
+pub at-append : (lists other_lists : List (List ValueKind)) (n : ℕ) → n < length lists → at (lists ++ other_lists) n ≡ at lists n
+at-append [] other_lists n below = absurd (omega (arith, below))
+at-append (kinds ∷ lists) other_lists zero below = refl
+at-append (kinds ∷ lists) other_lists (suc n) below = at-append lists other_lists n (omega (arith, below))
 
-at-seam : (ls : List (List ValueKind)) (x : List ValueKind) (n : ℕ) → n ≡ length ls → at (ls ++ x ∷ []) n ≡ x
-at-seam [] x zero h = refl
-at-seam [] x (suc n) h = absurd (omega (arith, h))
-at-seam (l ∷ ls) x zero h = absurd (omega (arith, h))
-at-seam (l ∷ ls) x (suc n) h = at-seam ls x n (omega (arith, h))
+at-seam : (lists : List (List ValueKind)) (kinds : List ValueKind) (n : ℕ) → n ≡ length lists → at (lists ++ kinds ∷ []) n ≡ kinds
+at-seam [] kinds zero n_is = refl
+at-seam [] kinds (suc n) n_is = absurd (omega (arith, n_is))
+at-seam (kinds ∷ lists) other_kinds zero n_is = absurd (omega (arith, n_is))
+at-seam (kinds ∷ lists) other_kinds (suc n) n_is = at-seam lists other_kinds n (omega (arith, n_is))
 
-lists_after-push : (ls : List (List ValueKind)) (ns : List Node) (n : Node)
-    → lists_after ls (ns ++ n ∷ []) ≡ lists_after ls ns ++ (n.kind ∷ at (lists_after ls ns) n.below) ∷ []
-lists_after-push ls [] n = refl
-lists_after-push ls (m ∷ ns) n = lists_after-push (ls ++ (m.kind ∷ at ls m.below) ∷ []) ns n
+lists_after-push : (lists : List (List ValueKind)) (nodes : List Node) (node : Node)
+    → lists_after lists (nodes ++ node ∷ []) ≡ lists_after lists nodes ++ (node.kind ∷ at (lists_after lists nodes) node.below) ∷ []
+lists_after-push lists [] node = refl
+lists_after-push lists (node ∷ nodes) other_node = lists_after-push (lists ++ (node.kind ∷ at lists node.below) ∷ []) nodes other_node
 
-pub lists-push : (ns : List Node) (n : Node) → lists (ns ++ n ∷ []) ≡ lists ns ++ (n.kind ∷ at (lists ns) n.below) ∷ []
-lists-push ns n = lists_after-push ([] ∷ []) ns n
+pub lists-push : (nodes : List Node) (node : Node) → lists (nodes ++ node ∷ []) ≡ lists nodes ++ (node.kind ∷ at (lists nodes) node.below) ∷ []
+lists-push nodes node = lists_after-push ([] ∷ []) nodes node
 
-got_push : {A : Type 0} (xs : List A) (x y : A) (k : ℕ) → slice_get (xs ++ x ∷ []) k ≡ Some y
-    → ((k < length xs) × (slice_get xs k ≡ Some y)) ⊎ ((k ≡ length xs) × (x ≡ y))
-got_push [] x y zero h = inr (refl, cc h)
-got_push [] x y (suc k) h = absurd (cc h)
-got_push (z ∷ xs) x y zero h = inl (omega arith, h)
-got_push (z ∷ xs) x y (suc k) h = elim (got_push xs x y k h) [ inl p ↦ inl (omega (arith, p.0), p.1) | inr p ↦ inr (omega (arith, p.0), p.1) ]
+got_push : {A : Type 0} (things : List A) (thing other_thing : A) (index : ℕ) → slice_get (things ++ thing ∷ []) index ≡ Some other_thing
+    → ((index < length things) × (slice_get things index ≡ Some other_thing)) ⊎ ((index ≡ length things) × (thing ≡ other_thing))
+got_push [] thing other_thing zero found = inr (refl, cc found)
+got_push [] thing other_thing (suc index) found = absurd (cc found)
+got_push (thing ∷ things) other_thing third_thing zero found = inl (omega arith, found)
+got_push (thing ∷ things) other_thing third_thing (suc index) found =
+    elim (got_push things other_thing third_thing index found) [ inl p ↦ inl (omega (arith, p.0), p.1) | inr p ↦ inr (omega (arith, p.0), p.1) ]
 
-got_old : {A : Type 0} (xs : List A) (x y : A) (k : ℕ) → slice_get xs k ≡ Some y → slice_get (xs ++ x ∷ []) k ≡ Some y
-got_old [] x y k h = absurd (cc h)
-got_old (z ∷ xs) x y zero h = h
-got_old (z ∷ xs) x y (suc k) h = got_old xs x y k h
-
-got_new : {A : Type 0} (xs : List A) (x : A) → slice_get (xs ++ x ∷ []) (length xs) ≡ Some x
-got_new [] x = refl
-got_new (z ∷ xs) x = got_new xs x
+got_old : {A : Type 0} (things : List A) (thing other_thing : A) (index : ℕ) → slice_get things index ≡ Some other_thing
+    → slice_get (things ++ thing ∷ []) index ≡ Some other_thing
+got_old [] thing other_thing index found = absurd (cc found)
+got_old (thing ∷ things) other_thing third_thing zero found = found
+got_old (thing ∷ things) other_thing third_thing (suc index) found = got_old things other_thing third_thing index found
 
 -- lookups after an insertion
-finds_old : (m n : BTreeMap ℕ ℕ) (k v q x : ℕ) → get nat_cmp m k ≡ None → Updates nat_cmp m n k (Some v) → get nat_cmp m q ≡ Some x
-    → get nat_cmp n q ≡ Some x
-finds_old m n k v q x absent u h = by (is_at (nat_cmp k) q) refl
+finds_old : (kept other_map : BTreeMap ℕ ℕ) (index number place first : ℕ) → get nat_cmp kept index ≡ None
+    → Updates nat_cmp kept other_map index (Some number) → get nat_cmp kept place ≡ Some first
+    → get nat_cmp other_map place ≡ Some first
+finds_old kept other_map index number place first absent updates get_is = by (is_at (nat_cmp index) place) refl
   where
-    by : (b : Bool) → is_at (nat_cmp k) q ≡ b → get nat_cmp n q ≡ Some x
-    by true e = let same : k ≡ q = exact_unsigned k q ((Equal-is (nat_cmp k q)).0 e) in absurd (let g = ap (get nat_cmp m) same in cc (g, absent, h))
-    by false e = u.0 q ∙ ap (λ b. cond b (Some v) (get nat_cmp m q)) e ∙ h
+    by : (truth : Bool) → is_at (nat_cmp index) place ≡ truth → get nat_cmp other_map place ≡ Some first
+    by true is_at_is =
+        let same : index ≡ place = exact_unsigned index place ((Equal-is (nat_cmp index place)).0 is_at_is) in
+        absurd (let got = ap (get nat_cmp kept) same in cc (got, absent, get_is))
+    by false is_at_is = updates.0 place ∙ ap (λ b. cond b (Some number) (get nat_cmp kept place)) is_at_is ∙ get_is
 
-found_in : (m n : BTreeMap ℕ ℕ) (k v q x : ℕ) → Updates nat_cmp m n k (Some v) → get nat_cmp n q ≡ Some x
-    → ((k ≡ q) × (v ≡ x)) ⊎ (get nat_cmp m q ≡ Some x)
-found_in m n k v q x u h = by (is_at (nat_cmp k) q) refl
+found_in : (kept other_map : BTreeMap ℕ ℕ) (index number place first : ℕ) → Updates nat_cmp kept other_map index (Some number)
+    → get nat_cmp other_map place ≡ Some first
+    → ((index ≡ place) × (number ≡ first)) ⊎ (get nat_cmp kept place ≡ Some first)
+found_in kept other_map index number place first updates get_is = by (is_at (nat_cmp index) place) refl
   where
-    by : (b : Bool) → is_at (nat_cmp k) q ≡ b → ((k ≡ q) × (v ≡ x)) ⊎ (get nat_cmp m q ≡ Some x)
-    by true e =
-        inl (exact_unsigned k q ((Equal-is (nat_cmp k q)).0 e), let g = sym (u.0 q ∙ ap (λ b. cond b (Some v) (get nat_cmp m q)) e) in cc (g, h))
-    by false e = inr (sym (u.0 q ∙ ap (λ b. cond b (Some v) (get nat_cmp m q)) e) ∙ h)
+    by : (truth : Bool) → is_at (nat_cmp index) place ≡ truth → ((index ≡ place) × (number ≡ first)) ⊎ (get nat_cmp kept place ≡ Some first)
+    by true is_at_is =
+        inl (
+          exact_unsigned index place ((Equal-is (nat_cmp index place)).0 is_at_is),
+          let got = sym (updates.0 place ∙ ap (λ b. cond b (Some number) (get nat_cmp kept place)) is_at_is) in cc (got, get_is),
+        )
+    by false is_at_is = inr (sym (updates.0 place ∙ ap (λ b. cond b (Some number) (get nat_cmp kept place)) is_at_is) ∙ get_is)
 
-node_kept : (ns : List Node) (n m : Node) (k : ℕ) → length (lists ns) ≡ suc (length ns) → k < length ns → IsNode ns k m → IsNode (ns ++ n ∷ []) k m
-node_kept ns n m k w lt h =
-    let e = lists-push ns n in
-    let new = (n.kind ∷ at (lists ns) n.below) ∷ [] in
-    let a : at (lists (ns ++ n ∷ [])) (suc k) ≡ at (lists ns) (suc k) =
-    ap (λ l. at l (suc k)) e ∙ at-append (lists ns) new (suc k) (omega (arith, w, lt)) in
-    let b : at (lists (ns ++ n ∷ [])) m.below ≡ at (lists ns) m.below =
-    ap (λ l. at l m.below) e ∙ at-append (lists ns) new m.below (omega (arith, w, lt, h.low)) in
+node_kept : (nodes : List Node) (node other_node : Node) (index : ℕ) → length (lists nodes) ≡ suc (length nodes) → index < length nodes
+    → IsNode nodes index other_node → IsNode (nodes ++ node ∷ []) index other_node
+node_kept nodes node other_node index length_is below node_so =
+    let lists_push_so = lists-push nodes node in
+    let new = (node.kind ∷ at (lists nodes) node.below) ∷ [] in
+    let at_is : at (lists (nodes ++ node ∷ [])) (suc index) ≡ at (lists nodes) (suc index) =
+    ap (λ l. at l (suc index)) lists_push_so ∙ at-append (lists nodes) new (suc index) (omega (arith, length_is, below)) in
+    let at_is_so : at (lists (nodes ++ node ∷ [])) other_node.below ≡ at (lists nodes) other_node.below =
+    ap (λ l. at l other_node.below) lists_push_so ∙ at-append (lists nodes) new other_node.below (omega (arith, length_is, below, node_so.low)) in
     record {
-      low = h.low;
-      made = a ∙ h.made ∙ ap (λ l. m.kind ∷ l) (sym b);
-      high = h.high ∙ ap (λ l. suc (length l)) (sym b);
-      flat = h.flat;
-      heavy = h.heavy ∙ ap (λ l. capped limits.words (words_of_all (m.kind ∷ l))) (sym b);
-      small = h.small;
+      low = node_so.low;
+      made = at_is ∙ node_so.made ∙ ap (λ l. other_node.kind ∷ l) (sym at_is_so);
+      high = node_so.high ∙ ap (λ l. suc (length l)) (sym at_is_so);
+      flat = node_so.flat;
+      heavy = node_so.heavy ∙ ap (λ l. capped limits.words (words_of_all (other_node.kind ∷ l))) (sym at_is_so);
+      small = node_so.small;
     }
 
-node_new : (ns : List Node) (n : Node) → length (lists ns) ≡ suc (length ns) → n.below ≤ length ns → n.height ≡ suc (length (at (lists ns) n.below))
-    → n.height ≤ suc (length ns) → n.words ≡ capped limits.words (words_of_all (n.kind ∷ at (lists ns) n.below)) → kind_code n.kind < 262144
-    → IsNode (ns ++ n ∷ []) (length ns) n
-node_new ns n w lt hi fl he sm =
-    let e = lists-push ns n in
-    let new = n.kind ∷ at (lists ns) n.below in
-    let a : at (lists (ns ++ n ∷ [])) (suc (length ns)) ≡ new =
-    ap (λ l. at l (suc (length ns))) e ∙ at-seam (lists ns) new (suc (length ns)) (sym w) in
-    let b : at (lists (ns ++ n ∷ [])) n.below ≡ at (lists ns) n.below =
-    ap (λ l. at l n.below) e ∙ at-append (lists ns) (new ∷ []) n.below (omega (arith, w, lt)) in
+node_new : (nodes : List Node) (node : Node) → length (lists nodes) ≡ suc (length nodes) → node.below ≤ length nodes
+    → node.height ≡ suc (length (at (lists nodes) node.below))
+    → node.height ≤ suc (length nodes) → node.words ≡ capped limits.words (words_of_all (node.kind ∷ at (lists nodes) node.below))
+    → kind_code node.kind < 262144
+    → IsNode (nodes ++ node ∷ []) (length nodes) node
+node_new nodes node length_is at_most high flat heavy small =
+    let lists_push_so = lists-push nodes node in
+    let new = node.kind ∷ at (lists nodes) node.below in
+    let at_is : at (lists (nodes ++ node ∷ [])) (suc (length nodes)) ≡ new =
+    ap (λ l. at l (suc (length nodes))) lists_push_so ∙ at-seam (lists nodes) new (suc (length nodes)) (sym length_is) in
+    let at_is_so : at (lists (nodes ++ node ∷ [])) node.below ≡ at (lists nodes) node.below =
+    ap (λ l. at l node.below) lists_push_so ∙ at-append (lists nodes) (new ∷ []) node.below (omega (arith, length_is, at_most)) in
     record {
-      low = lt;
-      made = a ∙ ap (λ l. n.kind ∷ l) (sym b);
-      high = hi ∙ ap (λ l. suc (length l)) (sym b);
-      flat = fl;
-      heavy = he ∙ ap (λ l. capped limits.words (words_of_all (n.kind ∷ l))) (sym b);
-      small = sm;
+      low = at_most;
+      made = at_is ∙ ap (λ l. node.kind ∷ l) (sym at_is_so);
+      high = high ∙ ap (λ l. suc (length l)) (sym at_is_so);
+      flat = flat;
+      heavy = heavy ∙ ap (λ l. capped limits.words (words_of_all (node.kind ∷ l))) (sym at_is_so);
+      small = small;
     }
 
-got_same : {A : Type 0} (xs : List A) (x : A) (k : ℕ) → k < length xs → slice_get (xs ++ x ∷ []) k ≡ slice_get xs k
-got_same [] x k h = absurd (omega (arith, h))
-got_same (y ∷ xs) x zero h = refl
-got_same (y ∷ xs) x (suc k) h = got_same xs x k (omega (arith, h))
+got_same : {A : Type 0} (things : List A) (thing : A) (index : ℕ) → index < length things
+    → slice_get (things ++ thing ∷ []) index ≡ slice_get things index
+got_same [] thing index below = absurd (omega (arith, below))
+got_same (thing ∷ things) other_thing zero below = refl
+got_same (thing ∷ things) other_thing (suc index) below = got_same things other_thing index (omega (arith, below))
 
-next_kept : (ns : List Node) (n : Node) (b : ℕ) (k : ValueKind) → b < length ns → is_next (ns ++ n ∷ []) b k ≡ is_next ns b k
-next_kept ns n b k h = ap (stands_on b k) (got_same ns n b h)
+next_kept : (nodes : List Node) (node : Node) (second : ℕ) (kind : ValueKind) → second < length nodes
+    → is_next (nodes ++ node ∷ []) second kind ≡ is_next nodes second kind
+next_kept nodes node second kind below = ap (stands_on second kind) (got_same nodes node second below)
 
-wide_push : (ns : List Node) (n : Node) → length (lists ns) ≡ suc (length ns) → length (lists (ns ++ n ∷ [])) ≡ suc (length (ns ++ n ∷ []))
-wide_push ns n w = ap length (lists-push ns n) ∙ length-append (lists ns) _ ∙ (let y = length-append ns (n ∷ []) in omega (arith, w, y))
+wide_push : (nodes : List Node) (node : Node) → length (lists nodes) ≡ suc (length nodes)
+    → length (lists (nodes ++ node ∷ [])) ≡ suc (length (nodes ++ node ∷ []))
+wide_push nodes node length_is =
+    ap length (lists-push nodes node) ∙ length-append (lists nodes) _
+    ∙ (let lengths = length-append nodes (node ∷ []) in omega (arith, length_is, lengths))
 
-empty_push : (ns : List Node) (n : Node) → length (lists ns) ≡ suc (length ns) → at (lists ns) 0 ≡ [] → at (lists (ns ++ n ∷ [])) 0 ≡ []
-empty_push ns n w e = ap (λ l. at l 0) (lists-push ns n) ∙ at-append (lists ns) _ 0 (omega (arith, w)) ∙ e
+empty_push : (nodes : List Node) (node : Node) → length (lists nodes) ≡ suc (length nodes) → at (lists nodes) 0 ≡ []
+    → at (lists (nodes ++ node ∷ [])) 0 ≡ []
+empty_push nodes node length_is at_is = ap (λ l. at l 0) (lists-push nodes node) ∙ at-append (lists nodes) _ 0 (omega (arith, length_is)) ∙ at_is
 
 -- a node that may be added
-pub record IsNew (ns : List Node) (n : Node) : Type 0 where
-  pub low : n.below ≤ length ns
-  pub high : n.height ≡ suc (length (at (lists ns) n.below))
-  pub flat : n.height ≤ suc (length ns)
-  pub heavy : n.words ≡ capped limits.words (words_of_all (n.kind ∷ at (lists ns) n.below))
-  pub small : kind_code n.kind < 262144
+pub record IsNew (nodes : List Node) (node : Node) : Type 0 where
+  pub low : node.below ≤ length nodes
+  pub high : node.height ≡ suc (length (at (lists nodes) node.below))
+  pub flat : node.height ≤ suc (length nodes)
+  pub heavy : node.words ≡ capped limits.words (words_of_all (node.kind ∷ at (lists nodes) node.below))
+  pub small : kind_code node.kind < 262144
 
-nodes_push : (ns : List Node) (n : Node) (m : BTreeMap ℕ ℕ) → IsKept ns m → IsNew ns n → (k : ℕ) (x : Node) → slice_get (ns ++ n ∷ []) k ≡ Some x
-    → IsNode (ns ++ n ∷ []) k x
-nodes_push ns n m h new k x g = elim (got_push ns n x k g) [
-  | inl p ↦ node_kept ns n x k h.wide p.0 (h.nodes k x p.1)
-  | inr p ↦ subst (λ y. IsNode (ns ++ n ∷ []) k y) p.1
-      (subst (λ j. IsNode (ns ++ n ∷ []) j n) (sym p.0) (node_new ns n h.wide new.low new.high new.flat new.heavy new.small))
+nodes_push : (nodes : List Node) (node : Node) (kept : BTreeMap ℕ ℕ) → IsKept nodes kept → IsNew nodes node → (index : ℕ) (other_node : Node)
+    → slice_get (nodes ++ node ∷ []) index ≡ Some other_node
+    → IsNode (nodes ++ node ∷ []) index other_node
+nodes_push nodes node kept kept_so new index other_node found = elim (got_push nodes node other_node index found) [
+  | inl p ↦ node_kept nodes node other_node index kept_so.wide p.0 (kept_so.nodes index other_node p.1)
+  | inr p ↦ subst (λ y. IsNode (nodes ++ node ∷ []) index y) p.1
+      (subst (λ j. IsNode (nodes ++ node ∷ []) j node) (sym p.0) (node_new nodes node kept_so.wide new.low new.high new.flat new.heavy new.small))
 ]
 
-apart_push : (ns : List Node) (n : Node) (m : BTreeMap ℕ ℕ) → IsKept ns m → (n.below ≢ length ns → is_next (ns ++ n ∷ []) n.below n.kind ≡ false)
-    → (k : ℕ) (x : Node) → slice_get (ns ++ n ∷ []) k ≡ Some x → x.below ≢ k → is_next (ns ++ n ∷ []) x.below x.kind ≡ false
-apart_push ns n m h new k x g older = elim (got_push ns n x k g) [
-  | inl p ↦ next_kept ns n x.below x.kind (let i = h.nodes k x p.1 in omega (arith, i.low, p.0)) ∙ h.apart k x p.1 older
-  | inr p ↦ subst (λ y. is_next (ns ++ n ∷ []) y.below y.kind ≡ false) p.1 (new (λ e. older (ap (λ (y : Node). y.below) (sym p.1) ∙ e ∙ sym p.0)))
+apart_push : (nodes : List Node) (node : Node) (kept : BTreeMap ℕ ℕ) → IsKept nodes kept
+    → (node.below ≢ length nodes → is_next (nodes ++ node ∷ []) node.below node.kind ≡ false)
+    → (index : ℕ) (other_node : Node) → slice_get (nodes ++ node ∷ []) index ≡ Some other_node → other_node.below ≢ index
+    → is_next (nodes ++ node ∷ []) other_node.below other_node.kind ≡ false
+apart_push nodes node kept kept_so new index other_node found older = elim (got_push nodes node other_node index found) [
+  | inl p ↦ next_kept nodes node other_node.below other_node.kind
+      (let its_node = kept_so.nodes index other_node p.1 in omega (arith, its_node.low, p.0)) ∙ kept_so.apart index other_node p.1 older
+  | inr p ↦ subst (λ y. is_next (nodes ++ node ∷ []) y.below y.kind ≡ false) p.1
+      (new (λ e. older (ap (λ (y : Node). y.below) (sym p.1) ∙ e ∙ sym p.0)))
 ]
 
-known_push : (ns : List Node) (n : Node) (q v : ℕ) → IsKnown ns q v → IsKnown (ns ++ n ∷ []) q v
-known_push ns n q v w = record { place = w.place; node = w.node; is = w.is; here = got_old ns n w.node w.place w.here; key_is = w.key_is }
-
-pub kept_push : (ns : List Node) (n : Node) (m m2 : BTreeMap ℕ ℕ) → IsKept ns m → IsNew ns n → n.below < length ns → is_next ns n.below n.kind ≡ false
-    → get nat_cmp m (key_of n.below n.kind) ≡ None → Updates nat_cmp m m2 (key_of n.below n.kind) (Some (suc (length ns))) → IsKept (ns ++ n ∷ []) m2
-kept_push ns n m m2 h new lt next absent u =
-    let key = key_of n.below n.kind in
+known_push : (nodes : List Node) (node : Node) (place number : ℕ) → IsKnown nodes place number → IsKnown (nodes ++ node ∷ []) place number
+known_push nodes node place number known =
     record {
-      wide = wide_push ns n h.wide;
-      empty = empty_push ns n h.wide h.empty;
-      nodes = nodes_push ns n m h new;
-      told = λ k x g older. elim (got_push ns n x k g) [
-        | inl p ↦ finds_old m m2 key (suc (length ns)) (key_of x.below x.kind) (suc k) absent u (h.told k x p.1 older)
-        | inr p ↦ subst (λ y. get nat_cmp m2 (key_of y.below y.kind) ≡ Some (suc k)) p.1 (u.1 ∙ ap (λ j. Some (suc j)) (sym p.0))
+      place = known.place;
+      node = known.node;
+      is = known.is;
+      here = got_old nodes node known.node known.place known.here;
+      key_is = known.key_is;
+    }
+
+pub kept_push : (nodes : List Node) (node : Node) (kept other_map : BTreeMap ℕ ℕ) → IsKept nodes kept → IsNew nodes node → node.below < length nodes
+    → is_next nodes node.below node.kind ≡ false
+    → get nat_cmp kept (key_of node.below node.kind) ≡ None → Updates nat_cmp kept other_map (key_of node.below node.kind) (Some (suc (length nodes)))
+    → IsKept (nodes ++ node ∷ []) other_map
+kept_push nodes node kept other_map kept_so new below next absent updates =
+    let key = key_of node.below node.kind in
+    record {
+      wide = wide_push nodes node kept_so.wide;
+      empty = empty_push nodes node kept_so.wide kept_so.empty;
+      nodes = nodes_push nodes node kept kept_so new;
+      told = λ k x g older. elim (got_push nodes node x k g) [
+        | inl p ↦ finds_old kept other_map key (suc (length nodes)) (key_of x.below x.kind) (suc k) absent updates (kept_so.told k x p.1 older)
+        | inr p ↦ subst (λ y. get nat_cmp other_map (key_of y.below y.kind) ≡ Some (suc k)) p.1 (updates.1 ∙ ap (λ j. Some (suc j)) (sym p.0))
       ];
-      apart = apart_push ns n m h (λ _. next_kept ns n n.below n.kind lt ∙ next);
-      known = λ q v g. elim (found_in m m2 key (suc (length ns)) q v u g) [
-        | inl p ↦ record { place = length ns; node = n; is = sym p.1; here = got_new ns n; key_is = p.0 }
-        | inr p ↦ known_push ns n q v (h.known q v p)
+      apart = apart_push nodes node kept kept_so (λ _. next_kept nodes node node.below node.kind below ∙ next);
+      known = λ q v g. elim (found_in kept other_map key (suc (length nodes)) q v updates g) [
+        | inl p ↦ record { place = length nodes; node = node; is = sym p.1; here = got_last nodes node; key_is = p.0 }
+        | inr p ↦ known_push nodes node q v (kept_so.known q v p)
       ];
     }
 
-pub kept_newest : (ns : List Node) (n : Node) (m : BTreeMap ℕ ℕ) → IsKept ns m → IsNew ns n → n.below ≡ length ns → IsKept (ns ++ n ∷ []) m
-kept_newest ns n m h new newest =
+pub kept_newest : (nodes : List Node) (node : Node) (kept : BTreeMap ℕ ℕ) → IsKept nodes kept → IsNew nodes node → node.below ≡ length nodes
+    → IsKept (nodes ++ node ∷ []) kept
+kept_newest nodes node kept kept_so new newest =
     record {
-      wide = wide_push ns n h.wide;
-      empty = empty_push ns n h.wide h.empty;
-      nodes = nodes_push ns n m h new;
-      told = λ k x g older. elim (got_push ns n x k g) [
-        | inl p ↦ h.told k x p.1 older
+      wide = wide_push nodes node kept_so.wide;
+      empty = empty_push nodes node kept_so.wide kept_so.empty;
+      nodes = nodes_push nodes node kept kept_so new;
+      told = λ k x g older. elim (got_push nodes node x k g) [
+        | inl p ↦ kept_so.told k x p.1 older
         | inr p ↦ absurd (older (ap (λ (y : Node). y.below) (sym p.1) ∙ newest ∙ sym p.0))
       ];
-      apart = apart_push ns n m h (λ not. absurd (not newest));
-      known = λ q v g. known_push ns n q v (h.known q v g);
+      apart = apart_push nodes node kept kept_so (λ not. absurd (not newest));
+      known = λ q v g. known_push nodes node q v (kept_so.known q v g);
     }
 
-pub made_push : (ns : List Node) (n : Node) (v : ℕ) → length (lists ns) ≡ suc (length ns) → v ≡ suc (length ns)
-    → IsPushed (lists ns) (lists (ns ++ n ∷ [])) n.kind n.below v
-made_push ns n v w e =
-    let l = lists-push ns n in
+pub made_push : (nodes : List Node) (node : Node) (number : ℕ) → length (lists nodes) ≡ suc (length nodes) → number ≡ suc (length nodes)
+    → IsPushed (lists nodes) (lists (nodes ++ node ∷ [])) node.kind node.below number
+made_push nodes node number length_is number_is =
+    let lists_push_so = lists-push nodes node in
     record {
       within =
-          subst (λ ls. v < length ls) (sym l) (let z = length-append (lists ns) ((n.kind ∷ at (lists ns) n.below) ∷ []) in omega (arith, z, w, e));
-      made = ap (λ ls. at ls v) l ∙ at-seam (lists ns) _ v (omega (arith, w, e));
+          subst (λ ls. number < length ls) (sym lists_push_so)
+          (let lengths = length-append (lists nodes) ((node.kind ∷ at (lists nodes) node.below) ∷ []) in omega
+          (arith, lengths, length_is, number_is));
+      made = ap (λ ls. at ls number) lists_push_so ∙ at-seam (lists nodes) _ number (omega (arith, length_is, number_is));
     }
 
-pub grows_push : (ns : List Node) (n : Node) → Grows (lists ns) (lists (ns ++ n ∷ []))
-grows_push ns n = record { more = (n.kind ∷ at (lists ns) n.below) ∷ []; is = lists-push ns n }
+pub grows_push : (nodes : List Node) (node : Node) → Grows (lists nodes) (lists (nodes ++ node ∷ []))
+grows_push nodes node = record { more = (node.kind ∷ at (lists nodes) node.below) ∷ []; is = lists-push nodes node }
 
-same_key : (a b : ℕ) (j k : ValueKind) → key_of a j ≡ key_of b k → kind_code j < 262144 → kind_code k < 262144 → (a ≡ b) × (kind_code j ≡ kind_code k)
-same_key a b j k h s t = (omega (arith, h, s, t), omega (arith, h, s, t))
+same_key : (first second : ℕ) (kind other_kind : ValueKind) → key_of first kind ≡ key_of second other_kind → kind_code kind < 262144
+    → kind_code other_kind < 262144 → (first ≡ second) × (kind_code kind ≡ kind_code other_kind)
+same_key first second kind other_kind key_of_is below below_so =
+    (omega (arith, key_of_is, below, below_so), omega (arith, key_of_is, below, below_so))
 
-code_is : (j k : ValueKind) → kind_code j ≡ kind_code k → j ≡ k
-code_is K.N K.N h = refl
-code_is K.B K.B h = refl
-code_is K.D K.D h = refl
-code_is K.S K.S h = refl
-code_is (K.NList m) (K.NList n) h = ap K.NList (omega (arith, h))
-code_is (K.SList m) (K.SList n) h = ap K.SList (omega (arith, h))
-code_is _ _ h = absurd (omega (arith, h))
+code_is : (kind other_kind : ValueKind) → kind_code kind ≡ kind_code other_kind → kind ≡ other_kind
+code_is K.N K.N kind_code_is = refl
+code_is K.B K.B kind_code_is = refl
+code_is K.D K.D kind_code_is = refl
+code_is K.S K.S kind_code_is = refl
+code_is (K.NList m) (K.NList n) kind_code_is = ap K.NList (omega (arith, kind_code_is))
+code_is (K.SList m) (K.SList n) kind_code_is = ap K.SList (omega (arith, kind_code_is))
+code_is _ _ kind_code_is = absurd (omega (arith, kind_code_is))
 
 -- a list that was looked up
-pub made_known : (ns : List Node) (m : BTreeMap ℕ ℕ) (b v : ℕ) (k : ValueKind) → IsKept ns m → kind_code k < 262144
-    → get nat_cmp m (key_of b k) ≡ Some v → IsPushed (lists ns) (lists ns) k b v
-made_known ns m b v k h sm g =
-    let w = h.known (key_of b k) v g in
-    let n = h.nodes w.place w.node w.here in
-    let i = same_key w.node.below b w.node.kind k w.key_is n.small sm in
-    let kd : w.node.kind ≡ k = code_is w.node.kind k i.1 in
-    let lt = slice_get_within ns w.place w.node w.here in
+pub made_known : (nodes : List Node) (kept : BTreeMap ℕ ℕ) (second number : ℕ) (kind : ValueKind) → IsKept nodes kept → kind_code kind < 262144
+    → get nat_cmp kept (key_of second kind) ≡ Some number → IsPushed (lists nodes) (lists nodes) kind second number
+made_known nodes kept second number kind kept_so small get_is =
+    let known = kept_so.known (key_of second kind) number get_is in
+    let node_is = kept_so.nodes known.place known.node known.here in
+    let same_key_so = same_key known.node.below second known.node.kind kind known.key_is node_is.small small in
+    let kind_is : known.node.kind ≡ kind = code_is known.node.kind kind same_key_so.1 in
+    let inside = slice_get_within nodes known.place known.node known.here in
     record {
-      within = let z = h.wide in let y = w.is in omega (arith, z, y, lt);
-      made = ap (at (lists ns)) w.is ∙ n.made ∙ ap₂ (λ x y. x ∷ at (lists ns) y) kd i.0;
+      within = let wide_so = kept_so.wide in let is_so = known.is in omega (arith, wide_so, is_so, inside);
+      made = ap (at (lists nodes)) known.is ∙ node_is.made ∙ ap₂ (λ x y. x ∷ at (lists nodes) y) kind_is same_key_so.0;
     }
 
 -- a list that has the next number
-pub made_next : (ns : List Node) (m : BTreeMap ℕ ℕ) (b : ℕ) (k : ValueKind) → IsKept ns m → is_next ns b k ≡ true
-    → IsPushed (lists ns) (lists ns) k b (b + 1)
-made_next ns m b k h t = by (slice_get ns b) refl t
+pub made_next : (nodes : List Node) (kept : BTreeMap ℕ ℕ) (second : ℕ) (kind : ValueKind) → IsKept nodes kept → is_next nodes second kind ≡ true
+    → IsPushed (lists nodes) (lists nodes) kind second (second + 1)
+made_next nodes kept second kind kept_so is_next_is = by (slice_get nodes second) refl is_next_is
   where
-    by : (o : Option Node) → slice_get ns b ≡ o → stands_on b k o ≡ true → IsPushed (lists ns) (lists ns) k b (b + 1)
-    by None g e = absurd (cc e)
-    by (Some n) g e =
-        let two = and_true (n.below == b) (is_same_value_kind n.kind k) e in
+    by : (found : Option Node) → slice_get nodes second ≡ found → stands_on second kind found ≡ true
+        → IsPushed (lists nodes) (lists nodes) kind second (second + 1)
+    by None got stands_on_is = absurd (cc stands_on_is)
+    by (Some node) got stands_on_is =
+        let two = and_true (node.below == second) (is_same_value_kind node.kind kind) stands_on_is in
         let first = two.0 in
-        let low : n.below ≡ b = grind (arith, nat_tests) in
-        let kd : n.kind ≡ k = same_kind_true n.kind k two.1 in
-        let i = h.nodes b n g in
-        let z : b + 1 ≡ suc b = omega arith in
+        let low : node.below ≡ second = grind (arith, nat_tests) in
+        let kind_is : node.kind ≡ kind = same_kind_true node.kind kind two.1 in
+        let its_node = kept_so.nodes second node got in
+        let second_is : second + 1 ≡ suc second = omega arith in
         record {
-          within = let w = h.wide in let lt = slice_get_within ns b n g in omega (arith, w, lt);
-          made = ap (at (lists ns)) z ∙ i.made ∙ ap₂ (λ x y. x ∷ at (lists ns) y) kd low;
+          within = let wide_so = kept_so.wide in let inside = slice_get_within nodes second node got in omega (arith, wide_so, inside);
+          made = ap (at (lists nodes)) second_is ∙ its_node.made ∙ ap₂ (λ x y. x ∷ at (lists nodes) y) kind_is low;
         }
 
-nodes_at : (ns : List Node) (k : ℕ) → k < length ns → (n : Node) × (slice_get ns k ≡ Some n)
-nodes_at [] k h = absurd (omega (arith, h))
-nodes_at (n ∷ ns) zero h = (n, refl)
-nodes_at (n ∷ ns) (suc k) h = nodes_at ns k (omega (arith, h))
+nodes_at : (nodes : List Node) (index : ℕ) → index < length nodes → (node : Node) × (slice_get nodes index ≡ Some node)
+nodes_at [] index below = absurd (omega (arith, below))
+nodes_at (node ∷ nodes) zero below = (node, refl)
+nodes_at (node ∷ nodes) (suc index) below = nodes_at nodes index (omega (arith, below))
 
-next_is : (ns : List Node) (k : ℕ) (n : Node) → slice_get ns k ≡ Some n → n.below ≡ k → is_next ns k n.kind ≡ true
-next_is ns k n g e =
-    let t : (n.below == k) ≡ true = grind (arith, nat_tests) in
-    ap (stands_on k n.kind) g ∙ ap₂ (λ a b. a && b) t (same_kind_refl n.kind)
+next_is : (nodes : List Node) (index : ℕ) (node : Node) → slice_get nodes index ≡ Some node → node.below ≡ index
+    → is_next nodes index node.kind ≡ true
+next_is nodes index node found below_is =
+    let below_is_so : (node.below == index) ≡ true = grind (arith, nat_tests) in
+    ap (stands_on index node.kind) found ∙ ap₂ (λ a b. a && b) below_is_so (same_kind_refl node.kind)
 
 -- two nodes of one list stand at one place
-same_place : (ns : List Node) (m : BTreeMap ℕ ℕ) (a b : ℕ) (p q : Node) → IsKept ns m → slice_get ns a ≡ Some p → slice_get ns b ≡ Some q
-    → p.below ≡ q.below → p.kind ≡ q.kind → a ≡ b
-same_place ns m a b p q h pa qb low kind = by (p.below == a) (q.below == b) refl refl
+same_place : (nodes : List Node) (kept : BTreeMap ℕ ℕ) (first second : ℕ) (node other_node : Node) → IsKept nodes kept
+    → slice_get nodes first ≡ Some node → slice_get nodes second ≡ Some other_node
+    → node.below ≡ other_node.below → node.kind ≡ other_node.kind → first ≡ second
+same_place nodes kept first second node other_node kept_so found found_so low kind = by (node.below == first) (other_node.below == second) refl refl
   where
-    clash : (x y : Node) (j k : ℕ) → slice_get ns j ≡ Some x → slice_get ns k ≡ Some y → x.below ≡ j → y.below ≢ k → x.below ≡ y.below
-        → x.kind ≡ y.kind → ⊥
-    clash x y j k gx gy here there low kind =
-        let t : is_next ns y.below y.kind ≡ true = ap₂ (λ b k. is_next ns b k) (sym low ∙ here) (sym kind) ∙ next_is ns j x gx here in
-        let f = h.apart k y gy there in
-        absurd (cc (t, f))
+    clash : (third_node fourth_node : Node) (other_index index : ℕ) → slice_get nodes other_index ≡ Some third_node
+        → slice_get nodes index ≡ Some fourth_node → third_node.below ≡ other_index → fourth_node.below ≢ index → third_node.below ≡ fourth_node.below
+        → third_node.kind ≡ fourth_node.kind → ⊥
+    clash third_node fourth_node other_index index found_too found_here here there low kind =
+        let is_next_is : is_next nodes fourth_node.below fourth_node.kind ≡ true =
+        ap₂ (λ b k. is_next nodes b k) (sym low ∙ here) (sym kind) ∙ next_is nodes other_index third_node found_too here in
+        let not_next = kept_so.apart index fourth_node found_here there in
+        absurd (cc (is_next_is, not_next))
 
-    by : (s t : Bool) → (p.below == a) ≡ s → (q.below == b) ≡ t → a ≡ b
-    by true true e f =
-        let x : p.below ≡ a = grind (arith, nat_tests) in
-        let y : q.below ≡ b = grind (arith, nat_tests) in
-        sym x ∙ low ∙ y
-    by true false e f =
-        let x : p.below ≡ a = grind (arith, nat_tests) in
-        let y : q.below ≢ b = grind (arith, nat_tests) in
-        absurd (clash p q a b pa qb x y low kind)
-    by false true e f =
-        let x : p.below ≢ a = grind (arith, nat_tests) in
-        let y : q.below ≡ b = grind (arith, nat_tests) in
-        absurd (clash q p b a qb pa y x (sym low) (sym kind))
-    by false false e f =
-        let x : p.below ≢ a = grind (arith, nat_tests) in
-        let y : q.below ≢ b = grind (arith, nat_tests) in
-        let t : get nat_cmp m (key_of p.below p.kind) ≡ get nat_cmp m (key_of q.below q.kind) = ap₂ (λ u v. get nat_cmp m (key_of u v)) low kind in
-        let u = h.told a p pa x in
-        let v = h.told b q qb y in
-        let w : Some (suc a) ≡ Some (suc b) = sym u ∙ t ∙ v in
-        cc w
+    by : (truth test : Bool) → (node.below == first) ≡ truth → (other_node.below == second) ≡ test → first ≡ second
+    by true true below_is below_is_so =
+        let first_apart : node.below ≡ first = grind (arith, nat_tests) in
+        let second_apart : other_node.below ≡ second = grind (arith, nat_tests) in
+        sym first_apart ∙ low ∙ second_apart
+    by true false below_is below_is_so =
+        let first_apart : node.below ≡ first = grind (arith, nat_tests) in
+        let second_apart : other_node.below ≢ second = grind (arith, nat_tests) in
+        absurd (clash node other_node first second found found_so first_apart second_apart low kind)
+    by false true below_is below_is_so =
+        let first_apart : node.below ≢ first = grind (arith, nat_tests) in
+        let second_apart : other_node.below ≡ second = grind (arith, nat_tests) in
+        absurd (clash other_node node second first found_so found second_apart first_apart (sym low) (sym kind))
+    by false false below_is below_is_so =
+        let first_apart : node.below ≢ first = grind (arith, nat_tests) in
+        let second_apart : other_node.below ≢ second = grind (arith, nat_tests) in
+        let get_is : get nat_cmp kept (key_of node.below node.kind) ≡ get nat_cmp kept (key_of other_node.below other_node.kind) =
+        ap₂ (λ u v. get nat_cmp kept (key_of u v)) low kind in
+        let first_told = kept_so.told first node found first_apart in
+        let second_told = kept_so.told second other_node found_so second_apart in
+        let some_is : Some (suc first) ≡ Some (suc second) = sym first_told ∙ get_is ∙ second_told in
+        cc some_is
 
-one : (ns : List Node) (m : BTreeMap ℕ ℕ) → IsKept ns m → (ks : List ValueKind) (a b : ℕ) → a < suc (length ns) → b < suc (length ns)
-    → at (lists ns) a ≡ ks → at (lists ns) b ≡ ks → a ≡ b
-one ns m h ks zero zero la lb ea eb = refl
-one ns m h [] zero (suc b) la lb ea eb = let q = nodes_at ns b (omega (arith, lb)) in absurd (let z = (h.nodes b q.0 q.1).made in cc (z, eb))
-one ns m h [] (suc a) b la lb ea eb = let q = nodes_at ns a (omega (arith, la)) in absurd (let z = (h.nodes a q.0 q.1).made in cc (z, ea))
-one ns m h (k ∷ ks) zero (suc b) la lb ea eb = absurd (let z = h.empty in cc (z, ea))
-one ns m h (k ∷ ks) (suc a) zero la lb ea eb = absurd (let z = h.empty in cc (z, eb))
-one ns m h (k ∷ ks) (suc a) (suc b) la lb ea eb =
-    let p = nodes_at ns a (omega (arith, la)) in
-    let q = nodes_at ns b (omega (arith, lb)) in
-    let x = h.nodes a p.0 p.1 in
-    let y = h.nodes b q.0 q.1 in
-    let xm = x.made in
-    let ym = y.made in
-    let ka : p.0.kind ≡ k = cc (xm, ea) in
-    let kb : q.0.kind ≡ k = cc (ym, eb) in
-    let ta : at (lists ns) p.0.below ≡ ks = cc (xm, ea) in
-    let tb : at (lists ns) q.0.below ≡ ks = cc (ym, eb) in
-    let low : p.0.below ≡ q.0.below =
-    one ns m h ks p.0.below q.0.below (let z = x.low in omega (arith, z, la)) (let z = y.low in omega (arith, z, lb)) ta tb in
-    ap suc (same_place ns m a b p.0 q.0 h p.1 q.1 low (ka ∙ sym kb))
+one : (nodes : List Node) (kept : BTreeMap ℕ ℕ) → IsKept nodes kept → (kinds : List ValueKind) (first second : ℕ) → first < suc (length nodes)
+    → second < suc (length nodes)
+    → at (lists nodes) first ≡ kinds → at (lists nodes) second ≡ kinds → first ≡ second
+one nodes kept kept_so kinds zero zero first_within second_within first_is second_is = refl
+one nodes kept kept_so [] zero (suc second) first_within second_within first_is second_is =
+    let second_node = nodes_at nodes second (omega (arith, second_within)) in
+    absurd (let made = (kept_so.nodes second second_node.0 second_node.1).made in cc (made, second_is))
+one nodes kept kept_so [] (suc first) second first_within second_within first_is second_is =
+    let second_node = nodes_at nodes first (omega (arith, first_within)) in
+    absurd (let made = (kept_so.nodes first second_node.0 second_node.1).made in cc (made, first_is))
+one nodes kept kept_so (kind ∷ kinds) zero (suc second) first_within second_within first_is second_is =
+    absurd (let made = kept_so.empty in cc (made, first_is))
+one nodes kept kept_so (kind ∷ kinds) (suc first) zero first_within second_within first_is second_is =
+    absurd (let made = kept_so.empty in cc (made, second_is))
+one nodes kept kept_so (kind ∷ kinds) (suc first) (suc second) first_within second_within first_is second_is =
+    let first_node = nodes_at nodes first (omega (arith, first_within)) in
+    let second_node = nodes_at nodes second (omega (arith, second_within)) in
+    let first_is_node = kept_so.nodes first first_node.0 first_node.1 in
+    let second_is_node = kept_so.nodes second second_node.0 second_node.1 in
+    let first_made = first_is_node.made in
+    let second_made = second_is_node.made in
+    let first_kind : first_node.0.kind ≡ kind = cc (first_made, first_is) in
+    let second_kind : second_node.0.kind ≡ kind = cc (second_made, second_is) in
+    let first_below : at (lists nodes) first_node.0.below ≡ kinds = cc (first_made, first_is) in
+    let second_below : at (lists nodes) second_node.0.below ≡ kinds = cc (second_made, second_is) in
+    let low : first_node.0.below ≡ second_node.0.below =
+    one nodes kept kept_so kinds first_node.0.below second_node.0.below (let made = first_is_node.low in omega (arith, made, first_within))
+    (let made = second_is_node.low in omega (arith, made, second_within)) first_below second_below in
+    ap suc (same_place nodes kept first second first_node.0 second_node.0 kept_so first_node.1 second_node.1 low (first_kind ∙ sym second_kind))
 
-pub same_is : (ns : List Node) (m : BTreeMap ℕ ℕ) (a b : ℕ) → IsKept ns m → a < length (lists ns) → b < length (lists ns)
-    → are_same_kinds (at (lists ns) a) (at (lists ns) b) ≡ true → a ≡ b
-same_is ns m a b h la lb e = let w =
-    h.wide in one ns m h (at (lists ns) a) a b (omega (arith, w, la)) (omega (arith, w, lb)) refl (sym (same_kinds_true _ _ e))
+pub same_is : (nodes : List Node) (kept : BTreeMap ℕ ℕ) (first second : ℕ) → IsKept nodes kept → first < length (lists nodes)
+    → second < length (lists nodes)
+    → are_same_kinds (at (lists nodes) first) (at (lists nodes) second) ≡ true → first ≡ second
+same_is nodes kept first second kept_so below below_so are_same_kinds_is = let wide_so =
+    kept_so.wide in one nodes kept kept_so (at (lists nodes) first) first second (omega (arith, wide_so, below)) (omega (arith, wide_so, below_so))
+    refl (sym (same_kinds_true _ _ are_same_kinds_is))
 
-pub differ : (ns : List Node) (m : BTreeMap ℕ ℕ) (a b : ℕ) → IsKept ns m → a < length (lists ns) → b < length (lists ns) → a ≢ b
-    → are_same_kinds (at (lists ns) a) (at (lists ns) b) ≡ false
-differ ns m a b h la lb ne = by (are_same_kinds (at (lists ns) a) (at (lists ns) b)) refl
+pub differ : (nodes : List Node) (kept : BTreeMap ℕ ℕ) (first second : ℕ) → IsKept nodes kept → first < length (lists nodes)
+    → second < length (lists nodes) → first ≢ second
+    → are_same_kinds (at (lists nodes) first) (at (lists nodes) second) ≡ false
+differ nodes kept first second kept_so below below_so apart = by (are_same_kinds (at (lists nodes) first) (at (lists nodes) second)) refl
   where
-    by : (t : Bool) → are_same_kinds (at (lists ns) a) (at (lists ns) b) ≡ t → t ≡ false
-    by true e = absurd (ne (same_is ns m a b h la lb e))
-    by false e = refl
+    by : (truth : Bool) → are_same_kinds (at (lists nodes) first) (at (lists nodes) second) ≡ truth → truth ≡ false
+    by true are_same_kinds_is = absurd (apart (same_is nodes kept first second kept_so below below_so are_same_kinds_is))
+    by false are_same_kinds_is = refl
 
 -- what stands at a number that isn't 0
-pub record IsAt (ls : List (List ValueKind)) (n : ℕ) (x : Node) : Type 0 where
-  pub made : at ls n ≡ x.kind ∷ at ls x.below
-  pub low : x.below < length ls
-  pub high : x.height ≡ length (at ls n)
-  pub flat : x.height ≤ n
-  pub heavy : x.words ≡ capped limits.words (words_of_all (at ls n))
+pub record IsAt (lists : List (List ValueKind)) (n : ℕ) (node : Node) : Type 0 where
+  pub made : at lists n ≡ node.kind ∷ at lists node.below
+  pub low : node.below < length lists
+  pub high : node.height ≡ length (at lists n)
+  pub flat : node.height ≤ n
+  pub heavy : node.words ≡ capped limits.words (words_of_all (at lists n))
 
-pub node_of : (ns : List Node) (m : BTreeMap ℕ ℕ) (ls : List (List ValueKind)) (n : ℕ) (x : Node) → lists ns ≡ ls → IsKept ns m → n ≢ 0
-    → n < length ls → x ≡ get_or ns (n - 1) x → IsAt ls n x
-node_of ns m ls zero x v h nz lt e = absurd (nz refl)
-node_of ns m ls (suc k) x v h nz lt e =
-    let w = h.wide in
-    let l = ap length v in
-    let z : suc k - 1 ≡ k = omega arith in
-    let y : x ≡ get_or ns k x = subst (λ j. x ≡ get_or ns j x) z e in
-    let g = slice_get_read ns (length ns) k x refl (omega (arith, w, l, lt)) y in
-    let i = h.nodes k x g in
-    let lo = i.low in
-    subst (λ ls. IsAt ls (suc k) x) v (record {
-      made = i.made;
-      low = omega (arith, w, l, lt, lo);
-      high = i.high ∙ sym (ap length i.made);
-      flat = i.flat;
-      heavy = i.heavy ∙ sym (ap (λ l. capped limits.words (words_of_all l)) i.made);
+pub node_of : (nodes : List Node) (kept : BTreeMap ℕ ℕ) (other_lists : List (List ValueKind)) (n : ℕ) (node : Node) → lists nodes ≡ other_lists
+    → IsKept nodes kept → n ≢ 0
+    → n < length other_lists → node ≡ get_or nodes (n - 1) node → IsAt other_lists n node
+node_of nodes kept other_lists zero node lists_is kept_so some below node_is = absurd (some refl)
+node_of nodes kept other_lists (suc index) node lists_is kept_so some below node_is =
+    let wide_so = kept_so.wide in
+    let length_so = ap length lists_is in
+    let same : suc index - 1 ≡ index = omega arith in
+    let node_is_so : node ≡ get_or nodes index node = subst (λ j. node ≡ get_or nodes j node) same node_is in
+    let slice_get_read_so = slice_get_read nodes (length nodes) index node refl (omega (arith, wide_so, length_so, below)) node_is_so in
+    let its_node = kept_so.nodes index node slice_get_read_so in
+    let low = its_node.low in
+    subst (λ ls. IsAt ls (suc index) node) lists_is (record {
+      made = its_node.made;
+      low = omega (arith, wide_so, length_so, below, low);
+      high = its_node.high ∙ sym (ap length its_node.made);
+      flat = its_node.flat;
+      heavy = its_node.heavy ∙ sym (ap (λ l. capped limits.words (words_of_all l)) its_node.made);
     })
 
-pub flat_at : (ns : List Node) (m : BTreeMap ℕ ℕ) (n : ℕ) → IsKept ns m → n < length (lists ns) → length (at (lists ns) n) ≤ n
-flat_at ns m zero h lt = let e = ap length h.empty in omega (arith, e)
-flat_at ns m (suc k) h lt =
-    let w = h.wide in
-    let q = nodes_at ns k (omega (arith, w, lt)) in
-    let i = h.nodes k q.0 q.1 in
-    let a = i.flat in let b = i.high in let c = ap length i.made in omega (arith, a, b, c)
+pub flat_at : (nodes : List Node) (kept : BTreeMap ℕ ℕ) (n : ℕ) → IsKept nodes kept → n < length (lists nodes) → length (at (lists nodes) n) ≤ n
+flat_at nodes kept zero kept_so below = let length_so = ap length kept_so.empty in omega (arith, length_so)
+flat_at nodes kept (suc index) kept_so below =
+    let wide_so = kept_so.wide in
+    let nodes_at_so = nodes_at nodes index (omega (arith, wide_so, below)) in
+    let its_node = kept_so.nodes index nodes_at_so.0 nodes_at_so.1 in
+    let flat_so = its_node.flat in
+    let high_so = its_node.high in let length_so = ap length its_node.made in omega (arith, flat_so, high_so, length_so)
 
-pub kept_cut : (ns : List Node) (n : Node) (k : ℕ) → k ≡ length ns → take k (ns ++ n ∷ []) ≡ ns
-kept_cut [] n zero h = refl
-kept_cut [] n (suc k) h = absurd (omega (arith, h))
-kept_cut (m ∷ ns) n zero h = absurd (omega (arith, h))
-kept_cut (m ∷ ns) n (suc k) h = ap (λ l. m ∷ l) (kept_cut ns n k (omega (arith, h)))
+pub kept_cut : (nodes : List Node) (node : Node) (index : ℕ) → index ≡ length nodes → take index (nodes ++ node ∷ []) ≡ nodes
+kept_cut [] node zero index_is = refl
+kept_cut [] node (suc index) index_is = absurd (omega (arith, index_is))
+kept_cut (node ∷ nodes) other_node zero index_is = absurd (omega (arith, index_is))
+kept_cut (node ∷ nodes) other_node (suc index) index_is = ap (λ l. node ∷ l) (kept_cut nodes other_node index (omega (arith, index_is)))
 
-pub kept_same : (ns : List Node) (m m2 : BTreeMap ℕ ℕ) → m2.entries ≡ m.entries → IsKept ns m → IsKept ns m2
-kept_same ns m m2 e h =
-    let same : (q : ℕ) → get nat_cmp m2 q ≡ get nat_cmp m q = λ q. ap (λ es. lookup (is_at (nat_cmp q)) es) e in
+pub kept_same : (nodes : List Node) (kept other_map : BTreeMap ℕ ℕ) → other_map.entries ≡ kept.entries → IsKept nodes kept → IsKept nodes other_map
+kept_same nodes kept other_map entries_is kept_so =
+    let same : (place : ℕ) → get nat_cmp other_map place ≡ get nat_cmp kept place = λ q. ap (λ es. lookup (is_at (nat_cmp q)) es) entries_is in
     record {
-      wide = h.wide;
-      empty = h.empty;
-      nodes = h.nodes;
-      told = λ k n g older. same (key_of n.below n.kind) ∙ h.told k n g older;
-      apart = h.apart;
-      known = λ q v g. h.known q v (sym (same q) ∙ g);
+      wide = kept_so.wide;
+      empty = kept_so.empty;
+      nodes = kept_so.nodes;
+      told = λ k n g older. same (key_of n.below n.kind) ∙ kept_so.told k n g older;
+      apart = kept_so.apart;
+      known = λ q v g. kept_so.known q v (sym (same q) ∙ g);
     }

@@ -14,59 +14,62 @@ use Rattle.rpl_verify.proofs.KindFacts.{same_kind_refl}
 
 -- ---- rows
 
-enough : (n : ℕ) (ks : List ValueKind) → n ≤ length ks → nat_lt (length ks) n ≡ false
-enough n ks h = grind (arith, nat_tests)
+enough : (n : ℕ) (kinds : List ValueKind) → n ≤ length kinds → nat_lt (length kinds) n ≡ false
+enough n kinds at_most = grind (arith, nat_tests)
 
 -- where there are as many operands as the row takes
-pub behind_enough : (r : OperandRow) (ks : List ValueKind) → operand_count r ≤ length ks
-    → operands_behind r ks ≡ on_top_of (drop (operand_count r) ks) (left_of r (take (operand_count r) ks))
-behind_enough r ks h =
-    ap (λ t. if t then Err MissingOperand else on_top_of (drop (operand_count r) ks) (left_of r (take (operand_count r) ks)))
-    (enough (operand_count r) ks h)
+pub behind_enough : (row : OperandRow) (kinds : List ValueKind) → operand_count row ≤ length kinds
+    → operands_behind row kinds ≡ on_top_of (drop (operand_count row) kinds) (left_of row (take (operand_count row) kinds))
+behind_enough row kinds at_most =
+    ap (λ t. if t then Err MissingOperand else on_top_of (drop (operand_count row) kinds) (left_of row (take (operand_count row) kinds)))
+    (enough (operand_count row) kinds at_most)
 
 -- ---- operands of a row, from the last one down
 
-pub record IsTaking (needs start cur : List ValueKind) (left : ℕ) : Type 0 where
-  pub same : are_same_kinds (reverse (take left needs)) (take left cur) ≡ are_same_kinds (reverse needs) (take (length needs) start)
-  pub below : drop left cur ≡ drop (length needs) start
-  pub enough : left ≤ length cur
+pub record IsTaking (needs start kinds : List ValueKind) (left : ℕ) : Type 0 where
+  pub same : are_same_kinds (reverse (take left needs)) (take left kinds) ≡ are_same_kinds (reverse needs) (take (length needs) start)
+  pub below : drop left kinds ≡ drop (length needs) start
+  pub enough : left ≤ length kinds
   pub within : left ≤ length needs
 
 -- ---- operands of one kind
 
-pub record IsRunning (kind : ValueKind) (n : ℕ) (start cur : List ValueKind) (left : ℕ) : Type 0 where
-  pub same : list_all (is_same_value_kind kind) (take left cur) ≡ list_all (is_same_value_kind kind) (take n start)
-  pub below : drop left cur ≡ drop n start
-  pub enough : left ≤ length cur
+pub record IsRunning (kind : ValueKind) (n : ℕ) (start kinds : List ValueKind) (left : ℕ) : Type 0 where
+  pub same : list_all (is_same_value_kind kind) (take left kinds) ≡ list_all (is_same_value_kind kind) (take n start)
+  pub below : drop left kinds ≡ drop n start
+  pub enough : left ≤ length kinds
 
 -- a list of operands of the kind on top
-pub gathers : (n : ℕ) (b : Before) (k : ValueKind) → 1 ≤ n → n ≤ length b.kinds → top_of b.kinds ≡ Some k
-    → taken_by (goes_by n (listed n)) b ≡ then_do (run_taken k n b) (gathered_into (list_value_kind n k))
-gathers zero b k one m t = absurd (omega (arith, one))
-gathers (suc n) b k one m t = at b.kinds m t
+pub gathers : (n : ℕ) (here : Before) (kind : ValueKind) → 1 ≤ n → n ≤ length here.kinds → top_of here.kinds ≡ Some kind
+    → taken_by (goes_by n (listed n)) here ≡ then_do (run_taken kind n here) (gathered_into (list_value_kind n kind))
+gathers zero here kind one at_most top_of_is = absurd (omega (arith, one))
+gathers (suc n) here other_kind one at_most top_of_is = at here.kinds at_most top_of_is
   where
     by : (rest : List ValueKind) (alike itself : Bool) (list : Option ValueKind) → itself ≡ true
         → then_do (on_top_of (drop n rest) (or_wrong (if alike then option_map (λ kind. kind ∷ []) list else None)))
-        (λ kinds. Ok (before kinds b.loops))
-        ≡ then_do (if itself && alike then Ok (before (drop n rest) b.loops) else Err WrongOperand) (gathered_into list)
-    by rest true true None e = refl
-    by rest true true (Some list) e = refl
-    by rest false true list e = refl
-    by rest alike false list e = absurd (cc e)
+        (λ kinds. Ok (before kinds here.loops))
+        ≡ then_do (if itself && alike then Ok (before (drop n rest) here.loops) else Err WrongOperand) (gathered_into list)
+    by rest true true None itself_is = refl
+    by rest true true (Some list) itself_is = refl
+    by rest false true list itself_is = refl
+    by rest alike false list itself_is = absurd (cc itself_is)
 
-    at : (ks : List ValueKind) → suc n ≤ length ks → top_of ks ≡ Some k
-        → then_do (operands_behind (goes_by (suc n) (listed (suc n))) ks) (λ kinds. Ok (before kinds b.loops))
-        ≡ then_do (run_taken k (suc n) (before ks b.loops)) (gathered_into (list_value_kind (suc n) k))
-    at [] m t = absurd (cc t)
-    at (x ∷ rest) m t =
-        let o : x ≡ k = cc t in
-        ap (λ v. then_do v (λ kinds. Ok (before kinds b.loops))) (behind_enough (goes_by (suc n) (listed (suc n))) (x ∷ rest) m)
-        ∙ ap (λ y. then_do (on_top_of (drop n rest) (or_wrong (listed (suc n) (y ∷ take n rest)))) (λ kinds. Ok (before kinds b.loops))) o
-        ∙ by rest (list_all (is_same_value_kind k) (take n rest)) (is_same_value_kind k k) (list_value_kind (suc n) k) (same_kind_refl k)
-        ∙ ap (λ y. then_do (run_taken k (suc n) (before (y ∷ rest) b.loops)) (gathered_into (list_value_kind (suc n) k))) (sym o)
+    at : (its_kinds : List ValueKind) → suc n ≤ length its_kinds → top_of its_kinds ≡ Some other_kind
+        → then_do (operands_behind (goes_by (suc n) (listed (suc n))) its_kinds) (λ kinds. Ok (before kinds here.loops))
+        ≡ then_do (run_taken other_kind (suc n) (before its_kinds here.loops)) (gathered_into (list_value_kind (suc n) other_kind))
+    at [] at_most top_of_is = absurd (cc top_of_is)
+    at (kind ∷ rest) at_most top_of_is =
+        let kind_is : kind ≡ other_kind = cc top_of_is in
+        ap (λ v. then_do v (λ kinds. Ok (before kinds here.loops))) (behind_enough (goes_by (suc n) (listed (suc n))) (kind ∷ rest) at_most)
+        ∙ ap (λ y. then_do (on_top_of (drop n rest) (or_wrong (listed (suc n) (y ∷ take n rest)))) (λ kinds. Ok (before kinds here.loops))) kind_is
+        ∙ by rest (list_all (is_same_value_kind other_kind) (take n rest)) (is_same_value_kind other_kind other_kind)
+        (list_value_kind (suc n) other_kind) (same_kind_refl other_kind)
+        ∙ ap (λ y. then_do (run_taken other_kind (suc n) (before (y ∷ rest) here.loops)) (gathered_into (list_value_kind (suc n) other_kind)))
+        (sym kind_is)
 
-pub gather_fails : (A B : Type 0) (n : ℕ) (k : ValueKind) (old new : Walked) (fault : PlaceFault) → 1 ≤ n → n ≤ length old.before.kinds
-    → top_of old.before.kinds ≡ Some k → Goes {B = A} (run_taken k n old.before) old new (Err fault)
+pub gather_fails : (A B : Type 0) (n : ℕ) (kind : ValueKind) (old new : Walked) (fault : PlaceFault) → 1 ≤ n → n ≤ length old.before.kinds
+    → top_of old.before.kinds ≡ Some kind → Goes {B = A} (run_taken kind n old.before) old new (Err fault)
     → Goes {B = B} (taken_by (goes_by n (listed n)) old.before) old new (Err fault)
-gather_fails A B n k old new (Misfit misfit) one m t h = gathers n old.before k one m t ∙ ap (λ v. then_do v (gathered_into (list_value_kind n k))) h
-gather_fails A B n k old new NoMemory one m t h = tt
+gather_fails A B n kind old new (Misfit misfit) one at_most top_of_is goes =
+    gathers n old.before kind one at_most top_of_is ∙ ap (λ v. then_do v (gathered_into (list_value_kind n kind))) goes
+gather_fails A B n kind old new NoMemory one at_most top_of_is goes = tt

@@ -1,5 +1,6 @@
 -- How many rules and functions accepted code has, and where its rules stand.
 use Rattle.rw_base.proofs.Common.{◌≡◌, ◌≤◌, ◌<◌, ◌+◌, ◌-◌, ◌==◌, ℕ, zero, suc, Bool, true, false, nat_lt, List, [], ◌∷◌, ◌++◌, length, Some, Result}
+use Rattle.rw_base.specs.declared.limits.TheConstants.{RULES_MAX}
 use Rattle.rw_base.proofs.Common.{Ok, Err, refl, sym, ap, ap₂, ◌∙◌, subst, arith, append_assoc, length-append, if◌then◌else◌, slice_get, nat_tests}
 use Rattle.std.proofs.lemmas.List.{append-nil}
 use Rattle.rw_model.specs.Draft.{Draft}
@@ -18,141 +19,161 @@ use Rattle.rpl_verify.proofs.Rulings.{in_block_ok}
 
 -- ---- rules
 
-pub length-rules : (n : ℕ) (xs : List Block) → length (rules_from n xs) ≡ count_alike Rule xs
+pub length-rules : (n : ℕ) (blocks : List Block) → length (rules_from n blocks) ≡ count_alike Rule blocks
 length-rules n [] = refl
-length-rules n (x ∷ xs) = by (is_alike Rule x.head) (length-rules (suc n) xs)
+length-rules n (block ∷ blocks) = by (is_alike Rule block.head) (length-rules (suc n) blocks)
   where
-    by : (t : Bool) → length (rules_from (suc n) xs) ≡ count_alike Rule xs
-        → length (if t then n ∷ rules_from (suc n) xs else rules_from (suc n) xs) ≡ (if t then suc (count_alike Rule xs) else count_alike Rule xs)
-    by true e = ap suc e
-    by false e = e
+    by : (truth : Bool) → length (rules_from (suc n) blocks) ≡ count_alike Rule blocks
+        → length (if truth then n ∷ rules_from (suc n) blocks else rules_from (suc n) blocks)
+        ≡ (if truth then suc (count_alike Rule blocks) else count_alike Rule blocks)
+    by true length_is = ap suc length_is
+    by false length_is = length_is
 
 -- the rule of a number, from 1 on
-pub rule_is : (n : ℕ) (xs : List Block) (r : ℕ) → rule_from n xs (suc r) ≡ slice_get (rules_from n xs) r
-rule_is n [] r = refl
-rule_is n (x ∷ xs) r = by (is_alike Rule x.head) r (rule_is (suc n) xs)
+pub rule_is : (number : ℕ) (blocks : List Block) (other_number : ℕ)
+    → rule_from number blocks (suc other_number) ≡ slice_get (rules_from number blocks) other_number
+rule_is number [] other_number = refl
+rule_is number (block ∷ blocks) other_number = by (is_alike Rule block.head) other_number (rule_is (suc number) blocks)
   where
-    by : (t : Bool) (r : ℕ) → ((r : ℕ) → rule_from (suc n) xs (suc r) ≡ slice_get (rules_from (suc n) xs) r)
-        → (if t then (if suc r == 1 then Some n else rule_from (suc n) xs (suc r - 1)) else rule_from (suc n) xs (suc r))
-        ≡ slice_get (if t then n ∷ rules_from (suc n) xs else rules_from (suc n) xs) r
+    by : (truth : Bool) (other_number : ℕ)
+        → ((other_number : ℕ) → rule_from (suc number) blocks (suc other_number) ≡ slice_get (rules_from (suc number) blocks) other_number)
+        → (if truth then (if suc other_number == 1 then Some number else rule_from (suc number) blocks (suc other_number - 1)) else rule_from
+        (suc number) blocks (suc other_number))
+        ≡ slice_get (if truth then number ∷ rules_from (suc number) blocks else rules_from (suc number) blocks) other_number
     by true zero on = refl
-    by true (suc r) on =
-        let e : (suc (suc r) == 1) ≡ false = grind (arith, nat_tests) in
-        let z : suc (suc r) - 1 ≡ suc r = omega arith in
-        ap (λ (t : Bool). if t then Some n else rule_from (suc n) xs (suc (suc r) - 1)) e ∙ ap (rule_from (suc n) xs) z ∙ on r
-    by false r on = on r
+    by true (suc other_number) on =
+        let same : (suc (suc other_number) == 1) ≡ false = grind (arith, nat_tests) in
+        let same_so : suc (suc other_number) - 1 ≡ suc other_number = omega arith in
+        ap (λ (t : Bool). if t then Some number else rule_from (suc number) blocks (suc (suc other_number) - 1)) same
+        ∙ ap (rule_from (suc number) blocks) same_so ∙ on other_number
+    by false other_number on = on other_number
 
 -- each block is a rule or a function
-pub rules_and_functions : (xs : List Block) → count_alike Rule xs + count_alike function_head xs ≡ length xs
+pub rules_and_functions : (blocks : List Block) → count_alike Rule blocks + count_alike function_head blocks ≡ length blocks
 rules_and_functions [] = refl
-rules_and_functions (x ∷ xs) = by x.head (count_alike Rule xs) (count_alike function_head xs) (length xs) (rules_and_functions xs)
+rules_and_functions (block ∷ blocks) =
+    by block.head (count_alike Rule blocks) (count_alike function_head blocks) (length blocks) (rules_and_functions blocks)
   where
-    by : (h : BlockHead) (a b n : ℕ) → a + b ≡ n → (if is_alike Rule h then suc a else a) + (if is_alike function_head h then suc b else b) ≡ suc n
-    by Rule a b n e = omega (arith, e)
-    by (Function r ps) a b n e = omega (arith, e)
+    by : (head : BlockHead) (first second n : ℕ) → first + second ≡ n
+        → (if is_alike Rule head then suc first else first) + (if is_alike function_head head then suc second else second) ≡ suc n
+    by Rule first second n first_is = omega (arith, first_is)
+    by (Function kind kinds) first second n first_is = omega (arith, first_is)
 
 -- ---- no more than there may be
 
-alike_same : (h k j : BlockHead) → is_alike h k ≡ true → is_alike h j ≡ is_alike k j
-alike_same Rule Rule j e = refl
-alike_same (Function r ps) (Function s qs) Rule e = refl
-alike_same (Function r ps) (Function s qs) (Function t us) e = refl
-alike_same Rule (Function s qs) j e = absurd (cc e)
-alike_same (Function r ps) Rule j e = absurd (cc e)
+alike_same : (head its_head other_its_head : BlockHead) → is_alike head its_head ≡ true
+    → is_alike head other_its_head ≡ is_alike its_head other_its_head
+alike_same Rule Rule other_its_head is_alike_is = refl
+alike_same (Function kind kinds) (Function other_kind other_kinds) Rule is_alike_is = refl
+alike_same (Function kind kinds) (Function other_kind other_kinds) (Function result parameters) is_alike_is = refl
+alike_same Rule (Function kind kinds) other_its_head is_alike_is = absurd (cc is_alike_is)
+alike_same (Function kind kinds) Rule other_its_head is_alike_is = absurd (cc is_alike_is)
 
-count_same : (h k : BlockHead) (xs : List Block) → is_alike h k ≡ true → count_alike h xs ≡ count_alike k xs
-count_same h k [] e = refl
-count_same h k (x ∷ xs) e = ap₂ (λ (t : Bool) n. if t then suc n else n) (alike_same h k x.head e) (count_same h k xs e)
+count_same : (head its_head : BlockHead) (blocks : List Block) → is_alike head its_head ≡ true → count_alike head blocks ≡ count_alike its_head blocks
+count_same head its_head [] is_alike_is = refl
+count_same head its_head (block ∷ blocks) is_alike_is =
+    ap₂ (λ (t : Bool) n. if t then suc n else n) (alike_same head its_head block.head is_alike_is) (count_same head its_head blocks is_alike_is)
 
-count-push : (h : BlockHead) (xs : List Block) (x : Block)
-    → count_alike h (xs ++ x ∷ []) ≡ (if is_alike h x.head then suc (count_alike h xs) else count_alike h xs)
-count-push h [] x = refl
-count-push h (y ∷ xs) x = ap (λ n. if is_alike h y.head then suc n else n) (count-push h xs x) ∙ by (is_alike h y.head) (is_alike h x.head)
+count-push : (head : BlockHead) (blocks : List Block) (block : Block)
+    → count_alike head (blocks ++ block ∷ []) ≡ (if is_alike head block.head then suc (count_alike head blocks) else count_alike head blocks)
+count-push head [] block = refl
+count-push head (other_block ∷ blocks) block =
+    ap (λ n. if is_alike head other_block.head then suc n else n) (count-push head blocks block)
+    ∙ by (is_alike head other_block.head) (is_alike head block.head)
   where
-    by : (s t : Bool) → (if s then suc (if t then suc (count_alike h xs) else count_alike h xs) else
-        (if t then suc (count_alike h xs) else count_alike h xs))
-        ≡ (if t then suc (if s then suc (count_alike h xs) else count_alike h xs) else (if s then suc (count_alike h xs) else count_alike h xs))
+    by : (truth test : Bool) → (if truth then suc (if test then suc (count_alike head blocks) else count_alike head blocks) else
+        (if test then suc (count_alike head blocks) else count_alike head blocks))
+        ≡ (if test then suc (if truth then suc (count_alike head blocks) else count_alike head blocks) else (if truth then suc
+        (count_alike head blocks) else count_alike head blocks))
     by true true = refl
     by true false = refl
     by false true = refl
     by false false = refl
 
 -- a block that passes isn't one too many
-passes : (basin : Draft) (blocks earlier : List Block) (done : List Budget) (x : Block) (b : Budget) → block_ruling basin blocks earlier done x ≡ Ok b
-    → count_alike x.head earlier < 200
-passes basin blocks earlier done x b h = let q =
-    then_do_ok (block_befores basin blocks earlier x) _ b h in by q.0 q.1 (nat_lt (count_alike x.head earlier) 200) refl
+passes : (basin : Draft) (blocks earlier : List Block) (done : List Budget) (block : Block) (its_budget : Budget)
+    → block_ruling basin blocks earlier done block ≡ Ok its_budget
+    → count_alike block.head earlier < RULES_MAX
+passes basin blocks earlier done block its_budget block_ruling_is = let judged =
+    then_do_ok (block_befores basin blocks earlier block) _ its_budget block_ruling_is in by judged.0 judged.1
+    (nat_lt (count_alike block.head earlier) RULES_MAX) refl
   where
-    by : (bs : List Before) → block_befores basin blocks earlier x ≡ Ok bs → (t : Bool) → nat_lt (count_alike x.head earlier) 200 ≡ t
-        → count_alike x.head earlier < 200
-    by bs found true e = grind (arith, nat_tests)
-    by bs found false e =
+    by : (befores_there : List Before) → block_befores basin blocks earlier block ≡ Ok befores_there → (truth : Bool)
+        → nat_lt (count_alike block.head earlier) RULES_MAX ≡ truth
+        → count_alike block.head earlier < RULES_MAX
+    by befores_there found true nat_lt_is = grind (arith, nat_tests)
+    by befores_there found false nat_lt_is =
         let no =
-        ap (λ (t : Bool). if t then befores (scope_of basin blocks (suc (length earlier)) x) 0 (before [] []) x.lines else Err
-        (record { misfit = TooMany; place = 0 })) e in
+        ap (λ (t : Bool). if t then befores (scope_of basin blocks (suc (length earlier)) block) 0 (before [] []) block.lines else Err
+        (record { misfit = TooMany; place = 0 })) nat_lt_is in
         absurd (cc (no, found))
 
 module _ (basin : Draft) (blocks : List Block) where
-  few_from : (h : BlockHead) (earlier xs : List Block) (done all : List Budget) → each_block (block_ruling basin blocks) earlier done xs ≡ Ok all
-      → count_alike h earlier ≤ 200 → count_alike h (earlier ++ xs) ≤ 200
-  few_from h earlier [] done all e few = subst (λ l. count_alike h l ≤ 200) (sym (append-nil earlier)) few
-  few_from h earlier (x ∷ xs) done all e few =
-      let q =
-      in_block_ok (suc (length earlier)) (block_ruling basin blocks earlier done x)
-      (λ b. each_block (block_ruling basin blocks) (earlier ++ x ∷ []) (done ++ b ∷ []) xs) all e in
-      let more : count_alike h (earlier ++ x ∷ []) ≤ 200 =
-      subst (λ n. n ≤ 200) (sym (count-push h earlier x)) (by (is_alike h x.head) refl (passes basin blocks earlier done x q.0 q.1)) in
-      subst (λ l. count_alike h l ≤ 200) (append_assoc earlier (x ∷ []) xs) (few_from h (earlier ++ x ∷ []) xs (done ++ q.0 ∷ []) all q.2 more)
+  few_from : (head : BlockHead) (earlier its_blocks : List Block) (done all : List Budget)
+      → each_block (block_ruling basin blocks) earlier done its_blocks ≡ Ok all
+      → count_alike head earlier ≤ RULES_MAX → count_alike head (earlier ++ its_blocks) ≤ RULES_MAX
+  few_from head earlier [] done all each_block_is few = subst (λ l. count_alike head l ≤ RULES_MAX) (sym (append-nil earlier)) few
+  few_from head earlier (block ∷ its_blocks) done all each_block_is few =
+      let in_block_ok_so =
+      in_block_ok (suc (length earlier)) (block_ruling basin blocks earlier done block)
+      (λ b. each_block (block_ruling basin blocks) (earlier ++ block ∷ []) (done ++ b ∷ []) its_blocks) all each_block_is in
+      let more : count_alike head (earlier ++ block ∷ []) ≤ RULES_MAX =
+      subst (λ n. n ≤ RULES_MAX) (sym (count-push head earlier block))
+      (by (is_alike head block.head) refl (passes basin blocks earlier done block in_block_ok_so.0 in_block_ok_so.1)) in
+      subst (λ l. count_alike head l ≤ RULES_MAX) (append_assoc earlier (block ∷ []) its_blocks)
+      (few_from head (earlier ++ block ∷ []) its_blocks (done ++ in_block_ok_so.0 ∷ []) all in_block_ok_so.2 more)
     where
-      by : (t : Bool) → is_alike h x.head ≡ t → count_alike x.head earlier < 200
-          → (if t then suc (count_alike h earlier) else count_alike h earlier) ≤ 200
-      by true e lt = let s = count_same h x.head earlier e in omega (arith, s, lt)
-      by false e lt = few
+      by : (truth : Bool) → is_alike head block.head ≡ truth → count_alike block.head earlier < RULES_MAX
+          → (if truth then suc (count_alike head earlier) else count_alike head earlier) ≤ RULES_MAX
+      by true is_alike_is below = let count_same_so = count_same head block.head earlier is_alike_is in omega (arith, count_same_so, below)
+      by false is_alike_is below = few
 
-  each_from : (earlier xs : List Block) (done all : List Budget) → each_block (block_ruling basin blocks) earlier done xs ≡ Ok all
-      → length all ≡ length done + length xs
-  each_from earlier [] done all e = let s = ap length (same_ok done all e) in omega (arith, s)
-  each_from earlier (x ∷ xs) done all e =
-      let q =
-      in_block_ok (suc (length earlier)) (block_ruling basin blocks earlier done x)
-      (λ b. each_block (block_ruling basin blocks) (earlier ++ x ∷ []) (done ++ b ∷ []) xs) all e in
-      let r = each_from (earlier ++ x ∷ []) xs (done ++ q.0 ∷ []) all q.2 in
-      let a = length-append done (q.0 ∷ []) in
-      omega (arith, r, a)
+  each_from : (earlier its_blocks : List Block) (done all : List Budget) → each_block (block_ruling basin blocks) earlier done its_blocks ≡ Ok all
+      → length all ≡ length done + length its_blocks
+  each_from earlier [] done all each_block_is = let length_so = ap length (same_ok done all each_block_is) in omega (arith, length_so)
+  each_from earlier (block ∷ its_blocks) done all each_block_is =
+      let in_block_ok_so =
+      in_block_ok (suc (length earlier)) (block_ruling basin blocks earlier done block)
+      (λ b. each_block (block_ruling basin blocks) (earlier ++ block ∷ []) (done ++ b ∷ []) its_blocks) all each_block_is in
+      let each_from_so = each_from (earlier ++ block ∷ []) its_blocks (done ++ in_block_ok_so.0 ∷ []) all in_block_ok_so.2 in
+      let lengths = length-append done (in_block_ok_so.0 ∷ []) in
+      omega (arith, each_from_so, lengths)
 
-  pub few : (h : BlockHead) (all : List Budget) → ruling basin blocks ≡ Ok all → count_alike h blocks ≤ 200
-  few h all e = few_from h [] blocks [] all e (omega arith)
+  pub few : (head : BlockHead) (all : List Budget) → ruling basin blocks ≡ Ok all → count_alike head blocks ≤ RULES_MAX
+  few head all ruling_is = few_from head [] blocks [] all ruling_is (omega arith)
 
   pub each : (all : List Budget) → ruling basin blocks ≡ Ok all → length all ≡ length blocks
-  each all e = let r = each_from [] blocks [] all e in omega (arith, r)
+  each all ruling_is = let each_from_so = each_from [] blocks [] all ruling_is in omega (arith, each_from_so)
 
 -- ---- what is answered
 
-record IsAnswered (basin : Draft) (blocks : List Block) (a : Accepted) : Type 0 where
-  unchanged : a.blocks ≡ blocks
-  accepted : AreAccepted basin a.blocks a.budgets
-  resolved : a.resolved ≡ resolved_code basin a.blocks
+record IsAnswered (basin : Draft) (blocks : List Block) (accepted_so : Accepted) : Type 0 where
+  unchanged : accepted_so.blocks ≡ blocks
+  accepted : AreAccepted basin accepted_so.blocks accepted_so.budgets
+  resolved : accepted_so.resolved ≡ resolved_code basin accepted_so.blocks
 
-is_answered : (basin : Draft) (blocks : List Block) (a : Accepted) → verified basin blocks ≡ Ok a → IsAnswered basin blocks a
-is_answered basin blocks a h = by (ruling basin blocks) refl h
+is_answered : (basin : Draft) (blocks : List Block) (accepted : Accepted) → verified basin blocks ≡ Ok accepted → IsAnswered basin blocks accepted
+is_answered basin blocks accepted verified_is = by (ruling basin blocks) refl verified_is
   where
-    by : (r : Result (List Budget) Refusal) → ruling basin blocks ≡ r → with_budgets basin blocks r ≡ Ok a → IsAnswered basin blocks a
-    by (Ok budgets) e h =
-        let b : Accepted = record { blocks = blocks; budgets = budgets; resolved = resolved_code basin blocks } in
-        let s : b ≡ a = same_ok b a h in
-        subst (IsAnswered basin blocks) s (record { unchanged = refl; accepted = e; resolved = refl })
-    by (Err why) e h = absurd (cc h)
+    by : (result : Result (List Budget) Refusal) → ruling basin blocks ≡ result → with_budgets basin blocks result ≡ Ok accepted
+        → IsAnswered basin blocks accepted
+    by (Ok budgets) ruling_is with_budgets_is =
+        let accepted_so : Accepted = record { blocks = blocks; budgets = budgets; resolved = resolved_code basin blocks } in
+        let accepted_so_is : accepted_so ≡ accepted = same_ok accepted_so accepted with_budgets_is in
+        subst (IsAnswered basin blocks) accepted_so_is (record { unchanged = refl; accepted = ruling_is; resolved = refl })
+    by (Err why) ruling_is with_budgets_is = absurd (cc with_budgets_is)
 
-pub unchanged : (basin : Draft) (blocks : List Block) (a : Accepted) → verified basin blocks ≡ Ok a → a.blocks ≡ blocks
-unchanged basin blocks a h = let i = is_answered basin blocks a h in i.unchanged
+pub unchanged : (basin : Draft) (blocks : List Block) (accepted : Accepted) → verified basin blocks ≡ Ok accepted → accepted.blocks ≡ blocks
+unchanged basin blocks accepted verified_is = let is_answered_so = is_answered basin blocks accepted verified_is in is_answered_so.unchanged
 
-pub answered : (basin : Draft) (blocks : List Block) (a : Accepted) → verified basin blocks ≡ Ok a → AreAccepted basin a.blocks a.budgets
-answered basin blocks a h = let i = is_answered basin blocks a h in i.accepted
+pub answered : (basin : Draft) (blocks : List Block) (accepted : Accepted) → verified basin blocks ≡ Ok accepted
+    → AreAccepted basin accepted.blocks accepted.budgets
+answered basin blocks accepted verified_is = let is_answered_so = is_answered basin blocks accepted verified_is in is_answered_so.accepted
 
-pub answered_resolved : (basin : Draft) (blocks : List Block) (a : Accepted) → verified basin blocks ≡ Ok a
-    → a.resolved ≡ resolved_code basin a.blocks
-answered_resolved basin blocks a h = let i = is_answered basin blocks a h in i.resolved
+pub answered_resolved : (basin : Draft) (blocks : List Block) (accepted : Accepted) → verified basin blocks ≡ Ok accepted
+    → accepted.resolved ≡ resolved_code basin accepted.blocks
+answered_resolved basin blocks accepted verified_is = let is_answered_so = is_answered basin blocks accepted verified_is in is_answered_so.resolved
 
 pub answers : (basin : Draft) (blocks : List Block) (budgets : List Budget) → AreAccepted basin blocks budgets
     → verified basin blocks ≡ Ok (record { blocks = blocks; budgets = budgets; resolved = resolved_code basin blocks })
-answers basin blocks budgets h = ap (with_budgets basin blocks) h
+answers basin blocks budgets accepted = ap (with_budgets basin blocks) accepted

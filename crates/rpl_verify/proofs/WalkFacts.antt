@@ -20,152 +20,194 @@ use Rattle.rpl_verify.proofs.StackFacts.{at-append}
 
 -- ---- lists that grow
 
-map_like : {X Y : Type 0} (P : X → Type 0) (f g : X → Y) (xs : List X) → ((x : X) → P x → f x ≡ g x)
-    → ((i : ℕ) (d : X) → i < length xs → P (get_or xs i d)) → map f xs ≡ map g xs
-map_like P f g [] e h = refl
-map_like P f g (x ∷ xs) e h = ap₂ (λ y ys. y ∷ ys) (e x (h 0 x (omega arith))) (map_like P f g xs e (λ i d lt. h (suc i) d (omega (arith, lt))))
+map_like : {X Y : Type 0} (P : X → Type 0) (y y_so : X → Y) (xs : List X) → ((x : X) → P x → y x ≡ y_so x)
+    → ((index : ℕ) (x_so : X) → index < length xs → P (get_or xs index x_so)) → map y xs ≡ map y_so xs
+map_like P y y_so [] y_is p = refl
+map_like P y_so y_too (x ∷ xs) y_so_is p =
+    ap₂ (λ y ys. y ∷ ys) (y_so_is x (p 0 x (omega arith))) (map_like P y_so y_too xs y_so_is (λ i d lt. p (suc i) d (omega (arith, lt))))
 
-open_kept : (ls more : List (List ValueKind)) (o : OpenLoop) → o.under < length ls → open_of (ls ++ more) o ≡ open_of ls o
-open_kept ls more o h = ap (λ k. record { start = o.start; loop = (open_of ls o).loop; room = o.room; under = k }) (at-append ls more o.under h)
+open_kept : (lists more : List (List ValueKind)) (open_loop : OpenLoop) → open_loop.under < length lists
+    → open_of (lists ++ more) open_loop ≡ open_of lists open_loop
+open_kept lists more open_loop below =
+    ap (λ k. record { start = open_loop.start; loop = (open_of lists open_loop).loop; room = open_loop.room; under = k })
+    (at-append lists more open_loop.under below)
 
-declared_kept : (ls more : List (List ValueKind)) (n : Option ℕ) → IsBelowIt (length ls) n → kinds_at (ls ++ more) n ≡ kinds_at ls n
-declared_kept ls more None h = refl
-declared_kept ls more (Some n) h = ap Some (at-append ls more n h)
+declared_kept : (lists more : List (List ValueKind)) (n : Option ℕ) → IsBelowIt (length lists) n → kinds_at (lists ++ more) n ≡ kinds_at lists n
+declared_kept lists more None below_it = refl
+declared_kept lists more (Some n) below_it = ap Some (at-append lists more n below_it)
 
-spot_kept : (ls more : List (List ValueKind)) (x : Landing) → IsBelowIt (length ls) x.declares → spot_of (ls ++ more) x ≡ spot_of ls x
-spot_kept ls more x h = ap (λ k. record { innermost = x.innermost; declares = k }) (declared_kept ls more x.declares h)
+spot_kept : (lists more : List (List ValueKind)) (landing : Landing) → IsBelowIt (length lists) landing.declares
+    → spot_of (lists ++ more) landing ≡ spot_of lists landing
+spot_kept lists more landing below_it =
+    ap (λ k. record { innermost = landing.innermost; declares = k }) (declared_kept lists more landing.declares below_it)
 
-pub opens_kept : (ls more : List (List ValueKind)) (os : List OpenLoop) → All (λ (o : OpenLoop). o.under < length ls) os
-    → opens_of (ls ++ more) os ≡ opens_of ls os
-opens_kept ls more os h =
-    ap reverse (map_like (λ (o : OpenLoop). o.under < length ls) (open_of (ls ++ more)) (open_of ls) os (open_kept ls more)
-    (λ i d lt. All-get_or (λ (o : OpenLoop). o.under < length ls) os i d lt h))
+pub opens_kept : (lists more : List (List ValueKind)) (open_loops : List OpenLoop) → All (λ (o : OpenLoop). o.under < length lists) open_loops
+    → opens_of (lists ++ more) open_loops ≡ opens_of lists open_loops
+opens_kept lists more open_loops all =
+    ap reverse (map_like (λ (o : OpenLoop). o.under < length lists) (open_of (lists ++ more)) (open_of lists) open_loops (open_kept lists more)
+    (λ i d lt. All-get_or (λ (o : OpenLoop). o.under < length lists) open_loops i d lt all))
 
-pub spots_kept : (ls more : List (List ValueKind)) (xs : List Landing) → All (λ (x : Landing). IsBelowIt (length ls) x.declares) xs
-    → spots_of (ls ++ more) xs ≡ spots_of ls xs
-spots_kept ls more xs h =
-    map_like (λ (x : Landing). IsBelowIt (length ls) x.declares) (spot_of (ls ++ more)) (spot_of ls) xs (spot_kept ls more)
-    (λ i d lt. All-get_or (λ (x : Landing). IsBelowIt (length ls) x.declares) xs i d lt h)
+pub spots_kept : (lists more : List (List ValueKind)) (landings : List Landing) → All (λ (x : Landing). IsBelowIt (length lists) x.declares) landings
+    → spots_of (lists ++ more) landings ≡ spots_of lists landings
+spots_kept lists more landings all =
+    map_like (λ (x : Landing). IsBelowIt (length lists) x.declares) (spot_of (lists ++ more)) (spot_of lists) landings (spot_kept lists more)
+    (λ i d lt. All-get_or (λ (x : Landing). IsBelowIt (length lists) x.declares) landings i d lt all)
 
-pub grown_length : (ls ls2 : List (List ValueKind)) → Grows ls ls2 → length ls ≤ length ls2
-grown_length ls ls2 g = let e = ap length g.is in let a = length-append ls g.more in omega (arith, e, a)
+pub grown_length : (lists ls2 : List (List ValueKind)) → Grows lists ls2 → length lists ≤ length ls2
+grown_length lists ls2 grows = let length_so = ap length grows.is in let lengths = length-append lists grows.more in omega (arith, length_so, lengths)
 
-below_grown : (n m : ℕ) (o : Option ℕ) → n ≤ m → IsBelowIt n o → IsBelowIt m o
-below_grown n m None h w = tt
-below_grown n m (Some k) h w = omega (arith, h, w)
+below_grown : (n m : ℕ) (found : Option ℕ) → n ≤ m → IsBelowIt n found → IsBelowIt m found
+below_grown n m None at_most below_it = tt
+below_grown n m (Some index) at_most below_it = omega (arith, at_most, below_it)
 
-landings_grown : (n m : ℕ) (xs : List Landing) → n ≤ m → All (λ (x : Landing). IsBelowIt n x.declares) xs
-    → All (λ (x : Landing). IsBelowIt m x.declares) xs
-landings_grown n m xs h a = λ k d lt. below_grown n m ((get_or xs k d).declares) h (a k d lt)
+landings_grown : (n m : ℕ) (landings : List Landing) → n ≤ m → All (λ (x : Landing). IsBelowIt n x.declares) landings
+    → All (λ (x : Landing). IsBelowIt m x.declares) landings
+landings_grown n m landings at_most all = λ k d lt. below_grown n m ((get_or landings k d).declares) at_most (all k d lt)
 
-opens_grown : (n m : ℕ) (os : List OpenLoop) → n ≤ m → All (λ (o : OpenLoop). o.under < n) os → All (λ (o : OpenLoop). o.under < m) os
-opens_grown n m os h a = λ k d lt. let w = a k d lt in omega (arith, h, w)
+opens_grown : (n m : ℕ) (open_loops : List OpenLoop) → n ≤ m → All (λ (o : OpenLoop). o.under < n) open_loops
+    → All (λ (o : OpenLoop). o.under < m) open_loops
+opens_grown n m open_loops at_most all = λ k d lt. let within = all k d lt in omega (arith, at_most, within)
 
 -- a kind on top
-pub pushed : (ls ls2 : List (List ValueKind)) (n n2 : ℕ) (os : List OpenLoop) (xs : List Landing) (words : ℕ) (w : Walked) (k : ValueKind)
-    → walked ls n os xs ≡ w → IsSoundWalk ls n os xs words → Grows ls ls2 → IsPushed ls ls2 k n n2
-    → walked ls2 n2 os xs ≡ with_kinds w (k ∷ w.before.kinds)
-pushed ls ls2 n n2 os xs words w k v s g p =
-    let made : at ls2 n2 ≡ k ∷ at ls n = p.made in
-    let o : opens_of ls2 os ≡ opens_of ls os = ap (λ l. opens_of l os) g.is ∙ opens_kept ls g.more os s.opens_in in
-    let t : spots_of ls2 xs ≡ spots_of ls xs = ap (λ l. spots_of l xs) g.is ∙ spots_kept ls g.more xs s.landings_in in
-    let made2 : walked ls2 n2 os xs ≡ record { before = before (k ∷ at ls n) (opens_of ls os); spots = spots_of ls xs } = rw (made, o, t) refl in
-    made2 ∙ ap (λ (w : Walked). with_kinds w (k ∷ w.before.kinds)) v
+pub pushed : (lists ls2 : List (List ValueKind)) (n number : ℕ) (open_loops : List OpenLoop) (landings : List Landing) (words : ℕ)
+    (next_walked : Walked) (kind : ValueKind)
+    → walked lists n open_loops landings ≡ next_walked → IsSoundWalk lists n open_loops landings words → Grows lists ls2
+    → IsPushed lists ls2 kind n number
+    → walked ls2 number open_loops landings ≡ with_kinds next_walked (kind ∷ next_walked.before.kinds)
+pushed lists ls2 n number open_loops landings words next_walked kind walked_is sound_walk grows pushed_so =
+    let made : at ls2 number ≡ kind ∷ at lists n = pushed_so.made in
+    let opens_of_is : opens_of ls2 open_loops ≡ opens_of lists open_loops =
+    ap (λ l. opens_of l open_loops) grows.is ∙ opens_kept lists grows.more open_loops sound_walk.opens_in in
+    let spots_of_is : spots_of ls2 landings ≡ spots_of lists landings =
+    ap (λ l. spots_of l landings) grows.is ∙ spots_kept lists grows.more landings sound_walk.landings_in in
+    let made2 : walked ls2 number open_loops landings
+    ≡ record { before = before (kind ∷ at lists n) (opens_of lists open_loops); spots = spots_of lists landings } =
+    rw (made, opens_of_is, spots_of_is) refl in
+    made2 ∙ ap (λ (w : Walked). with_kinds w (kind ∷ w.before.kinds)) walked_is
 
-pub sound_grown : (ls ls2 : List (List ValueKind)) (n n2 : ℕ) (os : List OpenLoop) (xs : List Landing) (words : ℕ) → IsSoundWalk ls n os xs words
-    → Grows ls ls2 → n2 < length ls2 → IsSoundWalk ls2 n2 os xs words
-sound_grown ls ls2 n n2 os xs words s g lt =
-    let o : opens_of ls2 os ≡ opens_of ls os = ap (λ l. opens_of l os) g.is ∙ opens_kept ls g.more os s.opens_in in
+pub sound_grown : (lists ls2 : List (List ValueKind)) (n number : ℕ) (open_loops : List OpenLoop) (landings : List Landing) (words : ℕ)
+    → IsSoundWalk lists n open_loops landings words
+    → Grows lists ls2 → number < length ls2 → IsSoundWalk ls2 number open_loops landings words
+sound_grown lists ls2 n number open_loops landings words sound_walk grows below =
+    let opens_of_is : opens_of ls2 open_loops ≡ opens_of lists open_loops =
+    ap (λ l. opens_of l open_loops) grows.is ∙ opens_kept lists grows.more open_loops sound_walk.opens_in in
     record {
-      now_in = lt;
-      opens_in = opens_grown (length ls) (length ls2) os (grown_length ls ls2 g) s.opens_in;
-      landings_in = landings_grown (length ls) (length ls2) xs (grown_length ls ls2 g) s.landings_in;
-      words_are = s.words_are ∙ ap words_of_loops (sym o);
+      now_in = below;
+      opens_in = opens_grown (length lists) (length ls2) open_loops (grown_length lists ls2 grows) sound_walk.opens_in;
+      landings_in = landings_grown (length lists) (length ls2) landings (grown_length lists ls2 grows) sound_walk.landings_in;
+      words_are = sound_walk.words_are ∙ ap words_of_loops (sym opens_of_is);
     }
 
 -- ---- the end of a loop
 
-pub shut_is : (loop : Loop) (kinds : List ValueKind) (o : Open) (os : List Open) → is_same_loop loop o.loop ≡ true
-    → are_same_kinds o.under kinds ≡ true → shut loop kinds (o ∷ os) ≡ Ok (before (behind_loop loop o.room kinds) os)
-shut_is loop kinds o os l k =
-    let a : loop ≡ o.loop = same_loop_true loop o.loop l in
-    let b : o.under ≡ kinds = same_kinds_true o.under kinds k in
-    ap₂ (λ x y. if_fits (x && y) (before (behind_loop o.loop o.room o.under) os)) l k ∙ ap₂ (λ x y. Ok (before (behind_loop x o.room y) os)) (sym a) b
+pub shut_is : (loop : Loop) (kinds : List ValueKind) (open_loop : Open) (open_loops : List Open) → is_same_loop loop open_loop.loop ≡ true
+    → are_same_kinds open_loop.under kinds ≡ true
+    → shut loop kinds (open_loop ∷ open_loops) ≡ Ok (before (behind_loop loop open_loop.room kinds) open_loops)
+shut_is loop kinds open_loop open_loops is_same_loop_is are_same_kinds_is =
+    let loop_is : loop ≡ open_loop.loop = same_loop_true loop open_loop.loop is_same_loop_is in
+    let under_is : open_loop.under ≡ kinds = same_kinds_true open_loop.under kinds are_same_kinds_is in
+    ap₂ (λ x y. if_fits (x && y) (before (behind_loop open_loop.loop open_loop.room open_loop.under) open_loops)) is_same_loop_is are_same_kinds_is
+    ∙ ap₂ (λ x y. Ok (before (behind_loop x open_loop.room y) open_loops)) (sym loop_is) under_is
 
-opens_push : (ls : List (List ValueKind)) (os : List OpenLoop) (o : OpenLoop) → opens_of ls (os ++ o ∷ []) ≡ open_of ls o ∷ opens_of ls os
-opens_push ls os o = ap reverse (map-append (open_of ls) os (o ∷ [])) ∙ reverse-append (map (open_of ls) os) (open_of ls o ∷ [])
+opens_push : (lists : List (List ValueKind)) (open_loops : List OpenLoop) (open_loop : OpenLoop)
+    → opens_of lists (open_loops ++ open_loop ∷ []) ≡ open_of lists open_loop ∷ opens_of lists open_loops
+opens_push lists open_loops open_loop =
+    ap reverse (map-append (open_of lists) open_loops (open_loop ∷ []))
+    ∙ reverse-append (map (open_of lists) open_loops) (open_of lists open_loop ∷ [])
 
 -- the last loop that was begun ends
-pub closes : (ls : List (List ValueKind)) (n : ℕ) (os os2 : List OpenLoop) (o : OpenLoop) (xs : List Landing) (w : Walked) (sort : ListLoop)
-    → walked ls n os xs ≡ w → os ≡ os2 ++ o ∷ [] → (is_same_loop (loop_of sort) (loop_of o.sort) && are_same_kinds (at ls o.under) (at ls n)) ≡ true
-    → (shut (loop_of sort) w.before.kinds w.before.loops ≡ Ok (before (behind_loop (loop_of sort) o.room (at ls n)) (opens_of ls os2)))
-    × (spots_of ls xs ≡ w.spots)
-closes ls n os os2 o xs w sort v e t =
-    let both = and_true (is_same_loop (loop_of sort) (loop_of o.sort)) (are_same_kinds (at ls o.under) (at ls n)) t in
-    let a : opens_of ls os ≡ open_of ls o ∷ opens_of ls os2 = ap (opens_of ls) e ∙ opens_push ls os2 o in (
-      ap (λ (w : Walked). shut (loop_of sort) w.before.kinds w.before.loops) (sym v) ∙ ap (shut (loop_of sort) (at ls n)) a
-          ∙ shut_is (loop_of sort) (at ls n) (open_of ls o) (opens_of ls os2) both.0 both.1,
-      ap (λ (w : Walked). w.spots) v,
+pub closes : (lists : List (List ValueKind)) (n : ℕ) (open_loops os2 : List OpenLoop) (open_loop : OpenLoop) (landings : List Landing)
+    (next_walked : Walked) (sort : ListLoop)
+    → walked lists n open_loops landings ≡ next_walked → open_loops ≡ os2 ++ open_loop ∷ []
+    → (is_same_loop (loop_of sort) (loop_of open_loop.sort) && are_same_kinds (at lists open_loop.under) (at lists n)) ≡ true
+    → (shut (loop_of sort) next_walked.before.kinds next_walked.before.loops
+    ≡ Ok (before (behind_loop (loop_of sort) open_loop.room (at lists n)) (opens_of lists os2)))
+    × (spots_of lists landings ≡ next_walked.spots)
+closes lists n open_loops os2 open_loop landings next_walked sort walked_is open_loops_is is_same_loop_is =
+    let both =
+    and_true (is_same_loop (loop_of sort) (loop_of open_loop.sort)) (are_same_kinds (at lists open_loop.under) (at lists n)) is_same_loop_is in
+    let opens_of_is : opens_of lists open_loops ≡ open_of lists open_loop ∷ opens_of lists os2 =
+    ap (opens_of lists) open_loops_is ∙ opens_push lists os2 open_loop in (
+      ap (λ (w : Walked). shut (loop_of sort) w.before.kinds w.before.loops) (sym walked_is) ∙ ap (shut (loop_of sort) (at lists n)) opens_of_is
+          ∙ shut_is (loop_of sort) (at lists n) (open_of lists open_loop) (opens_of lists os2) both.0 both.1,
+      ap (λ (w : Walked). w.spots) walked_is,
     )
 
 -- ---- the first pass
 
 -- the next instruction, and those behind it
-pub next_is : (lines : List Instruction) (p : ℕ) (x : Instruction) → p < length lines → x ≡ get_or lines p x → drop p lines ≡ x ∷ drop (p + 1) lines
-next_is lines p x lt e = drop_more lines p x lt ∙ ap (λ y. y ∷ drop (p + 1) lines) (sym e)
+pub next_is : (lines : List Instruction) (place : ℕ) (instruction : Instruction) → place < length lines → instruction ≡ get_or lines place instruction
+    → drop place lines ≡ instruction ∷ drop (place + 1) lines
+next_is lines place instruction below instruction_is =
+    drop_more lines place instruction below ∙ ap (λ y. y ∷ drop (place + 1) lines) (sym instruction_is)
 
-spots_push : (ls : List (List ValueKind)) (xs : List Landing) (x : Landing) → spots_of ls (xs ++ x ∷ []) ≡ spots_of ls xs ++ spot_of ls x ∷ []
-spots_push ls [] x = refl
-spots_push ls (y ∷ xs) x = ap (λ l. spot_of ls y ∷ l) (spots_push ls xs x)
+spots_push : (lists : List (List ValueKind)) (landings : List Landing) (landing : Landing)
+    → spots_of lists (landings ++ landing ∷ []) ≡ spots_of lists landings ++ spot_of lists landing ∷ []
+spots_push lists [] landing = refl
+spots_push lists (landing ∷ landings) landing_so = ap (λ l. spot_of lists landing ∷ l) (spots_push lists landings landing_so)
 
 -- the spots so far, and those of what is left
-pub record IsBegun (ls : List (List ValueKind)) (xs : List Landing) (os : List Opener) (p : ℕ) (is all : List Instruction) : Type 0 where
-  pub rooted : IsRooted ls
-  pub within : All (λ (x : Landing). IsBelowIt (length ls) x.declares) xs
-  pub left : spots_of ls xs ++ spots_from p os is ≡ spots all
+pub record IsBegun (lists : List (List ValueKind)) (landings : List Landing) (openers : List Opener) (place : ℕ) (lines all : List Instruction)
+    : Type 0 where
+  pub rooted : IsRooted lists
+  pub within : All (λ (x : Landing). IsBelowIt (length lists) x.declares) landings
+  pub left : spots_of lists landings ++ spots_from place openers lines ≡ spots all
 
-rooted_grown : (ls ls2 : List (List ValueKind)) → Grows ls ls2 → IsRooted ls → IsRooted ls2
-rooted_grown ls ls2 g r =
-    let e = g.is in
+rooted_grown : (lists ls2 : List (List ValueKind)) → Grows lists ls2 → IsRooted lists → IsRooted ls2
+rooted_grown lists ls2 grows rooted =
+    let is_so = grows.is in
     record {
-      within = let l = ap length e in let a = length-append ls g.more in let w = r.within in omega (arith, l, a, w);
-      empty = ap (λ l. at l 0) e ∙ at-append ls g.more 0 r.within ∙ r.empty;
+      within =
+          let length_so = ap length is_so in
+          let lengths = length-append lists grows.more in let within_so = rooted.within in omega (arith, length_so, lengths, within_so);
+      empty = ap (λ l. at l 0) is_so ∙ at-append lists grows.more 0 rooted.within ∙ rooted.empty;
     }
 
-told : (ls : List (List ValueKind)) (n : Option ℕ) (o : Option (List ValueKind)) → IsDeclared ls n o → kinds_at ls n ≡ o
-told ls None o h = sym h
-told ls (Some n) o h = sym h.1
+told : (lists : List (List ValueKind)) (n : Option ℕ) (found : Option (List ValueKind)) → IsDeclared lists n found → kinds_at lists n ≡ found
+told lists None found declared = sym declared
+told lists (Some n) found declared = sym declared.1
 
-told_within : (ls : List (List ValueKind)) (n : Option ℕ) (o : Option (List ValueKind)) → IsDeclared ls n o → IsBelowIt (length ls) n
-told_within ls None o h = tt
-told_within ls (Some n) o h = h.0
+told_within : (lists : List (List ValueKind)) (n : Option ℕ) (found : Option (List ValueKind)) → IsDeclared lists n found → IsBelowIt (length lists) n
+told_within lists None found declared = tt
+told_within lists (Some n) found declared = declared.0
 
-pub begun_on : (ls ls2 : List (List ValueKind)) (xs : List Landing) (os os2 : List Opener) (p : ℕ) (i : Instruction) (is left all : List Instruction)
-    (x : Landing) → IsBegun ls xs os p left all → left ≡ i ∷ is → Grows ls ls2 → IsDeclared ls2 x.declares (declared_by i)
-    → x.innermost ≡ start_of (top_of os) → os2 ≡ openers_behind (bracket i) p os → IsBegun ls2 (xs ++ x ∷ []) os2 (p + 1) is all
-begun_on ls ls2 xs os os2 p i is left all x h l g d o b =
-    let e = g.is in
-    let wide : length ls ≤ length ls2 = grown_length ls ls2 g in
-    let same : spots_of ls2 xs ≡ spots_of ls xs = ap (λ l. spots_of l xs) e ∙ spots_kept ls g.more xs h.within in
-    let s : Spot = record { innermost = start_of (top_of os); declares = declared_by i } in
-    let new : spot_of ls2 x ≡ s = ap₂ (λ a c. record { innermost = a; declares = c }) o (told ls2 x.declares (declared_by i) d) in
-    let z : p + 1 ≡ suc p = omega arith in
-    let rest : spots_from (p + 1) os2 is ≡ spots_from (suc p) (openers_behind (bracket i) p os) is = ap₂ (λ n os. spots_from n os is) z b in
+pub begun_on : (lists ls2 : List (List ValueKind)) (landings : List Landing) (openers os2 : List Opener) (place : ℕ) (instruction : Instruction)
+    (lines left all : List Instruction)
+    (landing : Landing) → IsBegun lists landings openers place left all → left ≡ instruction ∷ lines → Grows lists ls2
+    → IsDeclared ls2 landing.declares (declared_by instruction)
+    → landing.innermost ≡ start_of (top_of openers) → os2 ≡ openers_behind (bracket instruction) place openers
+    → IsBegun ls2 (landings ++ landing ∷ []) os2 (place + 1) lines all
+begun_on lists ls2 landings openers os2 place instruction lines left all landing begun left_is grows declared innermost_is os2_is =
+    let is_so = grows.is in
+    let wide : length lists ≤ length ls2 = grown_length lists ls2 grows in
+    let same : spots_of ls2 landings ≡ spots_of lists landings =
+    ap (λ l. spots_of l landings) is_so ∙ spots_kept lists grows.more landings begun.within in
+    let spot : Spot = record { innermost = start_of (top_of openers); declares = declared_by instruction } in
+    let new : spot_of ls2 landing ≡ spot =
+    ap₂ (λ a c. record { innermost = a; declares = c }) innermost_is (told ls2 landing.declares (declared_by instruction) declared) in
+    let place_is : place + 1 ≡ suc place = omega arith in
+    let rest : spots_from (place + 1) os2 lines ≡ spots_from (suc place) (openers_behind (bracket instruction) place openers) lines =
+    ap₂ (λ n os. spots_from n os lines) place_is os2_is in
     record {
-      rooted = rooted_grown ls ls2 g h.rooted;
+      rooted = rooted_grown lists ls2 grows begun.rooted;
       within =
-          All-push (λ (x : Landing). IsBelowIt (length ls2) x.declares) xs x (landings_grown (length ls) (length ls2) xs wide h.within)
-          (told_within ls2 x.declares (declared_by i) d);
+          All-push (λ (x : Landing). IsBelowIt (length ls2) x.declares) landings landing
+          (landings_grown (length lists) (length ls2) landings wide begun.within)
+          (told_within ls2 landing.declares (declared_by instruction) declared);
       left =
-          ap (λ l. l ++ spots_from (p + 1) os2 is) (spots_push ls2 xs x ∙ ap₂ (λ a c. a ++ c ∷ []) same new)
-          ∙ append_assoc (spots_of ls xs) (s ∷ []) (spots_from (p + 1) os2 is)
-          ∙ ap (λ r. spots_of ls xs ++ s ∷ r) rest ∙ ap (λ is. spots_of ls xs ++ spots_from p os is) (sym l) ∙ h.left;
+          ap (λ l. l ++ spots_from (place + 1) os2 lines) (spots_push ls2 landings landing ∙ ap₂ (λ a c. a ++ c ∷ []) same new)
+          ∙ append_assoc (spots_of lists landings) (spot ∷ []) (spots_from (place + 1) os2 lines)
+          ∙ ap (λ r. spots_of lists landings ++ spot ∷ r) rest ∙ ap (λ is. spots_of lists landings ++ spots_from place openers is) (sym left_is)
+          ∙ begun.left;
     }
 
 -- what is declared at a place is what the instruction there declares
-pub spots_at : (lines : List Instruction) (q : ℕ) (os : List Opener) (p : ℕ) (i : Instruction) (is : List Instruction) → drop p lines ≡ i ∷ is
-    → declares (spots_from q os lines) p ≡ declared_by i
-spots_at [] q os zero i is h = absurd (cc h)
-spots_at [] q os (suc p) i is h = absurd (cc h)
-spots_at (j ∷ lines) q os zero i is h = let e : j ≡ i = cc h in ap declared_by e
-spots_at (j ∷ lines) q os (suc p) i is h = spots_at lines (suc q) (openers_behind (bracket j) q os) p i is h
+pub spots_at : (lines : List Instruction) (place : ℕ) (openers : List Opener) (other_place : ℕ) (instruction : Instruction)
+    (instructions : List Instruction) → drop other_place lines ≡ instruction ∷ instructions
+    → declares (spots_from place openers lines) other_place ≡ declared_by instruction
+spots_at [] place openers zero instruction instructions drop_is = absurd (cc drop_is)
+spots_at [] place openers (suc other_place) instruction instructions drop_is = absurd (cc drop_is)
+spots_at (instruction ∷ lines) place openers zero line instructions drop_is =
+    let instruction_is : instruction ≡ line = cc drop_is in ap declared_by instruction_is
+spots_at (instruction ∷ lines) place openers (suc other_place) line instructions drop_is =
+    spots_at lines (suc place) (openers_behind (bracket instruction) place openers) other_place line instructions drop_is

@@ -14,8 +14,8 @@ use Rattle.rpl_verify.specs.Budget.{Measure, onward, jumping, branching, enterin
 use Rattle.rpl_verify.specs.Ways.{LeadsTo, LeadOn, IsMost, counted, words_kept_at, sum_on, turns_in_loops, words_on}
 use Rattle.rpl_verify.proofs.KindFacts.{then_do_ok}
 use Rattle.rpl_verify.proofs.Judged.{OpenRel, Opens, named, opens_by}
-use Rattle.rpl_verify.proofs.Loops.{ends_at, land, linked, past_it, rel, shut_at, spot, Linked, first_is}
-use Rattle.rpl_verify.proofs.Costs.{C, W, by_far_branch, by_far_entry, by_jump, by_next, by_turn, end_is}
+use Rattle.rpl_verify.proofs.Loops.{ends_at, land, linked, past_it, loops_related, shut_at, judged_there, Linked, first_is}
+use Rattle.rpl_verify.proofs.Costs.{costs_ahead, words_ahead, by_far_branch, by_far_entry, by_jump, by_next, by_turn, end_is}
 use Rattle.rpl_verify.proofs.Stepping.{end_of_list}
 
 -- ---- places that lead to later ones
@@ -24,303 +24,387 @@ use Rattle.rpl_verify.proofs.Stepping.{end_of_list}
 module _ (join : ℕ → ℕ → ℕ) (lines : List Instruction) (here rest : ℕ → ℕ) where
   abbrev pub total : List ℕ → ℕ
   total [] = 0
-  total (p ∷ way) = join (here p) (total way)
+  total (place ∷ way) = join (here place) (total way)
 
   -- no place that this one leads to has more, and one has it
-  pub record Step (p : ℕ) (i : Instruction) : Type 0 where
-    pub below : (q : ℕ) → LeadsTo i p q → join (here p) (rest q) ≤ rest p
+  pub record Step (place : ℕ) (instruction : Instruction) : Type 0 where
+    pub below : (next_place : ℕ) → LeadsTo instruction place next_place → join (here place) (rest next_place) ≤ rest place
     pub next : ℕ
-    pub leads : LeadsTo i p next
-    pub later : p < next
+    pub leads : LeadsTo instruction place next
+    pub later : place < next
     pub inside : next ≤ length lines
-    pub reached : join (here p) (rest next) ≡ rest p
+    pub reached : join (here place) (rest next) ≡ rest place
 
-  module _ (grows : (a x y : ℕ) → x ≤ y → join a x ≤ join a y) (ends : join (here (length lines)) 0 ≡ rest (length lines))
-      (steps : (p : ℕ) (i : Instruction) → slice_get lines p ≡ Some i → Step p i) where
-    at_end : (p : ℕ) → p ≡ length lines → join (here p) 0 ≡ rest p
-    at_end p h = ap (λ n. join (here n) 0) h ∙ ends ∙ ap rest (sym h)
+  module _ (grows : (first low high : ℕ) → low ≤ high → join first low ≤ join first high) (ends : join (here (length lines)) 0 ≡ rest (length lines))
+      (steps : (place : ℕ) (instruction : Instruction) → slice_get lines place ≡ Some instruction → Step place instruction) where
+    at_end : (place : ℕ) → place ≡ length lines → join (here place) 0 ≡ rest place
+    at_end place place_is = ap (λ n. join (here n) 0) place_is ∙ ends ∙ ap rest (sym place_is)
 
-    further : (p q n : ℕ) (o : Option Instruction) → slice_get lines p ≡ o → IsSomeAnd o (λ i. LeadsTo i p q) → n ≤ rest q → join (here p) n ≤ rest p
-    further p q n None e l le = absurd l
-    further p q n (Some i) e l le = let a = grows (here p) n (rest q) le in let b = (steps p i e).below q l in omega (arith, a, b)
+    further : (place next_place n : ℕ) (found : Option Instruction) → slice_get lines place ≡ found
+        → IsSomeAnd found (λ i. LeadsTo i place next_place) → n ≤ rest next_place → join (here place) n ≤ rest place
+    further place next_place n None found some_and at_most = absurd some_and
+    further place next_place n (Some instruction) found some_and at_most =
+        let grows_so = grows (here place) n (rest next_place) at_most in
+        let steps_so = (steps place instruction found).below next_place some_and in omega (arith, grows_so, steps_so)
 
-    bounded : (p : ℕ) (way : List ℕ) → LeadOn lines (p ∷ way) → total (p ∷ way) ≤ rest p
-    bounded p [] h = let e = at_end p h in omega (arith, e)
-    bounded p (q ∷ way) h = further p q (total (q ∷ way)) (slice_get lines p) refl h.0 (bounded q way h.1)
+    bounded : (place : ℕ) (way : List ℕ) → LeadOn lines (place ∷ way) → total (place ∷ way) ≤ rest place
+    bounded place [] lead_on = let at_end_so = at_end place lead_on in omega (arith, at_end_so)
+    bounded place (next_place ∷ way) lead_on =
+        further place next_place (total (next_place ∷ way)) (slice_get lines place) refl lead_on.0 (bounded next_place way lead_on.1)
 
     abbrev Found : ℕ → Type 0
-    Found p = (way : List ℕ) × LeadOn lines (p ∷ way) × (total (p ∷ way) ≡ rest p)
+    Found place = (way : List ℕ) × LeadOn lines (place ∷ way) × (total (place ∷ way) ≡ rest place)
 
-    goes : (left p : ℕ) (o : Option Instruction) → slice_get lines p ≡ o → p ≤ length lines → length lines ≤ p + suc left
-        → ((q : ℕ) → q ≤ length lines → length lines ≤ q + left → Found q) → Found p
-    goes left p None e le far more = let z = end_of_list lines p e le in ([], z, at_end p z)
-    goes left p (Some i) e le far more =
-        let s = steps p i e in
-        let r = more s.next s.inside (omega (arith, far, s.later)) in
-        (s.next ∷ r.0, (subst (λ o. IsSomeAnd o (λ i. LeadsTo i p s.next)) (sym e) s.leads, r.1), ap (join (here p)) r.2 ∙ s.reached)
+    goes : (left place : ℕ) (found : Option Instruction) → slice_get lines place ≡ found → place ≤ length lines → length lines ≤ place + suc left
+        → ((next_place : ℕ) → next_place ≤ length lines → length lines ≤ next_place + left → Found next_place) → Found place
+    goes left place None found at_most far more =
+        let end_of_list_so = end_of_list lines place found at_most in ([], end_of_list_so, at_end place end_of_list_so)
+    goes left place (Some instruction) found at_most far more =
+        let steps_so = steps place instruction found in
+        let more_so = more steps_so.next steps_so.inside (omega (arith, far, steps_so.later)) in (
+          steps_so.next ∷ more_so.0,
+          (subst (λ o. IsSomeAnd o (λ i. LeadsTo i place steps_so.next)) (sym found) steps_so.leads, more_so.1),
+          ap (join (here place)) more_so.2 ∙ steps_so.reached,
+        )
 
-    found_from : (left p : ℕ) → p ≤ length lines → length lines ≤ p + left → Found p
-    found_from zero p le far = let z : p ≡ length lines = omega (arith, le, far) in ([], z, at_end p z)
-    found_from (suc left) p le far = goes left p (slice_get lines p) refl le far (found_from left)
+    found_from : (left place : ℕ) → place ≤ length lines → length lines ≤ place + left → Found place
+    found_from zero place at_most far = let place_is : place ≡ length lines = omega (arith, at_most, far) in ([], place_is, at_end place place_is)
+    found_from (suc left) place at_most far = goes left place (slice_get lines place) refl at_most far (found_from left)
 
     pub most_of : (come : List ℕ → ℕ) (n : ℕ) → ((way : List ℕ) → total way ≡ come way) → rest 0 ≡ n → IsMost lines come n
     most_of come n same is =
-        let r = found_from (length lines) 0 (omega arith) (omega arith) in
-        record { each = λ way h. begun way h.0 h.1; one = 0 ∷ r.0; is_way = (refl, r.1); reached = sym (same (0 ∷ r.0)) ∙ r.2 ∙ is }
+        let found_from_so = found_from (length lines) 0 (omega arith) (omega arith) in
+        record {
+          each = λ way h. begun way h.0 h.1;
+          one = 0 ∷ found_from_so.0;
+          is_way = (refl, found_from_so.1);
+          reached = sym (same (0 ∷ found_from_so.0)) ∙ found_from_so.2 ∙ is;
+        }
       where
         begun : (way : List ℕ) → slice_get way 0 ≡ Some 0 → LeadOn lines way → come way ≤ n
-        begun [] h l = absurd l
-        begun (p ∷ way) h l =
-            let z : p ≡ 0 = cc h in
-            let t : rest p ≡ rest 0 = ap rest z in
-            omega (arith, bounded p way l, same (p ∷ way), t, is)
+        begun [] found lead_on = absurd lead_on
+        begun (place ∷ way) found lead_on =
+            let place_is : place ≡ 0 = cc found in
+            let rest_is : rest place ≡ rest 0 = ap rest place_is in
+            omega (arith, bounded place way lead_on, same (place ∷ way), rest_is, is)
 
 -- ---- in a block that fits
 
-module _ (scope : Scope) (lines : List Instruction) (bs : List Before) (spotted : scope.spots ≡ spots lines)
-    (fits : befores scope 0 (before [] []) lines ≡ Ok bs) where
-  abbrev B : ℕ → Before
-  B p = before_at bs p
+module _ (scope : Scope) (lines : List Instruction) (befores_there : List Before) (spotted : scope.spots ≡ spots lines)
+    (fits : befores scope 0 (before [] []) lines ≡ Ok befores_there) where
+  abbrev before_place : ℕ → Before
+  before_place place = before_at befores_there place
 
   abbrev past : ℕ → ℕ
   past start = loop_end (suc start) (drop (suc start) lines)
 
   -- what has to be shown of each way to go on
   pub record Cases (join : ℕ → ℕ → ℕ) (here rest : ℕ → ℕ) : Type 0 where
-    pub on : (p : ℕ) (i : Instruction) → slice_get lines p ≡ Some i → going_of i ≡ onward → (B (suc p)).loops ≡ (B p).loops
-        → join (here p) (rest (suc p)) ≡ rest p
-    pub jump : (p : ℕ) (i : Instruction) (to : ℕ) → slice_get lines p ≡ Some i → going_of i ≡ jumping to → p < to → (B to).loops ≡ (B p).loops
-        → join (here p) (rest to) ≡ rest p
-    pub branch : (p : ℕ) (i : Instruction) (to : ℕ) → slice_get lines p ≡ Some i → going_of i ≡ branching to → p < to
-        → (B (suc p)).loops ≡ (B p).loops → (B to).loops ≡ (B p).loops
-        → max (join (here p) (rest (suc p))) (join (here p) (rest to)) ≡ rest p
-    pub enter : (p : ℕ) (i : Instruction) (o : Open) → slice_get lines p ≡ Some i → going_of i ≡ entering → p < past p
-        → (B (suc p)).loops ≡ o ∷ (B p).loops → o.start ≡ p → o.room ≡ room_on_top (B p).kinds
-        → join (here p) (rest (suc p)) ≡ rest p
-    pub turn : (p : ℕ) (i : Instruction) (o : Open) → slice_get lines p ≡ Some i → going_of i ≡ turning → (B p).loops ≡ o ∷ (B (suc p)).loops
-        → past o.start ≡ suc p
-        → join (here p) (rest (suc p)) ≡ rest p
+    pub on : (place : ℕ) (instruction : Instruction) → slice_get lines place ≡ Some instruction → going_of instruction ≡ onward
+        → (before_place (suc place)).loops ≡ (before_place place).loops
+        → join (here place) (rest (suc place)) ≡ rest place
+    pub jump : (place : ℕ) (instruction : Instruction) (to : ℕ) → slice_get lines place ≡ Some instruction → going_of instruction ≡ jumping to
+        → place < to → (before_place to).loops ≡ (before_place place).loops
+        → join (here place) (rest to) ≡ rest place
+    pub branch : (place : ℕ) (instruction : Instruction) (to : ℕ) → slice_get lines place ≡ Some instruction → going_of instruction ≡ branching to
+        → place < to
+        → (before_place (suc place)).loops ≡ (before_place place).loops → (before_place to).loops ≡ (before_place place).loops
+        → max (join (here place) (rest (suc place))) (join (here place) (rest to)) ≡ rest place
+    pub enter : (place : ℕ) (instruction : Instruction) (open_loop : Open) → slice_get lines place ≡ Some instruction
+        → going_of instruction ≡ entering → place < past place
+        → (before_place (suc place)).loops ≡ open_loop ∷ (before_place place).loops → open_loop.start ≡ place
+        → open_loop.room ≡ room_on_top (before_place place).kinds
+        → join (here place) (rest (suc place)) ≡ rest place
+    pub turn : (place : ℕ) (instruction : Instruction) (open_loop : Open) → slice_get lines place ≡ Some instruction → going_of instruction ≡ turning
+        → (before_place place).loops ≡ open_loop ∷ (before_place (suc place)).loops
+        → past open_loop.start ≡ suc place
+        → join (here place) (rest (suc place)) ≡ rest place
 
-  module _ (join : ℕ → ℕ → ℕ) (here rest : ℕ → ℕ) (c : Cases join here rest) where
+  module _ (join : ℕ → ℕ → ℕ) (here rest : ℕ → ℕ) (cases : Cases join here rest) where
     abbrev Stepped : ℕ → Instruction → Type 0
-    Stepped p i = Step join lines here rest p i
+    Stepped place instruction = Step join lines here rest place instruction
 
-    one_next : (p : ℕ) (i : Instruction) → slice_get lines p ≡ Some i → ((q : ℕ) → LeadsTo i p q → q ≡ suc p) → LeadsTo i p (suc p)
-        → join (here p) (rest (suc p)) ≡ rest p → Stepped p i
-    one_next p i e one l r =
+    one_next : (place : ℕ) (instruction : Instruction) → slice_get lines place ≡ Some instruction
+        → ((next_place : ℕ) → LeadsTo instruction place next_place → next_place ≡ suc place) → LeadsTo instruction place (suc place)
+        → join (here place) (rest (suc place)) ≡ rest place → Stepped place instruction
+    one_next place instruction found one leads_to join_is =
         record {
           below = λ q h. at q (one q h);
-          next = suc p;
-          leads = l;
+          next = suc place;
+          leads = leads_to;
           later = omega arith;
-          inside = omega (arith, slice_get_within lines p i e);
-          reached = r;
+          inside = omega (arith, slice_get_within lines place instruction found);
+          reached = join_is;
         }
       where
-        at : (q : ℕ) → q ≡ suc p → join (here p) (rest q) ≤ rest p
-        at q h = let z = ap (λ q. join (here p) (rest q)) h in omega (arith, z, r)
+        at : (next_place : ℕ) → next_place ≡ suc place → join (here place) (rest next_place) ≤ rest place
+        at next_place next_place_is = let joined = ap (λ q. join (here place) (rest q)) next_place_is in omega (arith, joined, join_is)
 
-    opening_step : (p : ℕ) (loop : Loop) (n : ℕ) (i : Instruction) → slice_get lines p ≡ Some i → going_of i ≡ entering
-        → Opens scope p loop n (B p) (B (suc p)) → join (here p) (rest (suc p)) ≡ rest p
-    opening_step p loop n i e w o =
-        let l : (B (suc p)).loops ≡ record { start = p; loop = loop; room = room_on_top (B p).kinds; under = o.under } ∷ (B p).loops =
-        ap (λ (b : Before). b.loops) o.news ∙ ap (λ m. record { start = p; loop = loop; room = m; under = o.under } ∷ (B p).loops)
-        (sym (ap room_on_top o.top)) in
-        let q =
-        past_it scope lines bs spotted fits p (record { start = p; loop = loop; room = room_on_top (B p).kinds; under = o.under })
-        ((B p).loops) l in
-        c.enter p i _ e w (omega (arith, q.is, q.later)) l refl refl
+    opening_step : (place : ℕ) (loop : Loop) (n : ℕ) (instruction : Instruction) → slice_get lines place ≡ Some instruction
+        → going_of instruction ≡ entering
+        → Opens scope place loop n (before_place place) (before_place (suc place)) → join (here place) (rest (suc place)) ≡ rest place
+    opening_step place loop n instruction found going_of_is opens =
+        let same : (before_place (suc place)).loops ≡ record {
+          start = place;
+          loop = loop;
+          room = room_on_top (before_place place).kinds;
+          under = opens.under;
+        } ∷ (before_place place).loops =
+        ap (λ (b : Before). b.loops) opens.news
+        ∙ ap (λ m. record { start = place; loop = loop; room = m; under = opens.under } ∷ (before_place place).loops)
+        (sym (ap room_on_top opens.top)) in
+        let past_it_so =
+        past_it scope lines befores_there spotted fits place
+        (record { start = place; loop = loop; room = room_on_top (before_place place).kinds; under = opens.under })
+        ((before_place place).loops) same in
+        cases.enter place instruction _ found going_of_is (omega (arith, past_it_so.is, past_it_so.later)) same refl refl
 
-    closing_step : (p : ℕ) (loop : Loop) (i : Instruction) → slice_get lines p ≡ Some i → going_of i ≡ turning
-        → loop_ends p (drop p lines) ≡ suc p ∷ loop_ends (suc p) (drop (suc p) lines)
-        → OpenRel p (closing loop) ((B p).loops) (B (suc p)) → join (here p) (rest (suc p)) ≡ rest p
-    closing_step p loop i e w ends r =
-        let k =
-        subst (λ os. (past r.0.start ≡ slice_index (loop_ends p (drop p lines)) 0)) r.1
-        (first_linked ((B p).loops) r.0 ((B (suc p)).loops) r.1 (linked scope lines bs spotted fits p)) in
-        c.turn p i r.0 e w r.1 (k ∙ ap (λ ns. slice_index ns 0) ends)
+    closing_step : (place : ℕ) (loop : Loop) (instruction : Instruction) → slice_get lines place ≡ Some instruction → going_of instruction ≡ turning
+        → loop_ends place (drop place lines) ≡ suc place ∷ loop_ends (suc place) (drop (suc place) lines)
+        → OpenRel place (closing loop) ((before_place place).loops) (before_place (suc place)) → join (here place) (rest (suc place)) ≡ rest place
+    closing_step place loop instruction found going_of_is ends open_rel =
+        let first_so =
+        subst (λ os. (past open_rel.0.start ≡ slice_index (loop_ends place (drop place lines)) 0)) open_rel.1
+        (first_linked ((before_place place).loops) open_rel.0 ((before_place (suc place)).loops) open_rel.1
+        (linked scope lines befores_there spotted fits place)) in
+        cases.turn place instruction open_rel.0 found going_of_is open_rel.1 (first_so ∙ ap (λ ns. slice_index ns 0) ends)
       where
-        first_linked : (ls : List Open) (o : Open) (os : List Open) → ls ≡ o ∷ os
-            → Linked scope lines bs spotted fits (loop_ends p (drop p lines)) 0 ls → past o.start ≡ slice_index (loop_ends p (drop p lines)) 0
-        first_linked ls o os h l = (subst (Linked scope lines bs spotted fits (loop_ends p (drop p lines)) 0) h l).0
+        first_linked : (open_loops : List Open) (open_loop : Open) (other_open_loops : List Open) → open_loops ≡ open_loop ∷ other_open_loops
+            → Linked scope lines befores_there spotted fits (loop_ends place (drop place lines)) 0 open_loops
+            → past open_loop.start ≡ slice_index (loop_ends place (drop place lines)) 0
+        first_linked open_loops open_loop other_open_loops open_loops_is linked =
+            (subst (Linked scope lines befores_there spotted fits (loop_ends place (drop place lines)) 0) open_loops_is linked).0
 
-    branch_step : (p to : ℕ) → slice_get lines p ≡ Some (I.Branch to) → p < to → to ≤ length lines
-        → max (join (here p) (rest (suc p))) (join (here p) (rest to)) ≡ rest p → Stepped p (I.Branch to)
-    branch_step p to e far le r = by (nat_le (join (here p) (rest to)) (join (here p) (rest (suc p)))) refl
+    branch_step : (place to : ℕ) → slice_get lines place ≡ Some (I.Branch to) → place < to → to ≤ length lines
+        → max (join (here place) (rest (suc place))) (join (here place) (rest to)) ≡ rest place → Stepped place (I.Branch to)
+    branch_step place to found far at_most max_is = by (nat_le (join (here place) (rest to)) (join (here place) (rest (suc place)))) refl
       where
-        low : (q : ℕ) → (q ≡ suc p) ⊎ (q ≡ to) → join (here p) (rest q) ≤ rest p
-        low q (inl h) = let z = ap (λ q. join (here p) (rest q)) h in omega (arith, z, r)
-        low q (inr h) = let z = ap (λ q. join (here p) (rest q)) h in omega (arith, z, r)
+        low : (next_place : ℕ) → (next_place ≡ suc place) ⊎ (next_place ≡ to) → join (here place) (rest next_place) ≤ rest place
+        low next_place (inl place_is) = let joined = ap (λ q. join (here place) (rest q)) place_is in omega (arith, joined, max_is)
+        low next_place (inr place_is) = let joined = ap (λ q. join (here place) (rest q)) place_is in omega (arith, joined, max_is)
 
-        by : (t : Bool) → nat_le (join (here p) (rest to)) (join (here p) (rest (suc p))) ≡ t → Stepped p (I.Branch to)
-        by true h =
-            let g : join (here p) (rest to) ≤ join (here p) (rest (suc p)) = grind (arith, nat_tests) in
+        by : (truth : Bool) → nat_le (join (here place) (rest to)) (join (here place) (rest (suc place))) ≡ truth → Stepped place (I.Branch to)
+        by true nat_le_is =
+            let at_most_so : join (here place) (rest to) ≤ join (here place) (rest (suc place)) = grind (arith, nat_tests) in
             record {
               below = low;
-              next = suc p;
+              next = suc place;
               leads = inl refl;
               later = omega arith;
-              inside = omega (arith, slice_get_within lines p (I.Branch to) e);
-              reached = omega (arith, g, r);
+              inside = omega (arith, slice_get_within lines place (I.Branch to) found);
+              reached = omega (arith, at_most_so, max_is);
             }
-        by false h =
-            let g : join (here p) (rest (suc p)) < join (here p) (rest to) = grind (arith, nat_tests) in
-            record { below = low; next = to; leads = inr refl; later = far; inside = le; reached = omega (arith, g, r) }
+        by false nat_le_is =
+            let below : join (here place) (rest (suc place)) < join (here place) (rest to) = grind (arith, nat_tests) in
+            record { below = low; next = to; leads = inr refl; later = far; inside = at_most; reached = omega (arith, below, max_is) }
 
-    pub step : (p : ℕ) (i : Instruction) → slice_get lines p ≡ Some i → Stepped p i
-    step p (I.Jump to) e =
-        let n = named scope p (B p) (I.Jump to) (B (suc p)) (spot scope lines bs spotted fits p (I.Jump to) e) in
-        let a =
-        then_do_ok (found scope p to (B p)) (λ declared.
-        then_do (carried declared (B p)) (restarted (declared_at (slice_get scope.spots (suc p))))) (B (suc p)) n.1 in
-        let l = land scope lines bs spotted fits p to a.0 a.1 in
-        let r = c.jump p (I.Jump to) to e refl l.0 l.1.same in
+    pub step : (place : ℕ) (instruction : Instruction) → slice_get lines place ≡ Some instruction → Stepped place instruction
+    step place (I.Jump to) found_so =
+        let named_so =
+        named scope place (before_place place) (I.Jump to) (before_place (suc place))
+        (judged_there scope lines befores_there spotted fits place (I.Jump to) found_so) in
+        let judged =
+        then_do_ok (found scope place to (before_place place)) (λ declared.
+        then_do (carried declared (before_place place)) (restarted (declared_at (slice_get scope.spots (suc place))))) (before_place (suc place))
+        named_so.1 in
+        let land_so = land scope lines befores_there spotted fits place to judged.0 judged.1 in
+        let same_loops = cases.jump place (I.Jump to) to found_so refl land_so.0 land_so.1.same in
         record {
-          below = λ q h. let z = ap (λ q. join (here p) (rest q)) h in
-              omega (arith, z, r);
+          below = λ q h. let joined = ap (λ q. join (here place) (rest q)) h in
+              omega (arith, joined, same_loops);
           next = to;
           leads = refl;
-          later = l.0;
+          later = land_so.0;
           inside =
-              omega (arith, slice_get_within lines to l.1.target l.1.at);
-          reached = r;
+              omega (arith, slice_get_within lines to land_so.1.target land_so.1.at);
+          reached = same_loops;
         }
-    step p (I.Branch to) e =
-        let n = named scope p (B p) (I.Branch to) (B (suc p)) (spot scope lines bs spotted fits p (I.Branch to) e) in
-        let a = then_do_ok (found scope p to (B p)) (λ declared. then_do (taken scope (I.Branch to) (B p)) (carried declared)) (B (suc p)) n.1 in
-        let l = land scope lines bs spotted fits p to a.0 a.1 in
-        branch_step p to e l.0 (omega (arith, slice_get_within lines to l.1.target l.1.at))
-        (c.branch p (I.Branch to) to e refl l.0 (rel scope lines bs spotted fits p (I.Branch to) e) l.1.same)
-    step p (I.Foreach n) e =
-        let m = named scope p (B p) (I.Foreach n) (B (suc p)) (spot scope lines bs spotted fits p (I.Foreach n) e) in
-        one_next p (I.Foreach n) e (λ q h. h) refl
-        (opening_step p visiting n (I.Foreach n) e refl (opens_by scope p visiting n (I.Foreach n) (B p) (B (suc p)) refl m.1))
-    step p (I.Map n) e =
-        let m = named scope p (B p) (I.Map n) (B (suc p)) (spot scope lines bs spotted fits p (I.Map n) e) in
-        one_next p (I.Map n) e (λ q h. h) refl (opening_step p mapping n (I.Map n) e refl
-        (opens_by scope p mapping n (I.Map n) (B p) (B (suc p)) refl m.1))
-    step p I.Next e =
-        one_next p I.Next e (λ q h. h) refl (closing_step p visiting I.Next e refl (ends_at scope lines bs spotted fits p I.Next e)
-        (rel scope lines bs spotted fits p I.Next e))
-    step p I.Yield e =
-        one_next p I.Yield e (λ q h. h) refl (closing_step p mapping I.Yield e refl (ends_at scope lines bs spotted fits p I.Yield e)
-        (rel scope lines bs spotted fits p I.Yield e))
-    step p i e = one_next p i e (λ q h. h) refl (c.on p i e refl (rel scope lines bs spotted fits p i e))
+    step place (I.Branch to) found_so =
+        let named_so =
+        named scope place (before_place place) (I.Branch to) (before_place (suc place))
+        (judged_there scope lines befores_there spotted fits place (I.Branch to) found_so) in
+        let judged =
+        then_do_ok (found scope place to (before_place place))
+        (λ declared. then_do (taken scope (I.Branch to) (before_place place)) (carried declared)) (before_place (suc place)) named_so.1 in
+        let land_so = land scope lines befores_there spotted fits place to judged.0 judged.1 in
+        branch_step place to found_so land_so.0 (omega (arith, slice_get_within lines to land_so.1.target land_so.1.at))
+        (cases.branch place (I.Branch to) to found_so refl land_so.0
+        (loops_related scope lines befores_there spotted fits place (I.Branch to) found_so) land_so.1.same)
+    step place (I.Foreach n) found =
+        let named_so =
+        named scope place (before_place place) (I.Foreach n) (before_place (suc place))
+        (judged_there scope lines befores_there spotted fits place (I.Foreach n) found) in
+        one_next place (I.Foreach n) found (λ q h. h) refl
+        (opening_step place visiting n (I.Foreach n) found refl
+        (opens_by scope place visiting n (I.Foreach n) (before_place place) (before_place (suc place)) refl named_so.1))
+    step place (I.Map n) found =
+        let named_so =
+        named scope place (before_place place) (I.Map n) (before_place (suc place))
+        (judged_there scope lines befores_there spotted fits place (I.Map n) found) in
+        one_next place (I.Map n) found (λ q h. h) refl (opening_step place mapping n (I.Map n) found refl
+        (opens_by scope place mapping n (I.Map n) (before_place place) (before_place (suc place)) refl named_so.1))
+    step place I.Next found =
+        one_next place I.Next found (λ q h. h) refl
+        (closing_step place visiting I.Next found refl (ends_at scope lines befores_there spotted fits place I.Next found)
+        (loops_related scope lines befores_there spotted fits place I.Next found))
+    step place I.Yield found =
+        one_next place I.Yield found (λ q h. h) refl
+        (closing_step place mapping I.Yield found refl (ends_at scope lines befores_there spotted fits place I.Yield found)
+        (loops_related scope lines befores_there spotted fits place I.Yield found))
+    step place instruction found =
+        one_next place instruction found (λ q h. h) refl
+        (cases.on place instruction found refl (loops_related scope lines befores_there spotted fits place instruction found))
 
   -- ---- counts
 
   module _ (budgets : List Budget) (price : Before → Instruction → ℕ) where
-    abbrev m : Measure
-    m = summed scope budgets price
+    abbrev measure : Measure
+    measure = summed scope budgets price
 
-    abbrev D : ℕ → ℕ
-    D p = C scope budgets price lines bs p
+    abbrev cost_from : ℕ → ℕ
+    cost_from place = costs_ahead scope budgets price lines befores_there place
 
     -- what is behind the loops that are open
     abbrev outer : List Open → ℕ
     outer [] = 0
-    outer (o ∷ os) = turns_in_loops os * D (past o.start) + outer os
+    outer (open_loop ∷ open_loops) = turns_in_loops open_loops * cost_from (past open_loop.start) + outer open_loops
 
     abbrev rest_in : List Open → ℕ → ℕ
-    rest_in os p = turns_in_loops os * D p + outer os
+    rest_in open_loops place = turns_in_loops open_loops * cost_from place + outer open_loops
 
     abbrev rest : ℕ → ℕ
-    rest p = rest_in ((B p).loops) p
+    rest place = rest_in ((before_place place).loops) place
 
     abbrev here : ℕ → ℕ
-    here p = counted price (B p) (slice_get lines p)
+    here place = counted price (before_place place) (slice_get lines place)
 
-    here_is : (p : ℕ) (i : Instruction) → slice_get lines p ≡ Some i → here p ≡ turns_in_loops (B p).loops * price (B p) i
-    here_is p i e = ap (counted price (B p)) e
+    here_is : (place : ℕ) (instruction : Instruction) → slice_get lines place ≡ Some instruction
+        → here place ≡ turns_in_loops (before_place place).loops * price (before_place place) instruction
+    here_is place instruction found = ap (counted price (before_place place)) found
 
-    moved : (p q : ℕ) (i : Instruction) → slice_get lines p ≡ Some i → (B q).loops ≡ (B p).loops
-        → here p + rest q ≡ turns_in_loops (B p).loops * (price (B p) i + D q) + outer (B p).loops
-    moved p q i e l =
-        let a : rest q ≡ rest_in ((B p).loops) q = ap (λ os. rest_in os q) l in
-        omega (arith, here_is p i e, a, mul-add (turns_in_loops (B p).loops) (price (B p) i) (D q))
+    moved : (place next_place : ℕ) (instruction : Instruction) → slice_get lines place ≡ Some instruction
+        → (before_place next_place).loops ≡ (before_place place).loops
+        → here place + rest next_place ≡ turns_in_loops (before_place place).loops *
+        (price (before_place place) instruction + cost_from next_place) + outer (before_place place).loops
+    moved place next_place instruction found same =
+        let rest_is : rest next_place ≡ rest_in ((before_place place).loops) next_place = ap (λ os. rest_in os next_place) same in
+        omega (
+          arith,
+          here_is place instruction found,
+          rest_is,
+          mul-add (turns_in_loops (before_place place).loops) (price (before_place place) instruction) (cost_from next_place),
+        )
 
-    through : (w a r x y o : ℕ) → w * a + ((r * w) * x + (w * y + o)) ≡ w * (a + (r * x + y)) + o
-    through w a r x y o =
-        let b : (r * w) * x ≡ w * (r * x) = mul_assoc r w x ∙ mul_left_comm r w x in
-        omega (arith, b, mul-add w a (r * x + y), mul-add w (r * x) y)
+    through : (turns its_price room inside behind outside : ℕ)
+        → turns * its_price + ((room * turns) * inside + (turns * behind + outside)) ≡ turns * (its_price + (room * inside + behind)) + outside
+    through turns its_price room inside behind outside =
+        let same : (room * turns) * inside ≡ turns * (room * inside) = mul_assoc room turns inside ∙ mul_left_comm room turns inside in
+        omega (arith, same, mul-add turns its_price (room * inside + behind), mul-add turns (room * inside) behind)
 
-    larger : (w a b : ℕ) → w * max a b ≡ max (w * a) (w * b)
-    larger w a b = by (nat_le a b) refl
+    larger : (turns first second : ℕ) → turns * max first second ≡ max (turns * first) (turns * second)
+    larger turns first second = by (nat_le first second) refl
       where
-        by : (t : Bool) → nat_le a b ≡ t → w * max a b ≡ max (w * a) (w * b)
-        by true h =
-            let g : a ≤ b = grind (arith, nat_tests) in
-            let e : max a b ≡ b = omega (arith, g) in
-            omega (arith, ap (λ n. w * n) e, mul-le-mul_left w g)
-        by false h =
-            let g : b ≤ a = grind (arith, nat_tests) in
-            let e : max a b ≡ a = omega (arith, g) in
-            omega (arith, ap (λ n. w * n) e, mul-le-mul_left w g)
+        by : (truth : Bool) → nat_le first second ≡ truth → turns * max first second ≡ max (turns * first) (turns * second)
+        by true nat_le_is =
+            let at_most : first ≤ second = grind (arith, nat_tests) in
+            let max_is : max first second ≡ second = omega (arith, at_most) in
+            omega (arith, ap (λ n. turns * n) max_is, mul-le-mul_left turns at_most)
+        by false nat_le_is =
+            let at_most : second ≤ first = grind (arith, nat_tests) in
+            let max_is : max first second ≡ first = omega (arith, at_most) in
+            omega (arith, ap (λ n. turns * n) max_is, mul-le-mul_left turns at_most)
 
-    on_case : (p : ℕ) (i : Instruction) → slice_get lines p ≡ Some i → going_of i ≡ onward → (B (suc p)).loops ≡ (B p).loops
-        → here p + rest (suc p) ≡ rest p
-    on_case p i e w l = moved p (suc p) i e l ∙ ap (λ n. turns_in_loops (B p).loops * n + outer (B p).loops) (sym (by_next m lines bs p i e w))
+    on_case : (place : ℕ) (instruction : Instruction) → slice_get lines place ≡ Some instruction → going_of instruction ≡ onward
+        → (before_place (suc place)).loops ≡ (before_place place).loops
+        → here place + rest (suc place) ≡ rest place
+    on_case place instruction found going_of_is same =
+        moved place (suc place) instruction found same
+        ∙ ap (λ n. turns_in_loops (before_place place).loops * n + outer (before_place place).loops)
+        (sym (by_next measure lines befores_there place instruction found going_of_is))
 
-    jump_case : (p : ℕ) (i : Instruction) (to : ℕ) → slice_get lines p ≡ Some i → going_of i ≡ jumping to → p < to → (B to).loops ≡ (B p).loops
-        → here p + rest to ≡ rest p
-    jump_case p i to e w far l =
-        moved p to i e l ∙ ap (λ n. turns_in_loops (B p).loops * n + outer (B p).loops) (sym (by_jump m lines bs p i e to w far))
+    jump_case : (place : ℕ) (instruction : Instruction) (to : ℕ) → slice_get lines place ≡ Some instruction → going_of instruction ≡ jumping to
+        → place < to → (before_place to).loops ≡ (before_place place).loops
+        → here place + rest to ≡ rest place
+    jump_case place instruction to found going_of_is far same =
+        moved place to instruction found same
+        ∙ ap (λ n. turns_in_loops (before_place place).loops * n + outer (before_place place).loops)
+        (sym (by_jump measure lines befores_there place instruction found to going_of_is far))
 
-    branch_case : (p : ℕ) (i : Instruction) (to : ℕ) → slice_get lines p ≡ Some i → going_of i ≡ branching to → p < to
-        → (B (suc p)).loops ≡ (B p).loops → (B to).loops ≡ (B p).loops
-        → max (here p + rest (suc p)) (here p + rest to) ≡ rest p
-    branch_case p i to e w far l k =
-        let n : ℕ = price (B p) i in
-        let t : ℕ = turns_in_loops (B p).loops in
-        let s : max (n + D (suc p)) (n + D to) ≡ D p = omega (arith, by_far_branch m lines bs p i e to w far) in
-        omega (arith, moved p (suc p) i e l, moved p to i e k, larger t (n + D (suc p)) (n + D to), ap (λ x. t * x) s)
+    branch_case : (place : ℕ) (instruction : Instruction) (to : ℕ) → slice_get lines place ≡ Some instruction → going_of instruction ≡ branching to
+        → place < to
+        → (before_place (suc place)).loops ≡ (before_place place).loops → (before_place to).loops ≡ (before_place place).loops
+        → max (here place + rest (suc place)) (here place + rest to) ≡ rest place
+    branch_case place instruction to found going_of_is far same same_so =
+        let n : ℕ = price (before_place place) instruction in
+        let turns : ℕ = turns_in_loops (before_place place).loops in
+        let max_is : max (n + cost_from (suc place)) (n + cost_from to) ≡ cost_from place =
+        omega (arith, by_far_branch measure lines befores_there place instruction found to going_of_is far) in
+        omega (
+          arith,
+          moved place (suc place) instruction found same,
+          moved place to instruction found same_so,
+          larger turns (n + cost_from (suc place)) (n + cost_from to),
+          ap (λ x. turns * x) max_is,
+        )
 
-    enter_case : (p : ℕ) (i : Instruction) (o : Open) → slice_get lines p ≡ Some i → going_of i ≡ entering → p < past p
-        → (B (suc p)).loops ≡ o ∷ (B p).loops → o.start ≡ p → o.room ≡ room_on_top (B p).kinds
-        → here p + rest (suc p) ≡ rest p
-    enter_case p i o e w far l s r =
-        let t : ℕ = turns_in_loops (B p).loops in
-        let n : ℕ = price (B p) i in
-        let a : rest (suc p) ≡ (o.room * t) * D (suc p) + (t * D (past o.start) + outer (B p).loops) = ap (λ os. rest_in os (suc p)) l in
-        let b : (o.room * t) * D (suc p) + (t * D (past o.start) + outer (B p).loops)
-        ≡ (o.room * t) * D (suc p) + (t * D (past p) + outer (B p).loops) =
-        ap (λ q. (o.room * t) * D (suc p) + (t * D (past q) + outer (B p).loops)) s in
-        let d : t * (n + (o.room * D (suc p) + D (past p))) + outer (B p).loops ≡ rest p =
-        ap (λ x. t * (n + (x * D (suc p) + D (past p))) + outer (B p).loops) r
-        ∙ ap (λ x. t * x + outer (B p).loops) (sym (by_far_entry m lines bs p i e w far)) in
-        ap₂ (λ x y. x + y) (here_is p i e) (a ∙ b) ∙ through t n o.room (D (suc p)) (D (past p)) (outer (B p).loops) ∙ d
+    enter_case : (place : ℕ) (instruction : Instruction) (open_loop : Open) → slice_get lines place ≡ Some instruction
+        → going_of instruction ≡ entering → place < past place
+        → (before_place (suc place)).loops ≡ open_loop ∷ (before_place place).loops → open_loop.start ≡ place
+        → open_loop.room ≡ room_on_top (before_place place).kinds
+        → here place + rest (suc place) ≡ rest place
+    enter_case place instruction open_loop found going_of_is far same start_is room_is =
+        let turns : ℕ = turns_in_loops (before_place place).loops in
+        let n : ℕ = price (before_place place) instruction in
+        let rest_is : rest (suc place) ≡ (open_loop.room * turns) * cost_from
+        (suc place) + (turns * cost_from (past open_loop.start) + outer (before_place place).loops) =
+        ap (λ os. rest_in os (suc place)) same in
+        let same_so : (open_loop.room * turns) * cost_from (suc place) + (turns * cost_from (past open_loop.start) + outer (before_place place).loops)
+        ≡ (open_loop.room * turns) * cost_from (suc place) + (turns * cost_from (past place) + outer (before_place place).loops) =
+        ap (λ q. (open_loop.room * turns) * cost_from (suc place) + (turns * cost_from (past q) + outer (before_place place).loops)) start_is in
+        let turns_is : turns * (n + (open_loop.room * cost_from (suc place) + cost_from (past place))) + outer (before_place place).loops
+        ≡ rest place =
+        ap (λ x. turns * (n + (x * cost_from (suc place) + cost_from (past place))) + outer (before_place place).loops) room_is
+        ∙ ap (λ x. turns * x + outer (before_place place).loops)
+        (sym (by_far_entry measure lines befores_there place instruction found going_of_is far)) in
+        ap₂ (λ x y. x + y) (here_is place instruction found) (rest_is ∙ same_so)
+        ∙ through turns n open_loop.room (cost_from (suc place)) (cost_from (past place)) (outer (before_place place).loops) ∙ turns_is
 
-    turn_case : (p : ℕ) (i : Instruction) (o : Open) → slice_get lines p ≡ Some i → going_of i ≡ turning → (B p).loops ≡ o ∷ (B (suc p)).loops
-        → past o.start ≡ suc p → here p + rest (suc p) ≡ rest p
-    turn_case p i o e w l s =
-        let t : ℕ = turns_in_loops (B p).loops in
-        let a : outer (B p).loops ≡ turns_in_loops (B (suc p)).loops * D (past o.start) + outer (B (suc p)).loops = ap outer l in
-        let b : turns_in_loops (B (suc p)).loops * D (past o.start) ≡ turns_in_loops (B (suc p)).loops * D (suc p) =
-        ap (λ q. turns_in_loops (B (suc p)).loops * D q) s in
-        let d : t * price (B p) i ≡ t * D p = ap (λ n. t * n) (sym (by_turn m lines bs p i e w)) in
-        omega (arith, here_is p i e, a, b, d)
+    turn_case : (place : ℕ) (instruction : Instruction) (open_loop : Open) → slice_get lines place ≡ Some instruction → going_of instruction ≡ turning
+        → (before_place place).loops ≡ open_loop ∷ (before_place (suc place)).loops
+        → past open_loop.start ≡ suc place → here place + rest (suc place) ≡ rest place
+    turn_case place instruction open_loop found going_of_is same past_is =
+        let turns : ℕ = turns_in_loops (before_place place).loops in
+        let outer_is : outer (before_place place).loops
+        ≡ turns_in_loops (before_place (suc place)).loops * cost_from (past open_loop.start) + outer (before_place (suc place)).loops =
+        ap outer same in
+        let turns_in_loops_is : turns_in_loops (before_place (suc place)).loops * cost_from (past open_loop.start)
+        ≡ turns_in_loops (before_place (suc place)).loops * cost_from (suc place) =
+        ap (λ q. turns_in_loops (before_place (suc place)).loops * cost_from q) past_is in
+        let turns_is : turns * price (before_place place) instruction ≡ turns * cost_from place =
+        ap (λ n. turns * n) (sym (by_turn measure lines befores_there place instruction found going_of_is)) in
+        omega (arith, here_is place instruction found, outer_is, turns_in_loops_is, turns_is)
 
     ends : here (length lines) + 0 ≡ rest (length lines)
     ends =
         let n : ℕ = length lines in
-        let z : slice_get lines n ≡ None = slice_get_past lines n (omega arith) in
-        let l : (B n).loops ≡ [] = shut_at scope lines bs spotted fits n z in
-        let a : rest n ≡ 1 * D n + 0 = ap (λ os. rest_in os n) l in
-        let d : D n ≡ 0 = end_is m lines bs in
-        omega (arith, ap (counted price (B n)) z, a, d)
+        let found : slice_get lines n ≡ None = slice_get_past lines n (omega arith) in
+        let same : (before_place n).loops ≡ [] = shut_at scope lines befores_there spotted fits n found in
+        let rest_is : rest n ≡ 1 * cost_from n + 0 = ap (λ os. rest_in os n) same in
+        let cost_from_is : cost_from n ≡ 0 = end_is measure lines befores_there in
+        omega (arith, ap (counted price (before_place n)) found, rest_is, cost_from_is)
 
-    same_sum : (way : List ℕ) → total (λ a b. a + b) lines here rest way ≡ sum_on bs lines price way
+    same_sum : (way : List ℕ) → total (λ a b. a + b) lines here rest way ≡ sum_on befores_there lines price way
     same_sum [] = refl
-    same_sum (p ∷ way) = ap (λ n. here p + n) (same_sum way)
+    same_sum (place ∷ way) = ap (λ n. here place + n) (same_sum way)
 
-    first_rest : rest 0 ≡ most m bs lines
-    first_rest = ap (λ os. rest_in os 0) (ap (λ (b : Before). b.loops) (first_is scope lines bs spotted fits)) ∙ omega arith
+    first_rest : rest 0 ≡ most measure befores_there lines
+    first_rest = ap (λ os. rest_in os 0) (ap (λ (b : Before). b.loops) (first_is scope lines befores_there spotted fits)) ∙ omega arith
 
-    pub sums_are_most : IsMost lines (sum_on bs lines price) (most m bs lines)
+    pub sums_are_most : IsMost lines (sum_on befores_there lines price) (most measure befores_there lines)
     sums_are_most =
         most_of (λ a b. a + b) lines here rest (λ a x y le. omega (arith, le)) ends
         (step (λ a b. a + b) here rest (record { on = on_case; jump = jump_case; branch = branch_case; enter = enter_case; turn = turn_case }))
-        (sum_on bs lines price) (most m bs lines) same_sum first_rest
+        (sum_on befores_there lines price) (most measure befores_there lines) same_sum first_rest
 
   -- ---- words
 
@@ -328,64 +412,99 @@ module _ (scope : Scope) (lines : List Instruction) (bs : List Before) (spotted 
     abbrev at_once : Measure
     at_once = at_a_time scope budgets
 
-    abbrev V : ℕ → ℕ
-    V p = W scope budgets lines bs p
+    abbrev high_from : ℕ → ℕ
+    high_from place = words_ahead scope budgets lines befores_there place
 
     -- the most behind the loops that are open
     abbrev outer_words : List Open → ℕ
     outer_words [] = 0
-    outer_words (o ∷ os) = max (V (past o.start)) (outer_words os)
+    outer_words (open_loop ∷ open_loops) = max (high_from (past open_loop.start)) (outer_words open_loops)
 
     abbrev words_from : ℕ → ℕ
-    words_from p = max (V p) (outer_words (B p).loops)
+    words_from place = max (high_from place) (outer_words (before_place place).loops)
 
     abbrev words_here : ℕ → ℕ
-    words_here p = words_kept_at scope budgets (B p) (slice_get lines p)
+    words_here place = words_kept_at scope budgets (before_place place) (slice_get lines place)
 
-    words_are : (p : ℕ) (i : Instruction) → slice_get lines p ≡ Some i → words_here p ≡ words_at scope budgets (B p) i
-    words_are p i e = ap (words_kept_at scope budgets (B p)) e
+    words_are : (place : ℕ) (instruction : Instruction) → slice_get lines place ≡ Some instruction
+        → words_here place ≡ words_at scope budgets (before_place place) instruction
+    words_are place instruction found = ap (words_kept_at scope budgets (before_place place)) found
 
-    on_words : (p : ℕ) (i : Instruction) → slice_get lines p ≡ Some i → going_of i ≡ onward → (B (suc p)).loops ≡ (B p).loops
-        → max (words_here p) (words_from (suc p)) ≡ words_from p
-    on_words p i e w l = omega (arith, words_are p i e, by_next at_once lines bs p i e w, ap outer_words l)
+    on_words : (place : ℕ) (instruction : Instruction) → slice_get lines place ≡ Some instruction → going_of instruction ≡ onward
+        → (before_place (suc place)).loops ≡ (before_place place).loops
+        → max (words_here place) (words_from (suc place)) ≡ words_from place
+    on_words place instruction found going_of_is same =
+        omega (arith, words_are place instruction found, by_next at_once lines befores_there place instruction found going_of_is, ap outer_words same)
 
-    jump_words : (p : ℕ) (i : Instruction) (to : ℕ) → slice_get lines p ≡ Some i → going_of i ≡ jumping to → p < to → (B to).loops ≡ (B p).loops
-        → max (words_here p) (words_from to) ≡ words_from p
-    jump_words p i to e w far l = omega (arith, words_are p i e, by_jump at_once lines bs p i e to w far, ap outer_words l)
+    jump_words : (place : ℕ) (instruction : Instruction) (to : ℕ) → slice_get lines place ≡ Some instruction → going_of instruction ≡ jumping to
+        → place < to → (before_place to).loops ≡ (before_place place).loops
+        → max (words_here place) (words_from to) ≡ words_from place
+    jump_words place instruction to found going_of_is far same =
+        omega (
+          arith,
+          words_are place instruction found,
+          by_jump at_once lines befores_there place instruction found to going_of_is far,
+          ap outer_words same,
+        )
 
-    branch_words : (p : ℕ) (i : Instruction) (to : ℕ) → slice_get lines p ≡ Some i → going_of i ≡ branching to → p < to
-        → (B (suc p)).loops ≡ (B p).loops → (B to).loops ≡ (B p).loops
-        → max (max (words_here p) (words_from (suc p))) (max (words_here p) (words_from to)) ≡ words_from p
-    branch_words p i to e w far l k =
-        omega (arith, words_are p i e, by_far_branch at_once lines bs p i e to w far, ap outer_words l, ap outer_words k)
+    branch_words : (place : ℕ) (instruction : Instruction) (to : ℕ) → slice_get lines place ≡ Some instruction → going_of instruction ≡ branching to
+        → place < to
+        → (before_place (suc place)).loops ≡ (before_place place).loops → (before_place to).loops ≡ (before_place place).loops
+        → max (max (words_here place) (words_from (suc place))) (max (words_here place) (words_from to)) ≡ words_from place
+    branch_words place instruction to found going_of_is far same same_so =
+        omega (
+          arith,
+          words_are place instruction found,
+          by_far_branch at_once lines befores_there place instruction found to going_of_is far,
+          ap outer_words same,
+          ap outer_words same_so,
+        )
 
-    enter_words : (p : ℕ) (i : Instruction) (o : Open) → slice_get lines p ≡ Some i → going_of i ≡ entering → p < past p
-        → (B (suc p)).loops ≡ o ∷ (B p).loops → o.start ≡ p → o.room ≡ room_on_top (B p).kinds
-        → max (words_here p) (words_from (suc p)) ≡ words_from p
-    enter_words p i o e w far l s r =
-        omega (arith, words_are p i e, by_far_entry at_once lines bs p i e w far, ap outer_words l, ap (λ q. V (past q)) s)
+    enter_words : (place : ℕ) (instruction : Instruction) (open_loop : Open) → slice_get lines place ≡ Some instruction
+        → going_of instruction ≡ entering → place < past place
+        → (before_place (suc place)).loops ≡ open_loop ∷ (before_place place).loops → open_loop.start ≡ place
+        → open_loop.room ≡ room_on_top (before_place place).kinds
+        → max (words_here place) (words_from (suc place)) ≡ words_from place
+    enter_words place instruction open_loop found going_of_is far same start_is room_is =
+        omega (
+          arith,
+          words_are place instruction found,
+          by_far_entry at_once lines befores_there place instruction found going_of_is far,
+          ap outer_words same,
+          ap (λ q. high_from (past q)) start_is,
+        )
 
-    turn_words : (p : ℕ) (i : Instruction) (o : Open) → slice_get lines p ≡ Some i → going_of i ≡ turning → (B p).loops ≡ o ∷ (B (suc p)).loops
-        → past o.start ≡ suc p
-        → max (words_here p) (words_from (suc p)) ≡ words_from p
-    turn_words p i o e w l s = omega (arith, words_are p i e, by_turn at_once lines bs p i e w, ap outer_words l, ap V s)
+    turn_words : (place : ℕ) (instruction : Instruction) (open_loop : Open) → slice_get lines place ≡ Some instruction
+        → going_of instruction ≡ turning → (before_place place).loops ≡ open_loop ∷ (before_place (suc place)).loops
+        → past open_loop.start ≡ suc place
+        → max (words_here place) (words_from (suc place)) ≡ words_from place
+    turn_words place instruction open_loop found going_of_is same past_is =
+        omega (
+          arith,
+          words_are place instruction found,
+          by_turn at_once lines befores_there place instruction found going_of_is,
+          ap outer_words same,
+          ap high_from past_is,
+        )
 
     words_end : max (words_here (length lines)) 0 ≡ words_from (length lines)
     words_end =
         let n : ℕ = length lines in
-        let z : slice_get lines n ≡ None = slice_get_past lines n (omega arith) in
-        let l : (B n).loops ≡ [] = shut_at scope lines bs spotted fits n z in
-        omega (arith, ap (words_kept_at scope budgets (B n)) z, ap outer_words l, end_is at_once lines bs)
+        let found : slice_get lines n ≡ None = slice_get_past lines n (omega arith) in
+        let same : (before_place n).loops ≡ [] = shut_at scope lines befores_there spotted fits n found in
+        omega (arith, ap (words_kept_at scope budgets (before_place n)) found, ap outer_words same, end_is at_once lines befores_there)
 
-    same_words : (way : List ℕ) → total max lines words_here words_from way ≡ words_on bs lines scope budgets way
+    same_words : (way : List ℕ) → total max lines words_here words_from way ≡ words_on befores_there lines scope budgets way
     same_words [] = refl
-    same_words (p ∷ way) = ap (λ n. max (words_here p) n) (same_words way)
+    same_words (place ∷ way) = ap (λ n. max (words_here place) n) (same_words way)
 
-    first_words : words_from 0 ≡ most at_once bs lines
-    first_words = let l : (B 0).loops ≡ [] = ap (λ (b : Before). b.loops) (first_is scope lines bs spotted fits) in omega (arith, ap outer_words l)
+    first_words : words_from 0 ≡ most at_once befores_there lines
+    first_words =
+        let same : (before_place 0).loops ≡ [] = ap (λ (b : Before). b.loops) (first_is scope lines befores_there spotted fits) in
+        omega (arith, ap outer_words same)
 
-    pub words_are_most : IsMost lines (words_on bs lines scope budgets) (most at_once bs lines)
+    pub words_are_most : IsMost lines (words_on befores_there lines scope budgets) (most at_once befores_there lines)
     words_are_most =
         most_of max lines words_here words_from (λ a x y le. omega (arith, le)) words_end
         (step max words_here words_from (record { on = on_words; jump = jump_words; branch = branch_words; enter = enter_words; turn = turn_words }))
-        (words_on bs lines scope budgets) (most at_once bs lines) same_words first_words
+        (words_on befores_there lines scope budgets) (most at_once befores_there lines) same_words first_words

@@ -20,18 +20,18 @@ fault_in block Exhausted = Spent
 
 -- the answer is what is given, seen in the definition's terms, unless memory was wanting
 abbrev pub GivesAt : {A B : Type 0} → Result A Misplaced → (B → A) → Result B BlockFault → Type 0
-GivesAt given seen (Ok x) = given ≡ Ok (seen x)
+GivesAt given seen (Ok b) = given ≡ Ok (seen b)
 GivesAt given seen (Err (At kind place)) = given ≡ Err (record { misfit = kind; place = place })
 GivesAt given seen (Err Exhausted) = Unit {0}
 
 -- the walk goes on to what is given to be before the next place
 abbrev pub GoesAt : {B : Type 0} → ℕ → Result Before VerifyKind → Walked → Walked → Result B BlockFault → Type 0
-GoesAt place given old new (Ok x) = (given ≡ Ok new.before) × (new.spots ≡ old.spots)
+GoesAt place given old new (Ok b) = (given ≡ Ok new.before) × (new.spots ≡ old.spots)
 GoesAt place given old new (Err (At kind there)) = (given ≡ Err kind) × (there ≡ place)
 GoesAt place given old new (Err Exhausted) = Unit {0}
 
 -- the end of a block is as it must be
 abbrev pub EndsAt : {B : Type 0} → ℕ → Result Before VerifyKind → Before → Result B BlockFault → Type 0
-EndsAt place given b (Ok x) = given ≡ Ok b
-EndsAt place given b (Err (At kind there)) = (given ≡ Err kind) × (there ≡ place)
-EndsAt place given b (Err Exhausted) = Unit {0}
+EndsAt place given here (Ok b_so) = given ≡ Ok here
+EndsAt place given here (Err (At kind there)) = (given ≡ Err kind) × (there ≡ place)
+EndsAt place given here (Err Exhausted) = Unit {0}

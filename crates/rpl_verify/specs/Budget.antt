@@ -46,29 +46,30 @@ pub record Measure : Type 0 where
 -- what is before the first place
 abbrev pub first_before : List Before → Before
 first_before [] = before [] []
-first_before (b ∷ bs) = b
+first_before (here ∷ befores_there) = here
 
 -- the most that there is from a place on, to the end of its loop or else of the block. `from` says so of the places behind it, `is`
 -- stands there, and the list of a loop that begins here has room for so many
 abbrev pub most_from : Measure → ℕ → Going → ℕ → ℕ → List Instruction → (ℕ → ℕ) → ℕ
-most_from m place onward price room is from = m.joined price (from (suc place))
-most_from m place (jumping to) price room is from = m.joined price (from to)
-most_from m place (branching to) price room is from = m.joined price (max (from (suc place)) (from to))
-most_from m place entering price room is from =
-    m.joined price (m.joined (m.repeated room (from (suc place))) (from (loop_end (suc place) is)))
-most_from m place turning price room is from = price
+most_from measure place onward price room lines from = measure.joined price (from (suc place))
+most_from measure place (jumping to) price room lines from = measure.joined price (from to)
+most_from measure place (branching to) price room lines from = measure.joined price (max (from (suc place)) (from to))
+most_from measure place entering price room lines from =
+    measure.joined price (measure.joined (measure.repeated room (from (suc place))) (from (loop_end (suc place) lines)))
+most_from measure place turning price room lines from = price
 
 -- the most from each place on, and at the end, where these are before them
 abbrev pub table : Measure → ℕ → List Before → List Instruction → List ℕ
-table m place bs [] = m.at_end (first_before bs) ∷ []
-table m place bs (i ∷ is) =
-    let b : Before = first_before bs in
-    let behind : List ℕ = table m (suc place) (rest_of bs) is in
-    most_from m place (going_of i) (m.price b i) (room_on_top b.kinds) is (λ to. slice_index behind (to - suc place)) ∷ behind
+table measure place befores_there [] = measure.at_end (first_before befores_there) ∷ []
+table measure place befores_there (instruction ∷ lines) =
+    let here : Before = first_before befores_there in
+    let behind : List ℕ = table measure (suc place) (rest_of befores_there) lines in
+    most_from measure place (going_of instruction) (measure.price here instruction) (room_on_top here.kinds) lines
+    (λ to. slice_index behind (to - suc place)) ∷ behind
 
 -- the most of all ways through a block
 abbrev pub most : Measure → List Before → List Instruction → ℕ
-most m bs lines = slice_index (table m 0 bs lines) 0
+most measure befores_there lines = slice_index (table measure 0 befores_there lines) 0
 
 -- ---- prices
 
@@ -83,7 +84,7 @@ words_of_parameters (Some head) = words_of_all (parameters_of head)
 -- of a function's budget
 abbrev pub part_of : (Budget → ℕ) → Option Budget → ℕ
 part_of part None = 0
-part_of part (Some b) = part b
+part_of part (Some its_budget) = part its_budget
 
 abbrev pub words_of_loop : Loop → ℕ → ℕ
 words_of_loop visiting room = room + 3
@@ -91,39 +92,39 @@ words_of_loop mapping room = 2 * room + 4
 
 abbrev pub words_of_loops : List Open → ℕ
 words_of_loops [] = 0
-words_of_loops (o ∷ os) = words_of_loop o.loop o.room + words_of_loops os
+words_of_loops (open_loop ∷ open_loops) = words_of_loop open_loop.loop open_loop.room + words_of_loops open_loops
 
 -- in a block of this scope, where these are the budgets of the blocks before it
 module _ (scope : Scope) (budgets : List Budget) where
   -- how much an instruction counts, with the function that it calls
   abbrev pub count_of : Before → Instruction → ℕ
-  count_of b (I.Load n) = words_of_kind (slice_get scope.locals n)
-  count_of b (I.Store n) = words_of_kind (slice_get scope.locals n)
-  count_of b (I.List n) = n + 1
-  count_of b I.Append = room_on_top (rest_of b.kinds) + 2
-  count_of b (I.Widen room) = room + 1
-  count_of b (I.Invoke n) =
-      1 + words_of_parameters (numbered scope.heads n) + part_of (λ (f : Budget). f.count) (numbered budgets n)
-  count_of b _ = 1
+  count_of here (I.Load n) = words_of_kind (slice_get scope.locals n)
+  count_of here (I.Store n) = words_of_kind (slice_get scope.locals n)
+  count_of here (I.List n) = n + 1
+  count_of here I.Append = room_on_top (rest_of here.kinds) + 2
+  count_of here (I.Widen room) = room + 1
+  count_of here (I.Invoke number) =
+      1 + words_of_parameters (numbered scope.heads number) + part_of (λ (f : Budget). f.count) (numbered budgets number)
+  count_of here _ = 1
 
   abbrev pub looks_of : Before → Instruction → ℕ
-  looks_of b I.Read = 1
-  looks_of b I.Known = 1
-  looks_of b (I.Invoke n) = part_of (λ (f : Budget). f.looks) (numbered budgets n)
-  looks_of b _ = 0
+  looks_of here I.Read = 1
+  looks_of here I.Known = 1
+  looks_of here (I.Invoke number) = part_of (λ (f : Budget). f.looks) (numbered budgets number)
+  looks_of here _ = 0
 
   abbrev pub puts_of : Before → Instruction → ℕ
-  puts_of b (I.Put object slot ahead) = 1
-  puts_of b (I.Invoke n) = part_of (λ (f : Budget). f.puts) (numbered budgets n)
-  puts_of b _ = 0
+  puts_of here (I.Put object slot ahead) = 1
+  puts_of here (I.Invoke number) = part_of (λ (f : Budget). f.puts) (numbered budgets number)
+  puts_of here _ = 0
 
   -- the words that are kept before a place: those of the locals, the operands and the open loops
   abbrev pub words_before : Before → ℕ
-  words_before b = words_of_all scope.locals + (words_of_all b.kinds + words_of_loops b.loops)
+  words_before here = words_of_all scope.locals + (words_of_all here.kinds + words_of_loops here.loops)
 
   abbrev pub words_at : Before → Instruction → ℕ
-  words_at b (I.Invoke n) = words_before b + part_of (λ (f : Budget). f.words) (numbered budgets n)
-  words_at b _ = words_before b
+  words_at here (I.Invoke number) = words_before here + part_of (λ (f : Budget). f.words) (numbered budgets number)
+  words_at here _ = words_before here
 
   -- ---- budgets
 
@@ -136,20 +137,20 @@ module _ (scope : Scope) (budgets : List Budget) where
   at_a_time = record { price = words_at; at_end = words_before; joined = max; repeated = λ m a. a }
 
   abbrev pub budget_by : List Before → List Instruction → Budget
-  budget_by bs lines =
+  budget_by befores_there lines =
       budget
-      (capped limits.count (most (summed count_of) bs lines))
-      (capped limits.looks (most (summed looks_of) bs lines))
-      (capped limits.puts (most (summed puts_of) bs lines))
-      (capped limits.words (most at_a_time bs lines))
+      (capped limits.count (most (summed count_of) befores_there lines))
+      (capped limits.looks (most (summed looks_of) befores_there lines))
+      (capped limits.puts (most (summed puts_of) befores_there lines))
+      (capped limits.words (most at_a_time befores_there lines))
 
 -- the budget, if it keeps within the limits
 abbrev pub within_limits : Budget → Result Budget VerifyKind
-within_limits b =
-    if nat_lt limits.count b.count then Err TooCostly else
-    if nat_lt limits.looks b.looks then Err TooManyReads else
-    if nat_lt limits.puts b.puts then Err TooManyPuts else
-    if nat_lt limits.words b.words then Err TooDeep else Ok b
+within_limits its_budget =
+    if nat_lt limits.count its_budget.count then Err TooCostly else
+    if nat_lt limits.looks its_budget.looks then Err TooManyReads else
+    if nat_lt limits.puts its_budget.puts then Err TooManyPuts else
+    if nat_lt limits.words its_budget.words then Err TooDeep else Ok its_budget
 
 -- a budget is above a limit
 abbrev pub IsOverLimit : VerifyKind → Type 0
@@ -159,11 +160,11 @@ IsOverLimit TooManyPuts = Unit {0}
 IsOverLimit TooDeep = Unit {0}
 IsOverLimit _ = ⊥
 
-pub record IsWithinLimits (b : Budget) : Type 0 where
-  pub count : b.count ≤ limits.count
-  pub looks : b.looks ≤ limits.looks
-  pub puts : b.puts ≤ limits.puts
-  pub words : b.words ≤ limits.words
+pub record IsWithinLimits (its_budget : Budget) : Type 0 where
+  pub count : its_budget.count ≤ limits.count
+  pub looks : its_budget.looks ≤ limits.looks
+  pub puts : its_budget.puts ≤ limits.puts
+  pub words : its_budget.words ≤ limits.words
 
 -- ---- code
 

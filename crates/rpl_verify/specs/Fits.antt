@@ -1,5 +1,6 @@
 -- When code fits a basin: what each place asks of the operands and loops before it, and the first place that doesn't get it.
 use Rattle.std.specs.Prelude.{◌≡◌, ℕ, zero, suc, ◌&&◌, Bool, true, false, nat_lt, ◌==◌, List, [], ◌∷◌, ◌++◌, length, map, reverse, slice_get, Option, Some, None, Result, Ok, Err, if◌then◌else◌}
+use Rattle.rw_base.specs.declared.limits.TheConstants.{RULES_MAX}
 use Rattle.rw_model.specs.Draft.{Draft}
 use Rattle.rpl_code.specs.declared.kind.ValueKind.{ValueKind}
 use Rattle.rpl_code.specs.declared.kind.ValueKind.TheVariants as K
@@ -32,37 +33,38 @@ before kinds loops = record { kinds = kinds; loops = loops }
 
 -- goes on with what there is, unless something is refused
 abbrev pub then_do : {A B E : Type 0} → Result A E → (A → Result B E) → Result B E
-then_do (Ok x) go = go x
+then_do (Ok thing) go = go thing
 then_do (Err refusal) go = Err refusal
 
 abbrev pub if_fits : {A : Type 0} → Bool → A → Result A VerifyKind
-if_fits true x = Ok x
-if_fits false x = Err WrongShape
+if_fits true thing = Ok thing
+if_fits false thing = Err WrongShape
 
 abbrev pub unless_misfit : {A : Type 0} → Option VerifyKind → Result A VerifyKind → Result A VerifyKind
-unless_misfit None r = r
-unless_misfit (Some misfit) r = Err misfit
+unless_misfit None result = result
+unless_misfit (Some misfit) result = Err misfit
 
 -- ---- operands
 
 -- the instruction takes its operands, and leaves others in their place
 abbrev pub taken : Scope → Instruction → Before → Result Before VerifyKind
-taken scope i b = then_do (operands_behind (operand_row scope.heads scope.locals i) b.kinds) (λ kinds. Ok (before kinds b.loops))
+taken scope instruction here =
+    then_do (operands_behind (operand_row scope.heads scope.locals instruction) here.kinds) (λ kinds. Ok (before kinds here.loops))
 
 -- the operands are those that are declared where they are carried to
 abbrev pub carried : List ValueKind → Before → Result Before VerifyKind
-carried declared b = if_fits (are_same_kinds declared b.kinds) b
+carried declared here = if_fits (are_same_kinds declared here.kinds) here
 
 -- ---- jumps
 
 abbrev pub is_same_place : Option ℕ → Option ℕ → Bool
 is_same_place None None = true
-is_same_place (Some a) (Some b) = a == b
+is_same_place (Some first) (Some second) = first == second
 is_same_place _ _ = false
 
 abbrev pub innermost : List Open → Option ℕ
 innermost [] = None
-innermost (o ∷ os) = Some o.start
+innermost (open_loop ∷ open_loops) = Some open_loop.start
 
 -- what is declared at a spot, from a place in the loop that begins there
 abbrev pub lands_on : Option ℕ → Spot → Option (List ValueKind) → Result (List ValueKind) VerifyKind
@@ -75,13 +77,13 @@ landing here (Some spot) = lands_on here spot spot.declares
 
 -- what is declared where a jump from a place to another lands
 abbrev pub found : Scope → ℕ → ℕ → Before → Result (List ValueKind) VerifyKind
-found scope place to b =
-    if nat_lt place to then landing (innermost b.loops) (slice_get scope.spots to) else Err BackwardJump
+found scope place to here =
+    if nat_lt place to then landing (innermost here.loops) (slice_get scope.spots to) else Err BackwardJump
 
 -- a branch takes its truth value, and carries the others
 abbrev pub branched : Scope → ℕ → ℕ → Before → Result Before VerifyKind
-branched scope place to b =
-    then_do (found scope place to b) (λ declared. then_do (taken scope (I.Branch to) b) (carried declared))
+branched scope place to here =
+    then_do (found scope place to here) (λ declared. then_do (taken scope (I.Branch to) here) (carried declared))
 
 abbrev pub declared_at : Option Spot → Option (List ValueKind)
 declared_at None = None
@@ -89,30 +91,30 @@ declared_at (Some spot) = spot.declares
 
 -- behind a jump stands a target, and before that the operands that it declares
 abbrev pub restarted : Option (List ValueKind) → Before → Result Before VerifyKind
-restarted None b = Err WrongShape
-restarted (Some kinds) b = Ok (before kinds b.loops)
+restarted None here = Err WrongShape
+restarted (Some kinds) here = Ok (before kinds here.loops)
 
 abbrev pub jumped : Scope → ℕ → ℕ → Before → Result Before VerifyKind
-jumped scope place to b =
-    then_do (found scope place to b) (λ declared. then_do (carried declared b)
+jumped scope place to here =
+    then_do (found scope place to here) (λ declared. then_do (carried declared here)
     (restarted (declared_at (slice_get scope.spots (suc place)))))
 
 -- ---- loops
 
 abbrev pub element_on_top : List ValueKind → Option ValueKind
 element_on_top [] = None
-element_on_top (k ∷ ks) = element_kind k
+element_on_top (kind ∷ kinds) = element_kind kind
 
 abbrev pub room_on_top : List ValueKind → ℕ
 room_on_top [] = 0
-room_on_top (k ∷ ks) = list_room k
+room_on_top (kind ∷ kinds) = list_room kind
 
 -- a loop over the list on top, whose element becomes that of a local of its kind
 abbrev pub opened : Scope → ℕ → Loop → ℕ → Instruction → Before → Result Before VerifyKind
-opened scope place loop local i b =
-    then_do (taken scope i b) (λ c.
-    let o : Open = record { start = place; loop = loop; room = room_on_top b.kinds; under = c.kinds } in
-    if_fits (is_that_kind (slice_get scope.locals local) (element_on_top b.kinds)) (before c.kinds (o ∷ b.loops)))
+opened scope place loop local instruction here =
+    then_do (taken scope instruction here) (λ c.
+    let open_loop : Open = record { start = place; loop = loop; room = room_on_top here.kinds; under = c.kinds } in
+    if_fits (is_that_kind (slice_get scope.locals local) (element_on_top here.kinds)) (before c.kinds (open_loop ∷ here.loops)))
 
 -- the operands behind a loop: a mapping leaves its list
 abbrev pub behind_loop : Loop → ℕ → List ValueKind → List ValueKind
@@ -122,28 +124,29 @@ behind_loop mapping room under = K.NList room ∷ under
 -- the end of the innermost loop, with the operands under its list
 abbrev pub shut : Loop → List ValueKind → List Open → Result Before VerifyKind
 shut loop kinds [] = Err WrongShape
-shut loop kinds (o ∷ os) =
-    if_fits (is_same_loop loop o.loop && are_same_kinds o.under kinds) (before (behind_loop o.loop o.room o.under) os)
+shut loop kinds (open_loop ∷ open_loops) =
+    if_fits (is_same_loop loop open_loop.loop && are_same_kinds open_loop.under kinds)
+    (before (behind_loop open_loop.loop open_loop.room open_loop.under) open_loops)
 
 abbrev pub closed : Scope → Loop → Instruction → Before → Result Before VerifyKind
-closed scope loop i b = then_do (taken scope i b) (λ c. shut loop c.kinds c.loops)
+closed scope loop instruction here = then_do (taken scope instruction here) (λ c. shut loop c.kinds c.loops)
 
 -- ---- a place
 
 -- an instruction whose names are there, at a place
 abbrev pub behind_instruction : Scope → ℕ → Before → Instruction → Result Before VerifyKind
-behind_instruction scope place b (I.Jump to) = jumped scope place to b
-behind_instruction scope place b (I.Branch to) = branched scope place to b
-behind_instruction scope place b (I.Target kinds) = carried (reverse kinds) b
-behind_instruction scope place b (I.Foreach n) = opened scope place visiting n (I.Foreach n) b
-behind_instruction scope place b I.Next = closed scope visiting I.Next b
-behind_instruction scope place b (I.Map n) = opened scope place mapping n (I.Map n) b
-behind_instruction scope place b I.Yield = closed scope mapping I.Yield b
-behind_instruction scope place b i = taken scope i b
+behind_instruction scope place here (I.Jump to) = jumped scope place to here
+behind_instruction scope place here (I.Branch to) = branched scope place to here
+behind_instruction scope place here (I.Target kinds) = carried (reverse kinds) here
+behind_instruction scope place here (I.Foreach n) = opened scope place visiting n (I.Foreach n) here
+behind_instruction scope place here I.Next = closed scope visiting I.Next here
+behind_instruction scope place here (I.Map n) = opened scope place mapping n (I.Map n) here
+behind_instruction scope place here I.Yield = closed scope mapping I.Yield here
+behind_instruction scope place here instruction = taken scope instruction here
 
 -- what is before the next place, or the first misfit of this one
 abbrev pub judged_at : Scope → ℕ → Before → Instruction → Result Before VerifyKind
-judged_at scope place b i = unless_misfit (name_misfit scope i) (behind_instruction scope place b i)
+judged_at scope place here instruction = unless_misfit (name_misfit scope instruction) (behind_instruction scope place here instruction)
 
 -- no operands, or a function's result
 abbrev pub end_kinds : BlockHead → List ValueKind
@@ -152,8 +155,8 @@ end_kinds (Function result parameters) = result ∷ []
 
 -- no loop is open at the end
 abbrev pub ended_block : BlockHead → Before → List Open → Result Before VerifyKind
-ended_block head b [] = carried (end_kinds head) b
-ended_block head b (o ∷ os) = Err WrongShape
+ended_block head here [] = carried (end_kinds head) here
+ended_block head here (open_loop ∷ open_loops) = Err WrongShape
 
 -- ---- a block
 
@@ -162,20 +165,20 @@ pub record Misplaced : Type 0 where
   pub place : ℕ
 
 abbrev pub at_place : {A B : Type 0} → ℕ → Result A VerifyKind → (A → Result B Misplaced) → Result B Misplaced
-at_place place (Ok x) go = go x
+at_place place (Ok thing) go = go thing
 at_place place (Err misfit) go = Err (record { misfit = misfit; place = place })
 
 -- what is before each place from this one on, and at the end; or the first misfit
 abbrev pub befores : Scope → ℕ → Before → List Instruction → Result (List Before) Misplaced
-befores scope place b [] = at_place place (ended_block scope.head b b.loops) (λ c. Ok (c ∷ []))
-befores scope place b (i ∷ is) =
-    at_place place (judged_at scope place b i) (λ c. then_do (befores scope (suc place) c is) (λ bs. Ok (b ∷ bs)))
+befores scope place here [] = at_place place (ended_block scope.head here here.loops) (λ c. Ok (c ∷ []))
+befores scope place here (instruction ∷ lines) =
+    at_place place (judged_at scope place here instruction) (λ c. then_do (befores scope (suc place) c lines) (λ bs. Ok (here ∷ bs)))
 
 -- what is before a place
 abbrev pub before_at : List Before → ℕ → Before
 before_at [] n = before [] []
-before_at (b ∷ bs) zero = b
-before_at (b ∷ bs) (suc n) = before_at bs n
+before_at (here ∷ befores_there) zero = here
+before_at (here ∷ befores_there) (suc n) = before_at befores_there n
 
 abbrev pub parameters_of : BlockHead → List ValueKind
 parameters_of Rule = []
@@ -201,7 +204,7 @@ scope_of basin blocks number block = record {
 -- both are rules, or both functions
 abbrev pub is_alike : BlockHead → BlockHead → Bool
 is_alike Rule Rule = true
-is_alike (Function r ps) (Function s qs) = true
+is_alike (Function kind kinds) (Function other_kind other_kinds) = true
 is_alike _ _ = false
 
 abbrev pub count_alike : BlockHead → List Block → ℕ
@@ -212,7 +215,7 @@ count_alike head (block ∷ blocks) =
 -- a block behind others, among all blocks
 abbrev pub block_befores : Draft → List Block → List Block → Block → Result (List Before) Misplaced
 block_befores basin blocks earlier block =
-    if nat_lt (count_alike block.head earlier) 200
+    if nat_lt (count_alike block.head earlier) RULES_MAX
     then befores (scope_of basin blocks (suc (length earlier)) block) 0 (before [] []) block.lines
     else Err (record { misfit = TooMany; place = 0 })
 
@@ -228,7 +231,7 @@ abbrev pub refusal : VerifyKind → ℕ → ℕ → Refusal
 refusal misfit block place = record { misfit = misfit; block = block; place = place }
 
 abbrev pub in_block : {A B : Type 0} → ℕ → Result A Misplaced → (A → Result B Refusal) → Result B Refusal
-in_block number (Ok x) go = go x
+in_block number (Ok thing) go = go thing
 in_block number (Err wrong) go = Err (refusal wrong.misfit number wrong.place)
 
 -- what each block is judged as, where a block is judged by itself, the blocks before it, and what those were judged as
@@ -244,7 +247,7 @@ abbrev pub fitting : Draft → List Block → Result (List (List Before)) Refusa
 fitting basin blocks = each_block (λ earlier done block. block_befores basin blocks earlier block) [] [] blocks
 
 abbrev pub refusal_in_result : {A : Type 0} → Result A Refusal → Option Refusal
-refusal_in_result (Ok x) = None
+refusal_in_result (Ok thing) = None
 refusal_in_result (Err why) = Some why
 
 abbrev pub first_code_refusal : Draft → List Block → Option Refusal

@@ -15,18 +15,18 @@ is_same_value_kind _ _ = false
 
 abbrev pub are_same_kinds : List ValueKind → List ValueKind → Bool
 are_same_kinds [] [] = true
-are_same_kinds (k ∷ ks) (l ∷ ls) = is_same_value_kind k l && are_same_kinds ks ls
+are_same_kinds (kind ∷ kinds) (other_kind ∷ left_kinds) = is_same_value_kind kind other_kind && are_same_kinds kinds left_kinds
 are_same_kinds _ _ = false
 
 -- both are there, and the same
 abbrev pub is_that_kind : Option ValueKind → Option ValueKind → Bool
-is_that_kind (Some k) (Some l) = is_same_value_kind k l
+is_that_kind (Some kind) (Some other_kind) = is_same_value_kind kind other_kind
 is_that_kind _ _ = false
 
 -- how many words values of these kinds take
 abbrev pub words_of_all : List ValueKind → ℕ
 words_of_all [] = 0
-words_of_all (k ∷ ks) = words_of k + words_of_all ks
+words_of_all (kind ∷ kinds) = words_of kind + words_of_all kinds
 
 -- for how many elements a list of the kind has room
 abbrev pub list_room : ValueKind → ℕ
@@ -49,4 +49,4 @@ list_value_kind m _ = None
 -- the first of a list
 abbrev pub top_of : {A : Type 0} → List A → Option A
 top_of [] = None
-top_of (x ∷ xs) = Some x
+top_of (thing ∷ things) = Some thing

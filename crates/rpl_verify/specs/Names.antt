@@ -49,6 +49,6 @@ name_misfit scope (I.Slot object slot) = unless_there (slot_named scope.basin.ob
 name_misfit scope (I.ToElevation object) = unless_there (table_named scope.basin object)
 name_misfit scope (I.ToStorage object) = unless_there (table_named scope.basin object)
 name_misfit scope (I.Call name) = unless_there (function_named predefined_functions name)
-name_misfit scope (I.Invoke b) = call_misfit scope.number b (numbered scope.heads b)
+name_misfit scope (I.Invoke callee) = call_misfit scope.number callee (numbered scope.heads callee)
 name_misfit scope (I.Put object slot ahead) = put_misfit scope (slot_named scope.basin.objects object slot) ahead
 name_misfit scope _ = None

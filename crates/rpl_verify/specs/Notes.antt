@@ -14,32 +14,32 @@ use Rattle.rpl_verify.specs.Fits.{Before, Misplaced, before, befores, room_on_to
 use Rattle.rpl_verify.specs.Budget.{Measure, at_a_time, count_of, first_before, looks_of, most_from, puts_of, summed, going_of, words_at, words_before, words_of_loops}
 
 abbrev pub numbers_seen : Numbers → Budget
-numbers_seen b = budget b.instructions b.reads b.puts b.words
+numbers_seen numbers_there = budget numbers_there.instructions numbers_there.reads numbers_there.puts numbers_there.words
 
 -- ---- notes
 
 -- the words that are kept before a place, in a block with these locals
 abbrev pub words_kept : List ValueKind → Before → ℕ
-words_kept locals b = words_of_all locals + (words_of_all b.kinds + words_of_loops b.loops)
+words_kept locals here = words_of_all locals + (words_of_all here.kinds + words_of_loops here.loops)
 
 module _ (scope : Scope) (budgets : List Budget) where
   abbrev pub note_of : Before → Instruction → Note
-  note_of b i = record {
-    room = room_on_top b.kinds;
-    count = capped limits.count (count_of scope budgets b i);
-    looks = capped limits.looks (looks_of scope budgets b i);
-    puts = capped limits.puts (puts_of scope budgets b i);
-    words = capped limits.words (words_at scope budgets b i);
+  note_of here instruction = record {
+    room = room_on_top here.kinds;
+    count = capped limits.count (count_of scope budgets here instruction);
+    looks = capped limits.looks (looks_of scope budgets here instruction);
+    puts = capped limits.puts (puts_of scope budgets here instruction);
+    words = capped limits.words (words_at scope budgets here instruction);
   }
 
   -- at the end of the block
   abbrev pub end_note : Before → Note
-  end_note b = record { room = 0; count = 0; looks = 0; puts = 0; words = capped limits.words (words_before scope budgets b) }
+  end_note here = record { room = 0; count = 0; looks = 0; puts = 0; words = capped limits.words (words_before scope budgets here) }
 
   -- of each place, and of the end
   abbrev pub notes_of : List Before → List Instruction → List Note
-  notes_of bs [] = end_note (first_before bs) ∷ []
-  notes_of bs (i ∷ is) = note_of (first_before bs) i ∷ notes_of (rest_of bs) is
+  notes_of befores_there [] = end_note (first_before befores_there) ∷ []
+  notes_of befores_there (instruction ∷ lines) = note_of (first_before befores_there) instruction ∷ notes_of (rest_of befores_there) lines
 
   -- what a part of a budget is measured by
   abbrev pub measure_of : Part → Measure
@@ -62,18 +62,18 @@ limit_of Puts = limits.puts
 limit_of Words = limits.words
 
 abbrev pub price_in : Part → Note → ℕ
-price_in Count n = n.count
-price_in Looks n = n.looks
-price_in Puts n = n.puts
-price_in Words n = n.words
+price_in Count note = note.count
+price_in Looks note = note.looks
+price_in Puts note = note.puts
+price_in Words note = note.words
 
 abbrev pub part_joined : Part → ℕ → ℕ → ℕ
-part_joined Words a b = max a b
-part_joined _ a b = a + b
+part_joined Words first second = max first second
+part_joined _ first second = first + second
 
 abbrev pub repeated : Part → ℕ → ℕ → ℕ
-repeated Words room a = a
-repeated _ room a = room * a
+repeated Words room first = first
+repeated _ room first = room * first
 
 -- the same on numbers that stop
 abbrev pub stopping : Part → Measure
@@ -86,18 +86,19 @@ stopping part = record {
 
 abbrev pub first_price : Part → List Note → ℕ
 first_price part [] = 0
-first_price part (n ∷ ns) = price_in part n
+first_price part (note ∷ notes) = price_in part note
 
 abbrev pub first_room : List Note → ℕ
 first_room [] = 0
-first_room (n ∷ ns) = n.room
+first_room (note ∷ notes) = note.room
 
 -- the most from each place on, and at the end
 abbrev pub noted : Part → ℕ → List Note → List Instruction → List ℕ
-noted part place ns [] = first_price part ns ∷ []
-noted part place ns (i ∷ is) =
-    let behind : List ℕ = noted part (suc place) (rest_of ns) is in
-    most_from (stopping part) place (going_of i) (first_price part ns) (first_room ns) is (λ to. slice_index behind (to - suc place)) ∷ behind
+noted part place notes [] = first_price part notes ∷ []
+noted part place notes (instruction ∷ lines) =
+    let behind : List ℕ = noted part (suc place) (rest_of notes) lines in
+    most_from (stopping part) place (going_of instruction) (first_price part notes) (first_room notes) lines
+    (λ to. slice_index behind (to - suc place)) ∷ behind
 
 -- the budget by notes
 abbrev pub budget_noted : List Note → List Instruction → Budget

@@ -29,44 +29,44 @@ takes_count known = length known.head.takes
 
 -- an instruction of this row takes its operands, and leaves others in their place
 abbrev pub taken_by : OperandRow → Before → Result Before VerifyKind
-taken_by r b = then_do (operands_behind r b.kinds) (λ kinds. Ok (before kinds b.loops))
+taken_by row here = then_do (operands_behind row here.kinds) (λ kinds. Ok (before kinds here.loops))
 
 -- so many operands of one kind are taken
 abbrev pub run_taken : ValueKind → ℕ → Before → Result Before VerifyKind
-run_taken kind n b =
-    if list_all (is_same_value_kind kind) (take n b.kinds) then Ok (before (drop n b.kinds) b.loops) else Err WrongOperand
+run_taken kind n here =
+    if list_all (is_same_value_kind kind) (take n here.kinds) then Ok (before (drop n here.kinds) here.loops) else Err WrongOperand
 
 -- they become a list, if there are such lists
 abbrev pub gathered_into : Option ValueKind → Before → Result Before VerifyKind
-gathered_into None b = Err WrongOperand
-gathered_into (Some list) b = Ok (before (list ∷ b.kinds) b.loops)
+gathered_into None here = Err WrongOperand
+gathered_into (Some list) here = Ok (before (list ∷ here.kinds) here.loops)
 
 -- a loop begins over the list on top, for a local of this kind, if there is one
 abbrev pub opened_over : ℕ → Loop → Option ValueKind → Before → Result Before VerifyKind
-opened_over place loop local b =
-    then_do (taken_by (goes_by 1 (of_list [])) b) (λ c.
-    let o : Open = record { start = place; loop = loop; room = room_on_top b.kinds; under = c.kinds } in
-    if_fits (is_that_kind local (element_on_top b.kinds)) (before c.kinds (o ∷ b.loops)))
+opened_over place loop local here =
+    then_do (taken_by (goes_by 1 (of_list [])) here) (λ c.
+    let open_loop : Open = record { start = place; loop = loop; room = room_on_top here.kinds; under = c.kinds } in
+    if_fits (is_that_kind local (element_on_top here.kinds)) (before c.kinds (open_loop ∷ here.loops)))
 
 -- the innermost loop ends behind an instruction of this row
 abbrev pub closed_behind : OperandRow → Loop → Before → Result Before VerifyKind
-closed_behind r loop b = then_do (taken_by r b) (λ c. shut loop c.kinds c.loops)
+closed_behind row loop here = then_do (taken_by row here) (λ c. shut loop c.kinds c.loops)
 
 abbrev pub found_in : List Spot → ℕ → ℕ → Before → Result (List ValueKind) VerifyKind
-found_in spots place to b = if nat_lt place to then landing (innermost b.loops) (slice_get spots to) else Err BackwardJump
+found_in spots place to here = if nat_lt place to then landing (innermost here.loops) (slice_get spots to) else Err BackwardJump
 
 -- the operands are those that are declared at a place
 abbrev pub carried_to : Option (List ValueKind) → Before → Result Before VerifyKind
-carried_to None b = Err WrongShape
-carried_to (Some declared) b = carried declared b
+carried_to None here = Err WrongShape
+carried_to (Some declared) here = carried declared here
 
 abbrev pub branched_in : List Spot → ℕ → ℕ → Before → Result Before VerifyKind
-branched_in spots place to b =
-    then_do (found_in spots place to b) (λ declared. then_do (taken_by (takes (K.B ∷ []) []) b) (carried declared))
+branched_in spots place to here =
+    then_do (found_in spots place to here) (λ declared. then_do (taken_by (takes (K.B ∷ []) []) here) (carried declared))
 
 abbrev pub jumped_in : List Spot → ℕ → ℕ → Before → Result Before VerifyKind
-jumped_in spots place to b =
-    then_do (found_in spots place to b) (λ declared. then_do (carried declared b) (restarted (declares spots (suc place))))
+jumped_in spots place to here =
+    then_do (found_in spots place to here) (λ declared. then_do (carried declared here) (restarted (declares spots (suc place))))
 
 -- ---- operands that are taken
 

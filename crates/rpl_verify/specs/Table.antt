@@ -1,5 +1,6 @@
 -- The table of instructions: which operands each takes, and which it leaves in their place. Operands are listed last one first.
 use Rattle.std.specs.Prelude.{ℕ, suc, nat_le, nat_lt, List, [], ◌∷◌, ◌++◌, length, take, drop, reverse, replicate, slice_get, bytes_eq, Option, Some, None, option_map, Result, Ok, Err, if◌then◌else◌}
+use Rattle.rw_base.specs.declared.limits.TheConstants.{LIST_MAX}
 use Rattle.std.specs.List.{list_all}
 use Rattle.rw_model.specs.Objects.{numbered}
 use Rattle.rpl_code.specs.declared.kind.ValueKind.{ValueKind}
@@ -48,12 +49,13 @@ call_row (Some known) = takes (replicate (length known.head.takes) K.N) (K.N ∷
 -- elements of one kind become the list of them
 abbrev pub listed : ℕ → List ValueKind → Option (List ValueKind)
 listed n [] = None
-listed n (k ∷ ks) = if list_all (is_same_value_kind k) ks then option_map (λ kind. kind ∷ []) (list_value_kind n k) else None
+listed n (other_kind ∷ kinds) =
+    if list_all (is_same_value_kind other_kind) kinds then option_map (λ kind. kind ∷ []) (list_value_kind n other_kind) else None
 
 -- an element on top of its list, which gets room for one more
 abbrev pub appended : List ValueKind → Option (List ValueKind)
-appended (K.N ∷ K.NList m ∷ []) = if nat_lt m 4096 then Some (K.NList (suc m) ∷ []) else None
-appended (K.S ∷ K.SList m ∷ []) = if nat_lt m 4096 then Some (K.SList (suc m) ∷ []) else None
+appended (K.N ∷ K.NList m ∷ []) = if nat_lt m LIST_MAX then Some (K.NList (suc m) ∷ []) else None
+appended (K.S ∷ K.SList m ∷ []) = if nat_lt m LIST_MAX then Some (K.SList (suc m) ∷ []) else None
 appended _ = None
 
 -- a list that is no longer gets room for so many
@@ -78,8 +80,8 @@ of_list left _ = None
 
 -- of the blocks with these heads, in a block with these locals
 abbrev pub operand_row : List BlockHead → List ValueKind → Instruction → OperandRow
-operand_row heads locals (I.Num v) = takes [] (K.N ∷ [])
-operand_row heads locals (I.Bool b) = takes [] (K.B ∷ [])
+operand_row heads locals (I.Num quantity) = takes [] (K.N ∷ [])
+operand_row heads locals (I.Bool truth) = takes [] (K.B ∷ [])
 operand_row heads locals I.Now = takes [] (K.D ∷ [])
 operand_row heads locals (I.Slot object slot) = takes [] (K.S ∷ [])
 operand_row heads locals (I.Load n) = load_row (slice_get locals n)
@@ -107,14 +109,14 @@ operand_row heads locals I.Year = takes (K.D ∷ []) (K.N ∷ [])
 operand_row heads locals (I.ToElevation object) = takes (K.N ∷ []) (K.N ∷ [])
 operand_row heads locals (I.ToStorage object) = takes (K.N ∷ []) (K.N ∷ [])
 operand_row heads locals (I.Call name) = call_row (function_named predefined_functions name)
-operand_row heads locals (I.Invoke b) = invoke_row (numbered heads b)
+operand_row heads locals (I.Invoke callee) = invoke_row (numbered heads callee)
 operand_row heads locals (I.List n) = goes_by n (listed n)
 operand_row heads locals I.Append = goes_by 2 appended
 operand_row heads locals (I.Widen room) = goes_by 1 (widened_list room)
 operand_row heads locals I.Item = goes_by 2 element_picked
 operand_row heads locals I.Length = goes_by 1 (of_list (K.N ∷ []))
-operand_row heads locals (I.Jump p) = takes [] []
-operand_row heads locals (I.Branch p) = takes (K.B ∷ []) []
+operand_row heads locals (I.Jump place) = takes [] []
+operand_row heads locals (I.Branch place) = takes (K.B ∷ []) []
 operand_row heads locals (I.Target kinds) = takes [] []
 operand_row heads locals (I.Foreach n) = goes_by 1 (of_list [])
 operand_row heads locals I.Next = takes [] []
@@ -135,9 +137,9 @@ or_wrong (Some left) = Ok left
 
 -- what is left in place of operands of these kinds, which are as many as the row takes
 abbrev pub left_of : OperandRow → List ValueKind → Result (List ValueKind) VerifyKind
-left_of (takes kinds left) ks = if are_same_kinds kinds ks then Ok left else Err WrongOperand
-left_of (goes_by n left_for) ks = or_wrong (left_for ks)
-left_of (lacks n) ks = Err WrongShape
+left_of (takes kinds left) its_kinds = if are_same_kinds kinds its_kinds then Ok left else Err WrongOperand
+left_of (goes_by n left_for) kinds = or_wrong (left_for kinds)
+left_of (lacks n) kinds = Err WrongShape
 
 abbrev pub on_top_of : List ValueKind → Result (List ValueKind) VerifyKind → Result (List ValueKind) VerifyKind
 on_top_of below (Ok left) = Ok (left ++ below)
@@ -145,6 +147,7 @@ on_top_of below (Err misfit) = Err misfit
 
 -- the operands behind the instruction, of all those before it
 abbrev pub operands_behind : OperandRow → List ValueKind → Result (List ValueKind) VerifyKind
-operands_behind r ks =
-    let n = operand_count r in
-    if nat_lt (length ks) n then Err MissingOperand else on_top_of (drop n ks) (left_of r (take n ks))
+operands_behind row kinds =
+    let operand_count_so = operand_count row in
+    if nat_lt (length kinds) operand_count_so then Err MissingOperand else on_top_of (drop operand_count_so kinds)
+    (left_of row (take operand_count_so kinds))

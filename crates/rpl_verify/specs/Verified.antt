@@ -1,5 +1,6 @@
 -- Code that is accepted.
 use Rattle.std.specs.Prelude.{◌≡◌, ◌≤◌, ℕ, suc, List, [], ◌∷◌, length, Option, Some, None, Result, Ok, Err, if◌then◌else◌}
+use Rattle.rw_base.specs.declared.limits.TheConstants.{RULES_MAX}
 use Rattle.rw_model.specs.Draft.{Draft}
 use Rattle.rpl_code.specs.declared.block.Block.{Block}
 use Rattle.rpl_code.specs.declared.kind.ValueKind.TheVariants as K
@@ -36,7 +37,7 @@ misfit_refusal_of NoMemory = None
 -- the numbers of the blocks that are rules, where the first block has this number
 abbrev pub rules_from : ℕ → List Block → List ℕ
 rules_from n [] = []
-rules_from n (x ∷ xs) = if is_alike Rule x.head then n ∷ rules_from (suc n) xs else rules_from (suc n) xs
+rules_from n (block ∷ blocks) = if is_alike Rule block.head then n ∷ rules_from (suc n) blocks else rules_from (suc n) blocks
 
 -- any function's
 abbrev pub function_head : BlockHead
@@ -46,5 +47,5 @@ function_head = Function K.N []
 pub record KeepsVerified (blocks : List Block) (budgets : List Budget) (rules : List ℕ) : Type 0 where
   pub each : length budgets ≡ length blocks
   pub rules_are : rules ≡ rules_from 1 blocks
-  pub few_rules : count_alike Rule blocks ≤ 200
-  pub few_functions : count_alike function_head blocks ≤ 200
+  pub few_rules : count_alike Rule blocks ≤ RULES_MAX
+  pub few_functions : count_alike function_head blocks ≤ RULES_MAX

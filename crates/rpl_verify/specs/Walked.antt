@@ -15,19 +15,19 @@ pub record Walked : Type 0 where
 
 -- before another place, or with other operands
 abbrev pub at_before : Walked → Before → Walked
-at_before w b = record { before = b; spots = w.spots }
+at_before walked here = record { before = here; spots = walked.spots }
 
 abbrev pub with_kinds : Walked → List ValueKind → Walked
-with_kinds w kinds = at_before w (before kinds w.before.loops)
+with_kinds walked kinds = at_before walked (before kinds walked.before.loops)
 
 abbrev pub without_top : Walked → Walked
-without_top w = with_kinds w (rest_of w.before.kinds)
+without_top walked = with_kinds walked (rest_of walked.before.kinds)
 
 -- a loop begins at a place, over a list with room for so many
 abbrev pub with_loop : ℕ → Loop → ℕ → Walked → Walked
-with_loop place loop room w =
-    let o : Open = record { start = place; loop = loop; room = room; under = w.before.kinds } in
-    at_before w (before w.before.kinds (o ∷ w.before.loops))
+with_loop place loop room walked =
+    let open_loop : Open = record { start = place; loop = loop; room = room; under = walked.before.kinds } in
+    at_before walked (before walked.before.kinds (open_loop ∷ walked.before.loops))
 
 abbrev pub declares : List Spot → ℕ → Option (List ValueKind)
 declares spots place = declared_at (slice_get spots place)
@@ -39,30 +39,30 @@ is_declared (Some declared) kinds = are_same_kinds declared kinds
 
 -- with the operands that are declared there, if any are
 abbrev pub landed : Option (List ValueKind) → Walked → Walked
-landed None w = w
-landed (Some kinds) w = with_kinds w kinds
+landed None walked = walked
+landed (Some kinds) walked = with_kinds walked kinds
 
 abbrev pub are_shut : List Open → Bool
 are_shut [] = true
-are_shut (o ∷ os) = false
+are_shut (open_loop ∷ open_loops) = false
 
 -- ---- answers
 
 -- the answer is what is given, seen in the definition's terms, unless memory was wanting
 abbrev pub GivesSeen : {A B : Type 0} → Result A VerifyKind → (B → A) → Result B PlaceFault → Type 0
-GivesSeen given seen (Ok x) = given ≡ Ok (seen x)
+GivesSeen given seen (Ok b) = given ≡ Ok (seen b)
 GivesSeen given seen (Err (Misfit misfit)) = given ≡ Err misfit
 GivesSeen given seen (Err NoMemory) = Unit {0}
 
 -- the walk goes on to what is given to be before the next place
 abbrev pub Goes : {B : Type 0} → Result Before VerifyKind → Walked → Walked → Result B PlaceFault → Type 0
-Goes given old new (Ok x) = (given ≡ Ok new.before) × (new.spots ≡ old.spots)
+Goes given old new (Ok b) = (given ≡ Ok new.before) × (new.spots ≡ old.spots)
 Goes given old new (Err (Misfit misfit)) = given ≡ Err misfit
 Goes given old new (Err NoMemory) = Unit {0}
 
 -- a jump lands where these kinds are declared
 abbrev pub Lands : {B : Type 0} → Result (List ValueKind) VerifyKind → Option (List ValueKind) → Result B PlaceFault → Type 0
-Lands given kinds (Ok x) = MatchOption kinds ⊥ (λ declared. given ≡ Ok declared)
+Lands given kinds (Ok b) = MatchOption kinds ⊥ (λ declared. given ≡ Ok declared)
 Lands given kinds (Err (Misfit misfit)) = given ≡ Err misfit
 Lands given kinds (Err NoMemory) = ⊥
 

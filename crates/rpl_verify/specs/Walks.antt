@@ -11,56 +11,56 @@ use Rattle.rpl_verify.specs.Walked.{Walked}
 use Rattle.rpl_verify.specs.Stacks.{at}
 
 abbrev pub open_of : List (List ValueKind) → OpenLoop → Open
-open_of ls o = record { start = o.start; loop = loop_of o.sort; room = o.room; under = at ls o.under }
+open_of lists open_loop = record { start = open_loop.start; loop = loop_of open_loop.sort; room = open_loop.room; under = at lists open_loop.under }
 
 -- the loops that are open, the innermost first
 abbrev pub opens_of : List (List ValueKind) → List OpenLoop → List Open
-opens_of ls os = reverse (map (open_of ls) os)
+opens_of lists open_loops = reverse (map (open_of lists) open_loops)
 
 abbrev pub kinds_at : List (List ValueKind) → Option ℕ → Option (List ValueKind)
-kinds_at ls None = None
-kinds_at ls (Some n) = Some (at ls n)
+kinds_at lists None = None
+kinds_at lists (Some n) = Some (at lists n)
 
 abbrev pub spot_of : List (List ValueKind) → Landing → Spot
-spot_of ls l = record { innermost = l.innermost; declares = kinds_at ls l.declares }
+spot_of lists landing = record { innermost = landing.innermost; declares = kinds_at lists landing.declares }
 
 abbrev pub spots_of : List (List ValueKind) → List Landing → List Spot
-spots_of ls xs = map (spot_of ls) xs
+spots_of lists landings = map (spot_of lists) landings
 
 abbrev pub walked : List (List ValueKind) → ℕ → List OpenLoop → List Landing → Walked
-walked ls n os xs = record { before = before (at ls n) (opens_of ls os); spots = spots_of ls xs }
+walked lists n open_loops landings = record { before = before (at lists n) (opens_of lists open_loops); spots = spots_of lists landings }
 
 -- a number, if there is one, below another
 abbrev pub IsBelowIt : ℕ → Option ℕ → Type 0
 IsBelowIt n None = Unit {0}
-IsBelowIt n (Some k) = k < n
+IsBelowIt n (Some index) = index < n
 
 -- each number is that of a list, and the words are those of the open loops
-pub record IsSoundWalk (ls : List (List ValueKind)) (n : ℕ) (os : List OpenLoop) (xs : List Landing) (words : ℕ) : Type 0 where
-  pub now_in : n < length ls
-  pub opens_in : All (λ o. o.under < length ls) os
-  pub landings_in : All (λ x. IsBelowIt (length ls) x.declares) xs
-  pub words_are : words ≡ words_of_loops (opens_of ls os)
+pub record IsSoundWalk (lists : List (List ValueKind)) (n : ℕ) (open_loops : List OpenLoop) (landings : List Landing) (words : ℕ) : Type 0 where
+  pub now_in : n < length lists
+  pub opens_in : All (λ o. o.under < length lists) open_loops
+  pub landings_in : All (λ x. IsBelowIt (length lists) x.declares) landings
+  pub words_are : words ≡ words_of_loops (opens_of lists open_loops)
 
 -- number 0 is the empty list
-pub record IsRooted (ls : List (List ValueKind)) : Type 0 where
-  pub within : 0 < length ls
-  pub empty : at ls 0 ≡ []
+pub record IsRooted (lists : List (List ValueKind)) : Type 0 where
+  pub within : 0 < length lists
+  pub empty : at lists 0 ≡ []
 
-pub record IsNumberOf (ls : List (List ValueKind)) (n : ℕ) (ks : List ValueKind) : Type 0 where
-  pub within : n < length ls
-  pub is : at ls n ≡ ks
+pub record IsNumberOf (lists : List (List ValueKind)) (n : ℕ) (kinds : List ValueKind) : Type 0 where
+  pub within : n < length lists
+  pub is : at lists n ≡ kinds
 
 -- the number of what is declared, if anything is
 abbrev pub IsDeclared : List (List ValueKind) → Option ℕ → Option (List ValueKind) → Type 0
-IsDeclared ls None declared = declared ≡ None
-IsDeclared ls (Some n) declared = (n < length ls) × (declared ≡ Some (at ls n))
+IsDeclared lists None declared = declared ≡ None
+IsDeclared lists (Some n) declared = (n < length lists) × (declared ≡ Some (at lists n))
 
 -- ---- the first pass
 
 abbrev pub opener_of : Beginning → Opener
-opener_of b = record { start = b.start; loop = loop_of b.sort }
+opener_of beginning = record { start = beginning.start; loop = loop_of beginning.sort }
 
 -- the loops that are open, the innermost first
 abbrev pub openers_of : List Beginning → List Opener
-openers_of bs = reverse (map opener_of bs)
+openers_of beginnings = reverse (map opener_of beginnings)

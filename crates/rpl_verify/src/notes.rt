@@ -16,8 +16,17 @@ ghost use Rattle.rpl_verify.specs.Steps.{scope_in};
 
 use crate::Budget;
 use crate::names::block_numbered;
+use crate::stacks::WORDS_CAP;
 use crate::walk::Walk;
 use rpl_code::{Block, BlockHead, Instruction, ValueKind};
+use rw_base::limits::{INSTRUCTIONS_MAX, LOOKS_MAX, PUTS_MAX};
+
+// The first numbers above the limits of what is counted, of looks and of puts.
+const COUNT_CAP: u32 = INSTRUCTIONS_MAX as u32 + 1;
+
+const LOOKS_CAP: u32 = LOOKS_MAX as u32 + 1;
+
+const PUTS_CAP: u32 = PUTS_MAX as u32 + 1;
 
 /// The numbers of a budget.
 #[derive(Clone, Copy)]
@@ -49,10 +58,10 @@ pub(crate) fn cap_of(part: Part) -> u32
     ensures { result ≡ limit_of part + 1 }
 {
     match part {
-        Part::Count => 1_000_001,
-        Part::Looks => 20_001,
-        Part::Puts => 2_001,
-        Part::Words => 1_000_001,
+        Part::Count => COUNT_CAP,
+        Part::Looks => LOOKS_CAP,
+        Part::Puts => PUTS_CAP,
+        Part::Words => WORDS_CAP,
     }
 }
 

@@ -8,12 +8,13 @@ ghost use Rattle.rpl_verify.specs.Stacks.{at, key_of, kind_code, is_next, Grows,
 use crate::kinds::is_same_kind;
 use rpl_code::ValueKind;
 use rw_base::NoMemory;
+use rw_base::limits::WORDS_MAX;
 use std::alloc::Global;
 use std::collections::BTreeMap;
 use std::marker::Model;
 
 /// The most words that are told apart: one above the limit of words.
-pub(crate) const WORDS_CAP: u32 = 1_000_001;
+pub(crate) const WORDS_CAP: u32 = WORDS_MAX as u32 + 1;
 
 /// A list that isn't empty: the kind on top, the number of the list below, how many kinds the list
 /// has, and how many words these take, up to the first number above the limit.

@@ -1,4 +1,5 @@
 use Rattle.rw_base.proofs.Common.{◌≡◌, ◌<◌, ◌+◌, suc, Ok, Err, length, map, take, sym, ap, ◌∙◌, arith, length-take-le}
+use Rattle.rw_base.specs.declared.limits.TheConstants.{RULES_MAX}
 use Rattle.rpl_verify.specs.Places.{spots}
 use Rattle.rpl_verify.specs.Fits.{count_alike}
 use Rattle.rpl_verify.specs.Notes.{budget_noted, numbers_seen}
@@ -24,7 +25,7 @@ returns-in-Some c =
     let same =
     same_noted c.args.basin.now blocks (take place blocks) budgets block (place + 1) c.deref.result.now c.as_slice-lines.result.now number
     (c.deref.ensures.value ∙ c.in_ok-locals.ensures) c.as_slice-lines.ensures in
-    let few : count_alike block.head (take place blocks) < 200 = let a = c.if-count_alike-ge-BLOCKS_MAX.false in let b =
+    let few : count_alike block.head (take place blocks) < RULES_MAX = let a = c.if-count_alike-ge-BLOCKS_MAX.false in let b =
     c.count_alike.ensures in omega (arith, a, b) in
     let noted = sym same ∙ c.in_ok-notes.ensures in
     let seen : numbers_seen c.in_ok-budget.budget ≡ budget_noted c.in_ok-notes.notes.items block.lines =
@@ -46,7 +47,7 @@ returns c =
     let same =
     same_noted c.args.basin.now blocks (take place blocks) budgets block (place + 1) c.deref.result.now c.as_slice-lines.result.now number
     (c.deref.ensures.value ∙ c.in_ok-locals.ensures) c.as_slice-lines.ensures in
-    let few : count_alike block.head (take place blocks) < 200 = let a = c.if-count_alike-ge-BLOCKS_MAX.false in let b =
+    let few : count_alike block.head (take place blocks) < RULES_MAX = let a = c.if-count_alike-ge-BLOCKS_MAX.false in let b =
     c.count_alike.ensures in omega (arith, a, b) in
     let noted = sym same ∙ c.in_ok-notes.ensures in
     let seen : numbers_seen c.in_ok-budget.budget ≡ budget_noted c.in_ok-notes.notes.items block.lines =
