@@ -1,4 +1,5 @@
 -- A word that is read is what is written of what it was read as.
+use Rattle.rw_base.specs.declared.limits.TheConstants.{LIST_MAX}
 use Rattle.rw_base.proofs.Common.{◌≡◌, ℕ, zero, suc, List, [], ◌∷◌, ◌++◌, Bool, true, false, refl, sym, ap, ap₂, subst, ◌∙◌, append-nil, ◌≤◌, arith}
 use Rattle.rw_base.proofs.Common.{ℤ, pos, ◌==◌, ◌&&◌, if◌then◌else◌, nat_le, Option, Some, None, is_some, unwrap_or, option_map, option_and_then, map}
 use Rattle.rw_base.proofs.Common.{codes, neg_ℤ, AllByRecursion, bytes_eq, digits_value, decimal, signed_decimal, bytes_eq-Decides, eqb-true, leb-true}
@@ -97,7 +98,7 @@ pub count_back : (n : ℕ) (text : List ℕ) → count_in text ≡ Some n → (t
 count_back n text e = let back = number_back 0 4294967295 n text e in (back.0, omega (arith, back.2))
 
 pub length_back : (n : ℕ) (text : List ℕ) → length_in text ≡ Some n → (text ≡ decimal n) × IsLength n
-length_back n text e = let back = number_back 1 4096 n text e in (back.0, (back.1, back.2))
+length_back n text e = let back = number_back 1 LIST_MAX n text e in (back.0, (back.1, back.2))
 
 negative_back : (n b : ℕ) (bs : List ℕ) (z : ℤ) → b ≡ 45 → bs ≡ decimal n → 1 ≤ n → n ≤ 100000000000000000 → neg_ℤ (pos n) ≡ z
     → ((b ∷ bs) ≡ signed_decimal z) × IsQuantity z

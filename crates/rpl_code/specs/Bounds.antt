@@ -1,6 +1,7 @@
 -- What a code may hold: what a text can spell.
 use Rattle.std.specs.Prelude.{ℕ, ◌<◌, ◌≤◌, ◌^◌, List, length, IsTrue}
 use Rattle.std.specs.List.{AllByRecursion}
+use Rattle.rw_base.specs.declared.limits.TheConstants.{LIST_MAX}
 use Rattle.rw_base.specs.Quantity.{IsQuantity}
 use Rattle.rpl_code.specs.declared.kind.ValueKind.{ValueKind}
 use Rattle.rpl_code.specs.declared.kind.ValueKind.TheVariants.{NList, SList}
@@ -17,7 +18,7 @@ IsNumber n = n < 2 ^ 32
 
 -- the greatest length of a list
 abbrev pub IsLength : ℕ → Type 0
-IsLength n = (1 ≤ n) × (n ≤ 4096)
+IsLength n = (1 ≤ n) × (n ≤ LIST_MAX)
 
 abbrev pub IsCodeName : List ℕ → Type 0
 IsCodeName name = IsTrue (is_code_name name)
