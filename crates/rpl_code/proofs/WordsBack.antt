@@ -5,8 +5,8 @@ use Rattle.rw_base.proofs.Common.{ℤ, pos, ◌==◌, ◌&&◌, if◌then◌else
 use Rattle.rw_base.proofs.Common.{codes, neg_ℤ, AllByRecursion, bytes_eq, digits_value, decimal, signed_decimal, bytes_eq-Decides, eqb-true, leb-true}
 use Rattle.rw_base.proofs.Common.{and_parts, false≢true, ints}
 use Rattle.rw_base.specs.Quantity.{IsQuantity}
+use Rattle.rw_model.specs.Name.{is_plain}
 use Rattle.rpl_code.specs.declared.kind.ValueKind.{ValueKind}
-use Rattle.rpl_code.specs.Names.{is_code_name}
 use Rattle.rpl_code.specs.Bounds.{IsNumber, IsLength, IsCodeName, IsCodeKind, AreKinds}
 use Rattle.rpl_code.specs.Parting.{parted, in_front}
 use Rattle.rpl_code.specs.Words.{if_so, entry_at, number_in, count_in, length_in, quantity_in, truths, plain_kinds, list_kinds, truth_in, name_in}
@@ -133,7 +133,7 @@ truth_back truth text e = entry_back (λ word b. word ≡ truth_text b) truths t
 -- ---- names
 
 pub name_back : (name text : List ℕ) → name_in text ≡ Some name → (text ≡ name) × IsCodeName name
-name_back name text e = let found = if_so_back (is_code_name text) text name e in (found.1, subst IsCodeName found.1 found.0)
+name_back name text e = let found = if_so_back (is_plain text) text name e in (found.1, subst IsCodeName found.1 found.0)
 
 abbrev pub AreNames : (List ℕ) × (List ℕ) → Type 0
 AreNames names = IsCodeName names.0 × IsCodeName names.1
@@ -144,9 +144,9 @@ slot_of_back [] names e = none_some names e
 slot_of_back (object ∷ []) names e = none_some names e
 slot_of_back (object ∷ slot ∷ []) names e =
     let pair : (List ℕ) × (List ℕ) = (object, slot) in
-    let found = if_so_back (is_code_name object && is_code_name slot) pair names e in (
+    let found = if_so_back (is_plain object && is_plain slot) pair names e in (
       ap (λ text. object ++ 46 ∷ text) (append-nil slot) ∙ ap (λ (both : (List ℕ) × (List ℕ)). slot_text both.0 both.1) found.1,
-      subst AreNames found.1 (and_parts (is_code_name object) (is_code_name slot) found.0),
+      subst AreNames found.1 (and_parts (is_plain object) (is_plain slot) found.0),
     )
 slot_of_back (object ∷ slot ∷ other ∷ texts) names e = none_some names e
 

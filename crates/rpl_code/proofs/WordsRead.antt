@@ -6,6 +6,7 @@ use Rattle.rw_base.proofs.Common.{ints}
 use Rattle.std.specs.Fmt.{digits}
 use Rattle.rw_base.specs.declared.limits.TheConstants.{LIST_MAX}
 use Rattle.rw_base.specs.Quantity.{IsQuantity}
+use Rattle.rw_model.specs.declared.limits.TheConstants.{NAME_MAX}
 use Rattle.rpl_code.specs.declared.kind.ValueKind.{ValueKind}
 use Rattle.rpl_code.specs.declared.kind.ValueKind.TheVariants as K
 use Rattle.rw_base.specs.Byte.{is_letter, is_digit}
@@ -68,7 +69,7 @@ further_above (b ∷ bs) h =
 pub name_above : (name : List ℕ) → IsCodeName name → Above 46 name
 name_above [] h = tt
 name_above (b ∷ bs) h =
-    let parts = and_parts (nat_le (length (b ∷ bs)) 32) (is_letter b && list_all (λ c. is_letter c || is_digit c) bs) h in
+    let parts = and_parts (nat_le (length (b ∷ bs)) NAME_MAX) (is_letter b && list_all (λ c. is_letter c || is_digit c) bs) h in
     let bytes = and_parts (is_letter b) (list_all (λ c. is_letter c || is_digit c) bs) parts.1 in
     (letter_above b bytes.0, further_above bs bytes.1)
 

@@ -3,6 +3,7 @@ use Rattle.std.specs.Prelude.{ℕ, ◌<◌, ◌≤◌, ◌^◌, List, length, Is
 use Rattle.std.specs.List.{AllByRecursion}
 use Rattle.rw_base.specs.declared.limits.TheConstants.{LIST_MAX}
 use Rattle.rw_base.specs.Quantity.{IsQuantity}
+use Rattle.rw_model.specs.Name.{is_plain}
 use Rattle.rpl_code.specs.declared.kind.ValueKind.{ValueKind}
 use Rattle.rpl_code.specs.declared.kind.ValueKind.TheVariants.{NList, SList}
 use Rattle.rpl_code.specs.declared.instruction.Instruction.{Instruction}
@@ -10,7 +11,6 @@ use Rattle.rpl_code.specs.declared.instruction.Instruction.TheVariants as I
 use Rattle.rpl_code.specs.declared.block.BlockHead.{BlockHead}
 use Rattle.rpl_code.specs.declared.block.BlockHead.TheVariants.{Rule, Function}
 use Rattle.rpl_code.specs.declared.block.Block.{Block}
-use Rattle.rpl_code.specs.Names.{is_code_name}
 
 -- the number of a place, a local or a block
 abbrev pub IsNumber : ℕ → Type 0
@@ -21,7 +21,7 @@ abbrev pub IsLength : ℕ → Type 0
 IsLength n = (1 ≤ n) × (n ≤ LIST_MAX)
 
 abbrev pub IsCodeName : List ℕ → Type 0
-IsCodeName name = IsTrue (is_code_name name)
+IsCodeName name = IsTrue (is_plain name)
 
 abbrev pub IsCodeKind : ValueKind → Type 0
 IsCodeKind (NList most) = IsLength most

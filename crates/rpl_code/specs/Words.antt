@@ -5,9 +5,9 @@ use Rattle.std.specs.Str.Parse.{digits_value}
 use Rattle.std.specs.Fmt.{decimal}
 use Rattle.rw_base.specs.Quantity.{quantity_max}
 use Rattle.rw_base.specs.declared.limits.TheConstants.{LIST_MAX}
+use Rattle.rw_model.specs.Name.{is_plain}
 use Rattle.rpl_code.specs.declared.kind.ValueKind.{ValueKind}
 use Rattle.rpl_code.specs.declared.kind.ValueKind.TheVariants as K
-use Rattle.rpl_code.specs.Names.{is_code_name}
 use Rattle.rpl_code.specs.Parting.{parted}
 
 -- x where the test holds, and nothing elsewhere
@@ -47,11 +47,11 @@ abbrev pub truth_in : List ℕ → Option Bool
 truth_in = entry_at truths
 
 abbrev pub name_in : List ℕ → Option (List ℕ)
-name_in text = if_so (is_code_name text) text
+name_in text = if_so (is_plain text) text
 
 -- an object's name and a slot's, with a point between them
 abbrev pub slot_of : List (List ℕ) → Option ((List ℕ) × (List ℕ))
-slot_of (object ∷ slot ∷ []) = if_so (is_code_name object && is_code_name slot) (object, slot)
+slot_of (object ∷ slot ∷ []) = if_so (is_plain object && is_plain slot) (object, slot)
 slot_of _ = None
 
 abbrev pub slot_spelt : List ℕ → Option ((List ℕ) × (List ℕ))

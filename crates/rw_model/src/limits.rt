@@ -1,5 +1,8 @@
 //! How much a basin may have, and how great parameters of its objects may be.
 
+/// The most bytes of a name.
+pub const NAME_MAX: usize = 32;
+
 /// The most objects.
 pub const OBJECTS_MAX: u16 = 500;
 
