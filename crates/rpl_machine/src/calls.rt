@@ -3,11 +3,12 @@ ghost use Rattle.rpl_machine.specs.Steps.{calls_max};
 
 use crate::call::Call;
 use rw_base::NoMemory;
+use rw_base::limits::RULES_MAX;
 use std::alloc::Global;
 use std::marker::Model;
 
-// For how many there is room.
-const CALLS_MAX: usize = 400;
+// For how many there is room: for each block that there can be.
+const CALLS_MAX: usize = 2 * RULES_MAX as usize;
 
 /// The blocks that wait, seen as their list with the last caller first. Only `with_room` takes memory.
 #[derive(Drop)]
