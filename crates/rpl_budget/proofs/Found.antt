@@ -1,33 +1,13 @@
--- Of the entries that pass a test, the last of a list is the first of the list in reverse.
-use Rattle.rw_base.proofs.Common.{◌≡◌, ℕ, Bool, List, [], ◌∷◌, ◌++◌, reverse, Some, bytes_eq, unwrap_or, refl, sym, ap, ◌∙◌, if◌then◌else◌}
-use Rattle.rw_base.proofs.Common.{reverse-append}
+-- The kind of a name, and the function of a name that was declared last.
+use Rattle.rw_base.proofs.Common.{◌≡◌, ℕ, List, [], ◌∷◌, reverse, Some, bytes_eq, unwrap_or, refl, ap, ◌∙◌, if◌then◌else◌}
 use Rattle.rpl_tree.specs.Kinds.{kind_named}
 use Rattle.rpl_scope.specs.Scope.{first_named}
+use Rattle.rpl_scope.proofs.Latest.{first_of_all, last_is_first, last_of_all}
 use Rattle.rpl_budget.specs.declared.kind.TreeKind.{TreeKind}
 use Rattle.rpl_budget.specs.declared.kind.TreeKind.TheVariants.{Number}
 use Rattle.rpl_budget.specs.Seen.{tree_kind_seen, names_of}
 use Rattle.rpl_budget.proofs.Exact.{of_choice}
 use Rattle.rpl_budget.specs.Pass.{Priced, priced_named, no_function}
-
-module _ {A B : Type 0} (passes : A → Bool) (value : A → B) where
-  abbrev pub first_of_all : B → List A → B
-  first_of_all otherwise [] = otherwise
-  first_of_all otherwise (entry ∷ entries) = if passes entry then value entry else first_of_all otherwise entries
-
-  abbrev pub last_of_all : B → List A → B
-  last_of_all otherwise [] = otherwise
-  last_of_all otherwise (entry ∷ entries) = last_of_all (if passes entry then value entry else otherwise) entries
-
-  one_behind : (otherwise : B) (entries : List A) (entry : A)
-      → first_of_all (if passes entry then value entry else otherwise) entries ≡ first_of_all otherwise (entries ++ entry ∷ [])
-  one_behind otherwise [] entry = refl
-  one_behind otherwise (first ∷ others) entry = ap (λ found. if passes first then value first else found) (one_behind otherwise others entry)
-
-  pub last_is_first : (otherwise : B) (entries : List A) → last_of_all otherwise entries ≡ first_of_all otherwise (reverse entries)
-  last_is_first otherwise [] = refl
-  last_is_first otherwise (entry ∷ entries) =
-      last_is_first (if passes entry then value entry else otherwise) entries ∙ one_behind otherwise (reverse entries) entry
-      ∙ ap (first_of_all otherwise) (sym (reverse-append (entry ∷ []) entries))
 
 -- ---- names
 

@@ -7,7 +7,7 @@ ghost use Rattle.rpl_budget.specs.Seen.{functions_of, tree_kind_seen, tree_kinds
 use crate::TreeCost;
 use crate::kind::{TreeKind, weight};
 use crate::load::{Load, nothing, plus, standing, stopped};
-use crate::named::is_same_name;
+use rpl_scope::is_same_name;
 use rw_base::limits::WORDS_MAX;
 
 /// A function that can be called, and what a call comes to, its arguments apart.

@@ -1,4 +1,4 @@
-ghost use Rattle.std.specs.Prelude.{◌≡◌, bytes_eq};
+ghost use Rattle.std.specs.Prelude.{◌≡◌};
 ghost use Rattle.rpl_tree.specs.Kinds as Kinds;
 ghost use Rattle.rpl_budget.specs.Seen.{tree_kind_seen, names_of};
 
@@ -10,13 +10,6 @@ use rpl_scope::Scope;
 pub(crate) struct Named<'a> {
     pub(crate) name: &'a [u8],
     pub(crate) kind: TreeKind,
-}
-
-/// Whether two names are the same.
-pub(crate) fn is_same_name(a: &[u8], b: &[u8]) -> bool
-    ensures { result ≡ bytes_eq a.now b.now }
-{
-    a == b
 }
 
 /// The kind of the innermost of a name, and that of a number where there is none.

@@ -1,4 +1,5 @@
 -- A text that is read is what is written of the code that it is read as.
+use Rattle.rw_base.specs.declared.limits.TheConstants.{TEXT_MAX}
 use Rattle.rw_base.proofs.Common.{◌≡◌, ℕ, List, [], ◌∷◌, ◌++◌, refl, sym, ap, ap₂, subst, ◌∙◌, append_assoc, ◌+◌, ◌<◌, ◌≤◌, ◌^◌, arith, Result, Ok}
 use Rattle.rw_base.proofs.Common.{Err, Bool, true, false, ◌&&◌, ◌==◌, if◌then◌else◌, Option, Some, None, length, map, flat_map, codes, is_ok}
 use Rattle.rw_base.proofs.Common.{AllByRecursion, bytes_eq, bytes_eq-Decides, and_parts, false≢true}
@@ -236,7 +237,7 @@ said_count says parts e = rw e (count says)
     count [] = omega arith
     count (first ∷ rest) = omega (arith, count rest)
 
-pub read_back : (text : List ℕ) (blocks : List Block) → length text ≤ 16777216 → read text ≡ Ok blocks → Back text blocks
+pub read_back : (text : List ℕ) (blocks : List Block) → length text ≤ TEXT_MAX → read text ≡ Ok blocks → Back text blocks
 read_back text blocks short e =
     let lines = lines_of (all_said 1 top (parted 10 text)) blocks e in
     let is = told 1 top (parted 10 text) lines.0 lines.1 in

@@ -1,11 +1,12 @@
 -- A word that is read is what is written of what it was read as.
+use Rattle.rw_base.specs.declared.limits.TheConstants.{LIST_MAX}
 use Rattle.rw_base.proofs.Common.{◌≡◌, ℕ, zero, suc, List, [], ◌∷◌, ◌++◌, Bool, true, false, refl, sym, ap, ap₂, subst, ◌∙◌, append-nil, ◌≤◌, arith}
 use Rattle.rw_base.proofs.Common.{ℤ, pos, ◌==◌, ◌&&◌, if◌then◌else◌, nat_le, Option, Some, None, is_some, unwrap_or, option_map, option_and_then, map}
 use Rattle.rw_base.proofs.Common.{codes, neg_ℤ, AllByRecursion, bytes_eq, digits_value, decimal, signed_decimal, bytes_eq-Decides, eqb-true, leb-true}
 use Rattle.rw_base.proofs.Common.{and_parts, false≢true, ints}
 use Rattle.rw_base.specs.Quantity.{IsQuantity}
+use Rattle.rw_model.specs.Name.{is_plain}
 use Rattle.rpl_code.specs.declared.kind.ValueKind.{ValueKind}
-use Rattle.rpl_code.specs.Names.{is_code_name}
 use Rattle.rpl_code.specs.Bounds.{IsNumber, IsLength, IsCodeName, IsCodeKind, AreKinds}
 use Rattle.rpl_code.specs.Parting.{parted, in_front}
 use Rattle.rpl_code.specs.Words.{if_so, entry_at, number_in, count_in, length_in, quantity_in, truths, plain_kinds, list_kinds, truth_in, name_in}
@@ -97,7 +98,7 @@ pub count_back : (n : ℕ) (text : List ℕ) → count_in text ≡ Some n → (t
 count_back n text e = let back = number_back 0 4294967295 n text e in (back.0, omega (arith, back.2))
 
 pub length_back : (n : ℕ) (text : List ℕ) → length_in text ≡ Some n → (text ≡ decimal n) × IsLength n
-length_back n text e = let back = number_back 1 4096 n text e in (back.0, (back.1, back.2))
+length_back n text e = let back = number_back 1 LIST_MAX n text e in (back.0, (back.1, back.2))
 
 negative_back : (n b : ℕ) (bs : List ℕ) (z : ℤ) → b ≡ 45 → bs ≡ decimal n → 1 ≤ n → n ≤ 100000000000000000 → neg_ℤ (pos n) ≡ z
     → ((b ∷ bs) ≡ signed_decimal z) × IsQuantity z
@@ -132,7 +133,7 @@ truth_back truth text e = entry_back (λ word b. word ≡ truth_text b) truths t
 -- ---- names
 
 pub name_back : (name text : List ℕ) → name_in text ≡ Some name → (text ≡ name) × IsCodeName name
-name_back name text e = let found = if_so_back (is_code_name text) text name e in (found.1, subst IsCodeName found.1 found.0)
+name_back name text e = let found = if_so_back (is_plain text) text name e in (found.1, subst IsCodeName found.1 found.0)
 
 abbrev pub AreNames : (List ℕ) × (List ℕ) → Type 0
 AreNames names = IsCodeName names.0 × IsCodeName names.1
@@ -143,9 +144,9 @@ slot_of_back [] names e = none_some names e
 slot_of_back (object ∷ []) names e = none_some names e
 slot_of_back (object ∷ slot ∷ []) names e =
     let pair : (List ℕ) × (List ℕ) = (object, slot) in
-    let found = if_so_back (is_code_name object && is_code_name slot) pair names e in (
+    let found = if_so_back (is_plain object && is_plain slot) pair names e in (
       ap (λ text. object ++ 46 ∷ text) (append-nil slot) ∙ ap (λ (both : (List ℕ) × (List ℕ)). slot_text both.0 both.1) found.1,
-      subst AreNames found.1 (and_parts (is_code_name object) (is_code_name slot) found.0),
+      subst AreNames found.1 (and_parts (is_plain object) (is_plain slot) found.0),
     )
 slot_of_back (object ∷ slot ∷ other ∷ texts) names e = none_some names e
 

@@ -4,7 +4,9 @@ use Rattle.rw_base.proofs.Common.{◌&&◌, nat_le, Some, option_map, ◌||◌, 
 use Rattle.rw_base.proofs.Common.{signed_decimal, decimal_is_IsNumeral, decimal_by_steps, bytes_eq-Decides, ne_eqb, le-leb, and_parts, nat_tests}
 use Rattle.rw_base.proofs.Common.{ints}
 use Rattle.std.specs.Fmt.{digits}
+use Rattle.rw_base.specs.declared.limits.TheConstants.{LIST_MAX}
 use Rattle.rw_base.specs.Quantity.{IsQuantity}
+use Rattle.rw_model.specs.declared.limits.TheConstants.{NAME_MAX}
 use Rattle.rpl_code.specs.declared.kind.ValueKind.{ValueKind}
 use Rattle.rpl_code.specs.declared.kind.ValueKind.TheVariants as K
 use Rattle.rw_base.specs.Byte.{is_letter, is_digit}
@@ -30,7 +32,7 @@ pub count_is : (n : ℕ) → IsNumber n → count_in (decimal n) ≡ Some n
 count_is n h = number_is 0 4294967295 n (omega arith) (omega (arith, h)) (omega (arith, h))
 
 pub length_is : (n : ℕ) → IsLength n → length_in (decimal n) ≡ Some n
-length_is n h = number_is 1 4096 n h.0 h.1 (omega (arith, h.1))
+length_is n h = number_is 1 LIST_MAX n h.0 h.1 (omega (arith, h.1))
 
 unsigned : (text : List ℕ) → Above 46 text → quantity_in text ≡ option_map pos (number_in 0 100000000000000000 text)
 unfolding digits
@@ -67,7 +69,7 @@ further_above (b ∷ bs) h =
 pub name_above : (name : List ℕ) → IsCodeName name → Above 46 name
 name_above [] h = tt
 name_above (b ∷ bs) h =
-    let parts = and_parts (nat_le (length (b ∷ bs)) 32) (is_letter b && list_all (λ c. is_letter c || is_digit c) bs) h in
+    let parts = and_parts (nat_le (length (b ∷ bs)) NAME_MAX) (is_letter b && list_all (λ c. is_letter c || is_digit c) bs) h in
     let bytes = and_parts (is_letter b) (list_all (λ c. is_letter c || is_digit c) bs) parts.1 in
     (letter_above b bytes.0, further_above bs bytes.1)
 

@@ -1,10 +1,9 @@
 -- What words come to, where it is known how they were cut.
-use Rattle.rw_base.proofs.Common.{◌≡◌, ◌⊎◌, inl, inr, ℕ, List, [], ◌∷◌, ◌++◌, refl, sym, ap, ap₂, subst, ◌∙◌, append-nil, ◌<◌, arith, length, Bool}
-use Rattle.rw_base.proofs.Common.{true, false, ◌&&◌, ◌||◌, nat_le, Option, Some, None, is_some, Result, Ok, Err, option_map, option_and_then}
-use Rattle.rw_base.proofs.Common.{list_all, IsErrAnd, IsAscii, IsUtf8, IsUtf8-from_ascii, IsAscii-nil, IsAscii-cons, and_parts, false≢true, nat_tests}
+use Rattle.rw_base.proofs.Common.{◌≡◌, ◌⊎◌, inl, inr, ℕ, List, [], ◌∷◌, ◌++◌, refl, sym, ap, ap₂, subst, ◌∙◌, append-nil, arith, length, Bool}
+use Rattle.rw_base.proofs.Common.{true, false, ◌&&◌, Option, Some, None, is_some, Result, Ok, Err, option_map, option_and_then}
+use Rattle.rw_base.proofs.Common.{IsErrAnd, and_parts, false≢true}
+use Rattle.rw_model.specs.Name.{is_plain}
 use Rattle.rpl_code.specs.declared.kind.ValueKind.{ValueKind}
-use Rattle.rw_base.specs.Byte.{is_letter, is_digit}
-use Rattle.rpl_code.specs.Names.{is_code_name}
 use Rattle.rpl_code.specs.Parting.{parted}
 use Rattle.rpl_code.specs.Words.{if_so, entry_at, length_in, name_in, slot_spelt, slot_of, list_kinds, kind_in, kind_spelt, each_kind}
 use Rattle.rpl_code.specs.Spelling.{texts_joined}
@@ -64,12 +63,12 @@ kind_cut word letter digits e =
 -- ---- slots
 
 abbrev pub both_names : List ℕ → List ℕ → Option ((List ℕ) × (List ℕ))
-both_names object slot = if_so (is_code_name object && is_code_name slot) (object, slot)
+both_names object slot = if_so (is_plain object && is_plain slot) (object, slot)
 
 not_both : (object slot first second : List ℕ) (rest : List (List ℕ)) → parted 46 slot ≡ first ∷ second ∷ rest → both_names object slot ≡ None
 not_both object slot first second rest e = none_but (both_names object slot)
     (λ names is. let pair : (List ℕ) × (List ℕ) = (object, slot) in
-    let both = and_parts (is_code_name object) (is_code_name slot) (if_so_back (is_code_name object && is_code_name slot) pair names is).0 in
+    let both = and_parts (is_plain object) (is_plain slot) (if_so_back (is_plain object && is_plain slot) pair names is).0 in
     one_not_more 46 slot first second rest (lacks_above 46 46 slot (omega arith) (name_above slot both.1)) e)
 
 pub slot_cut : (word object slot : List ℕ) → parted 46 word ≡ object ∷ parted 46 slot → slot_spelt word ≡ both_names object slot
@@ -78,30 +77,6 @@ slot_cut word object slot e =
       | inl one ↦ ap slot_of (e ∙ ap (λ parts. object ∷ parts) one)
       | inr more ↦ ap slot_of (e ∙ ap (λ parts. object ∷ parts) more.3) ∙ sym (not_both object slot more.0 more.1 more.2 more.3)
     ]
-
--- ---- names are text
-
-byte_small : (b : ℕ) → (is_letter b || is_digit b) ≡ true → b < 128
-byte_small b h = grind (arith, nat_tests)
-
-letter_small : (b : ℕ) → is_letter b ≡ true → b < 128
-letter_small b h = grind (arith, nat_tests)
-
-further_ascii : (bs : List ℕ) → list_all (λ c. is_letter c || is_digit c) bs ≡ true → IsAscii bs
-further_ascii [] h = IsAscii-nil
-further_ascii (b ∷ bs) h =
-    let parts = and_parts (is_letter b || is_digit b) (list_all (λ c. is_letter c || is_digit c) bs) h in
-    IsAscii-cons b bs (byte_small b parts.0) (further_ascii bs parts.1)
-
-name_ascii : (name : List ℕ) → is_code_name name ≡ true → IsAscii name
-name_ascii [] h = IsAscii-nil
-name_ascii (b ∷ bs) h =
-    let parts = and_parts (nat_le (length (b ∷ bs)) 32) (is_letter b && list_all (λ c. is_letter c || is_digit c) bs) h in
-    let bytes = and_parts (is_letter b) (list_all (λ c. is_letter c || is_digit c) bs) parts.1 in
-    IsAscii-cons b bs (letter_small b bytes.0) (further_ascii bs bytes.1)
-
-pub name_utf8 : (name : List ℕ) → is_code_name name ≡ true → IsUtf8 name
-name_utf8 name h = IsUtf8-from_ascii name (name_ascii name h)
 
 -- ---- kinds one after the other: those that were read, and those that are left
 
@@ -124,7 +99,7 @@ second_false false t a b e = refl
 pub slot_named : (word object slot x y : List ℕ) → parted 46 word ≡ object ∷ parted 46 slot → name_in object ≡ Some x → name_in slot ≡ Some y
     → slot_spelt word ≡ Some (x, y)
 slot_named word object slot x y e first second =
-    slot_cut word object slot e ∙ both_true (is_code_name object) (is_code_name slot) x y object slot first second
+    slot_cut word object slot e ∙ both_true (is_plain object) (is_plain slot) x y object slot first second
 
 pub slot_unnamed : (word object slot : List ℕ) → parted 46 word ≡ object ∷ parted 46 slot → name_in slot ≡ None → slot_spelt word ≡ None
-slot_unnamed word object slot e none = slot_cut word object slot e ∙ second_false (is_code_name object) (is_code_name slot) object slot none
+slot_unnamed word object slot e none = slot_cut word object slot e ∙ second_false (is_plain object) (is_plain slot) object slot none

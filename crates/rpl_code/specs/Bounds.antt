@@ -1,7 +1,9 @@
 -- What a code may hold: what a text can spell.
 use Rattle.std.specs.Prelude.{ℕ, ◌<◌, ◌≤◌, ◌^◌, List, length, IsTrue}
 use Rattle.std.specs.List.{AllByRecursion}
+use Rattle.rw_base.specs.declared.limits.TheConstants.{LIST_MAX}
 use Rattle.rw_base.specs.Quantity.{IsQuantity}
+use Rattle.rw_model.specs.Name.{is_plain}
 use Rattle.rpl_code.specs.declared.kind.ValueKind.{ValueKind}
 use Rattle.rpl_code.specs.declared.kind.ValueKind.TheVariants.{NList, SList}
 use Rattle.rpl_code.specs.declared.instruction.Instruction.{Instruction}
@@ -9,7 +11,6 @@ use Rattle.rpl_code.specs.declared.instruction.Instruction.TheVariants as I
 use Rattle.rpl_code.specs.declared.block.BlockHead.{BlockHead}
 use Rattle.rpl_code.specs.declared.block.BlockHead.TheVariants.{Rule, Function}
 use Rattle.rpl_code.specs.declared.block.Block.{Block}
-use Rattle.rpl_code.specs.Names.{is_code_name}
 
 -- the number of a place, a local or a block
 abbrev pub IsNumber : ℕ → Type 0
@@ -17,10 +18,10 @@ IsNumber n = n < 2 ^ 32
 
 -- the greatest length of a list
 abbrev pub IsLength : ℕ → Type 0
-IsLength n = (1 ≤ n) × (n ≤ 4096)
+IsLength n = (1 ≤ n) × (n ≤ LIST_MAX)
 
 abbrev pub IsCodeName : List ℕ → Type 0
-IsCodeName name = IsTrue (is_code_name name)
+IsCodeName name = IsTrue (is_plain name)
 
 abbrev pub IsCodeKind : ValueKind → Type 0
 IsCodeKind (NList most) = IsLength most

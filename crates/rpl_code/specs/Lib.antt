@@ -1,5 +1,4 @@
 pub mod Weight
-pub mod Names
 pub mod Bounds
 pub mod Spelling
 pub mod Parting

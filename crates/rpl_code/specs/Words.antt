@@ -1,11 +1,13 @@
 -- What a word of a line stands for, if it stands for anything.
-use Rattle.std.specs.Prelude.{ℕ, ◌==◌, ◌&&◌, Bool, true, false, if◌then◌else◌, nat_le, ℤ, pos, neg_ℤ, Option, Some, None, option_map, option_and_then, List, [], ◌∷◌, codes}
+use Rattle.std.specs.Prelude.{ℕ, ◌==◌, ◌&&◌, Bool, true, false, if◌then◌else◌, nat_le, ℤ, pos, neg_ℤ, unsigned_abs, Option, Some, None, option_map, option_and_then, List, [], ◌∷◌, codes}
 use Rattle.std.specs.Str.{bytes_eq}
 use Rattle.std.specs.Str.Parse.{digits_value}
 use Rattle.std.specs.Fmt.{decimal}
+use Rattle.rw_base.specs.Quantity.{quantity_max}
+use Rattle.rw_base.specs.declared.limits.TheConstants.{LIST_MAX}
+use Rattle.rw_model.specs.Name.{is_plain}
 use Rattle.rpl_code.specs.declared.kind.ValueKind.{ValueKind}
 use Rattle.rpl_code.specs.declared.kind.ValueKind.TheVariants as K
-use Rattle.rpl_code.specs.Names.{is_code_name}
 use Rattle.rpl_code.specs.Parting.{parted}
 
 -- x where the test holds, and nothing elsewhere
@@ -29,14 +31,14 @@ count_in = number_in 0 4294967295
 
 -- the greatest length of a list
 abbrev pub length_in : List ℕ → Option ℕ
-length_in = number_in 1 4096
+length_in = number_in 1 LIST_MAX
 
 -- a quantity, which has a `-` before its digits where it is below 0
 abbrev pub quantity_in : List ℕ → Option ℤ
 quantity_in [] = None
 quantity_in (b ∷ bs) =
-    if b == 45 then option_map (λ n. neg_ℤ (pos n)) (number_in 1 100000000000000000 bs)
-    else option_map pos (number_in 0 100000000000000000 (b ∷ bs))
+    if b == 45 then option_map (λ n. neg_ℤ (pos n)) (number_in 1 (unsigned_abs quantity_max) bs)
+    else option_map pos (number_in 0 (unsigned_abs quantity_max) (b ∷ bs))
 
 abbrev pub truths : List ((List ℕ) × Bool)
 truths = (codes "true", true) ∷ (codes "false", false) ∷ []
@@ -45,11 +47,11 @@ abbrev pub truth_in : List ℕ → Option Bool
 truth_in = entry_at truths
 
 abbrev pub name_in : List ℕ → Option (List ℕ)
-name_in text = if_so (is_code_name text) text
+name_in text = if_so (is_plain text) text
 
 -- an object's name and a slot's, with a point between them
 abbrev pub slot_of : List (List ℕ) → Option ((List ℕ) × (List ℕ))
-slot_of (object ∷ slot ∷ []) = if_so (is_code_name object && is_code_name slot) (object, slot)
+slot_of (object ∷ slot ∷ []) = if_so (is_plain object && is_plain slot) (object, slot)
 slot_of _ = None
 
 abbrev pub slot_spelt : List ℕ → Option ((List ℕ) × (List ℕ))

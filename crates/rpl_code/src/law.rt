@@ -1,5 +1,6 @@
 // That spelling and reading are one, and what both come to on worked texts.
 ghost use Rattle.std.specs.Prelude.{◌≡◌, ◌≤◌, length, Ok, Err, [], ◌∷◌, ◌++◌, codes, List, ℕ, Result, MatchResult};
+ghost use Rattle.rw_base.specs.declared.limits.TheConstants.{TEXT_MAX};
 ghost use Rattle.rw_base.specs.Answers.{Answers};
 ghost use Rattle.rpl_code.specs.declared.instruction.Instruction.TheVariants as Instruction;
 ghost use Rattle.rpl_code.specs.declared.block.Block.{Block};
@@ -84,9 +85,9 @@ pub fn written_is_read()
 /// is read as nothing but a code.
 pub fn read_is_written()
     ensures text { (text : List ℕ) (blocks : List Block)
-        → length text ≤ 16_777_216 → read text ≡ Ok blocks → text ≡ spelt blocks }
+        → length text ≤ TEXT_MAX → read text ≡ Ok blocks → text ≡ spelt blocks }
     ensures bounds { (text : List ℕ) (blocks : List Block)
-        → length text ≤ 16_777_216 → read text ≡ Ok blocks → IsCode blocks }
+        → length text ≤ TEXT_MAX → read text ≡ Ok blocks → IsCode blocks }
 {}
 
 /// A code that was written is read again as that code, or there is no memory.

@@ -1,5 +1,6 @@
 // Numbers in words.
-ghost use Rattle.std.specs.Prelude.{◌≡◌, ◌≢◌, ℕ, ◌<◌, ◌≤◌, ◌^◌, IfOk, MatchOption, IfSome, option_map, pos, neg_ℤ};
+ghost use Rattle.std.specs.Prelude.{◌≡◌, ◌≢◌, ℕ, ◌<◌, ◌≤◌, ◌^◌, IfOk, MatchOption, IfSome, option_map, pos, neg_ℤ, unsigned_abs};
+ghost use Rattle.rw_base.specs.Quantity.{quantity_max};
 ghost use Rattle.std.specs.Str.{bytes_eq};
 ghost use Rattle.std.specs.Fmt.{decimal};
 ghost use Rattle.rpl_code.specs.Words.{number_in, count_in, length_in, quantity_in};
@@ -7,10 +8,11 @@ ghost use Rattle.rpl_code.specs.Answers.{Says};
 
 use crate::line_fault::LineFault;
 use itoa::Buffer;
+use rw_base::QUANTITY_MAX;
 use rw_base::limits::LIST_MAX;
 
 // The greatest quantity.
-const QUANTITY_MAX: u64 = 100_000_000_000_000_000;
+const GREATEST: u64 = QUANTITY_MAX as u64;
 
 // Whether the word is what is written of the number, which nothing else spells.
 fn spells(word: &str, number: u64) -> bool
@@ -80,18 +82,18 @@ pub(crate) fn ahead_in(word: &[u8]) -> Result<u8, LineFault>
 
 // A quantity that has no `-`.
 fn natural_in(word: &[u8]) -> Result<i64, LineFault>
-    ensures { Says (option_map pos (number_in 0 100_000_000_000_000_000 word.now)) result }
+    ensures { Says (option_map pos (number_in 0 (unsigned_abs quantity_max) word.now)) result }
 {
-    let number = number_in(0, QUANTITY_MAX, word)?;
+    let number = number_in(0, GREATEST, word)?;
     Ok(number as i64)
 }
 
 // A quantity below 0, of the digits behind its `-`.
 fn negative_in(digits: &[u8]) -> Result<i64, LineFault>
     ensures { Says (option_map (λ n. neg_ℤ (pos n))
-        (number_in 1 100_000_000_000_000_000 digits.now)) result }
+        (number_in 1 (unsigned_abs quantity_max) digits.now)) result }
 {
-    let number = number_in(1, QUANTITY_MAX, digits)?;
+    let number = number_in(1, GREATEST, digits)?;
     Ok(-(number as i64))
 }
 

@@ -1,39 +1,26 @@
--- Of the functions that have a name, the last of a list is the first of the list in reverse. The local of a name.
+-- The function of a name that was declared last, and the local of a name.
 use Rattle.rpl_compile.proofs.Common.{B, Bool, Callee, IsSome, IsSomeAnd, Kind, List, N, None, Option, Some, ValueKind, [], ap, bytes_eq}
 use Rattle.rpl_compile.proofs.Common.{callee_named, code_kind, code_kinds, false, if◌then◌else◌, kind_named, kind_seen, kinds_seen, length}
-use Rattle.rpl_compile.proofs.Common.{length-map, local_named, map, names_in, no_callee, parameter_of, refl, reverse, reverse-append, scope_seen, sym}
-use Rattle.rpl_compile.proofs.Common.{true, unwrap_or, ℕ, ◌++◌, ◌∙◌, ◌∷◌, ◌≡◌}
+use Rattle.rpl_compile.proofs.Common.{length-map, local_named, map, names_in, no_callee, parameter_of, refl, reverse, scope_seen, sym}
+use Rattle.rpl_compile.proofs.Common.{true, unwrap_or, ℕ, ◌∙◌, ◌∷◌, ◌≡◌}
 use Rattle.rpl_scope.specs.Scope.{first_named as first_found}
+use Rattle.rpl_scope.proofs.Latest.{first_of_all, last_is_first, last_of_all}
 use Rattle.rpl_tree.specs.declared.rules.Param.{Param}
 use Rattle.rpl_compile.specs.declared.writing.Local.{Local}
 
-module _ (sought : List ℕ) where
-  abbrev pub last_named : Callee → List Callee → Callee
-  last_named otherwise [] = otherwise
-  last_named otherwise (callee ∷ callees) = last_named (if bytes_eq callee.head.name sought then callee else otherwise) callees
+abbrev pub last_named : List ℕ → Callee → List Callee → Callee
+last_named sought = last_of_all (λ (callee : Callee). bytes_eq callee.head.name sought) (λ (callee : Callee). callee)
 
-  abbrev first_named : Callee → List Callee → Callee
-  first_named otherwise [] = otherwise
-  first_named otherwise (callee ∷ callees) = if bytes_eq callee.head.name sought then callee else first_named otherwise callees
+first_is : (sought : List ℕ) (callees : List Callee)
+    → first_of_all (λ (callee : Callee). bytes_eq callee.head.name sought) (λ (callee : Callee). callee) no_callee callees
+    ≡ callee_named callees sought
+first_is sought [] = refl
+first_is sought (callee ∷ callees) = ap (λ found. if bytes_eq callee.head.name sought then callee else found) (first_is sought callees)
 
-  one_behind : (otherwise : Callee) (callees : List Callee) (callee : Callee)
-      → first_named (if bytes_eq callee.head.name sought then callee else otherwise) callees ≡ first_named otherwise (callees ++ callee ∷ [])
-  one_behind otherwise [] callee = refl
-  one_behind otherwise (first ∷ others) callee =
-      ap (λ found. if bytes_eq first.head.name sought then first else found) (one_behind otherwise others callee)
-
-  last_is_first : (otherwise : Callee) (callees : List Callee) → last_named otherwise callees ≡ first_named otherwise (reverse callees)
-  last_is_first otherwise [] = refl
-  last_is_first otherwise (callee ∷ callees) =
-      last_is_first (if bytes_eq callee.head.name sought then callee else otherwise) callees ∙ one_behind otherwise (reverse callees) callee
-      ∙ ap (first_named otherwise) (sym (reverse-append (callee ∷ []) callees))
-
-  first_is : (callees : List Callee) → first_named no_callee callees ≡ callee_named callees sought
-  first_is [] = refl
-  first_is (callee ∷ callees) = ap (λ found. if bytes_eq callee.head.name sought then callee else found) (first_is callees)
-
-  pub function_found : (callees : List Callee) → last_named no_callee callees ≡ callee_named (reverse callees) sought
-  function_found callees = last_is_first no_callee callees ∙ first_is (reverse callees)
+pub function_found : (sought : List ℕ) (callees : List Callee) → last_named sought no_callee callees ≡ callee_named (reverse callees) sought
+function_found sought callees =
+    last_is_first (λ (callee : Callee). bytes_eq callee.head.name sought) (λ (callee : Callee). callee) no_callee callees
+    ∙ first_is sought (reverse callees)
 
 -- ---- names
 

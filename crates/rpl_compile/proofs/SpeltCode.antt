@@ -7,7 +7,8 @@ use Rattle.rpl_compile.proofs.Common.{kind_of_tree, knowing, list, literal, loca
 use Rattle.rpl_compile.proofs.Common.{on, one, over, room_lines, size, size_of_act, size_of_acts, sizes, sizes_of_arguments, slot, takes_named, tree}
 use Rattle.rpl_compile.proofs.Common.{true, truth, truth_kind, two, with_name, ℕ, ◌++◌, ◌+◌, ◌∷◌, ◌≤◌}
 use Rattle.rpl_code.specs.declared.instruction.Instruction.TheVariants as I
-use Rattle.rpl_compile.proofs.SpeltNames.{slot_found, table_found}
+use Rattle.rpl_compile.proofs.SpeltNames.{table_found}
+use Rattle.rw_model.proofs.Plain.{slot_is_plain}
 use Rattle.rpl_compile.proofs.SpeltKinds.{AreSpelt, IsSpelt, element_spelt, takes_spelt, tree_spelt}
 use Rattle.rpl_compile.proofs.SpeltLines.{AreBoundSpelt, AreCalleesSpelt, AreLines, behind, below_bound, call_spelt, callees_known, choice_spelt}
 use Rattle.rpl_compile.proofs.SpeltLines.{convert_spelt, local_spelt, names_known, number_spelt, one_line_spelt, put_spelt, two_lines_spelt}
@@ -162,7 +163,7 @@ module _ (basin : Draft) (valid : IsBasin basin) (callees : List Callee) (called
     code_spelt (literal number unit) = λ site is_site_spelt is_kinded_at has_places has_locals. (number_spelt number unit is_kinded_at, tt)
     code_spelt (truth is_so) = λ site is_site_spelt is_kinded_at has_places has_locals. (tt, tt)
     code_spelt now = λ site is_site_spelt is_kinded_at has_places has_locals. (tt, tt)
-    code_spelt (slot object slot_name) = λ site known is_kinded_at has_places has_locals. (slot_found basin valid object slot_name is_kinded_at, tt)
+    code_spelt (slot object slot_name) = λ site known is_kinded_at has_places has_locals. (slot_is_plain basin valid object slot_name is_kinded_at, tt)
     code_spelt (name sought) = λ site is_site_spelt is_kinded_at has_places has_locals. (local_spelt site.scope sought is_site_spelt.0, tt)
     code_spelt (call function_name arguments) = λ site is_site_spelt is_kinded_at has_places has_locals.
         let takes = takes_named (callee_heads callees) function_name in

@@ -10,7 +10,8 @@ use Rattle.rpl_compile.proofs.Common.{target, test_line, true, truth_kind, two_l
 use Rattle.rpl_compile.proofs.Common.{◌++◌, ◌+◌, ◌||◌, ◌∙◌, ◌∷◌, ◌≡◌, ◌≢◌, ◌≤◌, ◌⊎◌}
 use Rattle.rw_base.specs.Quantity.{IsQuantity}
 use Rattle.rpl_code.specs.declared.instruction.Instruction.TheVariants as I
-use Rattle.rpl_compile.proofs.SpeltNames.{CanBeSpelt, slot_found}
+use Rattle.rpl_compile.proofs.SpeltNames.{CanBeSpelt}
+use Rattle.rw_model.proofs.Plain.{slot_is_plain}
 use Rattle.rpl_compile.proofs.SpeltKinds.{AreHeadsSpelt, AreNamesSpelt, AreSpelt, IsSpelt, all_reverse, both_all, kinds_of_code}
 use Rattle.rpl_compile.proofs.Found.{is_there}
 
@@ -71,7 +72,7 @@ pub put_spelt : (basin : Draft) (object slot_name : List ℕ) (ahead : ℤ) → 
     → IsTarget basin [] (slot_named basin.objects object slot_name) ahead
     → IsInstruction (I.Put object slot_name (unsigned_abs ahead))
 put_spelt basin object slot_name ahead valid is_target =
-    by (slot_found basin valid object slot_name (is_there (slot_named basin.objects object slot_name) _ is_target.0))
+    by (slot_is_plain basin valid object slot_name (is_there (slot_named basin.objects object slot_name) _ is_target.0))
   where
     by : CanBeSpelt object × CanBeSpelt slot_name → IsInstruction (I.Put object slot_name (unsigned_abs ahead))
     by names = let few = at_most_30 basin ahead valid is_target.1 in (names.0, names.1, omega (arith, few))

@@ -2,6 +2,7 @@
 -- order of refusals are left out.
 use Rattle.std.specs.Prelude.{◌≡◌, ◌⊎◌, ℕ, ◌<◌, ◌≤◌, ℤ, pos, ◌*ℤ◌, IsTrue, List, [], ◌∷◌, Option, IsSome, IsSomeAnd, unwrap_or, bytes_eq}
 use Rattle.std.specs.List.{list_any}
+use Rattle.rw_base.specs.declared.limits.TheConstants.{LIST_MAX}
 use Rattle.rw_base.specs.Dimension.{Dimension}
 use Rattle.rw_base.specs.Unit.{units, unit_in}
 use Rattle.rw_model.specs.Draft.{Draft}
@@ -51,7 +52,7 @@ CanAddKinds k l = AreBoth number_kind number_kind k l ⊎ AreBoth date_kind numb
 -- a list of fewer than 4,096, and an element of it
 abbrev pub CanAppend : Kind → Kind → Type 0
 CanAppend k l =
-    (m : ℕ) × (m < 4096) × (AreBoth (numbers_kind m) number_kind k l ⊎ AreBoth (slots_kind m) slot_kind k l)
+    (m : ℕ) × (m < LIST_MAX) × (AreBoth (numbers_kind m) number_kind k l ⊎ AreBoth (slots_kind m) slot_kind k l)
 
 abbrev pub OneTakes : OneWord → Kind → Type 0
 OneTakes Not k = k ≡ truth_kind
@@ -113,7 +114,7 @@ module _ (basin : Draft) (heads : List Head) where
     IsKinded names (call f ts) = HasHead heads f × AreArguments names (takes_named heads f) ts
     IsKinded names (brackets t) = IsKinded names t
     IsKinded names (list ts) =
-        (1 ≤ count_of ts) × (count_of ts ≤ 4096) × IsElement (first_kind heads names ts) × AreOfKind names (first_kind heads names ts) ts
+        (1 ≤ count_of ts) × (count_of ts ≤ LIST_MAX) × IsElement (first_kind heads names ts) × AreOfKind names (first_kind heads names ts) ts
     IsKinded names (choice c y n) =
         let kind = tree_kind heads names (choice c y n) in
         IsKinded names c × (tree_kind heads names c ≡ truth_kind) × IsKinded names y × FitsIn kind (tree_kind heads names y)

@@ -3,6 +3,7 @@ ghost use Rattle.rpl_compile.specs.Seen.{callee_or_none, callee_seen, callees_of
 ghost use Rattle.rpl_compile.specs.Written as Written;
 
 use rpl_code::ValueKind;
+use rpl_scope::is_same_name;
 
 /// A function that can be called, and the number of its block, but of a predefined one.
 #[derive(Drop)]
@@ -11,13 +12,6 @@ pub(crate) struct Known<'a> {
     pub(crate) takes: Vec<ValueKind>,
     pub(crate) result: ValueKind,
     pub(crate) block: Option<u32>,
-}
-
-/// Whether two names are the same.
-fn is_same_name(a: &[u8], b: &[u8]) -> bool
-    ensures { result ≡ bytes_eq a.now b.now }
-{
-    a == b
 }
 
 // This function, if it has the name.

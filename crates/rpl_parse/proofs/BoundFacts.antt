@@ -1,4 +1,5 @@
 -- What is bounded in a ruleset, from the declarations on.
+use Rattle.rw_base.specs.declared.limits.TheConstants.{DEPTH_MAX, RULES_MAX, TEXT_MAX}
 use Rattle.rw_base.proofs.Common.{◌≡◌, ◌≤◌, ◌+◌, ◌++◌, ◌==◌, ℕ, false, List, [], ◌∷◌, length, refl, sym, ap, subst, arith, inl, inr, Ok, Err}
 use Rattle.rpl_tree.proofs.Common.{Declared, rule, function, rules_of, nodes_of}
 use Rattle.rpl_tree.specs.declared.rules.ParsedRules.{ParsedRules}
@@ -36,11 +37,12 @@ within_end much most (first ∷ declarations) declaration are_within no_more =
 record Begins (tokens_here : List Tok) (declaration : Declared) (rules_before functions_before : ℕ) : Type 0 where
   rules : one_more_if (begins_rule tokens_here) rules_before ≡ rules_before + rule_count (declaration ∷ [])
   functions : one_more_if (begins_function tokens_here) functions_before ≡ functions_before + function_count (declaration ∷ [])
-  rules_left : is_full tokens_here rules_before functions_before ≡ false → rules_before ≤ 200 → rules_before + rule_count (declaration ∷ []) ≤ 200
-  functions_left : is_full tokens_here rules_before functions_before ≡ false → functions_before ≤ 200
-      → functions_before + function_count (declaration ∷ []) ≤ 200
+  rules_left : is_full tokens_here rules_before functions_before ≡ false → rules_before ≤ RULES_MAX
+      → rules_before + rule_count (declaration ∷ []) ≤ RULES_MAX
+  functions_left : is_full tokens_here rules_before functions_before ≡ false → functions_before ≤ RULES_MAX
+      → functions_before + function_count (declaration ∷ []) ≤ RULES_MAX
 
-not_so_many : (count : ℕ) → (count == 200) ≡ false → count ≤ 200 → count + 1 ≤ 200
+not_so_many : (count : ℕ) → (count == RULES_MAX) ≡ false → count ≤ RULES_MAX → count + 1 ≤ RULES_MAX
 not_so_many count not_full no_more = grind (arith, not_full, no_more)
 
 begins : (tokens_here : List Tok) (declaration : Declared) (rules_before functions_before : ℕ) → IsDeclaration tokens_here declaration
@@ -68,8 +70,8 @@ listed (Err why) = []
 
 bounded : (number rules_before functions_before : ℕ) (before : List Declared) (more_pieces : List Piece) (declarations : List Declared)
     → IsDue number rules_before functions_before before more_pieces (Ok declarations)
-    → (most : ℕ) → most ≤ 16777216 → ArePieces most more_pieces → AreWithin declared_depth 100 before → AreWithin nodes_of 16777216 before
-    → rule_count before ≡ rules_before → function_count before ≡ functions_before → rules_before ≤ 200 → functions_before ≤ 200
+    → (most : ℕ) → most ≤ TEXT_MAX → ArePieces most more_pieces → AreWithin declared_depth DEPTH_MAX before → AreWithin nodes_of TEXT_MAX before
+    → rule_count before ≡ rules_before → function_count before ≡ functions_before → rules_before ≤ RULES_MAX → functions_before ≤ RULES_MAX
     → AreLimited declarations
 unfolding listed
 bounded number rules_before functions_before before
@@ -93,15 +95,15 @@ bounded number rules_before functions_before before (a_piece ∷ more_pieces) de
     bounded (number + 1) (one_more_if (begins_rule a_piece.toks) rules_before) (one_more_if (begins_function a_piece.toks) functions_before)
     (before ++ declaration ∷ []) more_pieces declarations due_so.1.2
     most few small.1
-    (within_end declared_depth 100 before declaration deep (let is_one = due_so.1.1 in is_one.1))
-    (within_end nodes_of 16777216 before declaration nodes
+    (within_end declared_depth DEPTH_MAX before declaration deep (let is_one = due_so.1.1 in is_one.1))
+    (within_end nodes_of TEXT_MAX before declaration nodes
     (let is_one = nodes_within a_piece.toks declaration due_so.1.1 in let piece_small = small.0 in omega arith))
     (omega (arith, rules_there, rules_counted, rule_more))
     (omega (arith, functions_there, functions_counted, function_more)) (omega (arith, rule_more, rules_still))
     (omega (arith, function_more, functions_still))
 
 of_scanned : (scanned : Scanned) (declarations : List Declared) → IsDueOf scanned (Ok declarations)
-    → ((lined_tokens : List Lined) → scanned ≡ all lined_tokens → length lined_tokens ≤ 16777216) → AreLimited declarations
+    → ((lined_tokens : List Lined) → scanned ≡ all lined_tokens → length lined_tokens ≤ TEXT_MAX) → AreLimited declarations
 of_scanned (all further_lined) declarations is_due_of few =
     bounded 1 0 0 [] (pieces further_lined) declarations is_due_of (length further_lined) (few further_lined refl)
     (pieces_within further_lined) tt tt refl refl (omega arith) (omega arith)

@@ -1,5 +1,6 @@
 -- What a text is: where its declarations are cut, and the ruleset that it spells or the refusal that is due.
 use Rattle.std.specs.Prelude.{◌≡◌, ◌≤◌, ◌+◌, ◌==◌, ◌⊎◌, ◌++◌, ℕ, List, [], ◌∷◌, length, Bool, true, false, if◌then◌else◌, Result, Ok, Err}
+use Rattle.rw_base.specs.declared.limits.TheConstants.{RULES_MAX, TEXT_MAX}
 use Rattle.rpl_tree.specs.Tree.{Declared}
 use Rattle.rpl_tree.specs.Seen.{rules_of}
 use Rattle.rpl_tree.specs.declared.rules.ParsedRules.{ParsedRules}
@@ -46,7 +47,7 @@ one_more_if false n = n
 
 -- a rule behind 200 that began as rules, or a function behind 200
 abbrev pub is_full : List Tok → ℕ → ℕ → Bool
-is_full ts rules functions = if begins_rule ts then rules == 200 else (if begins_function ts then functions == 200 else false)
+is_full ts rules functions = if begins_rule ts then rules == RULES_MAX else (if begins_function ts then functions == RULES_MAX else false)
 
 -- why a text is no ruleset: the line of a bad token; a declaration that isn't one, and its line; one too many
 pub data GrammarRefusal : Type 0 where
@@ -87,4 +88,4 @@ one_reading = (source : List ℕ) (a b : Due) → IsReading source a → IsReadi
 
 -- the rules of some text that a file can hold
 abbrev pub IsRuleset : ParsedRules → Type 0
-IsRuleset rules = (source : List ℕ) × (length source ≤ 16777216) × IsReading source (Ok (rules_of rules))
+IsRuleset rules = (source : List ℕ) × (length source ≤ TEXT_MAX) × IsReading source (Ok (rules_of rules))

@@ -1,5 +1,6 @@
 -- Within the crate: how types, parameters and declarations are read.
 use Rattle.std.specs.Prelude.{◌++◌, ℕ, zero, suc, ℤ, List, [], ◌∷◌, length, Option, Some, None}
+use Rattle.rw_base.specs.declared.limits.TheConstants.{DEPTH_MAX}
 use Rattle.rpl_tree.specs.Tree.{TypeName, numeric, boolean, datetime, slot_type, numeric_list, slot_list, Parameter, Declared, rule, function}
 use Rattle.rpl_parse.specs.declared.token.Mark.{Mark}
 use Rattle.rpl_parse.specs.declared.token.Mark.TheVariants as M
@@ -82,11 +83,11 @@ if_all [] d = Some d
 if_all (t ∷ ts) d = None
 
 abbrev pub rule_behind : List Tok → Option Declared
-rule_behind ts = behind_text ts >>= (λ t. behind M.Colon t.next >>= read_acts 100 >>= (λ b. behind M.EndRule b.left >>= (λ us. if_all us (rule t.called (acts_of b.acts)))))
+rule_behind ts = behind_text ts >>= (λ t. behind M.Colon t.next >>= read_acts DEPTH_MAX >>= (λ b. behind M.EndRule b.left >>= (λ us. if_all us (rule t.called (acts_of b.acts)))))
 
 -- the body of a function that is called so and takes these parameters, behind its bracket
 abbrev pub body_behind : List ℕ → List Parameter → List Tok → Option Declared
-body_behind x ps ts = behind M.Colon ts >>= read_type >>= (λ k. behind M.Is k.next >>= read_tree 100 7 >>= closed_by_mark M.EndFunction >>= (λ b. if_all b.rest (function x ps k.of_type b.tree)))
+body_behind x ps ts = behind M.Colon ts >>= read_type >>= (λ k. behind M.Is k.next >>= read_tree DEPTH_MAX 7 >>= closed_by_mark M.EndFunction >>= (λ b. if_all b.rest (function x ps k.of_type b.tree)))
 
 abbrev pub function_behind : List Tok → Option Declared
 function_behind ts = behind_name ts >>= (λ x. behind M.LeftParen x.next >>= parameters >>= (λ a. body_behind x.called a.params a.left))

@@ -1,5 +1,6 @@
 -- GRAMMAR, second part: which tokens spell which statements and declarations.
 use Rattle.std.specs.Prelude.{◌≡◌, ◌≤◌, ◌⊎◌, ℤ, pos, List, [], ◌∷◌}
+use Rattle.rw_base.specs.declared.limits.TheConstants.{DEPTH_MAX}
 use Rattle.rpl_tree.specs.Tree.{TypeName, numeric, boolean, datetime, slot_type, numeric_list, slot_list, Act, Acts, assign, branch, with_name, no_acts, act, Parameter, Declared, rule, function}
 use Rattle.rpl_parse.specs.declared.token.Mark.TheVariants as M
 use Rattle.rpl_parse.specs.Tokens.{Tok, word, digits, text}
@@ -59,4 +60,4 @@ SpellsDeclared (function called_so params result body) = sign M.Function ⨾ tok
 
 -- GRAMMAR: all these tokens spell a declaration that is at most 100 deep
 abbrev pub IsDeclaration : List Tok → Declared → Type 0
-IsDeclaration ts d = SpellsDeclared d ts [] × (declared_depth d ≤ 100)
+IsDeclaration ts d = SpellsDeclared d ts [] × (declared_depth d ≤ DEPTH_MAX)

@@ -5,6 +5,7 @@ ghost use Rattle.rpl_parse.specs.Pieces.{piece_seen, fits_piece};
 use crate::class::{Class, head_is, is_blank, is_digit, is_letter, run};
 use crate::reserved::reserved;
 use crate::token::Mark;
+use rw_base::QUANTITY_MAX;
 
 /// What stands at the front of some bytes, and of how many.
 #[derive(Clone, Copy)]
@@ -23,6 +24,9 @@ pub(crate) enum Piece {
     Bad,
 }
 
+// The greatest number.
+const GREATEST: u64 = QUANTITY_MAX as u64;
+
 /// What digits stand for, if that isn't above Q.
 fn number_of(digits: &[u8]) -> Option<u64>
     ensures { MatchOption result (greatest < number_of 0 digits.now) (λ v. (v
@@ -31,7 +35,7 @@ fn number_of(digits: &[u8]) -> Option<u64>
     let mut value: u64 = 0;
     for digit in digits {
         value = 10 * value + u64::from(digit.saturating_sub(48));
-        if value > 100_000_000_000_000_000 {
+        if value > GREATEST {
             return None;
         }
     }

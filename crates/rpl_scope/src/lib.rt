@@ -2,6 +2,8 @@
 //! and not as their number.
 #![tactic(auto)]
 
+mod name;
 mod scope;
 
+pub use name::is_same_name;
 pub use scope::Scope;

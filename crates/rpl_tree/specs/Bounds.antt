@@ -1,5 +1,6 @@
 -- What is bounded in a ruleset.
 use Rattle.std.specs.Prelude.{◌≤◌, ◌+◌, ℕ, List, [], ◌∷◌}
+use Rattle.rw_base.specs.declared.limits.TheConstants.{DEPTH_MAX, RULES_MAX, TEXT_MAX}
 use Rattle.rpl_tree.specs.Tree.{Declared, rule, function}
 use Rattle.rpl_tree.specs.Count.{nodes_of}
 use Rattle.rpl_tree.specs.Depth.{declared_depth}
@@ -20,7 +21,7 @@ AreWithin much most [] = Unit {0}
 AreWithin much most (d ∷ ds) = (much d ≤ most) × AreWithin much most ds
 
 pub record AreLimited (ds : List Declared) : Type 0 where
-  pub depth : AreWithin declared_depth 100 ds
-  pub nodes : AreWithin nodes_of 16777216 ds
-  pub rules : rule_count ds ≤ 200
-  pub functions : function_count ds ≤ 200
+  pub depth : AreWithin declared_depth DEPTH_MAX ds
+  pub nodes : AreWithin nodes_of TEXT_MAX ds
+  pub rules : rule_count ds ≤ RULES_MAX
+  pub functions : function_count ds ≤ RULES_MAX

@@ -1,5 +1,6 @@
 -- The four budgets of a declaration.
 use Rattle.std.specs.Prelude.{ℕ, ◌+◌, ◌-◌, min, List, slice_index}
+use Rattle.rw_base.specs.declared.limits.TheConstants.{INSTRUCTIONS_MAX, LOOKS_MAX, PUTS_MAX, WORDS_MAX}
 use Rattle.rpl_tree.specs.Tree.{Declared}
 use Rattle.rpl_tree.specs.Cost.{costs, price_of_steps, price_of_looks, price_of_puts}
 use Rattle.rpl_tree.specs.Words.{words_of_rules}
@@ -16,7 +17,7 @@ budget count looks puts words = record { count = count; looks = looks; puts = pu
 
 -- what a declaration may have at most
 abbrev pub limits : Budget
-limits = budget 1000000 20000 2000 1000000
+limits = budget INSTRUCTIONS_MAX LOOKS_MAX PUTS_MAX WORDS_MAX
 
 -- a number, or where that is above the limit the first above it
 abbrev pub capped : ℕ → ℕ → ℕ

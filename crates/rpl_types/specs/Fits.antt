@@ -1,5 +1,6 @@
 -- When a type fits another, and what is wrong where it doesn't.
 use Rattle.std.specs.Prelude.{ℕ, ◌==◌, nat_le, nat_lt, max, List, [], ◌∷◌, length, Option, Some, None, Result, if◌then◌else◌}
+use Rattle.rw_base.specs.declared.limits.TheConstants.{LIST_MAX}
 use Rattle.rw_base.specs.Answers.{unless_refused}
 use Rattle.rw_base.specs.Dimension.{Dimension}
 use Rattle.rw_model.specs.Links.{is_same_dim}
@@ -14,7 +15,7 @@ Typed = Result RplType TypeKind
 
 -- for how many items a list may have room
 abbrev pub longest : ℕ
-longest = 4096
+longest = LIST_MAX
 
 -- ---- which of several refusals is given
 

@@ -11,6 +11,7 @@ ghost use Rattle.rpl_types.specs.Seen.{callable_of, signature_of, signatures_of}
 use crate::TypeKind;
 use crate::fits::{length_misfit, misfit, sooner};
 use crate::forms::{measured, plain_number};
+use rpl_scope::is_same_name;
 use rpl_tree::{Declaration, RplType};
 use rw_base::Dim;
 use rw_base::limits::LIST_MAX;
@@ -21,13 +22,6 @@ pub(crate) struct Signature<'a> {
     pub(crate) name: &'a [u8],
     pub(crate) takes: Vec<RplType>,
     pub(crate) result: RplType,
-}
-
-/// Whether two names are the same.
-pub(crate) fn is_same_name(a: &[u8], b: &[u8]) -> bool
-    ensures { result ≡ bytes_eq a.now b.now }
-{
-    a == b
 }
 
 /// Why not all values can stand where a type is asked for.

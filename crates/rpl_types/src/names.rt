@@ -9,9 +9,9 @@ ghost use Rattle.rpl_tree.specs.World.{table_in, table_named};
 ghost use Rattle.rpl_types.specs.Forms.{answers, asks, convert_type, literal_in_unit, literal_type, slot_type, table_type};
 
 use crate::TypeKind;
-use crate::calls::is_same_name;
 use crate::fits::misfit;
 use crate::forms::{plain_number, unless_refused};
+use rpl_scope::is_same_name;
 use rpl_tree::{ConvertWord, RplType};
 use rw_base::{Dim, ObjectNo, QUANTITY_MAX, SlotNo, unit_of};
 use rw_model::{Basin, Kind};

@@ -1,6 +1,7 @@
 -- How a term counts in its object's balance, and what it is solved as.
 use Rattle.std.specs.Prelude.{ℕ, ◌≤◌, ◌-◌, ◌*◌, ℤ, pos, neg_ℤ, ◌+ℤ◌, ◌-ℤ◌, ◌*ℤ◌, ◌≤ℤ◌, if◌then◌else◌, Option, None, Some}
 use Rattle.std.specs.Ordering.{int_eq}
+use Rattle.rw_model.specs.declared.limits.TheConstants.{PARTS, SEEPAGE_MAX}
 use Rattle.rw_base.specs.Quotient.{floor_div}
 use Rattle.rw_method.specs.declared.given.Given.{Given}
 use Rattle.rw_method.specs.declared.share.Share.{Share}
@@ -24,8 +25,8 @@ least_routed content release outflow = neg_ℤ (floor_div (neg_ℤ (outflow *ℤ
 abbrev pub IsShare : Share → Type 0
 IsShare Brings = Unit {0}
 IsShare Takes = Unit {0}
-IsShare (Conveys seepage) = seepage ≤ 999
-IsShare (Routes content release) = (1 ≤ release) × (release ≤ 1000)
+IsShare (Conveys seepage) = seepage ≤ SEEPAGE_MAX
+IsShare (Routes content release) = (1 ≤ release) × (release ≤ PARTS)
 
 -- how much a value brings to the balance
 abbrev pub brought : Share → ℤ → ℤ

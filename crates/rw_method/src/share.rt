@@ -1,4 +1,5 @@
 ghost use Rattle.std.specs.Prelude.{◌≡◌, ◌≤◌};
+ghost use Rattle.rw_model.specs.declared.limits.TheConstants.{PARTS, SEEPAGE_MAX};
 
 use std::marker::Model;
 
@@ -10,12 +11,13 @@ pub struct Seepage {
 
 impl Model for Seepage {
     ghost use Rattle.std.specs.Prelude.{ℕ, ◌≤◌};
+    ghost use Rattle.rw_model.specs.declared.limits.TheConstants.{SEEPAGE_MAX};
 
     ghost Value = { ℕ };
 
     ghost view = { λ s. s.parts };
 
-    ghost invariant = { λ s. s.parts ≤ 999 };
+    ghost invariant = { λ s. s.parts ≤ SEEPAGE_MAX };
 
     ghost inverse = { λ n. record { parts = n } };
 }
@@ -23,7 +25,7 @@ impl Model for Seepage {
 impl Seepage {
     /// So many of a thousand parts, 0 to 999.
     pub fn of(parts: u16) -> Seepage
-        requires { parts ≤ 999 }
+        requires { parts ≤ SEEPAGE_MAX }
         ensures { result ≡ parts }
     {
         Seepage { parts }
@@ -32,7 +34,7 @@ impl Seepage {
     /// How many of a thousand parts, 0 to 999.
     pub fn get(self) -> u16
         ensures value { result ≡ self }
-        ensures bound { result ≤ 999 }
+        ensures bound { result ≤ SEEPAGE_MAX }
     {
         self.parts
     }
@@ -46,12 +48,13 @@ pub struct Release {
 
 impl Model for Release {
     ghost use Rattle.std.specs.Prelude.{ℕ, ◌≤◌};
+    ghost use Rattle.rw_model.specs.declared.limits.TheConstants.{PARTS};
 
     ghost Value = { ℕ };
 
     ghost view = { λ r. r.parts };
 
-    ghost invariant = { λ r. (1 ≤ r.parts) × (r.parts ≤ 1000) };
+    ghost invariant = { λ r. (1 ≤ r.parts) × (r.parts ≤ PARTS) };
 
     ghost inverse = { λ n. record { parts = n } };
 }
@@ -60,7 +63,7 @@ impl Release {
     /// So many of a thousand parts, 1 to 1000.
     pub fn of(parts: u16) -> Release
         requires some { 1 ≤ parts }
-        requires most { parts ≤ 1000 }
+        requires most { parts ≤ PARTS }
         ensures { result ≡ parts }
     {
         Release { parts }
@@ -70,7 +73,7 @@ impl Release {
     pub fn get(self) -> u16
         ensures value { result ≡ self }
         ensures some { 1 ≤ result }
-        ensures most { result ≤ 1000 }
+        ensures most { result ≤ PARTS }
     {
         self.parts
     }

@@ -5,9 +5,11 @@ use Rattle.rw_base.proofs.Common.{nat_tests, Decides-and, Decides-eqb, Decides-l
 use Rattle.rw_base.specs.Quantity.{quantity_max, IsQuantity}
 use Rattle.rw_base.specs.Range.{is_from_to}
 use Rattle.rw_base.proofs.Tests.{Decides-le, Decides-int_le, Decides-from_to, passed, spared, unless, where-true}
+use Rattle.rw_table.specs.declared.fault.TheConstants.{ELEVATION_MAX}
 use Rattle.rw_table.specs.Table.{Row}
 use Rattle.rw_table.specs.Curve.{first_row, last_row, IsVolumeInside}
 use Rattle.rw_model.specs.declared.data_slots.DataSlot.{DataSlot}
+use Rattle.rw_model.specs.declared.limits.TheConstants.{DATA_SLOTS_MAX, LAG_MAX, PARTS, POWER_MAX, SEEPAGE_MAX}
 use Rattle.rw_model.specs.declared.kind.Kind.{Kind}
 use Rattle.rw_model.specs.declared.kind.Kind.TheVariants.{DataObject, Gage, Confluence, Bifurcation, Reach, Reservoir, WaterUser, Canal}
 use Rattle.rw_model.specs.declared.kind.Kind.TheVariants.{PowerReservoir, RoutedReach}
@@ -37,7 +39,7 @@ Decides-quantity z = Decides-like _ (λ p. record { low = p.0; high = p.1 }) (λ
 Decides-data : (slots : List DataSlot) → Decides (is_data_slots slots) (IsDataSlots slots)
 Decides-data slots = Decides-like (is_data_slots slots)
     (λ p. record { some = p.0; few = p.1.0; named = p.1.1 }) (λ p. (p.some, (p.few, p.named)))
-    (Decides-and _ _ (Decides-le 1 (length slots)) (Decides-and _ _ (Decides-le (length slots) 8)
+    (Decides-and _ _ (Decides-le 1 (length slots)) (Decides-and _ _ (Decides-le (length slots) DATA_SLOTS_MAX)
     (Decides-by_and (λ (slot : DataSlot). is_name slot.name) (λ (slot : DataSlot). IsName slot.name)
     (list_all (λ (slot : DataSlot). is_name slot.name))
     (λ slot. Decides-name slot.name) refl (λ _ _. refl) slots)))
@@ -45,7 +47,7 @@ Decides-data slots = Decides-like (is_data_slots slots)
 Decides-lagged : (lag : ℕ) (history : List ℤ) → Decides (is_lagged lag history) (IsLagged lag history)
 Decides-lagged lag history = Decides-like (is_lagged lag history)
     (λ p. record { short = p.0; whole = p.1.0; quantities = p.1.1 }) (λ p. (p.short, (p.whole, p.quantities)))
-    (Decides-and _ _ (Decides-le lag 30) (Decides-and _ _ (Decides-eqb (length history) lag)
+    (Decides-and _ _ (Decides-le lag LAG_MAX) (Decides-and _ _ (Decides-eqb (length history) lag)
     (Decides-by_and (is_from_to (pos 0 -ℤ quantity_max) quantity_max) IsQuantity (list_all (is_from_to (pos 0 -ℤ quantity_max) quantity_max))
     Decides-quantity refl (λ _ _. refl) history)))
 
@@ -80,7 +82,7 @@ Decides-volume rows storage =
 Decides-plant : (tailwater : ℤ) (power : ℕ) → Decides (is_plant tailwater power) (IsPlant tailwater power)
 Decides-plant tailwater power = Decides-like (is_plant tailwater power)
     (λ p. record { low = p.0.0; high = p.0.1; some = p.1.0; most = p.1.1 }) (λ p. ((p.low, p.high), (p.some, p.most)))
-    (Decides-and _ _ (Decides-from_to (pos 0) (pos 10000000) tailwater) (Decides-and _ _ (Decides-le 1 power) (Decides-le power 10000)))
+    (Decides-and _ _ (Decides-from_to (pos 0) ELEVATION_MAX tailwater) (Decides-and _ _ (Decides-le 1 power) (Decides-le power POWER_MAX)))
 
 Decides-powered : (initial_storage : ℤ) (rows : List Row) (max_release tailwater : ℤ) (power : ℕ)
     → Decides (is_powered initial_storage rows max_release tailwater power) (IsPowered initial_storage rows max_release tailwater power)
@@ -93,7 +95,7 @@ Decides-powered initial_storage rows max_release tailwater power = Decides-like 
 Decides-routed : (initial_content : ℤ) (release : ℕ) → Decides (is_routed initial_content release) (IsRouted initial_content release)
 Decides-routed initial_content release = Decides-like (is_routed initial_content release)
     (λ p. record { amount = p.0; some = p.1.0; most = p.1.1 }) (λ p. (p.amount, (p.some, p.most)))
-    (Decides-and _ _ (Decides-amount initial_content) (Decides-and _ _ (Decides-le 1 release) (Decides-le release 1000)))
+    (Decides-and _ _ (Decides-amount initial_content) (Decides-and _ _ (Decides-le 1 release) (Decides-le release PARTS)))
 
 pub Decides-kind : (kind : Kind) → Decides (is_kind kind) (IsKind kind)
 Decides-kind (DataObject slots) = Decides-data slots
@@ -103,8 +105,8 @@ Decides-kind Bifurcation = (λ _. tt, λ _. refl)
 Decides-kind (Reach lag history local_inflow diversion return_flow) = Decides-lagged lag history
 Decides-kind (Reservoir initial_storage table local_inflow diversion return_flow evaporation max_release) =
     Decides-stored initial_storage table evaporation max_release
-Decides-kind (WaterUser depletion supply) = Decides-le depletion 1000
-Decides-kind (Canal seepage) = Decides-le seepage 999
+Decides-kind (WaterUser depletion supply) = Decides-le depletion PARTS
+Decides-kind (Canal seepage) = Decides-le seepage SEEPAGE_MAX
 Decides-kind (PowerReservoir initial_storage table max_release tailwater power) =
     Decides-powered initial_storage table max_release tailwater power
 Decides-kind (RoutedReach initial_content release) = Decides-routed initial_content release

@@ -8,6 +8,7 @@ use Rattle.std.specs.List.{IsDistinct}
 use Rattle.std.proofs.lemmas.List.{length-append}
 use Rattle.rw_base.specs.Dimension.{Dimension, dimension}
 use Rattle.rw_base.proofs.Lists.{got_in_front}
+use Rattle.rw_model.specs.declared.limits.TheConstants.{LINK_MAX}
 use Rattle.rw_model.specs.Refusal.{BuildRefusal, bad_parameter}
 use Rattle.rw_model.specs.Slot.{Bounds, IsInside}
 use Rattle.rw_model.specs.Slots.{slots_of}
@@ -233,8 +234,8 @@ pub IsLink-judged : (objects : List Object) (links : List (List ℕ)) (slots : L
     → IsLink objects slots × All (λ slot. link_of links slot ≡ None) slots
 unfolding IsDistinct
 IsLink-judged objects links slots none =
-    let facts = few_enough (nat_le 2 (length slots) && nat_le (length slots) 8) (joins_refusal objects links [] slots) none in
-    let counted = both_true (nat_le 2 (length slots)) (nat_le (length slots) 8) facts.0 in
+    let facts = few_enough (nat_le 2 (length slots) && nat_le (length slots) LINK_MAX) (joins_refusal objects links [] slots) none in
+    let counted = both_true (nat_le 2 (length slots)) (nat_le (length slots) LINK_MAX) facts.0 in
     let each = joins objects links [] slots facts.1 tt in (
       record {
         some = grind (arith, counted);

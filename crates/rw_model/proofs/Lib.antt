@@ -11,5 +11,6 @@ pub mod Grouping
 pub mod PlaceNumbers
 pub mod Bounding
 pub mod Linked
+pub mod Plain
 pub mod Owned
 pub mod Common

@@ -6,6 +6,7 @@ use Rattle.rw_base.proofs.Common.{fold-int_min_bounds, All-nil, All-cons, All-he
 use Rattle.rw_base.proofs.Common.{get_or-range_with_len, slice_get-get_or, nat_tests}
 use Rattle.rw_base.proofs.Tests.{passed, spared, unless, where-true}
 use Rattle.rw_base.proofs.Lists.{or_second}
+use Rattle.rw_model.specs.declared.limits.TheConstants.{CELLS_MAX}
 use Rattle.rw_model.specs.Refusal.{link_bounds}
 use Rattle.rw_model.specs.Slot.{Bounds}
 use Rattle.rw_model.specs.Objects.{Object, all_slots}
@@ -18,14 +19,14 @@ pub basin_iff : (draft : Draft) → IsDraft draft → (finish_refusal draft ≡ 
 basin_iff draft whole = (
   λ e.
       let first = spared (nat_le (length draft.objects) 0) _ _ e in
-      let second = passed (nat_le (basin_cell_count draft) 1000000) _ _ first.1 in
+      let second = passed (nat_le (basin_cell_count draft) CELLS_MAX) _ _ first.1 in
       let third = spared (has_crossed_bounds draft) None link_bounds second.1 in
       record { whole = whole; some = grind (arith, nat_tests); few_cells = grind (arith, nat_tests); meets = third.0 },
   λ basin.
       let some = basin.some in
       let few = basin.few_cells in
       unless (nat_le (length draft.objects) 0) _ _ (grind (arith, nat_tests))
-      ∙ where-true (nat_le (basin_cell_count draft) 1000000) _ _ (grind (arith, nat_tests))
+      ∙ where-true (nat_le (basin_cell_count draft) CELLS_MAX) _ _ (grind (arith, nat_tests))
       ∙ unless (has_crossed_bounds draft) _ _ basin.meets,
 )
 

@@ -1,11 +1,12 @@
 -- The test of a name decides what a name is.
-use Rattle.rw_base.proofs.Common.{◌≡◌, ◌⊎◌, ◌<◌, ℕ, zero, suc, List, [], ◌∷◌, length, slice_index, slice_index_or, Bool, true, false, ◌||◌, refl, sym}
+use Rattle.rw_base.proofs.Common.{◌≡◌, ◌⊎◌, ◌<◌, ℕ, zero, suc, List, [], ◌∷◌, length, slice_index_or, Bool, true, false, ◌||◌, refl, sym}
 use Rattle.rw_base.proofs.Common.{arith, inl, inr, Contains, bytes_eq, Decides, list_all, cases_Bool, false≢true, Decides-and, Decides-or}
-use Rattle.rw_base.proofs.Common.{Decides-not, Decides-eqb, Decides-like, Decides-by_and, bytes_eq-Decides}
+use Rattle.rw_base.proofs.Common.{Decides-not, Decides-eqb, Decides-like, Decides-by_and, bytes_eq-Decides, All-cons, All-tail}
 use Rattle.rw_base.proofs.Tests.{Decides-le}
 use Rattle.rw_base.specs.Byte.{is_letter, is_digit}
 use Rattle.rw_base.proofs.Lists.{or_second}
-use Rattle.rw_model.specs.Name.{IsLetter, IsDigit, IsName, reserved_words, is_word, is_name}
+use Rattle.rw_model.specs.declared.limits.TheConstants.{NAME_MAX}
+use Rattle.rw_model.specs.Name.{IsLetter, IsDigit, IsPlain, IsName, reserved_words, is_word, is_plain, is_name}
 
 Decides-letter : (b : ℕ) → Decides (is_letter b) (IsLetter b)
 Decides-letter b =
@@ -39,12 +40,21 @@ word-has key keys (k, within, same) = word-found key keys k within same
 Decides-word : (keys : List (List ℕ)) (key : List ℕ) → Decides (is_word keys key) (Contains keys key)
 Decides-word keys key = (word-stands key keys, word-has key keys)
 
+pub Decides-plain : (text : List ℕ) → Decides (is_plain text) (IsPlain text)
+Decides-plain [] = (λ e. absurd (false≢true e), λ plain. absurd (omega (arith, plain.some)))
+Decides-plain (b ∷ bs) = Decides-like (is_plain (b ∷ bs))
+    (λ parts. record {
+      some = omega arith;
+      short = parts.0;
+      starts = parts.1.0;
+      goes_on = All-cons (λ c. IsLetter c ⊎ IsDigit c) b bs (inl parts.1.0) parts.1.1;
+    })
+    (λ plain. (plain.short, (plain.starts, All-tail (λ c. IsLetter c ⊎ IsDigit c) b bs plain.goes_on)))
+    (Decides-and _ _ (Decides-le (length (b ∷ bs)) NAME_MAX) (Decides-and _ _ (Decides-letter b)
+    (Decides-by_and (λ c. is_letter c || is_digit c) (λ c. IsLetter c ⊎ IsDigit c) (list_all (λ c. is_letter c || is_digit c))
+    (λ c. Decides-or _ _ (Decides-letter c) (Decides-digit c)) refl (λ _ _. refl) bs)))
+
 pub Decides-name : (text : List ℕ) → Decides (is_name text) (IsName text)
 Decides-name text = Decides-like (is_name text)
-    (λ parts. record { some = parts.0; short = parts.1.0; starts = parts.1.1.0; goes_on = parts.1.1.1.0; free = parts.1.1.1.1 })
-    (λ name. (name.some, (name.short, (name.starts, (name.goes_on, name.free)))))
-    (Decides-and _ _ (Decides-le 1 (length text)) (Decides-and _ _ (Decides-le (length text) 32)
-    (Decides-and _ _ (Decides-letter (slice_index text 0)) (Decides-and _ _
-    (Decides-by_and (λ b. is_letter b || is_digit b) (λ b. IsLetter b ⊎ IsDigit b) (list_all (λ b. is_letter b || is_digit b))
-    (λ b. Decides-or _ _ (Decides-letter b) (Decides-digit b)) refl (λ _ _. refl) text)
-    (Decides-not _ (Decides-word reserved_words text))))))
+    (λ parts. record { plain = parts.0; free = parts.1 }) (λ name. (name.plain, name.free))
+    (Decides-and _ _ (Decides-plain text) (Decides-not _ (Decides-word reserved_words text)))

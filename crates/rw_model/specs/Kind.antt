@@ -4,9 +4,11 @@ use Rattle.std.specs.List.{list_all}
 use Rattle.std.specs.Option.{ForSome}
 use Rattle.rw_base.specs.Quantity.{quantity_max, IsQuantity}
 use Rattle.rw_base.specs.Range.{is_from_to}
+use Rattle.rw_table.specs.declared.fault.TheConstants.{ELEVATION_MAX}
 use Rattle.rw_table.specs.Table.{Row}
 use Rattle.rw_table.specs.Curve.{first_row, last_row, IsVolumeInside}
 use Rattle.rw_model.specs.declared.data_slots.DataSlot.{DataSlot}
+use Rattle.rw_model.specs.declared.limits.TheConstants.{DATA_SLOTS_MAX, LAG_MAX, PARTS, POWER_MAX, SEEPAGE_MAX}
 use Rattle.rw_model.specs.declared.kind.Kind.{Kind}
 use Rattle.rw_model.specs.declared.kind.Kind.TheVariants.{DataObject, Gage, Confluence, Bifurcation, Reach, Reservoir, WaterUser, Canal, PowerReservoir, RoutedReach}
 use Rattle.rw_model.specs.Name.{IsName, is_name}
@@ -19,12 +21,12 @@ pub record IsAmount (z : ℤ) : Type 0 where
 -- 1 to 8 slots, each with a name
 pub record IsDataSlots (slots : List DataSlot) : Type 0 where
   pub some : 1 ≤ length slots
-  pub few : length slots ≤ 8
+  pub few : length slots ≤ DATA_SLOTS_MAX
   pub named : All (λ (slot : DataSlot). IsName slot.name) slots
 
 -- a lag of 0 to 30 timesteps, and one inflow for each of them
 pub record IsLagged (lag : ℕ) (history : List ℤ) : Type 0 where
-  pub short : lag ≤ 30
+  pub short : lag ≤ LAG_MAX
   pub whole : length history ≡ lag
   pub quantities : All IsQuantity history
 
@@ -38,9 +40,9 @@ pub record IsStored (initial_storage : ℤ) (table : Option (List Row)) (evapora
 -- a tailwater from 0 to 10,000,000 mm, and 1 to 10,000 kWh for 10^9 m3 that fall by 1 mm
 pub record IsPlant (tailwater : ℤ) (power : ℕ) : Type 0 where
   pub low : pos 0 ≤ℤ tailwater
-  pub high : tailwater ≤ℤ pos 10000000
+  pub high : tailwater ≤ℤ ELEVATION_MAX
   pub some : 1 ≤ power
-  pub most : power ≤ 10000
+  pub most : power ≤ POWER_MAX
 
 -- an initial storage from 0 to Q m3, which the table has, a greatest release from 0 to Q m3/step, and a plant
 pub record IsPowered (initial_storage : ℤ) (rows : List Row) (max_release tailwater : ℤ) (power : ℕ) : Type 0 where
@@ -53,7 +55,7 @@ pub record IsPowered (initial_storage : ℤ) (rows : List Row) (max_release tail
 pub record IsRouted (initial_content : ℤ) (release : ℕ) : Type 0 where
   pub amount : IsAmount initial_content
   pub some : 1 ≤ release
-  pub most : release ≤ 1000
+  pub most : release ≤ PARTS
 
 -- a kind whose parameters are in range
 abbrev pub IsKind : Kind → Type 0
@@ -64,8 +66,8 @@ IsKind Bifurcation = Unit {0}
 IsKind (Reach lag history local_inflow diversion return_flow) = IsLagged lag history
 IsKind (Reservoir initial_storage table local_inflow diversion return_flow evaporation max_release) =
     IsStored initial_storage table evaporation max_release
-IsKind (WaterUser depletion supply) = depletion ≤ 1000
-IsKind (Canal seepage) = seepage ≤ 999
+IsKind (WaterUser depletion supply) = depletion ≤ PARTS
+IsKind (Canal seepage) = seepage ≤ SEEPAGE_MAX
 IsKind (PowerReservoir initial_storage table max_release tailwater power) =
     IsPowered initial_storage table max_release tailwater power
 IsKind (RoutedReach initial_content release) = IsRouted initial_content release
@@ -74,11 +76,11 @@ IsKind (RoutedReach initial_content release) = IsRouted initial_content release
 
 abbrev pub is_data_slots : List DataSlot → Bool
 is_data_slots slots =
-    nat_le 1 (length slots) && (nat_le (length slots) 8 && list_all (λ (slot : DataSlot). is_name slot.name) slots)
+    nat_le 1 (length slots) && (nat_le (length slots) DATA_SLOTS_MAX && list_all (λ (slot : DataSlot). is_name slot.name) slots)
 
 abbrev pub is_lagged : ℕ → List ℤ → Bool
 is_lagged lag history =
-    nat_le lag 30 && (length history == lag && list_all (is_from_to (pos 0 -ℤ quantity_max) quantity_max) history)
+    nat_le lag LAG_MAX && (length history == lag && list_all (is_from_to (pos 0 -ℤ quantity_max) quantity_max) history)
 
 -- the table has the storage, if there is a table
 abbrev pub is_inside : Option (List Row) → ℤ → Bool
@@ -95,7 +97,7 @@ is_stored initial_storage table evaporation max_release =
     && ((not evaporation || is_some table) && is_release max_release))
 
 abbrev pub is_plant : ℤ → ℕ → Bool
-is_plant tailwater power = is_from_to (pos 0) (pos 10000000) tailwater && (nat_le 1 power && nat_le power 10000)
+is_plant tailwater power = is_from_to (pos 0) ELEVATION_MAX tailwater && (nat_le 1 power && nat_le power POWER_MAX)
 
 abbrev pub is_powered : ℤ → List Row → ℤ → ℤ → ℕ → Bool
 is_powered initial_storage rows max_release tailwater power =
@@ -104,7 +106,7 @@ is_powered initial_storage rows max_release tailwater power =
 
 abbrev pub is_routed : ℤ → ℕ → Bool
 is_routed initial_content release =
-    is_from_to (pos 0) quantity_max initial_content && (nat_le 1 release && nat_le release 1000)
+    is_from_to (pos 0) quantity_max initial_content && (nat_le 1 release && nat_le release PARTS)
 
 abbrev pub is_kind : Kind → Bool
 is_kind (DataObject slots) = is_data_slots slots
@@ -114,8 +116,8 @@ is_kind Bifurcation = true
 is_kind (Reach lag history local_inflow diversion return_flow) = is_lagged lag history
 is_kind (Reservoir initial_storage table local_inflow diversion return_flow evaporation max_release) =
     is_stored initial_storage table evaporation max_release
-is_kind (WaterUser depletion supply) = nat_le depletion 1000
-is_kind (Canal seepage) = nat_le seepage 999
+is_kind (WaterUser depletion supply) = nat_le depletion PARTS
+is_kind (Canal seepage) = nat_le seepage SEEPAGE_MAX
 is_kind (PowerReservoir initial_storage table max_release tailwater power) =
     is_powered initial_storage table max_release tailwater power
 is_kind (RoutedReach initial_content release) = is_routed initial_content release

@@ -6,6 +6,7 @@ use Rattle.std.specs.Option.{option_or}
 use Rattle.std.specs.Ordering.{int_eq}
 use Rattle.std.specs.Int.{int_max, int_min}
 use Rattle.rw_base.specs.Dimension.{Dimension, dimension}
+use Rattle.rw_model.specs.declared.limits.TheConstants.{LINK_MAX}
 use Rattle.rw_model.specs.Refusal.{BuildRefusal, unknown_slot, linked_twice, link_within_object, link_dimension, bad_parameter}
 use Rattle.rw_model.specs.Slot.{Bounds, all_quantities}
 use Rattle.rw_model.specs.Objects.{Object, all_slots, slot_at}
@@ -68,7 +69,7 @@ joins_refusal objects links before (slot ∷ slots) =
 -- what is wrong with a link, if something is: it has 2 to 8 slots, and then slot by slot
 abbrev pub link_refusal : List Object → List (List ℕ) → List ℕ → Option BuildRefusal
 link_refusal objects links slots =
-    if nat_le 2 (length slots) && nat_le (length slots) 8 then joins_refusal objects links [] slots else Some bad_parameter
+    if nat_le 2 (length slots) && nat_le (length slots) LINK_MAX then joins_refusal objects links [] slots else Some bad_parameter
 
 -- ---- the groups that links make
 

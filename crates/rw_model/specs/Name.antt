@@ -1,7 +1,8 @@
 -- The names that objects and data slots may have.
-use Rattle.std.specs.Prelude.{ℕ, ◌≤◌, ◌⊎◌, ◌≡◌, nat_le, Bool, ◌&&◌, ◌||◌, not, List, [], ◌∷◌, length, All, Contains, slice_index, codes, bytes_eq}
+use Rattle.std.specs.Prelude.{ℕ, ◌≤◌, ◌⊎◌, ◌≡◌, nat_le, Bool, false, ◌&&◌, ◌||◌, not, List, [], ◌∷◌, length, All, Contains, slice_index, codes, bytes_eq}
 use Rattle.std.specs.List.{list_all, list_any}
 use Rattle.rw_base.specs.Byte.{is_digit, is_letter}
+use Rattle.rw_model.specs.declared.limits.TheConstants.{NAME_MAX}
 
 -- a letter, or `_`
 abbrev pub IsLetter : ℕ → Type 0
@@ -22,12 +23,16 @@ reserved_words =
     codes "NUMERIC" ∷ codes "BOOLEAN" ∷ codes "DATETIME" ∷ codes "SLOT" ∷ codes "LIST" ∷ codes "OF" ∷ codes "t" ∷
     []
 
--- a letter or `_`, then letters, digits and `_`, 32 bytes at most, and no reserved word
-pub record IsName (text : List ℕ) : Type 0 where
+-- a plain name: a letter or `_`, then letters, digits and `_`, 32 bytes at most. So it has no comma, quote, blank or line end
+pub record IsPlain (text : List ℕ) : Type 0 where
   pub some : 1 ≤ length text
-  pub short : length text ≤ 32
+  pub short : length text ≤ NAME_MAX
   pub starts : IsLetter (slice_index text 0)
   pub goes_on : All (λ b. IsLetter b ⊎ IsDigit b) text
+
+-- a plain name that is no reserved word
+pub record IsName (text : List ℕ) : Type 0 where
+  pub plain : IsPlain text
   pub free : ¬ Contains reserved_words text
 
 -- ---- the same, as tests
@@ -36,7 +41,9 @@ pub record IsName (text : List ℕ) : Type 0 where
 abbrev pub is_word : List (List ℕ) → List ℕ → Bool
 is_word words text = list_any (bytes_eq text) words
 
+abbrev pub is_plain : List ℕ → Bool
+is_plain [] = false
+is_plain (b ∷ bs) = nat_le (length (b ∷ bs)) NAME_MAX && (is_letter b && list_all (λ c. is_letter c || is_digit c) bs)
+
 abbrev pub is_name : List ℕ → Bool
-is_name text =
-    nat_le 1 (length text) && (nat_le (length text) 32 && (is_letter (slice_index text 0)
-    && (list_all (λ b. is_letter b || is_digit b) text && not (is_word reserved_words text))))
+is_name text = is_plain text && not (is_word reserved_words text)

@@ -3,6 +3,7 @@ use Rattle.std.specs.Prelude.{◌≤ℤ◌, ℕ, ℤ, pos, neg_ℤ, List}
 use Rattle.rw_base.specs.Dimension.{Dimension, per_of}
 use Rattle.rw_base.specs.Quantity.{quantity_max}
 use Rattle.rw_base.specs.Unit.{volume, length, timestep}
+use Rattle.rw_table.specs.declared.fault.TheConstants.{ELEVATION_MAX}
 use Rattle.rw_model.specs.declared.role.Role.{Role}
 
 -- the least and the greatest value
@@ -33,7 +34,7 @@ from_zero = (pos 0, quantity_max)
 
 -- the elevations in mm, and the rates of evaporation in mm/step
 abbrev pub lengths : Bounds
-lengths = (pos 0, pos 10000000)
+lengths = (pos 0, ELEVATION_MAX)
 
 -- a flow in m3/step: any quantity, and none below 0 where nothing else is set
 abbrev pub flow : List ℕ → Role → Slot

@@ -7,10 +7,11 @@ ghost use Rattle.rw_model.specs.declared.data_slots.DataSlot.{DataSlot as Slot};
 ghost use Rattle.rw_model.specs.Name.{IsName};
 ghost use Rattle.rw_model.specs.Kind.{IsAmount, IsDataSlots, IsLagged, IsPlant, IsPowered, IsRouted, IsStored, IsKind, is_kind};
 
+use crate::limits::{DATA_SLOTS_MAX, LAG_MAX, PARTS, POWER_MAX, SEEPAGE_MAX};
 use crate::{DataSlot, DataSlots, History, is_name};
 use rw_base::QUANTITY_MAX;
-use rw_table::Rating;
 use rw_table::law::elevation_is_greatest;
+use rw_table::{ELEVATION_MAX, Rating};
 
 /// Who sets what a water user asks for.
 #[derive(Clone, Copy, Debug, PartialEq, Eq)]
@@ -120,9 +121,6 @@ impl Kind {
     }
 }
 
-// The greatest elevation, in mm.
-const TAILWATER_MAX: i64 = 10_000_000;
-
 fn is_quantity(z: i64) -> bool
     ensures { IsTrue result ↔ IsQuantity z }
 {
@@ -138,13 +136,15 @@ fn is_amount(z: i64) -> bool
 fn are_data_slots(slots: &[DataSlot]) -> bool
     ensures { IsTrue result ↔ IsDataSlots slots.now }
 {
-    !slots.is_empty() && slots.len() <= 8 && slots.iter().all(|slot| is_name(slot.name.as_str()))
+    !slots.is_empty()
+        && slots.len() <= DATA_SLOTS_MAX
+        && slots.iter().all(|slot| is_name(slot.name.as_str()))
 }
 
 fn is_lagged(lag: u8, history: &[i64]) -> bool
     ensures { IsTrue result ↔ IsLagged lag history.now }
 {
-    lag <= 30 && history.len() == usize::from(lag) && history.iter().all(|z| is_quantity(*z))
+    lag <= LAG_MAX && history.len() == usize::from(lag) && history.iter().all(|z| is_quantity(*z))
 }
 
 fn is_in_table(rating: &Rating, volume: i64) -> bool
@@ -197,7 +197,7 @@ fn is_volume(rating: &Rating, volume: i64) -> bool
 fn is_plant(tailwater: i64, power: u16) -> bool
     ensures { IsTrue result ↔ IsPlant tailwater power }
 {
-    0 <= tailwater && tailwater <= TAILWATER_MAX && 1 <= power && power <= 10_000
+    0 <= tailwater && tailwater <= ELEVATION_MAX && 1 <= power && power <= POWER_MAX
 }
 
 fn is_powered(
@@ -215,7 +215,7 @@ fn is_powered(
 fn is_routed(initial_content: i64, release: u16) -> bool
     ensures { IsTrue result ↔ IsRouted initial_content release }
 {
-    is_amount(initial_content) && 1 <= release && release <= 1000
+    is_amount(initial_content) && 1 <= release && release <= PARTS
 }
 
 /// Whether the kind's parameters are in range, in their base units; evaporation wants a table, and an initial storage is one
@@ -235,8 +235,8 @@ pub fn is_kind(kind: &Kind) -> bool
             max_release,
             ..
         } => is_stored(*initial_storage, table, *evaporation, *max_release),
-        Kind::WaterUser { depletion, .. } => *depletion <= 1000,
-        Kind::Canal { seepage } => *seepage <= 999,
+        Kind::WaterUser { depletion, .. } => *depletion <= PARTS,
+        Kind::Canal { seepage } => *seepage <= SEEPAGE_MAX,
         Kind::PowerReservoir {
             initial_storage,
             table,

@@ -1,16 +1,16 @@
 //! What the definitions of this crate come to in plain words. Each law is the `ensures` of a function that does
 //! nothing.
-ghost use Rattle.std.specs.Prelude.{◌≡◌, ◌<◌, ◌≤◌, ◌↔◌, IsTrue, ℕ, ℤ, List, [], ◌∷◌, All, Contains, None, Some};
+ghost use Rattle.std.specs.Prelude.{◌≡◌, ◌<◌, ◌≤◌, ◌↔◌, IsTrue, ℕ, ℤ, List, [], ◌∷◌, All, Contains, IsSome, None, Some};
 ghost use Rattle.rw_model.specs.declared.content.Content.{Content};
 ghost use Rattle.rw_model.specs.declared.put.PutEnd.TheVariants as PutEnd;
 ghost use Rattle.rw_model.specs.declared.writer.Writer.TheVariants as Writer;
-ghost use Rattle.rw_model.specs.Objects.{Object, slot_at};
+ghost use Rattle.rw_model.specs.Objects.{Object, object_named, slot_at, slot_named};
 ghost use Rattle.rw_model.specs.Draft.{Draft, Bound, IsSound, IsFresh, CanAdd, IsSlot, IsWithinWidest, CanBound};
 ghost use Rattle.rw_model.specs.Links.{link_of, link_refusal, group_of, own_bounds, linked_with, bounds_in, IsBetween};
 ghost use Rattle.rw_model.specs.Basin.{IsLink, IsDraft, IsBasin, finish_refusal};
 ghost use Rattle.rw_model.specs.Slot.{Bounds};
 ghost use Rattle.rw_model.specs.declared.kind.Kind.{Kind};
-ghost use Rattle.rw_model.specs.Name.{IsName, is_name};
+ghost use Rattle.rw_model.specs.Name.{IsName, IsPlain, is_name, is_plain};
 ghost use Rattle.rw_model.specs.Kind.{IsKind, is_kind};
 ghost use Rattle.rw_model.specs.Build.{is_sound, is_fresh, is_allowed, object_refusal, bound_refusal};
 ghost use Rattle.rw_model.specs.Put.{end_of_put, IsSameObject};
@@ -40,6 +40,7 @@ pub fn put_rules()
 
 /// The tests of names and objects pass exactly where their words hold, and that of bounds where a slot can have them.
 pub fn tests_and_words()
+    ensures plain { (text : List ℕ) → IsTrue (is_plain text) ↔ IsPlain text }
     ensures name { (text : List ℕ) → IsTrue (is_name text) ↔ IsName text }
     ensures kind { (kind : Kind) → IsTrue (is_kind kind) ↔ IsKind kind }
     ensures sound { (object : Object) → IsTrue (is_sound object) ↔ IsSound object }
@@ -47,6 +48,14 @@ pub fn tests_and_words()
         → IsTrue (is_fresh objects object) ↔ IsFresh objects object }
     ensures allowed { (objects : List Object) (slot : ℕ) (bounds : Bounds)
         → IsTrue (is_allowed (slot_at objects slot) bounds) ↔ IsWithinWidest objects slot bounds }
+{}
+
+/// What a basin has by name has a plain name.
+pub fn plain_names()
+    ensures object { (basin : Draft) (object : List ℕ) → IsBasin basin
+        → IsSome (object_named basin.objects object) → IsPlain object }
+    ensures slot { (basin : Draft) (object slot : List ℕ) → IsBasin basin
+        → IsSome (slot_named basin.objects object slot) → IsPlain object × IsPlain slot }
 {}
 
 /// Nothing is wrong with an object exactly where it can be added, and with bounds exactly where a slot can have them.

@@ -1,9 +1,9 @@
 //! The parts of a model of a river basin. `Kind` says what kinds of objects there are, and `Kind::slot` answers the one
 //! table of slots in `specs/Slots.antt`: which slots a kind has, in which places, with their dimensions, roles and bounds.
-//! `is_name` and `is_kind` say which names and parameters a model may have. `put_end` answers what becomes of a put to a
-//! cell. `BasinBuilder` takes objects, links and the bounds of slots, refuses those that a basin can't have, by their first
-//! fault, and finds slots by name. A finished `Basin` is valid and holds what was added, in order; its readers take no
-//! memory.
+//! `is_name` and `is_kind` say which names and parameters a model may have, and `is_plain` how any name is spelt. `put_end`
+//! answers what becomes of a put to a cell. `BasinBuilder` takes objects, links and the bounds of slots, refuses those that a
+//! basin can't have, by their first fault, and finds slots by name. A finished `Basin` is valid and holds what was added, in
+//! order; its readers take no memory.
 #![tactic(auto)]
 
 mod basin;
@@ -41,7 +41,7 @@ pub use data_slots::{DataSlot, DataSlots};
 pub use fault::BuildFault;
 pub use history::History;
 pub use kind::{Kind, Supply, is_kind};
-pub use name::{Name, is_name};
+pub use name::{Name, is_name, is_plain};
 pub use put::{PutEnd, put_end};
 pub use role::Role;
 pub use slot::Slot;

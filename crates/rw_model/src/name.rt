@@ -1,6 +1,9 @@
-ghost use Rattle.std.specs.Prelude.{◌≡◌, string_bytes, ◌↔◌, ◌⊎◌, IsTrue, Contains, map};
-ghost use Rattle.rw_model.specs.Name.{IsLetter, IsDigit, IsName, is_name, reserved_words};
+ghost use Rattle.std.specs.Prelude.{◌≡◌, string_bytes, ◌↔◌, ◌||◌, IsTrue, Contains, map};
+ghost use Rattle.std.specs.List.{list_all};
+ghost use Rattle.rw_base.specs.Byte.{is_letter, is_digit};
+ghost use Rattle.rw_model.specs.Name.{IsName, is_name, is_plain, reserved_words};
 
+use crate::limits::NAME_MAX;
 use std::marker::Model;
 
 /// The name of an object or of a slot, seen as its bytes.
@@ -77,19 +80,33 @@ const RESERVED_WORDS: [&str; 40] = [
     "t",
 ];
 
-// The most bytes of a name.
-const NAME_MAX: usize = 32;
-
-fn is_letter(b: u8) -> bool
-    ensures { IsTrue result ↔ IsLetter b }
+fn is_letter(byte: u8) -> bool
+    ensures { result ≡ is_letter byte }
 {
-    matches!(b, b'a'..=b'z' | b'A'..=b'Z' | b'_')
+    matches!(byte, b'a'..=b'z' | b'A'..=b'Z' | b'_')
 }
 
-fn goes_on(b: u8) -> bool
-    ensures { IsTrue result ↔ (IsLetter b ⊎ IsDigit b) }
+fn goes_on(byte: u8) -> bool
+    ensures { result ≡ (is_letter byte || is_digit byte) }
 {
-    is_letter(b) || b.is_ascii_digit()
+    is_letter(byte) || matches!(byte, b'0'..=b'9')
+}
+
+fn all_go_on(bytes: &[u8]) -> bool
+    ensures { result ≡ list_all (λ byte. is_letter byte || is_digit byte) bytes.now }
+{
+    bytes.iter().all(|byte| goes_on(*byte))
+}
+
+/// Whether the bytes are a plain name: a letter or `_`, then letters, digits and `_`, at most 32 bytes.
+pub fn is_plain(bytes: &[u8]) -> bool
+    ensures { result ≡ is_plain bytes.now }
+{
+    match bytes {
+        [] => false,
+        [first, further @ ..] => bytes.len() <= NAME_MAX
+            && (is_letter(*first) && all_go_on(further)),
+    }
 }
 
 // Whether the text is one of the words.
@@ -110,15 +127,10 @@ fn is_reserved(text: &str) -> bool
     is_among(&RESERVED_WORDS, text)
 }
 
-/// Whether it is a name: a letter or `_`, then letters, digits and `_`, at most 32 bytes, and no reserved word.
+/// Whether it is a name: a plain name that is no reserved word.
 pub fn is_name(text: &str) -> bool
     ensures name { IsTrue result ↔ IsName text.now }
     ensures test { result ≡ is_name text.now }
 {
-    let bytes = text.as_bytes();
-    !bytes.is_empty()
-        && bytes.len() <= NAME_MAX
-        && is_letter(bytes[0])
-        && bytes.iter().all(|b| goes_on(*b))
-        && !is_reserved(text)
+    is_plain(text.as_bytes()) && !is_reserved(text)
 }

@@ -5,10 +5,8 @@ ghost use Rattle.rw_model.specs.Slot.{IsInside, flow, of_range, rate_unit, all_q
 
 use crate::Role;
 use rw_base::{Dim, QUANTITY_MAX};
+use rw_table::ELEVATION_MAX;
 use std::marker::Model;
-
-// The greatest elevation, in mm, and the greatest rate of evaporation, in mm/step.
-const LENGTH_MAX: i64 = 10_000_000;
 
 /// A slot that a kind has: its name, what it measures, who gives it its values, and between which it lies.
 #[derive(Drop)]
@@ -88,14 +86,14 @@ impl<'a> Slot<'a> {
     pub(crate) fn elevation(name: &'a str) -> Slot<'a>
         ensures { result ≡ of_range name.now length Role.Neither lengths }
     {
-        Slot::of_range(name, dim(0, 1, 0), Role::Neither, (0, LENGTH_MAX))
+        Slot::of_range(name, dim(0, 1, 0), Role::Neither, (0, ELEVATION_MAX))
     }
 
-    /// A rate of evaporation, in mm/step.
+    /// A rate of evaporation, in mm/step: as great as an elevation at most.
     pub(crate) fn rate(name: &'a str) -> Slot<'a>
         ensures { result ≡ of_range name.now rate_unit Role.Fixed lengths }
     {
-        Slot::of_range(name, dim(0, 1, -1), Role::Fixed, (0, LENGTH_MAX))
+        Slot::of_range(name, dim(0, 1, -1), Role::Fixed, (0, ELEVATION_MAX))
     }
 
     // A slot with the widest bounds where none are set.

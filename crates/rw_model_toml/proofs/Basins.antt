@@ -21,6 +21,7 @@ use Rattle.rw_model_toml.specs.Model.{toml_of, table_or, model_of}
 use Rattle.rw_base.specs.Answers.{unless_refused}
 use Rattle.rw_base.proofs.Tests.{denied, Decides-int_lt}
 use Rattle.std.proofs.lemmas.Bool.{or_parts}
+use Rattle.rw_calendar.specs.declared.limits.TheConstants.{STEPS_MAX}
 use Rattle.rw_calendar.specs.Stamps.{AreTimesteps, stamps_refusal, stamps_of, timesteps_of}
 use Rattle.rw_calendar.proofs.Refusals.{stamped-iff}
 use Rattle.rw_calendar.proofs.TimestepFacts.{are_stamped}
@@ -77,7 +78,7 @@ judged-inside Q absent judge None p q = p
 judged-inside Q absent judge (Some d) p q = q d
 
 abbrev InLimits : Run → Type 0
-InLimits run = IsFromTo 16 100 run.object_limit × IsFromTo 1 100 run.rule_limit × IsFromTo 1 4096 run.steps
+InLimits run = IsFromTo 16 100 run.object_limit × IsFromTo 1 100 run.rule_limit × IsFromTo 1 STEPS_MAX run.steps
 
 limit-inside : (default low high : ℕ) (key : List ℕ) (ms : Members) → IsFromTo low high default
     → IfOk (optional default (count_read low high) (codes "run") key ms) (IsFromTo low high)
@@ -85,16 +86,16 @@ limit-inside default low high key ms within_ =
     judged-inside (IsFromTo low high) (Ok default) (count_read low high (key_path (codes "run") key)) (get_member key ms) within_
     (count-inside low high (key_path (codes "run") key))
 
-steps-inside : (ms : Members) → IfOk (required (count_read 1 4096) (codes "run") (codes "steps") ms) (IsFromTo 1 4096)
+steps-inside : (ms : Members) → IfOk (required (count_read 1 STEPS_MAX) (codes "run") (codes "steps") ms) (IsFromTo 1 STEPS_MAX)
 steps-inside ms =
-    judged-inside (IsFromTo 1 4096) (Err (missing (key_path (codes "run") (codes "steps"))))
-    (count_read 1 4096 (key_path (codes "run") (codes "steps")))
-    (get_member (codes "steps") ms) tt (count-inside 1 4096 (key_path (codes "run") (codes "steps")))
+    judged-inside (IsFromTo 1 STEPS_MAX) (Err (missing (key_path (codes "run") (codes "steps"))))
+    (count_read 1 STEPS_MAX (key_path (codes "run") (codes "steps")))
+    (get_member (codes "steps") ms) tt (count-inside 1 STEPS_MAX (key_path (codes "run") (codes "steps")))
 
 run-inside : (ms : Members) → IfOk (run_of ms) InLimits
 unfolding run_of
 run-inside ms = next InLimits (start_read ms) _ (λ start. next InLimits (step_length_of ms) _
-    (λ length. next-by (IsFromTo 1 4096) InLimits (required (count_read 1 4096) (codes "run") (codes "steps") ms) _ (steps-inside ms)
+    (λ length. next-by (IsFromTo 1 STEPS_MAX) InLimits (required (count_read 1 STEPS_MAX) (codes "run") (codes "steps") ms) _ (steps-inside ms)
     (λ steps r. next InLimits (agenda_read ms) _
     (λ agenda. next-by (IsFromTo 16 100) InLimits (optional 50 (count_read 16 100) (codes "run") (codes "object_limit") ms) _
     (limit-inside 50 16 100 (codes "object_limit") ms (omega arith, omega arith))

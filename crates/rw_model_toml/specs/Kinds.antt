@@ -4,8 +4,10 @@ use Rattle.toml.specs.Data.{Data, Items, no_items, item, as_integer, array, Memb
 use Rattle.rw_base.specs.Dimension.{Dimension}
 use Rattle.rw_base.specs.Quantity.{quantity_max}
 use Rattle.rw_base.specs.Unit.{units, unit_in}
+use Rattle.rw_table.specs.declared.fault.TheConstants.{ELEVATION_MAX}
 use Rattle.rw_table.specs.Table.{Row, table_of}
 use Rattle.rw_model.specs.declared.data_slots.DataSlot.{DataSlot}
+use Rattle.rw_model.specs.declared.limits.TheConstants.{DATA_SLOTS_MAX, LAG_MAX, PARTS, POWER_MAX, SEEPAGE_MAX}
 use Rattle.rw_model.specs.declared.kind.Kind.{Kind}
 use Rattle.rw_model.specs.declared.kind.Kind.TheVariants.{DataObject, Gage, Confluence, Bifurcation, Reach, Reservoir, WaterUser, Canal, PowerReservoir, RoutedReach}
 use Rattle.rw_model.specs.declared.kind.Supply.{Supply}
@@ -44,7 +46,7 @@ data_slot_read at value = do
 
 -- 1 to 8 of them
 abbrev pub few_slots : List ℕ → List DataSlot → Result (List DataSlot) ModelRefusal
-few_slots path slots = if nat_le 1 (length slots) && nat_le (length slots) 8 then Ok slots else Err (out_of_range path)
+few_slots path slots = if nat_le 1 (length slots) && nat_le (length slots) DATA_SLOTS_MAX then Ok slots else Err (out_of_range path)
 
 unfoldable pub data_of : List ℕ → Members → Result Kind ModelRefusal
 data_of at table = do
@@ -81,7 +83,7 @@ history_of at lag table = do
 
 unfoldable pub reach_of : List ℕ → Members → Result Kind ModelRefusal
 reach_of at table = do
-  lag ← optional 0 (count_read 0 30) at (codes "lag") table
+  lag ← optional 0 (count_read 0 LAG_MAX) at (codes "lag") table
   history ← history_of at lag table
   options ← options_of at table
   listed ← only_listed (object_keys (codes "lag" ∷ codes "history" ∷ codes "local_inflow" ∷ codes "diversion" ∷ codes "return_flow" ∷ [])) at table
@@ -136,15 +138,15 @@ power_reservoir_of at table = do
   initial_storage ← required (number_read (pos 0) quantity_max) at (codes "initial_storage") table
   rows ← required rating_of at (codes "table") table
   max_release ← required (number_read (pos 0) quantity_max) at (codes "max_release") table
-  tailwater ← optional (pos 0) (number_read (pos 0) (pos 10000000)) at (codes "tailwater") table
-  power ← required (count_read 1 10000) at (codes "power") table
+  tailwater ← optional (pos 0) (number_read (pos 0) ELEVATION_MAX) at (codes "tailwater") table
+  power ← required (count_read 1 POWER_MAX) at (codes "power") table
   listed ← only_listed (object_keys (codes "initial_storage" ∷ codes "table" ∷ codes "max_release" ∷ codes "tailwater" ∷ codes "power" ∷ [])) at table
   Ok (PowerReservoir initial_storage rows max_release tailwater power)
 
 unfoldable pub routed_reach_of : List ℕ → Members → Result Kind ModelRefusal
 routed_reach_of at table = do
   initial_content ← required (number_read (pos 0) quantity_max) at (codes "initial_content") table
-  release ← required (count_read 1 1000) at (codes "release") table
+  release ← required (count_read 1 PARTS) at (codes "release") table
   listed ← only_listed (object_keys (codes "initial_content" ∷ codes "release" ∷ [])) at table
   Ok (RoutedReach initial_content release)
 
@@ -156,14 +158,14 @@ supply_of at table = optional (codes "request") text_of at (codes "supply") tabl
 
 unfoldable pub water_user_of : List ℕ → Members → Result Kind ModelRefusal
 water_user_of at table = do
-  depletion ← required (count_read 0 1000) at (codes "depletion") table
+  depletion ← required (count_read 0 PARTS) at (codes "depletion") table
   supply ← supply_of at table
   listed ← only_listed (object_keys (codes "depletion" ∷ codes "supply" ∷ [])) at table
   Ok (WaterUser depletion supply)
 
 unfoldable pub canal_of : List ℕ → Members → Result Kind ModelRefusal
 canal_of at table = do
-  seepage ← required (count_read 0 999) at (codes "seepage") table
+  seepage ← required (count_read 0 SEEPAGE_MAX) at (codes "seepage") table
   listed ← only_listed (object_keys (codes "seepage" ∷ [])) at table
   Ok (Canal seepage)
 

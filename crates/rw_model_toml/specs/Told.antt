@@ -2,6 +2,7 @@
 use Rattle.std.specs.Prelude.{Bool, ℕ, ◌==◌, nat_le, nat_lt, ◌&&◌, List, [], ◌∷◌, length, if◌then◌else◌, unwrap_or, Result, Ok, Err, codes}
 use Rattle.std.specs.List.{position_or_len, before_first, after_first}
 use Rattle.toml.specs.Data.{Data}
+use Rattle.rw_model.specs.declared.limits.TheConstants.{LINK_MAX}
 use Rattle.rw_model.specs.Slot.{Bounds}
 use Rattle.rw_model.specs.Objects.{Object, slot_named}
 use Rattle.rw_model.specs.Draft.{Draft}
@@ -50,7 +51,7 @@ slot_read objects path value = text_of path value >>= λ text. Ok (slot_number o
 
 -- 2 to 8 of them
 abbrev pub few_linked : List ℕ → List ℕ → Result (List ℕ) ModelRefusal
-few_linked path slots = if nat_le 2 (length slots) && nat_le (length slots) 8 then Ok slots else Err (out_of_range path)
+few_linked path slots = if nat_le 2 (length slots) && nat_le (length slots) LINK_MAX then Ok slots else Err (out_of_range path)
 
 -- the link is told to the builder
 unfoldable pub link_told : List ℕ → Draft → List ℕ → Result Draft ModelRefusal

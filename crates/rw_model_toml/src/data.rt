@@ -11,12 +11,10 @@ use crate::name::read_name;
 use crate::path::{element_path, key_path};
 use crate::value::table;
 use rw_base::Dim;
+use rw_model::limits::DATA_SLOTS_MAX;
 use rw_model::{BuildFault, DataSlot, DataSlots, Kind, Name};
 use std::alloc::Global;
 use toml::{Table, Value};
-
-// The most slots of a data object.
-const SLOTS_MAX: usize = 8;
 
 fn read_unit(alloc: Global, at: &str, table: &Table) -> Result<Dim, ModelFault>
     ensures { Gives (λ dim. dim) result (unit_of at.now (table_view table.now)) }
@@ -62,7 +60,7 @@ pub(crate) fn read_data(alloc: Global, at: &str, table: &Table) -> Result<Kind, 
     let items = required_items(alloc, at, "slots", table)?;
     let path = key_path(alloc, at, "slots")?;
     let slots = read_slots(alloc, path.as_str(), items)?;
-    if slots.is_empty() || slots.len() > SLOTS_MAX {
+    if slots.is_empty() || slots.len() > DATA_SLOTS_MAX {
         return Err(ModelFault::Build(path, BuildFault::BadParameter));
     }
     only_listed(alloc, &["name", "kind", "slots"], at, table)?;

@@ -14,12 +14,10 @@ use crate::slot_text::slot_number;
 use crate::told::told;
 use crate::value::{table, text};
 use rw_base::SlotNo;
+use rw_model::limits::LINK_MAX;
 use rw_model::{BasinBuilder, BuildFault};
 use std::alloc::Global;
 use toml::{Table, Value};
-
-// The most slots of a link.
-const SLOTS_MAX: usize = 8;
 
 // The slot that the value at the path names.
 fn read_slot(path: String, builder: &BasinBuilder, value: &Value) -> Result<SlotNo, ModelFault>
@@ -77,7 +75,7 @@ fn read_link(
     let items = required_items(alloc, at, "slots", table)?;
     let path = key_path(alloc, at, "slots")?;
     let slots = read_slots(alloc, path.as_str(), builder, items)?;
-    if slots.len() < 2 || slots.len() > SLOTS_MAX {
+    if slots.len() < 2 || slots.len() > LINK_MAX {
         return Err(ModelFault::Build(path, BuildFault::BadParameter));
     }
     only_listed(alloc, &["slots"], at, table)?;

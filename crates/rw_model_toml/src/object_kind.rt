@@ -17,7 +17,9 @@ use crate::path::key_path;
 use crate::rating::{rating_if_given, required_rating};
 use crate::word::supply_in;
 use rw_base::QUANTITY_MAX;
+use rw_model::limits::{LAG_MAX, PARTS, POWER_MAX, SEEPAGE_MAX};
 use rw_model::{BuildFault, History, Kind, Supply};
+use rw_table::ELEVATION_MAX;
 use std::alloc::Global;
 use toml::Table;
 
@@ -67,7 +69,7 @@ fn read_bare(alloc: Global, kind: Kind, at: &str, table: &Table) -> Result<Kind,
 fn read_reach(alloc: Global, at: &str, table: &Table) -> Result<Kind, ModelFault>
     ensures { Gives (λ kind. kind) result (reach_of at.now (table_view table.now)) }
 {
-    let lag = optional_count(alloc, at, "lag", table, 0, 0, 30)?;
+    let lag = optional_count(alloc, at, "lag", table, 0, 0, u16::from(LAG_MAX))?;
     let history = read_history(alloc, at, lag, table)?;
     let options = read_options(alloc, at, table)?;
     only_listed(alloc, &REACH_KEYS, at, table)?;
@@ -108,8 +110,8 @@ fn read_power_reservoir(alloc: Global, at: &str, table: &Table) -> Result<Kind, 
     let initial_storage = required_number(alloc, at, "initial_storage", table, 0, QUANTITY_MAX)?;
     let rating = required_rating(alloc, at, table)?;
     let max_release = required_number(alloc, at, "max_release", table, 0, QUANTITY_MAX)?;
-    let tailwater = optional_number(alloc, at, "tailwater", table, 0, 0, 10_000_000)?;
-    let power = required_count(alloc, at, "power", table, 1, 10_000)?;
+    let tailwater = optional_number(alloc, at, "tailwater", table, 0, 0, ELEVATION_MAX)?;
+    let power = required_count(alloc, at, "power", table, 1, POWER_MAX)?;
     only_listed(alloc, &POWER_RESERVOIR_KEYS, at, table)?;
     Ok(Kind::PowerReservoir {
         initial_storage,
@@ -125,7 +127,7 @@ fn read_routed_reach(alloc: Global, at: &str, table: &Table) -> Result<Kind, Mod
     ensures { Gives (λ kind. kind) result (routed_reach_of at.now (table_view table.now)) }
 {
     let initial_content = required_number(alloc, at, "initial_content", table, 0, QUANTITY_MAX)?;
-    let release = required_count(alloc, at, "release", table, 1, 1000)?;
+    let release = required_count(alloc, at, "release", table, 1, PARTS)?;
     only_listed(
         alloc,
         &["name", "kind", "initial_content", "release"],
@@ -152,7 +154,7 @@ fn read_supply(alloc: Global, at: &str, table: &Table) -> Result<Supply, ModelFa
 fn read_water_user(alloc: Global, at: &str, table: &Table) -> Result<Kind, ModelFault>
     ensures { Gives (λ kind. kind) result (water_user_of at.now (table_view table.now)) }
 {
-    let depletion = required_count(alloc, at, "depletion", table, 0, 1000)?;
+    let depletion = required_count(alloc, at, "depletion", table, 0, PARTS)?;
     let supply = read_supply(alloc, at, table)?;
     only_listed(alloc, &["name", "kind", "depletion", "supply"], at, table)?;
     Ok(Kind::WaterUser { depletion, supply })
@@ -162,7 +164,7 @@ fn read_water_user(alloc: Global, at: &str, table: &Table) -> Result<Kind, Model
 fn read_canal(alloc: Global, at: &str, table: &Table) -> Result<Kind, ModelFault>
     ensures { Gives (λ kind. kind) result (canal_of at.now (table_view table.now)) }
 {
-    let seepage = required_count(alloc, at, "seepage", table, 0, 999)?;
+    let seepage = required_count(alloc, at, "seepage", table, 0, SEEPAGE_MAX)?;
     only_listed(alloc, &["name", "kind", "seepage"], at, table)?;
     Ok(Kind::Canal { seepage })
 }

@@ -13,5 +13,5 @@ mod record;
 pub use alike::is_alike;
 pub use back::{put_back, take_back};
 pub use noted::Noted;
-pub use record::{MOST_KEPT, StepRecord};
+pub use record::StepRecord;
 pub use rw_run::Held;

@@ -1,4 +1,5 @@
 ghost use Rattle.std.specs.Prelude.{◌≡◌, ◌≤◌, ◌↔◌, ◌++◌, ◌||◌, nat_lt, IfOk, MatchOption, Contains, Some, drop, length, true};
+ghost use Rattle.rw_run.specs.Reuse.{most_kept};
 ghost use Rattle.rw_run.specs.Trace.{lines_in};
 ghost use Rattle.rw_run.specs.declared.held.Held.{Held as WasHeld};
 ghost use Rattle.rw_record.specs.Noted.{AreOnce, noted_in};
@@ -7,12 +8,9 @@ ghost use Rattle.rw_record.specs.Record.{AreRisingCells, IsBelow, IsLarge, IsRec
 
 use crate::Noted;
 use rw_base::{Cell, NoMemory, SlotNo, StepNo};
-use rw_run::{Held, Trace};
+use rw_run::{Held, MOST_KEPT, Trace};
 use std::alloc::Global;
 use std::marker::Model;
-
-/// The most cells, and the most lines, of a timestep that is kept.
-pub const MOST_KEPT: usize = 6_000;
 
 /// A closed timestep: the cells at which it looked or which its puts reached, with what they held before it, rising by slot and
 /// then by timestep, and its lines.
@@ -108,7 +106,7 @@ impl StepRecord {
 // Whether so many cells, or the lines of a trace from a place on, are too many to be kept.
 fn is_large(cells: usize, trace: &Trace, from: usize) -> bool
     ensures { result
-        ≡ (nat_lt MOST_KEPT cells || nat_lt MOST_KEPT (length (drop from (lines_in trace.now)))) }
+        ≡ (nat_lt most_kept cells || nat_lt most_kept (length (drop from (lines_in trace.now)))) }
 {
     cells > MOST_KEPT || trace.len().saturating_sub(from) > MOST_KEPT
 }

@@ -1,5 +1,6 @@
 //! Whether what a line of a trace names is there: of a run's lines it always is.
 ghost use Rattle.std.specs.Prelude.{◌≡◌, ◌≤◌, ◌↔◌, false, true, IsTrue};
+ghost use Rattle.rw_calendar.specs.declared.limits.TheConstants.{STEPS_MAX};
 ghost use Rattle.rpl_code.specs.declared.block.BlockHead.TheVariants.{Rule as RuleHead};
 ghost use Rattle.rpl_verify.specs.Fits.{count_alike};
 ghost use Rattle.rw_dispatch.specs.Writes.{CanWrite};
@@ -16,7 +17,7 @@ use rw_run::Write;
 /// Whether it is a timestep of the run.
 pub(crate) fn is_step(basin: &Basin, step: StepNo) -> bool
     ensures is { (result ≡ true) ↔ IsStep basin.now step.0 }
-    ensures few { result ≡ true → step.0 ≤ 4096 }
+    ensures few { result ≡ true → step.0 ≤ STEPS_MAX }
 {
     1 <= step.0 && step.0 <= basin.control().stamps.count()
 }

@@ -1,5 +1,6 @@
 ghost use Rattle.std.specs.Prelude.{◌≡◌, [], ◌∷◌, ◌++◌, ◌≤◌, ℕ, IfOk, IsSome, List, OnOk, Ok, Some, if◌then◌else◌, map, codes, string_bytes};
 ghost use Rattle.std.specs.Option.{option_or};
+ghost use Rattle.rw_calendar.specs.declared.limits.TheConstants.{STEPS_MAX};
 ghost use Rattle.rw_base.specs.declared.number.Cell.{Cell as Place};
 ghost use Rattle.rw_model.specs.Turn.{IsStep};
 ghost use Rattle.rw_method.specs.Catalogue.{AreInOrder};
@@ -100,7 +101,7 @@ fn push_wanted(
 
 // What a put asks for.
 fn asked_by(rule: RuleNo, step: StepNo, put: RulePut) -> Write
-    requires { step.0 ≤ 4096 }
+    requires { step.0 ≤ STEPS_MAX }
     ensures { result ≡ asked_by_rule rule.0 step.0 put }
 {
     Write {
@@ -123,7 +124,7 @@ fn want_all(
     step: StepNo,
     puts: &[RulePut],
 ) -> Result<(), NoMemory>
-    requires { step.0 ≤ 4096 }
+    requires { step.0 ≤ STEPS_MAX }
     ensures { OnOk result (wanted.new.items ≡ map (asked_by_rule rule.0 step.0) puts.now) }
 {
     wanted.clear();

@@ -1,5 +1,6 @@
 ghost use Rattle.std.specs.Prelude.{◌≡◌, ◌≤◌, ◌+ℤ◌, ◌-ℤ◌, ◌++◌, ℤ, pos, None, option_map};
 ghost use Rattle.std.specs.Option.{ForSome};
+ghost use Rattle.rw_model.specs.declared.limits.TheConstants.{PARTS};
 ghost use Rattle.rw_model.specs.declared.kind.Kind.TheVariants as Kind;
 ghost use Rattle.rw_method.specs.declared.places.TheConstants.{INFLOW, OUTFLOW};
 ghost use Rattle.rw_method.specs.Term.{IsWithin};
@@ -77,7 +78,7 @@ fn put_content(view: &View, balanced: Balanced) -> Solved
 
 pub(crate) fn solve_routed_reach(view: &View, release: u16) -> Solved
     requires some { 1 ≤ release }
-    requires most { release ≤ 1000 }
+    requires most { release ≤ PARTS }
     ensures { (initial_content : ℤ)
         → result ≡ solve_of (Kind.RoutedReach initial_content release) view.entry.now }
 {

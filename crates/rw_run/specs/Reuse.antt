@@ -1,5 +1,6 @@
 -- Which timesteps go in a later run as they went in an earlier one, so that they need not be run again.
 use Rattle.std.specs.Prelude.{◌≡◌, ◌↔◌, ℕ, ◌<◌, ◌≤◌, List, [], ◌∷◌, Contains, Some, IsSome, All}
+use Rattle.rw_run.specs.declared.limits.TheConstants.{MOST_KEPT}
 use Rattle.rw_model.specs.Draft.{Draft}
 use Rattle.rw_run.specs.Frame.{AreAlike}
 use Rattle.rw_run.specs.Log.{Log, cells_of}
@@ -7,7 +8,7 @@ use Rattle.rw_run.specs.Step.{before_opening, before_closing, cell_count, line_c
 
 -- the most cells, and the most lines, of a timestep that is kept
 abbrev pub most_kept : ℕ
-most_kept = 6000
+most_kept = MOST_KEPT
 
 -- the timestep was closed in the earlier run and has few enough cells and lines, and each cell at which it looked or which its puts
 -- reached is held alike just before its opening in both: value, number and writer, or unknown

@@ -8,6 +8,7 @@
 mod fault;
 mod held;
 pub mod law;
+mod limits;
 mod line;
 mod run;
 mod trace;
@@ -15,6 +16,7 @@ mod write;
 
 pub use fault::RunFault;
 pub use held::Held;
+pub use limits::MOST_KEPT;
 pub use run::{Run, RunEnd};
 pub use trace::{Trace, TraceEvent};
 pub use write::Write;

@@ -1,5 +1,6 @@
 ghost use Rattle.std.specs.Prelude.{◌≡◌, IfOk};
 ghost use Rattle.rw_run.specs.Line.{line_event};
+ghost use Rattle.rw_run.specs.RunOf.{line_of};
 ghost use Rattle.rw_run.specs.Trace.{write_of};
 
 use crate::{RunFault, TraceEvent, Write};
@@ -52,6 +53,20 @@ pub(crate) fn line_of(alloc: Global, event: TraceEvent) -> Result<Line, NoMemory
         TraceEvent::Closed(step) => Line::Closed(step),
         TraceEvent::Fault(fault) => Line::Fault(Box::new(alloc, fault)?),
     })
+}
+
+/// The line of what is written.
+#[inline(always)]
+pub(crate) fn line_of_write(write: &Write) -> Line
+    ensures { line_event result ≡ line_of write.now }
+{
+    Line::Written {
+        slot: write.cell.slot,
+        step: write.cell.step,
+        number: write.content.number,
+        writer: write.content.writer,
+        value: write.content.value,
+    }
 }
 
 /// A copy of a line, with a box of its own where it has one.

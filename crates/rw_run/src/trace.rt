@@ -1,8 +1,9 @@
 ghost use Rattle.std.specs.Prelude.{◌≡◌, [], ◌∷◌, ◌++◌, length, map, take, drop, slice_get, option_and_then, option_map, is_some, Some, None, IsSome, IfOk, IfErr};
 ghost use Rattle.rw_run.specs.Line.{line_event};
+ghost use Rattle.rw_run.specs.RunOf.{line_of};
 ghost use Rattle.rw_run.specs.Trace.{lines_in, told, write_of};
 
-use crate::line::{Line, copy_of, event_of, line_of, write_of};
+use crate::line::{Line, copy_of, event_of, line_of, line_of_write, write_of};
 use crate::{RunFault, Write};
 use rw_base::{NoMemory, ObjectNo, RuleNo, SlotNo, StepNo};
 use rw_model::Content;
@@ -98,6 +99,20 @@ impl Trace {
         }
     }
 
+    /// Adds the line of what is written, in the same way.
+    #[inline(always)]
+    pub fn push_write(&mut self, write: &Write) -> Result<(), NoMemory>
+        ensures pushed { IfOk result (λ _. self.new ≡ told self.old (line_of write.now ∷ [])) }
+        ensures unchanged { IfErr result (λ _. self.new ≡ self.old) }
+        ensures wants { IfErr result (λ _. IsSome self.old) }
+    {
+        if self.kept {
+            push_write(&mut self.lines, write)
+        } else {
+            Ok(())
+        }
+    }
+
     /// Adds the lines of another trace from a place on, as they are kept there, if lines are kept; if not, it takes no memory.
     /// After want of memory the trace is as it was.
     pub fn append(&mut self, other: &Trace, from: usize) -> Result<(), NoMemory>
@@ -177,6 +192,17 @@ fn push(alloc: Global, lines: &mut Vec<Line>, event: TraceEvent) -> Result<(), N
     ensures unchanged { IfErr result (λ _. lines.new.items ≡ lines.old.items) }
 {
     lines.push(line_of(alloc, event)?)?;
+    Ok(())
+}
+
+// Adds the line of what is written. After want of memory the lines are as they were.
+#[inline(always)]
+fn push_write(lines: &mut Vec<Line>, write: &Write) -> Result<(), NoMemory>
+    ensures pushed { IfOk result (λ _. map line_event lines.new.items
+        ≡ map line_event lines.old.items ++ line_of write.now ∷ []) }
+    ensures unchanged { IfErr result (λ _. lines.new.items ≡ lines.old.items) }
+{
+    lines.push(line_of_write(write))?;
     Ok(())
 }
 

@@ -8,8 +8,8 @@ use thiserror::Error;
 // The most rows that a table has.
 const ROWS_MAX: usize = 200;
 
-// The greatest elevation, in mm.
-const ELEVATION_MAX: i64 = 10_000_000;
+/// The greatest elevation, in mm.
+pub const ELEVATION_MAX: i64 = 10_000_000;
 
 // The greatest volume, in m3.
 const VOLUME_MAX: i64 = 10_000_000_000_000;

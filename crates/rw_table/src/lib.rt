@@ -10,5 +10,5 @@ mod lookup;
 mod rating;
 mod search;
 
-pub use fault::TableFault;
+pub use fault::{ELEVATION_MAX, TableFault};
 pub use rating::Rating;

@@ -1,4 +1,5 @@
 ghost use Rattle.std.specs.Prelude.{◌≡◌, ◌≤◌, ◌-ℤ◌, ◌++◌, None};
+ghost use Rattle.rw_model.specs.declared.limits.TheConstants.{SEEPAGE_MAX};
 ghost use Rattle.rw_model.specs.declared.kind.Kind.TheVariants as Kind;
 ghost use Rattle.rw_method.specs.declared.places.TheConstants.{INFLOW, OUTFLOW};
 ghost use Rattle.rw_method.specs.Puts.{is_bounded, solved_put, seepage_put, known_after};
@@ -41,7 +42,7 @@ fn put_seepage(view: &View, balanced: Balanced) -> Solved
 }
 
 pub(crate) fn solve_canal(view: &View, seepage: u16) -> Solved
-    requires { seepage ≤ 999 }
+    requires { seepage ≤ SEEPAGE_MAX }
     ensures { result ≡ solve_of (Kind.Canal seepage) view.entry.now }
 {
     let terms = [

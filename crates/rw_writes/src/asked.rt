@@ -1,6 +1,7 @@
 //! What a rule asks for in the run's timesteps.
 ghost use Rattle.std.specs.Prelude.{◌≡◌, ◌≤◌, ◌<◌, ◌+◌, ◌++◌, ◌∷◌, [], length, nat_le};
 ghost use Rattle.std.specs.List.{filter};
+ghost use Rattle.rw_calendar.specs.declared.limits.TheConstants.{STEPS_MAX};
 ghost use Rattle.rw_run.specs.Log.{Asked};
 ghost use Rattle.rw_run.specs.Next.{asked_by_rule, asked_of_rule};
 
@@ -11,7 +12,7 @@ use rw_run::Write;
 
 // What a put asks for.
 fn asked_by(rule: RuleNo, step: StepNo, put: RulePut) -> Write
-    requires { step.0 ≤ 4096 }
+    requires { step.0 ≤ STEPS_MAX }
     ensures { result ≡ asked_by_rule rule.0 step.0 put }
 {
     Write {

@@ -1,3 +1,4 @@
+use Rattle.rw_table.specs.declared.fault.TheConstants.{ELEVATION_MAX}
 use Rattle.rw_base.proofs.Common.{◌≤ℤ◌, ◌-◌, pos, ℤ, refl, arith, w64, length, FitsSigned, List, ints, to_z-of_z}
 use Rattle.rw_table.specs.Table.{Row, IsTable}
 use Rattle.rw_table.specs.Curve.{IsElevationInside}
@@ -6,7 +7,7 @@ use Rattle.rw_reservoir.proofs.evaporation.evaporated.Goals as goal
 -- an elevation of a table is from 0 to 10^7 mm
 record IsLength (e : ℤ) : Type 0 where
   low : pos 0 ≤ℤ e
-  high : e ≤ℤ pos 10000000
+  high : e ≤ℤ ELEVATION_MAX
 
 bounded : (rows : List Row) (e : ℤ) → IsTable rows → IsElevationInside rows e → IsLength e
 bounded rows e table inside =
