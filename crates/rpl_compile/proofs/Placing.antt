@@ -6,7 +6,7 @@ use Rattle.rpl_compile.proofs.Common.{refl, reverse, reverse-reverse, slice_get,
 use Rattle.rpl_compile.proofs.Common.{◌+◌, ◌<◌, ◌∙◌, ◌∷◌, ◌≡◌}
 use Rattle.rpl_code.specs.declared.instruction.Instruction.TheVariants as I
 use Rattle.rpl_verify.specs.Kinds.{top_of}
-use Rattle.rpl_verify.proofs.Judged.{OpenRel, rel_of, same_loop_refl}
+use Rattle.rpl_verify.proofs.Judged.{LoopsGoOn, loops_go_on, same_loop_refl}
 
 -- ---- lists
 
@@ -44,16 +44,16 @@ opener_of open_loop = record { start = open_loop.start; loop = open_loop.loop }
 abbrev pub openers_of : List Open → List Opener
 openers_of open_loops = map opener_of open_loops
 
-openers_go : (place : ℕ) (of_bracket : Bracket) (open_loops : List Open) (there : Before) → OpenRel place of_bracket open_loops there
+openers_go : (place : ℕ) (of_bracket : Bracket) (open_loops : List Open) (there : Before) → LoopsGoOn place of_bracket open_loops there
     → openers_behind of_bracket place (openers_of open_loops) ≡ openers_of there.loops
-openers_go place (opening loop) open_loops there open_rel =
-    ap₂ (λ (start : ℕ) (l : Loop). record { start = start; loop = l } ∷ openers_of open_loops) (sym open_rel.3) (sym open_rel.4)
-    ∙ sym (ap openers_of open_rel.1)
-openers_go place (closing loop) open_loops there open_rel =
-    ap (λ (open_loops : List Open). closed loop (openers_of open_loops)) open_rel.1
-    ∙ ap (λ (test : Bool). if test then openers_of there.loops else opener_of open_rel.0 ∷ openers_of there.loops)
-    (ap (is_same_loop loop) open_rel.3 ∙ same_loop_refl loop)
-openers_go place level open_loops there open_rel = ap openers_of (sym open_rel)
+openers_go place (opening loop) open_loops there loops_so =
+    ap₂ (λ (start : ℕ) (l : Loop). record { start = start; loop = l } ∷ openers_of open_loops) (sym loops_so.3) (sym loops_so.4)
+    ∙ sym (ap openers_of loops_so.1)
+openers_go place (closing loop) open_loops there loops_so =
+    ap (λ (open_loops : List Open). closed loop (openers_of open_loops)) loops_so.1
+    ∙ ap (λ (test : Bool). if test then openers_of there.loops else opener_of loops_so.0 ∷ openers_of there.loops)
+    (ap (is_same_loop loop) loops_so.3 ∙ same_loop_refl loop)
+openers_go place level open_loops there loops_so = ap openers_of (sym loops_so)
 
 -- the openers before a place
 abbrev pub openers_at : ℕ → List Opener → List Instruction → ℕ → List Opener
@@ -104,7 +104,7 @@ module _ (scope : Scope) (lines : List Instruction) (spots_are : scope.spots ≡
   opens_on place here there line stands judged same =
       let same_place : 0 + place ≡ place = omega arith in
       openers_next 0 [] lines place line stands ∙ ap₂ (λ n open_loops. openers_behind (bracket line) n open_loops) same_place same
-      ∙ openers_go place (bracket line) here.loops there (rel_of scope place here line there judged)
+      ∙ openers_go place (bracket line) here.loops there (loops_go_on scope place here line there judged)
 
   -- a jump to a target in the same loop lands there
   pub lands : (place to : ℕ) (here : Before) (kinds : List ValueKind) → place < to → slice_get lines to ≡ Some (I.Target (reverse kinds))

@@ -63,14 +63,14 @@ same_loop_refl mapping = refl
 -- ---- open loops
 
 -- what an instruction does to the open loops
-abbrev pub OpenRel : ℕ → Bracket → List Open → Before → Type 0
-OpenRel place (opening loop) open_loops there =
+abbrev pub LoopsGoOn : ℕ → Bracket → List Open → Before → Type 0
+LoopsGoOn place (opening loop) open_loops there =
     (open_loop : Open) × (there.loops ≡ open_loop ∷ open_loops) × (there.kinds ≡ open_loop.under) × (open_loop.start ≡ place)
     × (open_loop.loop ≡ loop)
-OpenRel place (closing loop) open_loops there =
+LoopsGoOn place (closing loop) open_loops there =
     (open_loop : Open) × (open_loops ≡ open_loop ∷ there.loops) × (there.kinds ≡ behind_loop open_loop.loop open_loop.room open_loop.under)
     × (open_loop.loop ≡ loop)
-OpenRel place level open_loops there = there.loops ≡ open_loops
+LoopsGoOn place level open_loops there = there.loops ≡ open_loops
 
 module _ (scope : Scope) where
   pub taken_is : (instruction : Instruction) (here there : Before) → taken scope instruction here ≡ Ok there
@@ -141,8 +141,9 @@ module _ (scope : Scope) where
             (ap room_on_top list_taken_so.1);
       }
 
-  open_rel : (place : ℕ) (loop : Loop) (n : ℕ) (here there : Before) → Opens place loop n here there → OpenRel place (opening loop) here.loops there
-  open_rel place loop n here there opens = (
+  loops_opened : (place : ℕ) (loop : Loop) (n : ℕ) (here there : Before) → Opens place loop n here there
+      → LoopsGoOn place (opening loop) here.loops there
+  loops_opened place loop n here there opens = (
     record { start = place; loop = loop; room = list_room opens.list; under = opens.under },
     ap (λ (b : Before). b.loops) opens.news,
     ap (λ (b : Before). b.kinds) opens.news,
@@ -186,41 +187,43 @@ module _ (scope : Scope) where
         leaves = shut_is_so.4;
       }
 
-  close_rel : (place : ℕ) (loop : Loop) (instruction : Instruction) (here there : Before) → Closes loop instruction here there
-      → OpenRel place (closing loop) here.loops there
-  close_rel place loop instruction here there closes = (closes.last, closes.top, closes.leaves, closes.same)
+  loops_closed : (place : ℕ) (loop : Loop) (instruction : Instruction) (here there : Before) → Closes loop instruction here there
+      → LoopsGoOn place (closing loop) here.loops there
+  loops_closed place loop instruction here there closes = (closes.last, closes.top, closes.leaves, closes.same)
 
   pub named : (place : ℕ) (here : Before) (instruction : Instruction) (there : Before) → judged_at scope place here instruction ≡ Ok there
       → (name_misfit scope instruction ≡ None) × (behind_instruction scope place here instruction ≡ Ok there)
   named place here instruction there judged_at_is =
       no_misfit (name_misfit scope instruction) (behind_instruction scope place here instruction) there judged_at_is
 
-  behind_rel : (place : ℕ) (here : Before) (instruction : Instruction) (there : Before) → behind_instruction scope place here instruction ≡ Ok there
-      → OpenRel place (bracket instruction) here.loops there
-  behind_rel place here (I.Jump to) there behind_instruction_is =
+  loops_go_on_behind : (place : ℕ) (here : Before) (instruction : Instruction) (there : Before)
+      → behind_instruction scope place here instruction ≡ Ok there
+      → LoopsGoOn place (bracket instruction) here.loops there
+  loops_go_on_behind place here (I.Jump to) there behind_instruction_is =
       let judged = then_do_ok (found scope place to here) _ there behind_instruction_is in
       let judged_so = then_do_ok (carried judged.0 here) (restarted (declared_at (slice_get scope.spots (suc place)))) there judged.2 in
       restarted_is _ judged_so.0 there judged_so.2 ∙ ap (λ (b : Before). b.loops) (sym ((carried_is judged.0 here judged_so.0 judged_so.1).1))
-  behind_rel place here (I.Branch to) there behind_instruction_is =
+  loops_go_on_behind place here (I.Branch to) there behind_instruction_is =
       let judged = then_do_ok (found scope place to here) _ there behind_instruction_is in
       let judged_so = then_do_ok (taken scope (I.Branch to) here) (carried judged.0) there judged.2 in
       ap (λ (b : Before). b.loops) (sym ((carried_is judged.0 judged_so.0 there judged_so.2).1))
       ∙ (taken_is (I.Branch to) here judged_so.0 judged_so.1).1
-  behind_rel place here (I.Target kinds_there) there behind_instruction_is =
+  loops_go_on_behind place here (I.Target kinds_there) there behind_instruction_is =
       ap (λ (b : Before). b.loops) (sym ((carried_is (reverse kinds_there) here there behind_instruction_is).1))
-  behind_rel place here (I.Foreach n) there behind_instruction_is =
-      open_rel place visiting n here there (opens_by place visiting n (I.Foreach n) here there refl behind_instruction_is)
-  behind_rel place here (I.Map n) there behind_instruction_is =
-      open_rel place mapping n here there (opens_by place mapping n (I.Map n) here there refl behind_instruction_is)
-  behind_rel place here I.Next there behind_instruction_is =
-      close_rel place visiting I.Next here there (closes_by visiting I.Next here there behind_instruction_is)
-  behind_rel place here I.Yield there behind_instruction_is =
-      close_rel place mapping I.Yield here there (closes_by mapping I.Yield here there behind_instruction_is)
-  behind_rel place here instruction there behind_instruction_is = (taken_is instruction here there behind_instruction_is).1
+  loops_go_on_behind place here (I.Foreach n) there behind_instruction_is =
+      loops_opened place visiting n here there (opens_by place visiting n (I.Foreach n) here there refl behind_instruction_is)
+  loops_go_on_behind place here (I.Map n) there behind_instruction_is =
+      loops_opened place mapping n here there (opens_by place mapping n (I.Map n) here there refl behind_instruction_is)
+  loops_go_on_behind place here I.Next there behind_instruction_is =
+      loops_closed place visiting I.Next here there (closes_by visiting I.Next here there behind_instruction_is)
+  loops_go_on_behind place here I.Yield there behind_instruction_is =
+      loops_closed place mapping I.Yield here there (closes_by mapping I.Yield here there behind_instruction_is)
+  loops_go_on_behind place here instruction there behind_instruction_is = (taken_is instruction here there behind_instruction_is).1
 
-  pub rel_of : (place : ℕ) (here : Before) (instruction : Instruction) (there : Before) → judged_at scope place here instruction ≡ Ok there
-      → OpenRel place (bracket instruction) here.loops there
-  rel_of place here instruction there judged_at_is = behind_rel place here instruction there ((named place here instruction there judged_at_is).1)
+  pub loops_go_on : (place : ℕ) (here : Before) (instruction : Instruction) (there : Before) → judged_at scope place here instruction ≡ Ok there
+      → LoopsGoOn place (bracket instruction) here.loops there
+  loops_go_on place here instruction there judged_at_is =
+      loops_go_on_behind place here instruction there ((named place here instruction there judged_at_is).1)
 
 -- ---- places
 

@@ -56,7 +56,7 @@ is_kind_refl kind = same_kind_refl kind
 pub then_do_ok : {A B E : Type 0} (result : Result A E) (go : A → Result B E) (b : B) → then_do result go ≡ Ok b
     → (thing : A) × (result ≡ Ok thing) × (go thing ≡ Ok b)
 then_do_ok (Ok thing) go b then_do_is = (thing, refl, then_do_is)
-then_do_ok (Err e) go b then_do_is = absurd (cc then_do_is)
+then_do_ok (Err why) go b then_do_is = absurd (cc then_do_is)
 
 abbrev pub ok_of : (A E : Type 0) → A → Result A E
 ok_of A E thing = Ok thing
@@ -68,10 +68,10 @@ pub fits_ok : {A : Type 0} (test : Bool) (thing other_thing : A) → if_fits tes
 fits_ok true thing other_thing if_fits_is = (refl, same_ok thing other_thing if_fits_is)
 fits_ok false thing other_thing if_fits_is = absurd (cc if_fits_is)
 
-pub test_ok : {A E : Type 0} (test : Bool) (result : Result A E) (e : E) (thing : A) → (if test then result else Err e) ≡ Ok thing
+pub test_ok : {A E : Type 0} (test : Bool) (result : Result A E) (why : E) (thing : A) → (if test then result else Err why) ≡ Ok thing
     → (test ≡ true) × (result ≡ Ok thing)
-test_ok true result e thing if_is = (refl, if_is)
-test_ok false result e thing if_is = absurd (cc if_is)
+test_ok true result why thing if_is = (refl, if_is)
+test_ok false result why thing if_is = absurd (cc if_is)
 
 pub no_misfit : {A : Type 0} (misfit : Option VerifyKind) (result : Result A VerifyKind) (thing : A) → unless_misfit misfit result ≡ Ok thing
     → (misfit ≡ None) × (result ≡ Ok thing)
@@ -175,20 +175,20 @@ roomy_blank (kind ∷ kinds) = (blank_roomy kind, roomy_blank kinds)
 -- ---- values of one kind
 
 pub number_is : (a_value : Value) → kind_of a_value ≡ K.N → (quantity : ℤ) × (a_value ≡ a_number quantity)
-number_is (a_number quantity) N_is = (quantity, refl)
-number_is _ N_is = absurd (cc N_is)
+number_is (a_number quantity) kind_is = (quantity, refl)
+number_is _ kind_is = absurd (cc kind_is)
 
 pub truth_is : (a_value : Value) → kind_of a_value ≡ K.B → (truth : Bool) × (a_value ≡ a_truth truth)
-truth_is (a_truth truth) B_is = (truth, refl)
-truth_is _ B_is = absurd (cc B_is)
+truth_is (a_truth truth) kind_is = (truth, refl)
+truth_is _ kind_is = absurd (cc kind_is)
 
 pub date_is : (a_value : Value) → kind_of a_value ≡ K.D → (date : ℤ) × (a_value ≡ a_date date)
-date_is (a_date date) D_is = (date, refl)
-date_is _ D_is = absurd (cc D_is)
+date_is (a_date date) kind_is = (date, refl)
+date_is _ kind_is = absurd (cc kind_is)
 
 pub slot_is : (a_value : Value) → kind_of a_value ≡ K.S → (slot : ℕ) × (a_value ≡ a_slot slot)
-slot_is (a_slot slot) S_is = (slot, refl)
-slot_is _ S_is = absurd (cc S_is)
+slot_is (a_slot slot) kind_is = (slot, refl)
+slot_is _ kind_is = absurd (cc kind_is)
 
 pub one_is : (values : List Value) (kind : ValueKind) → kind ∷ [] ≡ kinds_of values
     → (a_value : Value) × (values ≡ a_value ∷ []) × (kind_of a_value ≡ kind)

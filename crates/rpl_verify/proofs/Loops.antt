@@ -12,7 +12,7 @@ use Rattle.rpl_verify.specs.Names.{Scope}
 use Rattle.rpl_verify.specs.Fits.{Open, Before, before, before_at, befores, behind_loop, found, innermost, is_same_place, judged_at, landing}
 use Rattle.rpl_verify.specs.Fits.{lands_on}
 use Rattle.rpl_verify.proofs.KindFacts.{same_ok, test_ok}
-use Rattle.rpl_verify.proofs.Judged.{OpenRel, begins, carried_is, end_shut, named, parts, places_fit, rel_of, same_loop_refl}
+use Rattle.rpl_verify.proofs.Judged.{LoopsGoOn, begins, carried_is, end_shut, named, parts, places_fit, loops_go_on, same_loop_refl}
 
 pub drop_at : {A : Type 0} (things : List A) (place : ℕ) (thing : A) → slice_get things place ≡ Some thing
     → drop place things ≡ thing ∷ drop (suc place) things
@@ -33,20 +33,20 @@ innermost_is : (open_loops : List Open) → start_of (top_of (openers open_loops
 innermost_is [] = refl
 innermost_is (open_loop ∷ open_loops) = refl
 
-openers_by : (place : ℕ) (bracket : Bracket) (open_loops : List Open) (there : Before) → OpenRel place bracket open_loops there
+openers_by : (place : ℕ) (bracket : Bracket) (open_loops : List Open) (there : Before) → LoopsGoOn place bracket open_loops there
     → openers_behind bracket place (openers open_loops) ≡ openers there.loops
-openers_by place (opening loop) open_loops there open_rel =
-    let openers_behind_is : openers_behind (opening loop) place (openers open_loops) ≡ openers (open_rel.0 ∷ open_loops) =
-    ap₂ (λ n l. record { start = n; loop = l } ∷ openers open_loops) (sym open_rel.3) (sym open_rel.4) in
-    openers_behind_is ∙ ap openers (sym open_rel.1)
-openers_by place (closing loop) open_loops there open_rel =
-    ap (λ os. closed_by loop (openers os)) open_rel.1 ∙ ap (λ l. closed_by l (openers (open_rel.0 ∷ there.loops))) (sym open_rel.3)
-    ∙ by (is_same_loop open_rel.0.loop open_rel.0.loop) (same_loop_refl open_rel.0.loop)
+openers_by place (opening loop) open_loops there loops_so =
+    let openers_behind_is : openers_behind (opening loop) place (openers open_loops) ≡ openers (loops_so.0 ∷ open_loops) =
+    ap₂ (λ n l. record { start = n; loop = l } ∷ openers open_loops) (sym loops_so.3) (sym loops_so.4) in
+    openers_behind_is ∙ ap openers (sym loops_so.1)
+openers_by place (closing loop) open_loops there loops_so =
+    ap (λ os. closed_by loop (openers os)) loops_so.1 ∙ ap (λ l. closed_by l (openers (loops_so.0 ∷ there.loops))) (sym loops_so.3)
+    ∙ by (is_same_loop loops_so.0.loop loops_so.0.loop) (same_loop_refl loops_so.0.loop)
   where
-    by : (truth : Bool) → truth ≡ true → (if truth then openers there.loops else openers (open_rel.0 ∷ there.loops)) ≡ openers there.loops
+    by : (truth : Bool) → truth ≡ true → (if truth then openers there.loops else openers (loops_so.0 ∷ there.loops)) ≡ openers there.loops
     by true truth_is = refl
     by false truth_is = absurd (cc truth_is)
-openers_by place level open_loops there open_rel = ap openers (sym open_rel)
+openers_by place level open_loops there loops_so = ap openers (sym loops_so)
 
 same_place_is : (found an_option : Option ℕ) → is_same_place found an_option ≡ true → found ≡ an_option
 same_place_is None None is_same_place_is = refl
@@ -72,7 +72,7 @@ module _ (scope : Scope) where
   spot_is place here (instruction ∷ lines) befores_there (suc index) spot befores_is found =
       let parts_so = parts scope place here instruction lines befores_there befores_is in
       let openers_by_so =
-      openers_by place (bracket instruction) here.loops parts_so.onto (rel_of scope place here instruction parts_so.onto parts_so.here) in
+      openers_by place (bracket instruction) here.loops parts_so.onto (loops_go_on scope place here instruction parts_so.onto parts_so.here) in
       let spot_is_so =
       spot_is (suc place) parts_so.onto lines parts_so.others index spot parts_so.there
       (ap (λ os. slice_get (spots_from (suc place) os lines) index) (sym openers_by_so) ∙ found) in
@@ -93,10 +93,10 @@ module _ (scope : Scope) (lines : List Instruction) (befores_there : List Before
       subst (λ n. judged_at scope n (before_place place) instruction ≡ Ok (before_place (suc place))) same
       (places_fit scope 0 (before [] []) lines befores_there place instruction fits found)
 
-  pub loops_related : (place : ℕ) (instruction : Instruction) → slice_get lines place ≡ Some instruction
-      → OpenRel place (bracket instruction) ((before_place place).loops) (before_place (suc place))
-  loops_related place instruction found =
-      rel_of scope place (before_place place) instruction (before_place (suc place)) (judged_there place instruction found)
+  pub loops_go_on_at : (place : ℕ) (instruction : Instruction) → slice_get lines place ≡ Some instruction
+      → LoopsGoOn place (bracket instruction) ((before_place place).loops) (before_place (suc place))
+  loops_go_on_at place instruction found =
+      loops_go_on scope place (before_place place) instruction (before_place (suc place)) (judged_there place instruction found)
 
   pub ends_at : (place : ℕ) (instruction : Instruction) → slice_get lines place ≡ Some instruction
       → ends_ahead place ≡ ends_before (bracket instruction) place (ends_ahead (suc place))
@@ -125,18 +125,18 @@ module _ (scope : Scope) (lines : List Instruction) (befores_there : List Before
   linked_down end ends depth (open_loop ∷ open_loops) linked = (linked.0, linked_down end ends (suc depth) open_loops linked.1)
 
   linked_by : (place : ℕ) (bracket : Bracket) (open_loops : List Open) (there : Before)
-      → ends_ahead place ≡ ends_before bracket place (ends_ahead (suc place)) → OpenRel place bracket open_loops there
+      → ends_ahead place ≡ ends_before bracket place (ends_ahead (suc place)) → LoopsGoOn place bracket open_loops there
       → Linked (ends_ahead place) 0 open_loops
       → Linked (ends_ahead (suc place)) 0 there.loops
-  linked_by place (opening loop) open_loops there ends_ahead_is open_rel linked =
-      let past_is : past open_rel.0.start ≡ slice_index (ends_ahead (suc place)) 0 = ap past open_rel.3 in
-      subst (λ l. Linked (ends_ahead (suc place)) 0 l) (sym open_rel.1)
+  linked_by place (opening loop) open_loops there ends_ahead_is loops_so linked =
+      let past_is : past loops_so.0.start ≡ slice_index (ends_ahead (suc place)) 0 = ap past loops_so.3 in
+      subst (λ l. Linked (ends_ahead (suc place)) 0 l) (sym loops_so.1)
       (past_is, linked_up (ends_ahead (suc place)) 0 open_loops (subst (λ ends. Linked ends 0 open_loops) ends_ahead_is linked))
-  linked_by place (closing loop) open_loops there ends_ahead_is open_rel linked =
+  linked_by place (closing loop) open_loops there ends_ahead_is loops_so linked =
       linked_down (suc place) (ends_ahead (suc place)) 0 there.loops
-      ((subst (λ os. Linked (suc place ∷ ends_ahead (suc place)) 0 os) open_rel.1 (subst (λ ends. Linked ends 0 open_loops) ends_ahead_is linked)).1)
-  linked_by place level open_loops there ends_ahead_is open_rel linked =
-      subst (λ l. Linked (ends_ahead (suc place)) 0 l) (sym open_rel) (subst (λ ends. Linked ends 0 open_loops) ends_ahead_is linked)
+      ((subst (λ os. Linked (suc place ∷ ends_ahead (suc place)) 0 os) loops_so.1 (subst (λ ends. Linked ends 0 open_loops) ends_ahead_is linked)).1)
+  linked_by place level open_loops there ends_ahead_is loops_so linked =
+      subst (λ l. Linked (ends_ahead (suc place)) 0 l) (sym loops_so) (subst (λ ends. Linked ends 0 open_loops) ends_ahead_is linked)
 
   pub shut_at : (place : ℕ) → slice_get lines place ≡ None → (before_place place).loops ≡ []
   shut_at place found = end_shut scope 0 (before [] []) lines befores_there place fits found
@@ -146,7 +146,7 @@ module _ (scope : Scope) (lines : List Instruction) (befores_there : List Before
   linked_next place None found linked = subst (λ l. Linked (ends_ahead (suc place)) 0 l) (sym (shut_at (suc place) (none_on lines place found))) tt
   linked_next place (Some instruction) found linked =
       linked_by place (bracket instruction) ((before_place place).loops) (before_place (suc place)) (ends_at place instruction found)
-      (loops_related place instruction found) linked
+      (loops_go_on_at place instruction found) linked
 
   pub first_is : before_place 0 ≡ before [] []
   first_is = begins scope 0 (before [] []) lines befores_there fits
@@ -162,23 +162,23 @@ module _ (scope : Scope) (lines : List Instruction) (befores_there : List Before
       ((before_place (suc open_loop.start)).kinds ≡ open_loop.under) × ((before_place (suc open_loop.start)).loops ≡ open_loop ∷ open_loops)
       × Opened open_loops
 
-  opened_by : (place : ℕ) (bracket : Bracket) (open_loops : List Open) → OpenRel place bracket open_loops (before_place (suc place))
+  opened_by : (place : ℕ) (bracket : Bracket) (open_loops : List Open) → LoopsGoOn place bracket open_loops (before_place (suc place))
       → Opened open_loops → Opened ((before_place (suc place)).loops)
-  opened_by place (opening loop) open_loops open_rel opened =
-      let same : suc place ≡ suc open_rel.0.start = ap suc (sym open_rel.3) in
-      subst Opened (sym open_rel.1) (
-        subst (λ n. (before_place n).kinds ≡ open_rel.0.under) same open_rel.2,
-        subst (λ n. (before_place n).loops ≡ open_rel.0 ∷ open_loops) same open_rel.1,
+  opened_by place (opening loop) open_loops loops_so opened =
+      let same : suc place ≡ suc loops_so.0.start = ap suc (sym loops_so.3) in
+      subst Opened (sym loops_so.1) (
+        subst (λ n. (before_place n).kinds ≡ loops_so.0.under) same loops_so.2,
+        subst (λ n. (before_place n).loops ≡ loops_so.0 ∷ open_loops) same loops_so.1,
         opened,
       )
-  opened_by place (closing loop) open_loops open_rel opened = (subst Opened open_rel.1 opened).2
-  opened_by place level open_loops open_rel opened = subst Opened (sym open_rel) opened
+  opened_by place (closing loop) open_loops loops_so opened = (subst Opened loops_so.1 opened).2
+  opened_by place level open_loops loops_so opened = subst Opened (sym loops_so) opened
 
   opened_next : (place : ℕ) (found : Option Instruction) → slice_get lines place ≡ found → Opened ((before_place place).loops)
       → Opened ((before_place (suc place)).loops)
   opened_next place None found opened = subst Opened (sym (shut_at (suc place) (none_on lines place found))) tt
   opened_next place (Some instruction) found opened =
-      opened_by place (bracket instruction) ((before_place place).loops) (loops_related place instruction found) opened
+      opened_by place (bracket instruction) ((before_place place).loops) (loops_go_on_at place instruction found) opened
 
   pub opened : (place : ℕ) → Opened ((before_place place).loops)
   opened zero = subst (λ (b : Before). Opened b.loops) (sym first_is) tt
@@ -292,21 +292,21 @@ module _ (scope : Scope) (lines : List Instruction) (befores_there : List Before
   close zero place depth open_loop open_loops (Some instruction) found at_most since =
       absurd (past_end lines place instruction found (omega (arith, at_most)))
   close (suc left) place depth open_loop open_loops (Some instruction) found at_most since =
-      by (bracket instruction) depth refl (ends_at place instruction found) (loops_related place instruction found) since
+      by (bracket instruction) depth refl (ends_at place instruction found) (loops_go_on_at place instruction found) since
       (λ m v. close left (suc place) m open_loop open_loops (slice_get lines (suc place)) refl (omega (arith, at_most)) v)
     where
       by : (its_bracket : Bracket) (depth : ℕ) → bracket instruction ≡ its_bracket
           → ends_ahead place ≡ ends_before its_bracket place (ends_ahead (suc place))
-          → OpenRel place its_bracket ((before_place place).loops) (before_place (suc place))
+          → LoopsGoOn place its_bracket ((before_place place).loops) (before_place (suc place))
           → Since depth (open_loop ∷ open_loops) ((before_place place).loops)
           → ((m : ℕ) → Since m (open_loop ∷ open_loops) ((before_place (suc place)).loops)
           → Closed (suc place) (slice_index (ends_ahead (suc place)) m) (open_loop ∷ open_loops))
           → Closed place (slice_index (ends_ahead place) depth) (open_loop ∷ open_loops)
-      by (opening loop) depth bracket_is ends_ahead_is open_rel since closed =
+      by (opening loop) depth bracket_is ends_ahead_is loops_so since closed =
           subst (λ n. Closed place n (open_loop ∷ open_loops))
           (sym (ap (λ ends. slice_index ends depth) ends_ahead_is ∙ index_rest (ends_ahead (suc place)) depth))
-          (further place _ (open_loop ∷ open_loops) (closed (suc depth) (open_rel.0, (before_place place).loops, open_rel.1, since)))
-      by (closing loop) zero bracket_is ends_ahead_is open_rel since closed =
+          (further place _ (open_loop ∷ open_loops) (closed (suc depth) (loops_so.0, (before_place place).loops, loops_so.1, since)))
+      by (closing loop) zero bracket_is ends_ahead_is loops_so since closed =
           record {
             end = place;
             is = ap (λ ends. slice_index ends 0) ends_ahead_is;
@@ -317,13 +317,13 @@ module _ (scope : Scope) (lines : List Instruction) (befores_there : List Before
             closes = bracket_is;
             same = since;
           }
-      by (closing loop) (suc depth) bracket_is ends_ahead_is open_rel since closed =
-          let 1_is : since.1 ≡ (before_place (suc place)).loops = cc (since.2, open_rel.1) in
+      by (closing loop) (suc depth) bracket_is ends_ahead_is loops_so since closed =
+          let later_is : since.1 ≡ (before_place (suc place)).loops = cc (since.2, loops_so.1) in
           subst (λ n. Closed place n (open_loop ∷ open_loops)) (sym (ap (λ ends. slice_index ends (suc depth)) ends_ahead_is))
-          (further place _ (open_loop ∷ open_loops) (closed depth (subst (λ l. Since depth (open_loop ∷ open_loops) l) 1_is since.3)))
-      by level depth bracket_is ends_ahead_is open_rel since closed =
+          (further place _ (open_loop ∷ open_loops) (closed depth (subst (λ l. Since depth (open_loop ∷ open_loops) l) later_is since.3)))
+      by level depth bracket_is ends_ahead_is loops_so since closed =
           subst (λ n. Closed place n (open_loop ∷ open_loops)) (sym (ap (λ ends. slice_index ends depth) ends_ahead_is))
-          (further place _ (open_loop ∷ open_loops) (closed depth (subst (λ l. Since depth (open_loop ∷ open_loops) l) (sym open_rel) since)))
+          (further place _ (open_loop ∷ open_loops) (closed depth (subst (λ l. Since depth (open_loop ∷ open_loops) l) (sym loops_so) since)))
 
   -- behind a loop: its end lies behind its beginning, with the operands and loops that were there before, and a mapping's list
   pub record Past (start : ℕ) (open_loop : Open) (open_loops : List Open) : Type 0 where
@@ -339,17 +339,17 @@ module _ (scope : Scope) (lines : List Instruction) (befores_there : List Before
       → Past start open_loop open_loops
   past_it start open_loop open_loops same =
       let close_so = close (length lines) (suc start) 0 open_loop open_loops (slice_get lines (suc start)) refl (omega arith) same in
-      let open_rel : OpenRel close_so.end (closing close_so.loop) ((before_place close_so.end).loops) (before_place (suc close_so.end)) =
-      subst (λ b. OpenRel close_so.end b ((before_place close_so.end).loops) (before_place (suc close_so.end))) close_so.closes
-      (loops_related close_so.end close_so.closer close_so.at) in
-      let open_loop_is : open_loop ≡ open_rel.0 = cc (close_so.same, open_rel.1) in
-      let same_so : (before_place (suc close_so.end)).loops ≡ open_loops = cc (close_so.same, open_rel.1) in
+      let loops_so : LoopsGoOn close_so.end (closing close_so.loop) ((before_place close_so.end).loops) (before_place (suc close_so.end)) =
+      subst (λ b. LoopsGoOn close_so.end b ((before_place close_so.end).loops) (before_place (suc close_so.end))) close_so.closes
+      (loops_go_on_at close_so.end close_so.closer close_so.at) in
+      let open_loop_is : open_loop ≡ loops_so.0 = cc (close_so.same, loops_so.1) in
+      let same_so : (before_place (suc close_so.end)).loops ≡ open_loops = cc (close_so.same, loops_so.1) in
       record {
         end = close_so.end;
         is = close_so.is;
         later = close_so.later;
         closer = close_so.closer;
         at = close_so.at;
-        kinds = open_rel.2 ∙ ap (λ (o : Open). behind_loop o.loop o.room o.under) (sym open_loop_is);
+        kinds = loops_so.2 ∙ ap (λ (o : Open). behind_loop o.loop o.room o.under) (sym open_loop_is);
         loops = same_so;
       }

@@ -18,7 +18,7 @@ in_block_ok n (Err misplaced) go b in_block_is = absurd (cc in_block_is)
 
 ok_same : {A E : Type 0} (result : Result A E) (thing other_thing : A) → result ≡ Ok thing → result ≡ Ok other_thing → thing ≡ other_thing
 ok_same (Ok thing) other_thing third_thing one other = cc
-ok_same (Err e) thing other_thing one other = absurd (cc one)
+ok_same (Err why) thing other_thing one other = absurd (cc one)
 
 -- where one way to judge lets nothing pass that another doesn't, all blocks that pass by the one pass by the other
 module _ {A B : Type 0} (strict : List Block → List A → Block → Result A Misplaced) (mild : List Block → List B → Block → Result B Misplaced)

@@ -45,29 +45,29 @@ got_old (thing ∷ things) other_thing third_thing zero found = found
 got_old (thing ∷ things) other_thing third_thing (suc index) found = got_old things other_thing third_thing index found
 
 -- lookups after an insertion
-finds_old : (kept other_map : BTreeMap ℕ ℕ) (index number place first : ℕ) → get nat_cmp kept index ≡ None
-    → Updates nat_cmp kept other_map index (Some number) → get nat_cmp kept place ≡ Some first
-    → get nat_cmp other_map place ≡ Some first
-finds_old kept other_map index number place first absent updates get_is = by (is_at (nat_cmp index) place) refl
+finds_old : (kept other_map : BTreeMap ℕ ℕ) (key number sought its_number : ℕ) → get nat_cmp kept key ≡ None
+    → Updates nat_cmp kept other_map key (Some number) → get nat_cmp kept sought ≡ Some its_number
+    → get nat_cmp other_map sought ≡ Some its_number
+finds_old kept other_map key number sought its_number absent updates get_is = by (is_at (nat_cmp key) sought) refl
   where
-    by : (truth : Bool) → is_at (nat_cmp index) place ≡ truth → get nat_cmp other_map place ≡ Some first
+    by : (truth : Bool) → is_at (nat_cmp key) sought ≡ truth → get nat_cmp other_map sought ≡ Some its_number
     by true is_at_is =
-        let same : index ≡ place = exact_unsigned index place ((Equal-is (nat_cmp index place)).0 is_at_is) in
+        let same : key ≡ sought = exact_unsigned key sought ((Equal-is (nat_cmp key sought)).0 is_at_is) in
         absurd (let got = ap (get nat_cmp kept) same in cc (got, absent, get_is))
-    by false is_at_is = updates.0 place ∙ ap (λ b. cond b (Some number) (get nat_cmp kept place)) is_at_is ∙ get_is
+    by false is_at_is = updates.0 sought ∙ ap (λ b. cond b (Some number) (get nat_cmp kept sought)) is_at_is ∙ get_is
 
-found_in : (kept other_map : BTreeMap ℕ ℕ) (index number place first : ℕ) → Updates nat_cmp kept other_map index (Some number)
-    → get nat_cmp other_map place ≡ Some first
-    → ((index ≡ place) × (number ≡ first)) ⊎ (get nat_cmp kept place ≡ Some first)
-found_in kept other_map index number place first updates get_is = by (is_at (nat_cmp index) place) refl
+found_in : (kept other_map : BTreeMap ℕ ℕ) (key number sought its_number : ℕ) → Updates nat_cmp kept other_map key (Some number)
+    → get nat_cmp other_map sought ≡ Some its_number
+    → ((key ≡ sought) × (number ≡ its_number)) ⊎ (get nat_cmp kept sought ≡ Some its_number)
+found_in kept other_map key number sought its_number updates get_is = by (is_at (nat_cmp key) sought) refl
   where
-    by : (truth : Bool) → is_at (nat_cmp index) place ≡ truth → ((index ≡ place) × (number ≡ first)) ⊎ (get nat_cmp kept place ≡ Some first)
+    by : (truth : Bool) → is_at (nat_cmp key) sought ≡ truth → ((key ≡ sought) × (number ≡ its_number)) ⊎ (get nat_cmp kept sought ≡ Some its_number)
     by true is_at_is =
         inl (
-          exact_unsigned index place ((Equal-is (nat_cmp index place)).0 is_at_is),
-          let got = sym (updates.0 place ∙ ap (λ b. cond b (Some number) (get nat_cmp kept place)) is_at_is) in cc (got, get_is),
+          exact_unsigned key sought ((Equal-is (nat_cmp key sought)).0 is_at_is),
+          let got = sym (updates.0 sought ∙ ap (λ b. cond b (Some number) (get nat_cmp kept sought)) is_at_is) in cc (got, get_is),
         )
-    by false is_at_is = inr (sym (updates.0 place ∙ ap (λ b. cond b (Some number) (get nat_cmp kept place)) is_at_is) ∙ get_is)
+    by false is_at_is = inr (sym (updates.0 sought ∙ ap (λ b. cond b (Some number) (get nat_cmp kept sought)) is_at_is) ∙ get_is)
 
 node_kept : (nodes : List Node) (node other_node : Node) (index : ℕ) → length (lists nodes) ≡ suc (length nodes) → index < length nodes
     → IsNode nodes index other_node → IsNode (nodes ++ node ∷ []) index other_node
@@ -114,9 +114,9 @@ got_same [] thing index below = absurd (omega (arith, below))
 got_same (thing ∷ things) other_thing zero below = refl
 got_same (thing ∷ things) other_thing (suc index) below = got_same things other_thing index (omega (arith, below))
 
-next_kept : (nodes : List Node) (node : Node) (second : ℕ) (kind : ValueKind) → second < length nodes
-    → is_next (nodes ++ node ∷ []) second kind ≡ is_next nodes second kind
-next_kept nodes node second kind below = ap (stands_on second kind) (got_same nodes node second below)
+next_kept : (nodes : List Node) (node : Node) (list_below : ℕ) (kind : ValueKind) → list_below < length nodes
+    → is_next (nodes ++ node ∷ []) list_below kind ≡ is_next nodes list_below kind
+next_kept nodes node list_below kind below = ap (stands_on list_below kind) (got_same nodes node list_below below)
 
 wide_push : (nodes : List Node) (node : Node) → length (lists nodes) ≡ suc (length nodes)
     → length (lists (nodes ++ node ∷ [])) ≡ suc (length (nodes ++ node ∷ []))
@@ -232,12 +232,12 @@ code_is (K.SList m) (K.SList n) kind_code_is = ap K.SList (omega (arith, kind_co
 code_is _ _ kind_code_is = absurd (omega (arith, kind_code_is))
 
 -- a list that was looked up
-pub made_known : (nodes : List Node) (kept : BTreeMap ℕ ℕ) (second number : ℕ) (kind : ValueKind) → IsKept nodes kept → kind_code kind < 262144
-    → get nat_cmp kept (key_of second kind) ≡ Some number → IsPushed (lists nodes) (lists nodes) kind second number
-made_known nodes kept second number kind kept_so small get_is =
-    let known = kept_so.known (key_of second kind) number get_is in
+pub made_known : (nodes : List Node) (kept : BTreeMap ℕ ℕ) (list_below number : ℕ) (kind : ValueKind) → IsKept nodes kept → kind_code kind < 262144
+    → get nat_cmp kept (key_of list_below kind) ≡ Some number → IsPushed (lists nodes) (lists nodes) kind list_below number
+made_known nodes kept list_below number kind kept_so small get_is =
+    let known = kept_so.known (key_of list_below kind) number get_is in
     let node_is = kept_so.nodes known.place known.node known.here in
-    let same_key_so = same_key known.node.below second known.node.kind kind known.key_is node_is.small small in
+    let same_key_so = same_key known.node.below list_below known.node.kind kind known.key_is node_is.small small in
     let kind_is : known.node.kind ≡ kind = code_is known.node.kind kind same_key_so.1 in
     let inside = slice_get_within nodes known.place known.node known.here in
     record {
@@ -246,23 +246,24 @@ made_known nodes kept second number kind kept_so small get_is =
     }
 
 -- a list that has the next number
-pub made_next : (nodes : List Node) (kept : BTreeMap ℕ ℕ) (second : ℕ) (kind : ValueKind) → IsKept nodes kept → is_next nodes second kind ≡ true
-    → IsPushed (lists nodes) (lists nodes) kind second (second + 1)
-made_next nodes kept second kind kept_so is_next_is = by (slice_get nodes second) refl is_next_is
+pub made_next : (nodes : List Node) (kept : BTreeMap ℕ ℕ) (list_below : ℕ) (kind : ValueKind) → IsKept nodes kept
+    → is_next nodes list_below kind ≡ true
+    → IsPushed (lists nodes) (lists nodes) kind list_below (list_below + 1)
+made_next nodes kept list_below kind kept_so is_next_is = by (slice_get nodes list_below) refl is_next_is
   where
-    by : (found : Option Node) → slice_get nodes second ≡ found → stands_on second kind found ≡ true
-        → IsPushed (lists nodes) (lists nodes) kind second (second + 1)
+    by : (found : Option Node) → slice_get nodes list_below ≡ found → stands_on list_below kind found ≡ true
+        → IsPushed (lists nodes) (lists nodes) kind list_below (list_below + 1)
     by None got stands_on_is = absurd (cc stands_on_is)
     by (Some node) got stands_on_is =
-        let two = and_true (node.below == second) (is_same_value_kind node.kind kind) stands_on_is in
+        let two = and_true (node.below == list_below) (is_same_value_kind node.kind kind) stands_on_is in
         let first = two.0 in
-        let low : node.below ≡ second = grind (arith, nat_tests) in
+        let low : node.below ≡ list_below = grind (arith, nat_tests) in
         let kind_is : node.kind ≡ kind = same_kind_true node.kind kind two.1 in
-        let its_node = kept_so.nodes second node got in
-        let second_is : second + 1 ≡ suc second = omega arith in
+        let its_node = kept_so.nodes list_below node got in
+        let same : list_below + 1 ≡ suc list_below = omega arith in
         record {
-          within = let wide_so = kept_so.wide in let inside = slice_get_within nodes second node got in omega (arith, wide_so, inside);
-          made = ap (at (lists nodes)) second_is ∙ its_node.made ∙ ap₂ (λ x y. x ∷ at (lists nodes) y) kind_is low;
+          within = let wide_so = kept_so.wide in let inside = slice_get_within nodes list_below node got in omega (arith, wide_so, inside);
+          made = ap (at (lists nodes)) same ∙ its_node.made ∙ ap₂ (λ x y. x ∷ at (lists nodes) y) kind_is low;
         }
 
 nodes_at : (nodes : List Node) (index : ℕ) → index < length nodes → (node : Node) × (slice_get nodes index ≡ Some node)
@@ -314,21 +315,21 @@ same_place nodes kept first second node other_node kept_so found found_so low ki
         let some_is : Some (suc first) ≡ Some (suc second) = sym first_told ∙ get_is ∙ second_told in
         cc some_is
 
-one : (nodes : List Node) (kept : BTreeMap ℕ ℕ) → IsKept nodes kept → (kinds : List ValueKind) (first second : ℕ) → first < suc (length nodes)
+same_number : (nodes : List Node) (kept : BTreeMap ℕ ℕ) → IsKept nodes kept → (kinds : List ValueKind) (first second : ℕ) → first < suc (length nodes)
     → second < suc (length nodes)
     → at (lists nodes) first ≡ kinds → at (lists nodes) second ≡ kinds → first ≡ second
-one nodes kept kept_so kinds zero zero first_within second_within first_is second_is = refl
-one nodes kept kept_so [] zero (suc second) first_within second_within first_is second_is =
+same_number nodes kept kept_so kinds zero zero first_within second_within first_is second_is = refl
+same_number nodes kept kept_so [] zero (suc second) first_within second_within first_is second_is =
     let second_node = nodes_at nodes second (omega (arith, second_within)) in
     absurd (let made = (kept_so.nodes second second_node.0 second_node.1).made in cc (made, second_is))
-one nodes kept kept_so [] (suc first) second first_within second_within first_is second_is =
+same_number nodes kept kept_so [] (suc first) second first_within second_within first_is second_is =
     let second_node = nodes_at nodes first (omega (arith, first_within)) in
     absurd (let made = (kept_so.nodes first second_node.0 second_node.1).made in cc (made, first_is))
-one nodes kept kept_so (kind ∷ kinds) zero (suc second) first_within second_within first_is second_is =
+same_number nodes kept kept_so (kind ∷ kinds) zero (suc second) first_within second_within first_is second_is =
     absurd (let made = kept_so.empty in cc (made, first_is))
-one nodes kept kept_so (kind ∷ kinds) (suc first) zero first_within second_within first_is second_is =
+same_number nodes kept kept_so (kind ∷ kinds) (suc first) zero first_within second_within first_is second_is =
     absurd (let made = kept_so.empty in cc (made, second_is))
-one nodes kept kept_so (kind ∷ kinds) (suc first) (suc second) first_within second_within first_is second_is =
+same_number nodes kept kept_so (kind ∷ kinds) (suc first) (suc second) first_within second_within first_is second_is =
     let first_node = nodes_at nodes first (omega (arith, first_within)) in
     let second_node = nodes_at nodes second (omega (arith, second_within)) in
     let first_is_node = kept_so.nodes first first_node.0 first_node.1 in
@@ -340,7 +341,7 @@ one nodes kept kept_so (kind ∷ kinds) (suc first) (suc second) first_within se
     let first_below : at (lists nodes) first_node.0.below ≡ kinds = cc (first_made, first_is) in
     let second_below : at (lists nodes) second_node.0.below ≡ kinds = cc (second_made, second_is) in
     let low : first_node.0.below ≡ second_node.0.below =
-    one nodes kept kept_so kinds first_node.0.below second_node.0.below (let made = first_is_node.low in omega (arith, made, first_within))
+    same_number nodes kept kept_so kinds first_node.0.below second_node.0.below (let made = first_is_node.low in omega (arith, made, first_within))
     (let made = second_is_node.low in omega (arith, made, second_within)) first_below second_below in
     ap suc (same_place nodes kept first second first_node.0 second_node.0 kept_so first_node.1 second_node.1 low (first_kind ∙ sym second_kind))
 
@@ -348,7 +349,8 @@ pub same_is : (nodes : List Node) (kept : BTreeMap ℕ ℕ) (first second : ℕ)
     → second < length (lists nodes)
     → are_same_kinds (at (lists nodes) first) (at (lists nodes) second) ≡ true → first ≡ second
 same_is nodes kept first second kept_so below below_so are_same_kinds_is = let wide_so =
-    kept_so.wide in one nodes kept kept_so (at (lists nodes) first) first second (omega (arith, wide_so, below)) (omega (arith, wide_so, below_so))
+    kept_so.wide in same_number nodes kept kept_so (at (lists nodes) first) first second (omega (arith, wide_so, below))
+    (omega (arith, wide_so, below_so))
     refl (sym (same_kinds_true _ _ are_same_kinds_is))
 
 pub differ : (nodes : List Node) (kept : BTreeMap ℕ ℕ) (first second : ℕ) → IsKept nodes kept → first < length (lists nodes)

@@ -20,11 +20,12 @@ use Rattle.rpl_verify.proofs.StackFacts.{at-append}
 
 -- ---- lists that grow
 
-map_like : {X Y : Type 0} (P : X → Type 0) (y y_so : X → Y) (xs : List X) → ((x : X) → P x → y x ≡ y_so x)
-    → ((index : ℕ) (x_so : X) → index < length xs → P (get_or xs index x_so)) → map y xs ≡ map y_so xs
-map_like P y y_so [] y_is p = refl
-map_like P y_so y_too (x ∷ xs) y_so_is p =
-    ap₂ (λ y ys. y ∷ ys) (y_so_is x (p 0 x (omega arith))) (map_like P y_so y_too xs y_so_is (λ i d lt. p (suc i) d (omega (arith, lt))))
+map_like : {X Y : Type 0} (P : X → Type 0) (one other : X → Y) (things : List X) → ((thing : X) → P thing → one thing ≡ other thing)
+    → ((index : ℕ) (other_thing : X) → index < length things → P (get_or things index other_thing)) → map one things ≡ map other things
+map_like P one other [] same all_are = refl
+map_like P one other (thing ∷ things) same all_are =
+    ap₂ (λ y ys. y ∷ ys) (same thing (all_are 0 thing (omega arith)))
+    (map_like P one other things same (λ i d lt. all_are (suc i) d (omega (arith, lt))))
 
 open_kept : (lists more : List (List ValueKind)) (open_loop : OpenLoop) → open_loop.under < length lists
     → open_of (lists ++ more) open_loop ≡ open_of lists open_loop

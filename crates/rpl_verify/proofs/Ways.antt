@@ -13,8 +13,8 @@ use Rattle.rpl_verify.specs.Fits.{Open, Before, before, before_at, befores, carr
 use Rattle.rpl_verify.specs.Budget.{Measure, onward, jumping, branching, entering, turning, going_of, at_a_time, most, summed, words_at}
 use Rattle.rpl_verify.specs.Ways.{LeadsTo, LeadOn, IsMost, counted, words_kept_at, sum_on, turns_in_loops, words_on}
 use Rattle.rpl_verify.proofs.KindFacts.{then_do_ok}
-use Rattle.rpl_verify.proofs.Judged.{OpenRel, Opens, named, opens_by}
-use Rattle.rpl_verify.proofs.Loops.{ends_at, land, linked, past_it, loops_related, shut_at, judged_there, Linked, first_is}
+use Rattle.rpl_verify.proofs.Judged.{LoopsGoOn, Opens, named, opens_by}
+use Rattle.rpl_verify.proofs.Loops.{ends_at, land, linked, past_it, loops_go_on_at, shut_at, judged_there, Linked, first_is}
 use Rattle.rpl_verify.proofs.Costs.{costs_ahead, words_ahead, by_far_branch, by_far_entry, by_jump, by_next, by_turn, end_is}
 use Rattle.rpl_verify.proofs.Stepping.{end_of_list}
 
@@ -161,13 +161,13 @@ module _ (scope : Scope) (lines : List Instruction) (befores_there : List Before
 
     closing_step : (place : ℕ) (loop : Loop) (instruction : Instruction) → slice_get lines place ≡ Some instruction → going_of instruction ≡ turning
         → loop_ends place (drop place lines) ≡ suc place ∷ loop_ends (suc place) (drop (suc place) lines)
-        → OpenRel place (closing loop) ((before_place place).loops) (before_place (suc place)) → join (here place) (rest (suc place)) ≡ rest place
-    closing_step place loop instruction found going_of_is ends open_rel =
+        → LoopsGoOn place (closing loop) ((before_place place).loops) (before_place (suc place)) → join (here place) (rest (suc place)) ≡ rest place
+    closing_step place loop instruction found going_of_is ends loops_so =
         let first_so =
-        subst (λ os. (past open_rel.0.start ≡ slice_index (loop_ends place (drop place lines)) 0)) open_rel.1
-        (first_linked ((before_place place).loops) open_rel.0 ((before_place (suc place)).loops) open_rel.1
+        subst (λ os. (past loops_so.0.start ≡ slice_index (loop_ends place (drop place lines)) 0)) loops_so.1
+        (first_linked ((before_place place).loops) loops_so.0 ((before_place (suc place)).loops) loops_so.1
         (linked scope lines befores_there spotted fits place)) in
-        cases.turn place instruction open_rel.0 found going_of_is open_rel.1 (first_so ∙ ap (λ ns. slice_index ns 0) ends)
+        cases.turn place instruction loops_so.0 found going_of_is loops_so.1 (first_so ∙ ap (λ ns. slice_index ns 0) ends)
       where
         first_linked : (open_loops : List Open) (open_loop : Open) (other_open_loops : List Open) → open_loops ≡ open_loop ∷ other_open_loops
             → Linked scope lines befores_there spotted fits (loop_ends place (drop place lines)) 0 open_loops
@@ -229,7 +229,7 @@ module _ (scope : Scope) (lines : List Instruction) (befores_there : List Before
         let land_so = land scope lines befores_there spotted fits place to judged.0 judged.1 in
         branch_step place to found_so land_so.0 (omega (arith, slice_get_within lines to land_so.1.target land_so.1.at))
         (cases.branch place (I.Branch to) to found_so refl land_so.0
-        (loops_related scope lines befores_there spotted fits place (I.Branch to) found_so) land_so.1.same)
+        (loops_go_on_at scope lines befores_there spotted fits place (I.Branch to) found_so) land_so.1.same)
     step place (I.Foreach n) found =
         let named_so =
         named scope place (before_place place) (I.Foreach n) (before_place (suc place))
@@ -246,14 +246,14 @@ module _ (scope : Scope) (lines : List Instruction) (befores_there : List Before
     step place I.Next found =
         one_next place I.Next found (λ q h. h) refl
         (closing_step place visiting I.Next found refl (ends_at scope lines befores_there spotted fits place I.Next found)
-        (loops_related scope lines befores_there spotted fits place I.Next found))
+        (loops_go_on_at scope lines befores_there spotted fits place I.Next found))
     step place I.Yield found =
         one_next place I.Yield found (λ q h. h) refl
         (closing_step place mapping I.Yield found refl (ends_at scope lines befores_there spotted fits place I.Yield found)
-        (loops_related scope lines befores_there spotted fits place I.Yield found))
+        (loops_go_on_at scope lines befores_there spotted fits place I.Yield found))
     step place instruction found =
         one_next place instruction found (λ q h. h) refl
-        (cases.on place instruction found refl (loops_related scope lines befores_there spotted fits place instruction found))
+        (cases.on place instruction found refl (loops_go_on_at scope lines befores_there spotted fits place instruction found))
 
   -- ---- counts
 
