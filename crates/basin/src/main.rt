@@ -2,6 +2,9 @@
 //! call by name to `basin_main`, and ends with its status.
 #![tactic(auto)]
 
+#[cfg(test)]
+mod rows;
+
 ghost use Rattle.std.specs.Prelude.{◌≡◌, ◌<◌, IfOk};
 ghost use Rattle.rw_io.specs.Outside.{change};
 ghost use Rattle.rw_top.specs.Promise.{Promise};

@@ -10,7 +10,7 @@ use rpl_verify::Verified;
 use rw_base::{RuleNo, StepNo};
 use rw_firing::FireEnd;
 use rw_model::Basin;
-use rw_rules::{Rules, fire, reads};
+use rw_rules::{RuleSetup, Rules, fire, reads};
 use rw_run::Write;
 use rw_series::Series;
 use rw_writes::Writes;
@@ -60,12 +60,15 @@ fn is_fired(
         panic!(rt; "no memory")
     };
     is_one_rule_of_one_day(rt, basin, policy);
+    let setup = RuleSetup {
+        basin,
+        policy,
+        predefs,
+    };
     let fired = fire(
         &mut machine,
         &mut writes,
-        policy,
-        predefs,
-        basin,
+        &setup,
         series,
         RuleNo(1),
         StepNo(1),
@@ -90,7 +93,12 @@ fn is_fired_of_rules(
         panic!(rt; "no memory")
     };
     is_one_rule_of_one_day(rt, basin, policy);
-    let fired = rules.fire(policy, predefs, basin, series, RuleNo(1), StepNo(1));
+    let setup = RuleSetup {
+        basin,
+        policy,
+        predefs,
+    };
+    let fired = rules.fire(&setup, series, RuleNo(1), StepNo(1));
     assert!(rt; fired.end == FireEnd::Done && fired.count == 12);
     assert!(rt; is_only(rules.written(), 5));
     drop(rules);

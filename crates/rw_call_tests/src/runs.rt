@@ -10,7 +10,7 @@ use rpl_predef::Predefs;
 use rpl_verify::Verified;
 use rw_base::{Blank, Ledger, NoMemory, ObjectNo, StepNo, Steps};
 use rw_dispatch::Pick;
-use rw_engine::{Run, TraceEvent, run_by};
+use rw_engine::{Run, RunSetup, TraceEvent, run_by_of};
 use rw_inputs::read_inputs;
 use rw_method::Catalogue;
 use std::alloc::Global;
@@ -60,16 +60,13 @@ fn run<'a, L: Ledger>(
     let Ok(inputs) = read_inputs(alloc, basin, b"slot,step,value\n") else {
         panic!(rt; "no inputs")
     };
-    match run_by(
-        alloc,
+    let setup = RunSetup {
         basin,
         methods,
-        none,
+        policy: none,
         predefs,
-        &inputs,
-        &SecondIsNewest,
-        steps,
-    ) {
+    };
+    match run_by_of(alloc, &setup, &inputs, &SecondIsNewest, steps) {
         Ok(run) => lasting(rt, alloc, run),
         Err(NoMemory) => panic!(rt; "memory"),
     }

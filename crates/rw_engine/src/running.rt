@@ -141,61 +141,8 @@ pub fn run_all_of<L: Ledger>(
     pass_all(engine, setup, &Oldest, steps)
 }
 
-/// The same without a trace: what the run comes to but for its lines. The one error is want of memory.
-pub fn run_without_trace<L: Ledger>(
-    alloc: Global,
-    basin: &Basin,
-    methods: &Catalogue,
-    policy: &Verified,
-    predefs: &Predefs,
-    inputs: &Inputs,
-    steps: &mut Steps<L>,
-) -> Result<Run, NoMemory>
-    requires can { CanRun basin.now policy.now inputs.now }
-    requires order { AreInOrder (map (λ b. code (b.vtable, b.value)) methods.now.methods.items) }
-    ensures run { IfOk result (ComesTo basin.now (policy_in basin.now policy.now) inputs.now) }
-    ensures closed { IfOk result (λ run. run.closed ≤ basin.now.control.stamps.count) }
-    ensures counted { CountsSteps basin.now steps.old steps.new result }
-{
-    let setup = RunSetup {
-        basin,
-        methods,
-        policy,
-        predefs,
-    };
-    run_all_of(alloc, &setup, inputs, false, steps)
-}
-
-/// Runs all timesteps as `run_all` does, but where it is picked which of the objects that wait is dispatched. The one error
-/// is want of memory.
-pub fn run_by<L: Ledger, P: Pick>(
-    alloc: Global,
-    basin: &Basin,
-    methods: &Catalogue,
-    policy: &Verified,
-    predefs: &Predefs,
-    inputs: &Inputs,
-    pick: &P,
-    steps: &mut Steps<L>,
-) -> Result<Run, NoMemory>
-    requires can { CanRun basin.now policy.now inputs.now }
-    requires order { AreInOrder (map (λ b. code (b.vtable, b.value)) methods.now.methods.items) }
-    ensures run { IfOk result (ComesToPicked basin.now
-        (policy_in basin.now policy.now) (P.rule pick.now) inputs.now) }
-    ensures closed { IfOk result (λ run. run.closed ≤ basin.now.control.stamps.count) }
-    ensures kept { IfOk result (λ run. IsSome run.trace) }
-    ensures counted { CountsSteps basin.now steps.old steps.new result }
-{
-    let setup = RunSetup {
-        basin,
-        methods,
-        policy,
-        predefs,
-    };
-    run_by_of(alloc, &setup, inputs, pick, steps)
-}
-
-/// The same of a setup.
+/// Runs all timesteps of a setup as `run_all_of` does with a trace, but where it is picked which of the objects that wait is
+/// dispatched. The one error is want of memory.
 pub fn run_by_of<L: Ledger, P: Pick>(
     alloc: Global,
     setup: &RunSetup<'_>,

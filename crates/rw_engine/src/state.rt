@@ -36,7 +36,7 @@ use rw_dispatch::{Pick, Queue, Workspace, judge_dispatch, make};
 use rw_inputs::Inputs;
 use rw_model::Basin;
 use rw_record::{Noted, StepRecord, put_back, take_back};
-use rw_rules::Rules;
+use rw_rules::{RuleSetup, Rules};
 use rw_run::law::again;
 use rw_run::{Run, RunEnd, RunFault, Trace, TraceEvent};
 use rw_series::Series;
@@ -257,14 +257,12 @@ impl State {
             (Some rule.0)) result }
     {
         self.firings.raise(rule.0);
-        let fired = self.rules.fire(
-            setup.policy,
-            setup.predefs,
-            setup.basin,
-            &self.run.series,
-            rule,
-            step,
-        );
+        let by = RuleSetup {
+            basin: setup.basin,
+            policy: setup.policy,
+            predefs: setup.predefs,
+        };
+        let fired = self.rules.fire(&by, &self.run.series, rule, step);
         let looked = self.rules.looked(rule);
         let asked = self.rules.asked();
         note_firing(

@@ -32,7 +32,13 @@ pub fn section(
         ≡ whole_of basin.now batch (outcome_of run.now)
         (option_map (λ steps. steps.now) reran.entry) flags trace) }
 {
-    let text = section_text(alloc, basin, batch, run, reran, flags, trace)?;
+    let telling = Telling {
+        batch,
+        reran,
+        flags,
+        trace,
+    };
+    let text = section_text(alloc, basin, run, &telling)?;
     Ok(text.into_bytes())
 }
 
@@ -40,25 +46,16 @@ pub fn section(
 pub fn section_text(
     alloc: Global,
     basin: &Basin,
-    batch: u32,
     run: &Run,
-    reran: Option<&[StepNo]>,
-    flags: bool,
-    trace: bool,
+    telling: &Telling<'_>,
 ) -> Result<String, NoMemory>
     requires closed { run.now.closed ≤ basin.now.control.stamps.count }
     ensures text { IfOk result (λ text. string_bytes text
-        ≡ whole_of basin.now batch (outcome_of run.now)
-        (option_map (λ steps. steps.now) reran.entry) flags trace) }
+        ≡ whole_of basin.now telling.now.batch (outcome_of run.now)
+        (option_map (λ steps. steps.now) telling.now.reran) telling.now.flags telling.now.trace) }
 {
     let mut sheet = Sheet::new(alloc, basin, false);
-    let telling = Telling {
-        batch,
-        reran,
-        flags,
-        trace,
-    };
-    sheet.tell(run, &telling, 0)?;
+    sheet.tell(run, telling, 0)?;
     Ok(sheet.into_text())
 }
 

@@ -4,12 +4,10 @@ ghost use Rattle.rw_series.specs.Series.{held};
 ghost use Rattle.rpl_machine.specs.Fired.{look_cells};
 ghost use Rattle.rw_rules.specs.Firing.{HasPuts, IsRuleTurn, event_of_fired, firing_event, most_looks};
 
+use crate::setup::RuleSetup;
 use rpl_machine::{Fired, Machine};
-use rpl_predef::Predefs;
-use rpl_verify::Verified;
 use rpl_verify::law::{accepted_code, answered_code_is_safe};
 use rw_base::{RuleNo, StepNo};
-use rw_model::Basin;
 use rw_series::Series;
 use rw_writes::Writes;
 
@@ -20,24 +18,22 @@ use rw_writes::Writes;
 pub fn fire<'m>(
     machine: &'m mut Machine,
     writes: &mut Writes,
-    policy: &Verified,
-    predefs: &Predefs,
-    basin: &Basin,
+    setup: &RuleSetup<'_>,
     series: &Series,
     rule: RuleNo,
     step: StepNo,
 ) -> Fired<'m>
-    requires turn { IsRuleTurn basin.now policy.now rule.0 step.0 }
-    ensures event { firing_event basin.now policy.now (held series.now) rule.0 step.0
-        ≡ Some (event_of_fired basin.now (held series.now) rule.0 step.0 result) }
+    requires turn { IsRuleTurn setup.now.basin.now setup.now.policy.now rule.0 step.0 }
+    ensures event { firing_event setup.now.basin.now setup.now.policy.now (held series.now) rule.0 step.0
+        ≡ Some (event_of_fired setup.now.basin.now (held series.now) rule.0 step.0 result) }
     ensures looked { looks_at (held series.now) (look_cells result.looked.now) ≡ result.looked.now }
-    ensures few { length result.looked.now ≤ most_looks policy.now rule.0 }
-    ensures puts { HasPuts basin.now
-        (event_of_fired basin.now (held series.now) rule.0 step.0 result) writes.new }
+    ensures few { length result.looked.now ≤ most_looks setup.now.policy.now rule.0 }
+    ensures puts { HasPuts setup.now.basin.now
+        (event_of_fired setup.now.basin.now (held series.now) rule.0 step.0 result) writes.new }
 {
     accepted_code();
     answered_code_is_safe();
-    let fired = machine.fire(policy, predefs, basin, series, rule, step);
-    writes.judge(basin, series, rule, step, fired.puts);
+    let fired = machine.fire(setup.policy, setup.predefs, setup.basin, series, rule, step);
+    writes.judge(setup.basin, series, rule, step, fired.puts);
     fired
 }

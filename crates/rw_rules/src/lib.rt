@@ -8,8 +8,10 @@ mod firing;
 mod most;
 mod rule_fired;
 mod rules;
+mod setup;
 
 pub use firing::fire;
 pub use most::reads;
 pub use rule_fired::RuleFired;
 pub use rules::Rules;
+pub use setup::RuleSetup;

@@ -17,8 +17,8 @@ ghost use Rattle.rw_rules.specs.Rules.{FiredOn, IsRulesOf, WrittenOn, ShowsLooks
 use crate::RuleFired;
 use crate::firing::fire;
 use crate::most::reads;
+use crate::setup::RuleSetup;
 use rpl_machine::Machine;
-use rpl_predef::Predefs;
 use rpl_verify::Verified;
 use rw_agenda::Agenda;
 use rw_agenda::law::index_stays;
@@ -71,24 +71,24 @@ fn fire_by(
     machine: &mut Machine,
     agenda: &mut Agenda,
     writes: &mut Writes,
-    policy: &Verified,
-    predefs: &Predefs,
-    basin: &Basin,
+    setup: &RuleSetup<'_>,
     series: &Series,
     rule: RuleNo,
     step: StepNo,
 ) -> RuleFired
-    requires turn { IsRuleTurn basin.now policy.now rule.0 step.0 }
-    requires made { IsRulesOf basin.now policy.now (rules_kept agenda.old writes.old) }
-    ensures made { IsRulesOf basin.now policy.now (rules_kept agenda.new writes.new) }
-    ensures told { Told basin.now policy.now (held series.now) rule.0 step.0 result
+    requires turn { IsRuleTurn setup.now.basin.now setup.now.policy.now rule.0 step.0 }
+    requires made { IsRulesOf setup.now.basin.now setup.now.policy.now
+        (rules_kept agenda.old writes.old) }
+    ensures made { IsRulesOf setup.now.basin.now setup.now.policy.now
         (rules_kept agenda.new writes.new) }
-    ensures can { AreWrites basin.now writes.new.written }
-    ensures keeps { FiredOn policy.now (held series.now) rule.0 (rules_kept agenda.old writes.old)
-        (rules_kept agenda.new writes.new) }
+    ensures told { Told setup.now.basin.now setup.now.policy.now (held series.now) rule.0 step.0
+        result (rules_kept agenda.new writes.new) }
+    ensures can { AreWrites setup.now.basin.now writes.new.written }
+    ensures keeps { FiredOn setup.now.policy.now (held series.now) rule.0
+        (rules_kept agenda.old writes.old) (rules_kept agenda.new writes.new) }
 {
     index_stays();
-    let fired = fire(machine, writes, policy, predefs, basin, series, rule, step);
+    let fired = fire(machine, writes, setup, series, rule, step);
     agenda.fired(rule, fired.looked);
     RuleFired {
         end: fired.end,
@@ -140,19 +140,18 @@ impl Rules {
     /// Lets a rule fire at a timestep, counted from 1. Nothing of what it writes is made yet.
     pub fn fire(
         &mut self,
-        policy: &Verified,
-        predefs: &Predefs,
-        basin: &Basin,
+        setup: &RuleSetup<'_>,
         series: &Series,
         rule: RuleNo,
         step: StepNo,
     ) -> RuleFired
-        requires turn { IsRuleTurn basin.now policy.now rule.0 step.0 }
-        requires made { IsRulesOf basin.now policy.now self.old }
-        ensures made { IsRulesOf basin.now policy.now self.new }
-        ensures told { Told basin.now policy.now (held series.now) rule.0 step.0 result self.new }
-        ensures can { AreWrites basin.now self.new.written }
-        ensures keeps { FiredOn policy.now (held series.now) rule.0 self.old self.new }
+        requires turn { IsRuleTurn setup.now.basin.now setup.now.policy.now rule.0 step.0 }
+        requires made { IsRulesOf setup.now.basin.now setup.now.policy.now self.old }
+        ensures made { IsRulesOf setup.now.basin.now setup.now.policy.now self.new }
+        ensures told { Told setup.now.basin.now setup.now.policy.now (held series.now) rule.0 step.0
+            result self.new }
+        ensures can { AreWrites setup.now.basin.now self.new.written }
+        ensures keeps { FiredOn setup.now.policy.now (held series.now) rule.0 self.old self.new }
     {
         let Some(machine) = &mut self.machine else {
             unreachable!()
@@ -161,9 +160,7 @@ impl Rules {
             machine,
             &mut self.agenda,
             &mut self.writes,
-            policy,
-            predefs,
-            basin,
+            setup,
             series,
             rule,
             step,

@@ -17,3 +17,12 @@ pub mod Written
 pub mod Refusal
 pub mod Lines
 pub mod Promise
+pub mod FirstCall
+pub mod Alike
+pub mod Books
+pub mod SureCall
+pub mod Inflows
+pub mod ModelTable
+pub mod Cascade
+pub mod Ruleset
+pub mod Migrated

@@ -25,7 +25,7 @@ use rw_engine::{Run, RunEnd, RunSetup, run_all_of};
 use rw_inputs::Inputs;
 use rw_order::{Newest, run_any};
 use rw_report::law::texts_of_runs;
-use rw_report::section_text;
+use rw_report::{Telling, section_text};
 use rw_retold::push_asked_trace;
 use rw_run::law::{choices, same_runs};
 use std::alloc::Global;
@@ -61,7 +61,13 @@ fn text_of_run(
         ++ asked_trace_words setup.now.basin.now (asked_trace setup.now.basin.now
         (policy_in setup.now.basin.now setup.now.policy.now) log)) }
 {
-    let mut text = section_text(alloc, setup.basin, number, run, None, extras.flags, false)?;
+    let telling = Telling {
+        batch: number,
+        reran: None,
+        flags: extras.flags,
+        trace: false,
+    };
+    let mut text = section_text(alloc, setup.basin, run, &telling)?;
     push_asked_trace(alloc, &mut text, setup, inputs, &run.trace)?;
     Ok(text.into_bytes())
 }

@@ -9,6 +9,7 @@ pub returns : goal.returns
 returns c = record {
   text = c.into_text.ensures
       ∙ c.in_ok-tell.ensures.text
-      ∙ ap (λ (sheet : Sheet). whole_of sheet.basin c.args.batch (outcome_of c.args.run.now)
-      (option_map (λ (steps : Bor (List StepNo)). steps.now) c.args.reran) c.args.flags c.args.trace) c.new-sheet.ensures;
+      ∙ ap (λ (sheet : Sheet). whole_of sheet.basin c.args.telling.now.batch (outcome_of c.args.run.now)
+      (option_map (λ (steps : Bor (List StepNo)). steps.now) c.args.telling.now.reran)
+      c.args.telling.now.flags c.args.telling.now.trace) c.new-sheet.ensures;
 }

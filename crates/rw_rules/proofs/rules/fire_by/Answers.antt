@@ -30,7 +30,7 @@ returns-clause-keeps g c = record {
       (just_seen (held c.args.series.now) (look_cells c.fire-fired.result.looked.now)))
       c.fired.ensures.rules c.fired.ensures.marked;
   shows =
-      λ log firing same looked shows. shows_more c.args.policy.now (rules_kept c.args.agenda.now c.args.writes.now)
+      λ log firing same looked shows. shows_more c.args.setup.now.policy.now (rules_kept c.args.agenda.now c.args.writes.now)
       (rules_kept c.fired.new.self c.fire-fired.new.writes) c.args.rule.0
       c.fire-fired.result.looked.now log firing c.requires.turn.first (search rules) same looked shows;
 }

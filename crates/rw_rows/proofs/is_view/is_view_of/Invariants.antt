@@ -1,6 +1,0 @@
-use Rattle.std.proofs.Common.{ℕ, ◌<◌}
-use Rattle.rw_rows.specs.IsView.{IsPlaced}
-use Rattle.rw_rows.proofs.is_view.is_view_of.Given as goal
-
-abbrev pub invariant-loop-place : goal.invariant-loop-place
-invariant-loop-place l = (k : ℕ) → k < l.place → IsPlaced l.kind l.view k

@@ -1,4 +1,0 @@
-use Rattle.rw_rows.proofs.statuses.call.Given as goal
-
-abbrev pub ghosts-call_counted : goal.ghosts-call_counted
-ghosts-call_counted g a = record { name = a.blank.name; parts = a.blank.parts }

@@ -1,0 +1,14 @@
+use rpl_predef::Predefs;
+use rpl_verify::Verified;
+use rw_model::Basin;
+
+/// What rules fire by, whatever the cells hold.
+#[derive(Drop)]
+pub struct RuleSetup<'a> {
+    /// The basin.
+    pub basin: &'a Basin,
+    /// The rules.
+    pub policy: &'a Verified,
+    /// The functions that rules call by name.
+    pub predefs: &'a Predefs,
+}
