@@ -37,7 +37,7 @@ word-stands key (listed ∷ keys) e = elim (cases_Bool (bytes_eq key listed)) [
 word-has : (key : List ℕ) (keys : List (List ℕ)) → Contains keys key → is_word keys key ≡ true
 word-has key keys (k, within, same) = word-found key keys k within same
 
-pub Decides-word : (keys : List (List ℕ)) (key : List ℕ) → Decides (is_word keys key) (Contains keys key)
+Decides-word : (keys : List (List ℕ)) (key : List ℕ) → Decides (is_word keys key) (Contains keys key)
 Decides-word keys key = (word-stands key keys, word-has key keys)
 
 pub Decides-plain : (text : List ℕ) → Decides (is_plain text) (IsPlain text)

@@ -18,12 +18,7 @@ returns-then-is_plain-clause-name c =
 
 pub returns-then-is_plain-clause-test : goal.returns-then-is_plain-clause-test
 returns-then-is_plain-clause-test c =
-    let plain : is_plain c.args.text.now ≡ true = search rules in
-    both c.args.text.now _ plain
-    (same_from_decides _ (is_word reserved_words c.args.text.now) c.is_reserved.ensures (Decides-word reserved_words c.args.text.now))
-
-pub returns-then-is_plain-clause-name : goal.returns-then-is_plain-clause-name
-returns-then-is_plain-clause-name c = by_test _ c.args.text.now (returns-then-is_plain-clause-test c)
+    same_from_decides _ (is_name c.args.text.now) (returns-then-is_plain-clause-name c) (Decides-name c.args.text.now)
 
 pub returns-else-is_plain-clause-test : goal.returns-else-is_plain-clause-test
 returns-else-is_plain-clause-test c = search rules
