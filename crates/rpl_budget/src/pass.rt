@@ -13,7 +13,7 @@ use crate::work::{
     Work, bound, chosen, element, leaf, listed, made, mapped, one_load, turned, two_load,
 };
 use rpl_scope::Scope;
-use rpl_tree::{ConvertWord, Expr, OneWord, TwoWord};
+use rpl_tree::{ConvertWord, Expr, LoopText, OneWord, TwoWord};
 use rw_base::NoMemory;
 
 /// What an expression comes to, where these functions and names can be used. The names stay as they are.
@@ -40,12 +40,11 @@ pub(crate) fn pass<'a>(
         Expr::If { condition, yes, no } => choice(known, names, condition, yes, no),
         Expr::Let { name, value, body } => bind(known, names, name, value, body),
         Expr::For {
-            name,
+            names: own,
             list,
-            total,
             first,
             body,
-        } => each(known, names, name, list, total, first, body),
+        } => each(known, names, own, list, first, body),
         Expr::Map { name, list, body } => mapping(known, names, name, list, body),
         Expr::One { word, arg } => one(known, names, *word, arg),
         Expr::Two { word, left, right } => two(known, names, *word, left, right),
@@ -101,24 +100,24 @@ fn bind<'a>(
 fn each<'a>(
     known: &[Known],
     names: &mut Scope<'a, TreeKind>,
-    name: &'a [u8],
+    own: &'a LoopText,
     list: &'a Expr,
-    total: &'a [u8],
     first: &'a Expr,
     body: &'a Expr,
 ) -> Result<Work, NoMemory>
     ensures found { IfOk result (λ work. measured_seen work
         ≡ Pass.pass (functions_of known.now) (names_of names.old)
-        (each name.now (tree_of list.now) total.now (tree_of first.now) (tree_of body.now))) }
+        (each own.now.name.items (tree_of list.now) own.now.total.items (tree_of first.now)
+        (tree_of body.now))) }
     ensures names { OnOk result (names.new ≡ names.old) }
 {
     let all = pass(known, names, list)?;
     let first = pass(known, names, first)?;
     let item = Named {
-        name,
+        name: &own.name,
         kind: element_of(all.kind),
     };
-    let body = inside_turn(known, names, item, total, first.kind, body)?;
+    let body = inside_turn(known, names, item, &own.total, first.kind, body)?;
     Ok(Work {
         kind: first.kind,
         load: turned(all, first, body),

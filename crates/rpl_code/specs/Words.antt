@@ -1,11 +1,11 @@
 -- What a word of a line stands for, if it stands for anything.
-use Rattle.std.specs.Prelude.{ℕ, ◌==◌, ◌&&◌, Bool, true, false, if◌then◌else◌, nat_le, ℤ, pos, neg_ℤ, unsigned_abs, Option, Some, None, option_map, option_and_then, List, [], ◌∷◌, codes}
+use Rattle.std.specs.Prelude.{ℕ, ◌==◌, ◌&&◌, Bool, true, false, if◌then◌else◌, nat_le, ℤ, pos, neg_ℤ, Option, Some, None, option_map, option_and_then, List, [], ◌∷◌, codes}
 use Rattle.std.specs.Str.{bytes_eq}
 use Rattle.std.specs.Str.Parse.{digits_value}
 use Rattle.std.specs.Fmt.{decimal}
-use Rattle.rw_base.specs.Quantity.{quantity_max}
 use Rattle.rw_base.specs.declared.limits.TheConstants.{LIST_MAX}
 use Rattle.rw_model.specs.Name.{is_plain}
+use Rattle.rpl_code.specs.declared.numbers.TheConstants.{GREATEST}
 use Rattle.rpl_code.specs.declared.kind.ValueKind.{ValueKind}
 use Rattle.rpl_code.specs.declared.kind.ValueKind.TheVariants as K
 use Rattle.rpl_code.specs.Parting.{parted}
@@ -37,8 +37,8 @@ length_in = number_in 1 LIST_MAX
 abbrev pub quantity_in : List ℕ → Option ℤ
 quantity_in [] = None
 quantity_in (b ∷ bs) =
-    if b == 45 then option_map (λ n. neg_ℤ (pos n)) (number_in 1 (unsigned_abs quantity_max) bs)
-    else option_map pos (number_in 0 (unsigned_abs quantity_max) (b ∷ bs))
+    if b == 45 then option_map (λ n. neg_ℤ (pos n)) (number_in 1 GREATEST bs)
+    else option_map pos (number_in 0 GREATEST (b ∷ bs))
 
 abbrev pub truths : List ((List ℕ) × Bool)
 truths = (codes "true", true) ∷ (codes "false", false) ∷ []

@@ -32,4 +32,4 @@ pub use kind::ValueKind;
 pub use kinds::Kinds;
 pub use lines::Lines;
 pub use reading::read_code;
-pub use writing::write_code;
+pub use writing::{begin_code, push_block, write_code};

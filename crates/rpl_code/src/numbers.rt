@@ -1,6 +1,5 @@
 // Numbers in words.
-ghost use Rattle.std.specs.Prelude.{◌≡◌, ◌≢◌, ℕ, ◌<◌, ◌≤◌, ◌^◌, IfOk, MatchOption, IfSome, option_map, pos, neg_ℤ, unsigned_abs};
-ghost use Rattle.rw_base.specs.Quantity.{quantity_max};
+ghost use Rattle.std.specs.Prelude.{◌≡◌, ◌≢◌, ℕ, ◌<◌, ◌≤◌, ◌^◌, IfOk, MatchOption, IfSome, option_map, pos, neg_ℤ};
 ghost use Rattle.std.specs.Str.{bytes_eq};
 ghost use Rattle.std.specs.Fmt.{decimal};
 ghost use Rattle.rpl_code.specs.Words.{number_in, count_in, length_in, quantity_in};
@@ -82,7 +81,7 @@ pub(crate) fn ahead_in(word: &[u8]) -> Result<u8, LineFault>
 
 // A quantity that has no `-`.
 fn natural_in(word: &[u8]) -> Result<i64, LineFault>
-    ensures { Says (option_map pos (number_in 0 (unsigned_abs quantity_max) word.now)) result }
+    ensures { Says (option_map pos (number_in 0 GREATEST word.now)) result }
 {
     let number = number_in(0, GREATEST, word)?;
     Ok(number as i64)
@@ -91,7 +90,7 @@ fn natural_in(word: &[u8]) -> Result<i64, LineFault>
 // A quantity below 0, of the digits behind its `-`.
 fn negative_in(digits: &[u8]) -> Result<i64, LineFault>
     ensures { Says (option_map (λ n. neg_ℤ (pos n))
-        (number_in 1 (unsigned_abs quantity_max) digits.now)) result }
+        (number_in 1 GREATEST digits.now)) result }
 {
     let number = number_in(1, GREATEST, digits)?;
     Ok(-(number as i64))

@@ -1,5 +1,5 @@
 // The lines of a code.
-ghost use Rattle.std.specs.Prelude.{◌≡◌, ◌++◌, ◌∷◌, [], OnOk, IfOk, string_bytes, map, flat_map};
+ghost use Rattle.std.specs.Prelude.{◌≡◌, ◌++◌, ◌∷◌, [], OnOk, IfOk, codes, string_bytes, map, flat_map};
 ghost use Rattle.rpl_code.specs.Bounds.{IsCode};
 ghost use Rattle.rpl_code.specs.Spelling.{instruction_line, head_line, locals_line, block_lines, lines_ended, spelt};
 
@@ -52,7 +52,8 @@ fn push_locals(text: &mut String, locals: &Kinds) -> Result<(), NoMemory>
     push_kinds_word(text, locals)
 }
 
-fn push_block(text: &mut String, block: &Block) -> Result<(), NoMemory>
+/// Appends the lines of a block: its head, its locals, its instructions and its end.
+pub fn push_block(text: &mut String, block: &Block) -> Result<(), NoMemory>
     ensures { OnOk result (string_bytes text.new ≡ string_bytes text.old
         ++ lines_ended (block_lines block.now)) }
 {
@@ -75,13 +76,19 @@ fn push_blocks(text: &mut String, blocks: &[Block]) -> Result<(), NoMemory>
     Ok(())
 }
 
+/// The line before all blocks.
+pub fn begin_code(alloc: Global) -> Result<String, NoMemory>
+    ensures { IfOk result (λ text. string_bytes text ≡ lines_ended (codes "CODE 1" ∷ [])) }
+{
+    Ok(String::from_str(alloc, "CODE 1\n")?)
+}
+
 /// The text of a code, as `docs/FORMATS.md` says under "Code": a line for each head, for the locals, for each instruction
 /// and for each end, and `CODE 1` before all. Want of memory is the one other answer.
 pub fn write_code(alloc: Global, code: &Code) -> Result<Vec<u8>, NoMemory>
     ensures { IfOk result (λ text. text.items ≡ spelt code.now) }
 {
-    let mut text = String::new(alloc);
-    text.push_str("CODE 1\n")?;
+    let mut text = begin_code(alloc)?;
     push_blocks(&mut text, code.blocks())?;
     Ok(text.into_bytes())
 }

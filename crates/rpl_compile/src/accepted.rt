@@ -1,5 +1,6 @@
 // Of an accepted ruleset the code is spelt by a text, and accepted, with the budgets of the ruleset.
 ghost use Rattle.std.specs.Prelude.{◌≡◌, ◌≤◌, List, Ok};
+ghost use Rattle.rw_base.specs.declared.limits.TheConstants.{RULES_MAX};
 ghost use Rattle.rw_model.specs.Draft.{Draft};
 ghost use Rattle.rpl_tree.specs.Tree.{Declared};
 ghost use Rattle.rw_model.specs.Basin.{IsBasin};
@@ -31,14 +32,15 @@ pub fn compiled_code_can_be_spelt()
 #[tactic(auto, using(crate::proofs::CompiledFits::compiled_code_fits))]
 pub fn compiled_code_fits()
     ensures { (basin : Draft) (rules : List Declared) → AreKinded basin rules
-        → rule_count rules ≤ 200 → function_count rules ≤ 200 → AreFit basin (translate rules) }
+        → rule_count rules ≤ RULES_MAX → function_count rules ≤ RULES_MAX
+        → AreFit basin (translate rules) }
 {}
 
 /// The budget of each block is that of its declaration.
 #[tactic(auto, using(crate::proofs::CompiledBudgets::compiled_budgets))]
 pub fn compiled_budgets()
     ensures { (basin : Draft) (rules : List Declared) → IsTyped basin rules
-        → rule_count rules ≤ 200 → function_count rules ≤ 200
+        → rule_count rules ≤ RULES_MAX → function_count rules ≤ RULES_MAX
         → ruling basin (translate rules) ≡ Ok (code_budgets_of rules) }
 {}
 
@@ -46,6 +48,6 @@ pub fn compiled_budgets()
 #[tactic(auto, using(crate::proofs::CompiledBudgets::compiled_code_is_accepted))]
 pub fn compiled_code_is_accepted()
     ensures { (basin : Draft) (rules : List Declared) → IsTyped basin rules
-        → rule_count rules ≤ 200 → function_count rules ≤ 200
+        → rule_count rules ≤ RULES_MAX → function_count rules ≤ RULES_MAX
         → verified basin (translate rules) ≡ Ok (accepted_code basin rules) }
 {}

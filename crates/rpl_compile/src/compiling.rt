@@ -1,10 +1,11 @@
 ghost use Rattle.std.specs.Prelude.{◌≡◌, Ok, IfOk, IsOk};
+ghost use Rattle.rpl_code.specs.Spelling.{spelt};
 ghost use Rattle.rpl_tree.specs.Seen.{rules_of};
 ghost use Rattle.rpl_types.specs.Judged.{rules_judged};
 ghost use Rattle.rpl_verify.specs.Verified.{verified};
 ghost use Rattle.rpl_compile.specs.Translate.{translate};
 
-use crate::ruleset::blocks_of;
+use crate::ruleset::{blocks_of, text_of};
 use rpl_code::Code;
 use rpl_types::Typed;
 use rpl_verify::{Verified, VerifyFault, verify};
@@ -22,6 +23,16 @@ pub fn code_of(alloc: Global, typed: &Typed, basin: &Basin) -> Result<Code, NoMe
     let _objects = basin.object_count();
     let blocks = blocks_of(alloc, rules, basin)?;
     Ok(Code::of(blocks))
+}
+
+/// The text of that code, as `write_code` of `rpl_code` writes it. Of the code no more than a block is there at a time.
+pub fn code_text(alloc: Global, typed: &Typed, basin: &Basin) -> Result<Vec<u8>, NoMemory>
+    requires { IsOk (rules_judged basin.now (rules_of typed.now.rules)) }
+    ensures { IfOk result (λ text. text.items ≡ spelt (translate (rules_of typed.now.rules))) }
+{
+    let rules = typed.rules();
+    let _objects = basin.object_count();
+    text_of(alloc, rules, basin)
 }
 
 /// The same code, verified. That of an accepted ruleset is never refused: want of memory is the one other answer.

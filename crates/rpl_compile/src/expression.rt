@@ -18,7 +18,7 @@ use crate::writing::{
     fill, give_room, line, local_named, operand, reserve,
 };
 use rpl_code::{Instruction, ValueKind};
-use rpl_tree::{ConvertWord, Expr, OneWord, SlotText, TwoWord};
+use rpl_tree::{ConvertWord, Expr, LoopText, OneWord, SlotText, TwoWord};
 use rw_base::NoMemory;
 use std::alloc::Global;
 
@@ -47,12 +47,11 @@ pub(crate) fn code<'a>(
         Expr::If { condition, yes, no } => choice(known, w, condition, yes, no),
         Expr::Let { name, value, body } => bind(known, w, name, value, body),
         Expr::For {
-            name,
+            names,
             list,
-            total,
             first,
             body,
-        } => each(known, w, name, list, total, first, body),
+        } => each(known, w, names, list, first, body),
         Expr::Map { name, list, body } => mapped(known, w, name, list, body),
         Expr::One { word, arg } => one(known, w, *word, arg),
         Expr::Two { word, left, right } => two(known, w, *word, left, right),
@@ -396,14 +395,14 @@ fn one<'a>(
 fn each<'a>(
     known: &[Known],
     w: &mut Writing<'a>,
-    name: &'a [u8],
+    names: &'a LoopText,
     list: &'a Expr,
-    total: &'a [u8],
     first: &'a Expr,
     body: &'a Expr,
 ) -> Result<ValueKind, NoMemory>
     ensures { WritesKind w.new result (compiled (callees_of known.now) (written_of w.old)
-        (each name.now (tree_of list.now) total.now (tree_of first.now) (tree_of body.now))) }
+        (each names.now.name.items (tree_of list.now) names.now.total.items (tree_of first.now)
+        (tree_of body.now))) }
 {
     let number = reserve(w)?;
     let total_number = reserve(w)?;
@@ -413,7 +412,7 @@ fn each<'a>(
     begin_turns(w, number, total_number, element_of(all), kind)?;
     add_name(
         w,
-        name,
+        &names.name,
         Local {
             kind: element_of(all),
             number,
@@ -421,7 +420,7 @@ fn each<'a>(
     )?;
     add_name(
         w,
-        total,
+        &names.total,
         Local {
             kind,
             number: total_number,

@@ -1,5 +1,6 @@
 // That the code of a rule does what the rule means.
 ghost use Rattle.std.specs.Prelude.{◌≡◌, ◌≤◌, ℕ, ℤ, IsSome, List, Ok, Option};
+ghost use Rattle.rw_base.specs.declared.limits.TheConstants.{RULES_MAX};
 ghost use Rattle.rw_base.specs.declared.number.Cell.{Cell};
 ghost use Rattle.rw_model.specs.Draft.{Draft};
 ghost use Rattle.rpl_tree.specs.Mean.{mean};
@@ -36,7 +37,7 @@ pub fn accepted_code_means_its_rule()
 /// The code of each rule of an accepted ruleset does what the rule means.
 pub fn rules_fire_alike()
     ensures { (basin : Draft) (declared : List Declared) → IsTyped basin declared
-        → rule_count declared ≤ 200 → function_count declared ≤ 200
+        → rule_count declared ≤ RULES_MAX → function_count declared ≤ RULES_MAX
         → (number step : ℕ) (values : Cell → Option ℤ) → HasRule declared number
         → FiresAlike declared basin number step values }
 {

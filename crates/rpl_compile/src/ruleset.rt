@@ -1,5 +1,6 @@
 // The blocks of declarations, in order.
-ghost use Rattle.std.specs.Prelude.{◌≡◌, ◌+◌, IfOk, OnOk, drop, map};
+ghost use Rattle.std.specs.Prelude.{◌≡◌, ◌+◌, IfOk, OnOk, drop, map, string_bytes};
+ghost use Rattle.rpl_code.specs.Spelling.{spelt};
 ghost use Rattle.rpl_tree.specs.Seen.{acts_in, declared_of, parameter_of, rules_of, tree_of, type_of};
 ghost use Rattle.rpl_compile.specs.Operations.{code_kind, code_kinds};
 ghost use Rattle.rpl_compile.specs.Seen.{callee_seen, callees_of, kind_seen, kinds_seen, scope_seen, written_of};
@@ -13,7 +14,7 @@ use crate::kind::written_kind;
 use crate::known::Known;
 use crate::statement::statements;
 use crate::writing::{Local, Writing, give_room};
-use rpl_code::{Block, BlockHead, Kinds, Lines, ValueKind};
+use rpl_code::{Block, BlockHead, Kinds, Lines, ValueKind, begin_code, push_block};
 use rpl_scope::Scope;
 use rpl_tree::{Declaration, Expr, Param, ParsedRules, Statement, TypeText};
 use rw_base::NoMemory;
@@ -220,6 +221,39 @@ fn written_blocks(alloc: Global, rules: &ParsedRules) -> Result<Vec<Block>, NoMe
         blocks.push(block)?;
     }
     Ok(blocks)
+}
+
+// The text of all declarations' blocks. No more than one block is there at a time.
+fn written_text(alloc: Global, rules: &ParsedRules) -> Result<String, NoMemory>
+    ensures { IfOk result (λ text. string_bytes text
+        ≡ spelt (Written.written_from predefined_callees 1 (rules_of rules.now))) }
+{
+    let mut known = predefined(alloc)?;
+    let mut text = begin_code(alloc)?;
+    for place in 0..rules.declarations.len() {
+        let declaration = &rules.declarations[place];
+        let Ok(number) = u32::try_from(place + 1) else {
+            return Err(NoMemory);
+        };
+        let block = block_of(alloc, &mut known, number, declaration)?;
+        push_block(&mut text, &block)?;
+    }
+    Ok(text)
+}
+
+/// The text of the blocks of a ruleset for a basin. `NoMemory` tells nothing of the ruleset.
+pub(crate) fn text_of(
+    alloc: Global,
+    rules: &ParsedRules,
+    basin: &Basin,
+) -> Result<Vec<u8>, NoMemory>
+    requires kinded { AreKinded basin.now (rules_of rules.now) }
+    requires rooms { AreRoomy (rules_of rules.now) }
+    ensures { IfOk result (λ text. text.items ≡ spelt (translate (rules_of rules.now))) }
+{
+    let _objects = basin.object_count();
+    let text = written_text(alloc, rules)?;
+    Ok(text.into_bytes())
 }
 
 /// The blocks of a ruleset for a basin. `NoMemory` tells nothing of the ruleset.

@@ -1,5 +1,5 @@
 -- The tokens of a text: from each place the longest, and the line in which each begins.
-use Rattle.std.specs.Prelude.{◌==◌, ◌+◌, ◌-◌, ◌*◌, ◌++◌, ◌||◌, ℕ, zero, suc, pos, unsigned_abs, Bool, true, false, if◌then◌else◌, leb, codes, nat_eq, Option, Some, None, List, [], ◌∷◌, take, drop}
+use Rattle.std.specs.Prelude.{◌==◌, ◌+◌, ◌-◌, ◌*◌, ◌++◌, ◌||◌, ℕ, zero, suc, pos, Bool, true, false, if◌then◌else◌, leb, codes, nat_eq, Option, Some, None, List, [], ◌∷◌, take, drop}
 use Rattle.std.specs.Cmp.Lexicographic.{pointwise}
 use Rattle.rpl_parse.specs.declared.token.Mark.{Mark}
 use Rattle.rpl_parse.specs.declared.token.Mark.TheVariants as M
@@ -7,7 +7,7 @@ use Rattle.rpl_parse.specs.declared.class.Class.{Class}
 use Rattle.rpl_parse.specs.declared.class.Class.TheVariants as C
 use Rattle.rpl_parse.specs.Tokens.{Tok, mark, word, digits, text, Lined, lined}
 use Rattle.rw_base.specs.Byte.{is_digit, is_letter}
-use Rattle.rw_base.specs.Quantity.{quantity_max}
+use Rattle.rpl_parse.specs.declared.front.TheConstants.{GREATEST}
 
 abbrev pub is_blank : ℕ → Bool
 is_blank b = b == 32 || b == 9 || b == 13 || b == 10
@@ -30,7 +30,7 @@ number_of n (b ∷ bs) = number_of (10 * n + (b - 48)) bs
 
 -- the greatest number, Q
 abbrev pub greatest : ℕ
-greatest = unsigned_abs quantity_max
+greatest = GREATEST
 
 abbrev pub declaration_words : List (List ℕ × Mark)
 declaration_words = (codes "RULE", M.Rule) ∷ (codes "ENDRULE", M.EndRule) ∷ (codes "FUNCTION", M.Function) ∷ (codes "ENDFUNCTION", M.EndFunction) ∷ (codes "IS", M.Is) ∷ (codes "NUMERIC", M.Numeric) ∷ (codes "BOOLEAN", M.Boolean) ∷ (codes "DATETIME", M.Datetime) ∷ (codes "SLOT", M.Slot) ∷ (codes "LIST", M.List) ∷ (codes "OF", M.Of) ∷ (codes "t", M.Now) ∷ []

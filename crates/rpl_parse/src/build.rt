@@ -9,7 +9,7 @@ use crate::look::copied;
 use crate::made::{boxed, pair, three};
 use crate::stop::Stop;
 use crate::token::Span;
-use rpl_tree::{ConvertWord, Expr, OneWord, SlotText, TwoWord};
+use rpl_tree::{ConvertWord, Expr, LoopText, OneWord, SlotText, TwoWord};
 use std::alloc::Global;
 
 /// The greater of two depths.
@@ -166,14 +166,14 @@ pub(crate) struct LoopNames {
     pub(crate) total: Span,
 }
 
-fn loop_names(alloc: Global, text: &[u8], names: LoopNames) -> Result<(Vec<u8>, Vec<u8>), Stop>
-    ensures name { IfOk result (λ both. both.0.items ≡ bytes_in text.now names.name) }
-    ensures total { IfOk result (λ both. both.1.items ≡ bytes_in text.now names.total) }
+fn loop_text(alloc: Global, text: &[u8], names: LoopNames) -> Result<Box<LoopText>, Stop>
+    ensures name { IfOk result (λ made. made.value.name.items ≡ bytes_in text.now names.name) }
+    ensures total { IfOk result (λ made. made.value.total.items ≡ bytes_in text.now names.total) }
     ensures err { IfErr result (λ f. f ≡ Stop.NoMemory) }
 {
     let name = copied(alloc, text, names.name)?;
     let total = copied(alloc, text, names.total)?;
-    Ok((name, total))
+    boxed(alloc, LoopText { name, total })
 }
 
 /// `FOR name IN list WITH total := first DO body ENDFOR`.
@@ -189,12 +189,11 @@ pub(crate) fn for_each(
         (bytes_in text.now names.total) (tree_of first) (tree_of body)) }
     ensures err { IfErr result (λ f. f ≡ Stop.NoMemory) }
 {
-    let (name, total) = loop_names(alloc, text, names)?;
+    let names = loop_text(alloc, text, names)?;
     let (list, first, body) = three(alloc, list, first, body)?;
     Ok(Expr::For {
-        name,
+        names,
         list,
-        total,
         first,
         body,
     })

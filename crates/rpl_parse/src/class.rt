@@ -1,6 +1,8 @@
 ghost use Rattle.std.specs.Prelude.{◌≡◌, ◌≤◌, ◌+◌, length};
-ghost use Rattle.rw_base.specs.Byte.{is_digit, is_letter};
+ghost use Rattle.rw_base.specs.Byte.{is_letter};
 ghost use Rattle.rpl_parse.specs.Scan.{is_of, is_blank, run, head_is};
+
+use rw_base::is_digit;
 
 /// What a byte may be part of.
 #[derive(Clone, Copy)]
@@ -13,12 +15,6 @@ pub(crate) enum Class {
     OfLine,
     /// A string.
     Quoted,
-}
-
-pub(crate) fn is_digit(b: u8) -> bool
-    ensures { result ≡ is_digit b }
-{
-    48 <= b && b <= 57
 }
 
 pub(crate) fn is_letter(b: u8) -> bool

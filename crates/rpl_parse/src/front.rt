@@ -2,10 +2,10 @@ ghost use Rattle.std.specs.Prelude.{◌≡◌, ◌≤◌, ◌<◌, ◌+◌, ◌�
 ghost use Rattle.rpl_parse.specs.Scan.{number_of, head_is, greatest, number_front, quoted_front, word_front, single, short_or_long, mark_front, front};
 ghost use Rattle.rpl_parse.specs.Pieces.{piece_seen, fits_piece};
 
-use crate::class::{Class, head_is, is_blank, is_digit, is_letter, run};
+use crate::class::{Class, head_is, is_blank, is_letter, run};
 use crate::reserved::reserved;
 use crate::token::Mark;
-use rw_base::QUANTITY_MAX;
+use rw_base::{QUANTITY_MAX, is_digit};
 
 /// What stands at the front of some bytes, and of how many.
 #[derive(Clone, Copy)]

@@ -1,5 +1,6 @@
 //! What the policy of a ruleset promises, and which runs it has. Each law is the `ensures` of a function that does nothing.
 ghost use Rattle.std.specs.Prelude.{◌↔◌, ◌≤◌, ℤ, List, []};
+ghost use Rattle.rw_base.specs.declared.limits.TheConstants.{RULES_MAX};
 ghost use Rattle.rw_base.specs.declared.number.Cell.{Cell};
 ghost use Rattle.rw_model.specs.Draft.{Draft};
 ghost use Rattle.rw_run.specs.Log.{Log};
@@ -25,10 +26,10 @@ use rw_run::law::{same_runs, some_run};
 /// The rules of an accepted ruleset do what their code does, which is accepted and so keeps the same.
 pub fn rules_keep_promises()
     ensures alike { (basin : Draft) (rules : List Declared) → IsTyped basin rules
-        → rule_count rules ≤ 200 → function_count rules ≤ 200
+        → rule_count rules ≤ RULES_MAX → function_count rules ≤ RULES_MAX
         → FireAlike (policy_of_rules basin rules) (policy_of_code basin (translate rules)) }
     ensures promises { (basin : Draft) (rules : List Declared) → IsTyped basin rules
-        → rule_count rules ≤ 200 → function_count rules ≤ 200
+        → rule_count rules ≤ RULES_MAX → function_count rules ≤ RULES_MAX
         → IsPolicyOf basin (policy_of_code basin (translate rules)) }
 {
     rules_fire_alike();
@@ -39,10 +40,10 @@ pub fn rules_keep_promises()
 /// An accepted ruleset has a run of any inputs. Its runs are those of its code.
 pub fn rulesets_have_runs()
     ensures rules { (basin : Draft) (rules : List Declared) (inputs : List (Cell × ℤ))
-        → IsTyped basin rules → rule_count rules ≤ 200 → function_count rules ≤ 200
+        → IsTyped basin rules → rule_count rules ≤ RULES_MAX → function_count rules ≤ RULES_MAX
         → (log : Log) × IsRun basin (policy_of_rules basin rules) inputs log }
     ensures same { (basin : Draft) (rules : List Declared) (inputs : List (Cell × ℤ)) (log : Log)
-        → IsTyped basin rules → rule_count rules ≤ 200 → function_count rules ≤ 200
+        → IsTyped basin rules → rule_count rules ≤ RULES_MAX → function_count rules ≤ RULES_MAX
         → IsRun basin (policy_of_rules basin rules) inputs log
         ↔ IsRun basin (policy_of_code basin (translate rules)) inputs log }
 {
@@ -55,7 +56,7 @@ pub fn rulesets_have_runs()
 /// ruleset, and so keeps to them.
 pub fn firings_of_rules_are_verified()
     ensures { (basin : Draft) (rules : List Declared) (inputs : List (Cell × ℤ)) (log : Log)
-        → IsTyped basin rules → rule_count rules ≤ 200 → function_count rules ≤ 200
+        → IsTyped basin rules → rule_count rules ≤ RULES_MAX → function_count rules ≤ RULES_MAX
         → IsRun basin (policy_of_rules basin rules) inputs log
         → AreVerified basin (translate rules) (code_budgets_of rules) log }
 {

@@ -34,7 +34,8 @@ abbrev mutual
   tree_of (List' shape es) = list (trees_of es)
   tree_of (If' p c q y r n) = choice (tree_of c) (tree_of y) (tree_of n)
   tree_of (Let' x p e q b) = bind x.items (tree_of e) (tree_of b)
-  tree_of (For' x p l a q f r b) = each x.items (tree_of l) a.items (tree_of f) (tree_of b)
+  tree_of (For' names p l q f r b) =
+      each names.value.name.items (tree_of l) names.value.total.items (tree_of f) (tree_of b)
   tree_of (Map' x p l q b) = mapped x.items (tree_of l) (tree_of b)
   tree_of (One' word p e) = one word (tree_of e)
   tree_of (Two' word p l q r) = two word (tree_of l) (tree_of r)

@@ -1,4 +1,4 @@
-use crate::{ConvertWord, OneWord, SlotText, TwoWord};
+use crate::{ConvertWord, LoopText, OneWord, SlotText, TwoWord};
 
 /// An expression.
 #[derive(Debug, Drop)]
@@ -49,13 +49,11 @@ pub enum Expr {
     },
     /// `FOR name IN list WITH total := first DO body ENDFOR`.
     For {
-        /// The variable that stands for each element in turn.
-        name: Vec<u8>,
+        /// Its variables. They stand apart, so that a node of any other form takes less memory.
+        names: Box<LoopText>,
         /// The list.
         list: Box<Expr>,
-        /// The accumulator, which each turn sets to what its body answers.
-        total: Vec<u8>,
-        /// Its first value.
+        /// The accumulator's first value.
         first: Box<Expr>,
         /// The body.
         body: Box<Expr>,

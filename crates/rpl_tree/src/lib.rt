@@ -16,6 +16,6 @@ pub mod worked;
 
 pub use expression::Expr;
 pub use rpl_type::RplType;
-pub use rules::{Declaration, Param, ParsedRules, SlotText, TypeText};
+pub use rules::{Declaration, LoopText, Param, ParsedRules, SlotText, TypeText};
 pub use statement::Statement;
 pub use words::{ConvertWord, OneWord, TwoWord};

@@ -64,3 +64,12 @@ pub struct SlotText {
     /// The name of its slot.
     pub slot: Vec<u8>,
 }
+
+/// The variables of a FOR, as they are written.
+#[derive(Debug, Drop)]
+pub struct LoopText {
+    /// What stands for each element in turn.
+    pub name: Vec<u8>,
+    /// The accumulator, which each turn sets to what its body answers.
+    pub total: Vec<u8>,
+}

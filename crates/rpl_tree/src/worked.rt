@@ -5,7 +5,9 @@ ghost use Rattle.rpl_tree.specs.Tree.{call, name, two};
 ghost use Rattle.rpl_tree.specs.Seen.{act_of, declared_of, rules_of, tree_of};
 ghost use Rattle.rpl_tree.specs.Worked.{ahead, ahead_now, call_of_ahead, ahead_of_n, at_now, hundredth, n_name, of_unit, s_name, step_pair, sum, sum_ahead, sum_loop, whole, x_put, y_now};
 
-use crate::{Declaration, Expr, Param, ParsedRules, SlotText, Statement, TwoWord, TypeText};
+use crate::{
+    Declaration, Expr, LoopText, Param, ParsedRules, SlotText, Statement, TwoWord, TypeText,
+};
 use rw_base::NoMemory;
 use std::alloc::Global;
 
@@ -168,14 +170,14 @@ fn sum_over_steps(alloc: Global) -> Result<Expr, NoMemory>
     ensures { IfOk result (λ e. tree_of e ≡ sum_loop) }
 {
     let name = bytes_of(alloc, "n")?;
-    let list = Box::new(alloc, steps(alloc)?)?;
     let total = bytes_of(alloc, "s")?;
+    let names = Box::new(alloc, LoopText { name, total })?;
+    let list = Box::new(alloc, steps(alloc)?)?;
     let first = Box::new(alloc, number(alloc, 0, "m3/step")?)?;
     let body = Box::new(alloc, sum_of_both(alloc)?)?;
     Ok(Expr::For {
-        name,
+        names,
         list,
-        total,
         first,
         body,
     })

@@ -19,7 +19,7 @@ use crate::known::Known;
 use crate::names::{convert_type, literal_type, slot_type};
 use crate::progress::{Progress, add_variable, drop_variable, fill, name_type, reserve};
 use crate::stop::Stop;
-use rpl_tree::{ConvertWord, Expr, OneWord, RplType, TwoWord};
+use rpl_tree::{ConvertWord, Expr, LoopText, OneWord, RplType, TwoWord};
 
 /// The type, or what is wrong at the node.
 fn at_node(node: usize, found: Result<RplType, TypeKind>) -> Result<RplType, Stop>
@@ -74,12 +74,11 @@ pub(crate) fn visit<'a>(
         Expr::If { condition, yes, no } => choice(known, progress, condition, yes, no),
         Expr::Let { name, value, body } => bind(known, progress, name, value, body),
         Expr::For {
-            name,
+            names,
             list,
-            total,
             first,
             body,
-        } => each(known, progress, name, list, total, first, body),
+        } => each(known, progress, names, list, first, body),
         Expr::Map { name, list, body } => mapped(known, progress, name, list, body),
         Expr::One { word, arg } => one(known, progress, *word, arg),
         Expr::Two { word, left, right } => two(known, progress, *word, left, right),
@@ -211,21 +210,21 @@ fn bind<'a>(
 fn each<'a>(
     known: &Known,
     progress: &mut Progress<'a>,
-    name: &'a [u8],
+    names: &'a LoopText,
     list: &'a Expr,
-    total: &'a [u8],
     first: &'a Expr,
     body: &'a Expr,
 ) -> Result<RplType, Stop>
     ensures { Visits known.now progress.old progress.new result
-        (each name.now (tree_of list.now) total.now (tree_of first.now) (tree_of body.now)) }
+        (each names.now.name.items (tree_of list.now) names.now.total.items (tree_of first.now)
+        (tree_of body.now)) }
 {
     let node = reserve(progress)?;
     let all = visit(known, progress, list)?;
     let sum = visit(known, progress, first)?;
     let item = at_node(node, element_type(&all))?;
-    add_variable(progress, name, &item)?;
-    add_variable(progress, total, &sum)?;
+    add_variable(progress, &names.name, &item)?;
+    add_variable(progress, &names.total, &sum)?;
     let turn = visit(known, progress, body)?;
     drop_variable(progress);
     drop_variable(progress);

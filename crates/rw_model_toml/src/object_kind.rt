@@ -17,11 +17,14 @@ use crate::path::key_path;
 use crate::rating::{rating_if_given, required_rating};
 use crate::word::supply_in;
 use rw_base::QUANTITY_MAX;
-use rw_model::limits::{LAG_MAX, PARTS, POWER_MAX, SEEPAGE_MAX};
-use rw_model::{BuildFault, History, Kind, Supply};
+use rw_model::limits::{PARTS, POWER_MAX, SEEPAGE_MAX};
+use rw_model::{BuildFault, History, Kind, Supply, limits};
 use rw_table::ELEVATION_MAX;
 use std::alloc::Global;
 use toml::Table;
+
+// The greatest lag of a reach, in timesteps.
+const LAG_MAX: u16 = limits::LAG_MAX as u16;
 
 // The keys of a reach.
 const REACH_KEYS: [&str; 7] = [
@@ -69,7 +72,7 @@ fn read_bare(alloc: Global, kind: Kind, at: &str, table: &Table) -> Result<Kind,
 fn read_reach(alloc: Global, at: &str, table: &Table) -> Result<Kind, ModelFault>
     ensures { Gives (λ kind. kind) result (reach_of at.now (table_view table.now)) }
 {
-    let lag = optional_count(alloc, at, "lag", table, 0, 0, u16::from(LAG_MAX))?;
+    let lag = optional_count(alloc, at, "lag", table, 0, 0, LAG_MAX)?;
     let history = read_history(alloc, at, lag, table)?;
     let options = read_options(alloc, at, table)?;
     only_listed(alloc, &REACH_KEYS, at, table)?;

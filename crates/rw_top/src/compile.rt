@@ -9,20 +9,11 @@ ghost use Rattle.rw_top.specs.Seen.{policy_of};
 
 use crate::policy::Policy;
 use rpl_code::write_code;
-use rpl_compile::code_of;
+use rpl_compile::code_text as ruleset_text;
 use rpl_types::Typed;
 use rw_base::NoMemory;
 use rw_model::Basin;
 use std::alloc::Global;
-
-// The text of the code of a ruleset that is accepted for the basin.
-fn ruleset_text(alloc: Global, typed: &Typed, basin: &Basin) -> Result<Vec<u8>, NoMemory>
-    requires { IsOk (rules_judged basin.now (rules_of typed.now.rules)) }
-    ensures { IfOk result (λ text. text.items ≡ spelt (translate (rules_of typed.now.rules))) }
-{
-    let code = code_of(alloc, typed, basin)?;
-    write_code(alloc, &code)
-}
 
 /// The text of the code of a policy that is accepted for the basin.
 pub(crate) fn code_text(alloc: Global, policy: &Policy, basin: &Basin) -> Result<Vec<u8>, NoMemory>

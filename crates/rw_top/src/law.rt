@@ -41,6 +41,7 @@ ghost use Rattle.rw_top.specs.Told.{AreTold};
 ghost use Rattle.rw_top.specs.SureCall.{IsSure};
 ghost use Rattle.rw_top.specs.Written.{AppendsFront, AppendsSections, CountsOfFiles, IsFrontOf, OfFiles, TellsLine, WritesFront, WritesSections, sections_behind};
 ghost use Rattle.std.specs.Prelude.{IsTrue};
+ghost use Rattle.rw_base.specs.declared.limits.TheConstants.{RULES_MAX};
 ghost use Rattle.rw_top.specs.Sections.{AreSections, GivenInputs, first_given, joined_sections};
 ghost use Rattle.rw_words.specs.declared.job.Job.{Job};
 ghost use Rattle.rw_words.specs.declared.job.Job.TheVariants as J;
@@ -242,7 +243,7 @@ pub fn closed_books()
         → TellsClosedBooks basin end text }
     ensures rules { (basin : Draft) (rules : List Declared) (inputs : Inputs) (end : RunEnd)
         (text : List ℕ) → IsBasin basin → IsTyped basin rules
-        → rule_count rules ≤ 200 → function_count rules ≤ 200
+        → rule_count rules ≤ RULES_MAX → function_count rules ≤ RULES_MAX
         → IsBalanceOfRules basin (Ruleset rules) inputs end text
         → TellsClosedBooks basin end text }
 {
@@ -442,7 +443,7 @@ pub fn checked_policies()
         → IsPolicyFileOf as_code basin text policy → 1 ≤ rule → rule ≤ rules_in policy
         → IsSome (budget_in policy rule) }
     ensures code { (basin : Draft) (rules : List Declared) → IsTyped basin rules
-        → rule_count rules ≤ 200 → function_count rules ≤ 200
+        → rule_count rules ≤ RULES_MAX → function_count rules ≤ RULES_MAX
         → AreAccepted basin (translate rules) (code_budgets_of rules)
         × (check_text (Ruleset rules)
         ≡ check_text (Code (translate rules) (code_budgets_of rules))) }

@@ -1,5 +1,6 @@
 //! What is so of a model's file that is migrated. Each law is the `ensures` of a function that does nothing.
 ghost use Rattle.std.specs.Prelude.{◌≡◌, ◌≤◌, Bool, ℕ, ℤ, List, Ok};
+ghost use Rattle.rw_base.specs.declared.limits.TheConstants.{RULES_MAX};
 ghost use Rattle.rw_base.specs.declared.number.Cell.{Cell};
 ghost use Rattle.rw_model.specs.Draft.{Draft};
 ghost use Rattle.rw_model_toml.specs.Migrated.{IsMigrated};
@@ -36,7 +37,8 @@ pub fn rulesets_stay_accepted()
 pub fn runs_of_rulesets()
     ensures { (basin : Draft) (most : ℕ) (rules : List Declared) (types : List Types)
         (inputs : List (Cell × ℤ)) (log : Log) → basin.control.ahead ≤ most
-        → rules_judged basin rules ≡ Ok types → rule_count rules ≤ 200 → function_count rules ≤ 200
+        → rules_judged basin rules ≡ Ok types
+        → rule_count rules ≤ RULES_MAX → function_count rules ≤ RULES_MAX
         → IsRun basin (policy_of_rules basin rules) inputs log
         → IsRun (ahead_to most basin) (policy_of_rules (ahead_to most basin) rules) inputs log }
 {

@@ -1,5 +1,6 @@
 //! What every run by an accepted ruleset keeps, by what its rules mean. The law is the `ensures` of a function that does nothing.
 ghost use Rattle.std.specs.Prelude.{◌≤◌, ℤ, List};
+ghost use Rattle.rw_base.specs.declared.limits.TheConstants.{RULES_MAX};
 ghost use Rattle.rw_base.specs.declared.number.Cell.{Cell};
 ghost use Rattle.rw_model.specs.Basin.{IsBasin};
 ghost use Rattle.rw_model.specs.Draft.{Draft};
@@ -21,7 +22,7 @@ use rw_laws::law::every_run;
 pub fn every_run_of_rules()
     ensures { (basin : Draft) (rules : List Declared) (inputs : List (Cell × ℤ)) (log : Log)
         (run : Run) → IsBasin basin → IsTyped basin rules
-        → rule_count rules ≤ 200 → function_count rules ≤ 200
+        → rule_count rules ≤ RULES_MAX → function_count rules ≤ RULES_MAX
         → IsRun basin (policy_of_rules basin rules) inputs log → IsRunOf basin log run
         → KeepsLaws basin (policy_of_rules basin rules) log run }
 {

@@ -24,8 +24,8 @@ code-returns-in-For t c =
     rw c.in-For.is
     (subst (λ (expression : Tree).
     WritesKind c.each.new.w c.each.result (compiled (callees_of c.args.known.now) (written_of c.args.w.now) expression))
-    (λ i. each (c.deref-in-For.ensures.value i) (tree_of (c.deref-in-For-2.ensures i)) (c.deref-in-For-3.ensures.value i) (tree_of
-    (c.deref-in-For-4.ensures i)) (tree_of (c.deref-in-For-5.ensures i)))
+    (λ i. each (c.deref-in-For.ensures i).name.items (tree_of (c.deref-in-For-2.ensures i)) (c.deref-in-For.ensures i).total.items
+    (tree_of (c.deref-in-For-3.ensures i)) (tree_of (c.deref-in-For-4.ensures i)))
     c.each.ensures)
 
 pub code-returns-in-Two : goal.code-returns-in-Two
