@@ -8,7 +8,6 @@ use Rattle.rpl_verify.proofs.KindFacts.{then_do_ok}
 use Rattle.rpl_verify.specs.declared.verify_kind.VerifyKind.{VerifyKind}
 use Rattle.rpl_verify.specs.declared.verify_kind.VerifyKind.TheVariants.{TooCostly, TooManyReads, TooManyPuts, TooDeep}
 use Rattle.rpl_verify.specs.Fits.{AreFit, Before, Misplaced, Refusal, at_place, block_befores, each_block, in_block, refusal_in_result, scope_of}
-use Rattle.rpl_verify.specs.Fits.{then_do}
 use Rattle.rpl_verify.specs.Budget.{AreAccepted, IsWithinLimits, block_ruling, budget_by, within_limits}
 
 pub in_block_ok : {A B : Type 0} (n : ℕ) (result : Result A Misplaced) (go : A → Result B Refusal) (b : B) → in_block n result go ≡ Ok b
