@@ -13,7 +13,7 @@ use crate::expression::code;
 use crate::kind::written_kind;
 use crate::known::Known;
 use crate::statement::statements;
-use crate::writing::{Local, Writing, give_room};
+use crate::writing::{Local, Writing, give_room, number};
 use rpl_code::{Block, BlockHead, Kinds, Lines, ValueKind, begin_code, push_block};
 use rpl_scope::Scope;
 use rpl_tree::{Declaration, Expr, Param, ParsedRules, Statement, TypeText};
@@ -224,18 +224,16 @@ fn written_blocks(alloc: Global, rules: &ParsedRules) -> Result<Vec<Block>, NoMe
 }
 
 // The text of all declarations' blocks. No more than one block is there at a time.
-fn written_text(alloc: Global, rules: &ParsedRules) -> Result<String, NoMemory>
-    ensures { IfOk result (λ text. string_bytes text
-        ≡ spelt (Written.written_from predefined_callees 1 (rules_of rules.now))) }
+fn written_text(alloc: Global, declarations: &[Declaration]) -> Result<String, NoMemory>
+    ensures { IfOk result (λ text. string_bytes text ≡ spelt
+        (Written.written_from predefined_callees 1 (map declared_of declarations.now))) }
 {
     let mut known = predefined(alloc)?;
     let mut text = begin_code(alloc)?;
-    for place in 0..rules.declarations.len() {
-        let declaration = &rules.declarations[place];
-        let Ok(number) = u32::try_from(place + 1) else {
-            return Err(NoMemory);
-        };
-        let block = block_of(alloc, &mut known, number, declaration)?;
+    for place in 0..declarations.len() {
+        let declaration = &declarations[place];
+        let block_number = number(place + 1)?;
+        let block = block_of(alloc, &mut known, block_number, declaration)?;
         push_block(&mut text, &block)?;
     }
     Ok(text)
@@ -252,7 +250,7 @@ pub(crate) fn text_of(
     ensures { IfOk result (λ text. text.items ≡ spelt (translate (rules_of rules.now))) }
 {
     let _objects = basin.object_count();
-    let text = written_text(alloc, rules)?;
+    let text = written_text(alloc, &rules.declarations)?;
     Ok(text.into_bytes())
 }
 

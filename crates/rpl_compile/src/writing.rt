@@ -52,8 +52,8 @@ fn put_line(w: &mut Writing, place: usize, instruction: Instruction)
     }
 }
 
-// There is no memory for more lines or locals than 32 bits can count.
-fn number(n: usize) -> Result<u32, NoMemory>
+/// There is no memory for more blocks, lines or locals than 32 bits can count.
+pub(crate) fn number(n: usize) -> Result<u32, NoMemory>
     ensures { IfOk result (λ number. number ≡ n) }
 {
     match u32::try_from(n) {

@@ -1,4 +1,4 @@
-use Rattle.rpl_compile.proofs.Common.{callees_of, drop, map, predefined_callees, rules_of, written_from, ◌++◌, ◌+◌, ◌≡◌}
+use Rattle.rpl_compile.proofs.Common.{callees_of, drop, map, predefined_callees, written_from, ◌++◌, ◌+◌, ◌≡◌}
 use Rattle.std.proofs.Common.{flat_map, string_bytes}
 use Rattle.rpl_code.specs.Spelling.{block_lines, lines_ended, spelt}
 use Rattle.rpl_tree.specs.Seen.{declared_of}
@@ -9,5 +9,5 @@ abbrev pub invariant-loop-place : goal.invariant-loop-place
 invariant-loop-place l =
     string_bytes l.text
     ++ lines_ended (flat_map block_lines
-    (written_from (callees_of l.known.items) (l.place + 1) (map declared_of (drop l.place l.rules.declarations.items))))
-    ≡ spelt (written_from predefined_callees 1 (rules_of l.rules))
+    (written_from (callees_of l.known.items) (l.place + 1) (map declared_of (drop l.place l.declarations))))
+    ≡ spelt (written_from predefined_callees 1 (map declared_of l.declarations))
