@@ -39,7 +39,7 @@ use rw_io::{Shelf, Sink, WriteFault, write_all};
 use rw_method::Catalogue;
 use rw_words::Job;
 use std::alloc::Global;
-use std::mem::drop;
+use std::mem::forget;
 
 // The status of a run that was written.
 fn status_of_run(end: &RunEnd) -> u8
@@ -428,7 +428,8 @@ fn write_of<K: Sink, L: Ledger>(
     }
 }
 
-// The same of files that end with it.
+// The same of files that end with it. They are not freed: the process ends behind it and gives back all memory at once, where a
+// tree freed node by node takes a fifth of the time that a large ruleset is checked in.
 fn write_job<K: Sink, L: Ledger>(
     alloc: Global,
     job: Job,
@@ -448,7 +449,7 @@ fn write_job<K: Sink, L: Ledger>(
         (λ status. CountsOfFiles (files_seen files) (change steps.old steps.new)) }
 {
     let written = write_of(alloc, job, &mut files, methods, predefs, extras, steps, out);
-    drop(files);
+    forget(files);
     written
 }
 
