@@ -10,6 +10,7 @@ mod calls;
 mod compute;
 mod fire;
 mod fired;
+mod go;
 mod locals;
 mod looks;
 mod loops;
