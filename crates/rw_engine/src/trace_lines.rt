@@ -23,17 +23,6 @@ pub(crate) fn trace_where(alloc: Global, kept: bool) -> Trace
     }
 }
 
-// The line of what is written.
-fn line_of(write: &Write) -> TraceEvent
-    ensures { result ≡ line_of write.now }
-{
-    TraceEvent::Written {
-        slot: write.cell.slot,
-        step: write.cell.step,
-        content: write.content,
-    }
-}
-
 // Writes a line for each.
 fn tell_writes(trace: &mut Trace, writes: &[Write]) -> Result<(), NoMemory>
     ensures told { IfOk result (λ _. trace.new ≡ told trace.old (map line_of writes.now)) }
@@ -41,7 +30,7 @@ fn tell_writes(trace: &mut Trace, writes: &[Write]) -> Result<(), NoMemory>
     ensures wants { IfErr result (λ _. IsSome trace.old) }
 {
     for write in writes {
-        trace.push(line_of(write))?;
+        trace.push_write(write)?;
     }
     Ok(())
 }
