@@ -17,12 +17,13 @@
 #include <stdlib.h>
 #include <string.h>
 #include <sys/mman.h>
+#include <sys/resource.h>
 #include <sys/stat.h>
 #include <sys/syscall.h>
 #include <sys/wait.h>
 #include <unistd.h>
 
-#define SECONDS 60 /* how long a child may take */
+#define SECONDS 60 /* how much of a processor a child may take: by the clock it may have to wait for one */
 #define SAID 200   /* bytes of what a child tells its parent */
 #define LOG 200    /* where the log's descriptor stands, out of the program's way */
 #define LINE "basin: want of memory\n"
@@ -128,7 +129,7 @@ static int forked(int on) {
   if (child == 0) {
     role = CHILD;
     fails_on = on;
-    alarm(SECONDS);
+    setrlimit(RLIMIT_CPU, &(struct rlimit){SECONDS, SECONDS});
     return 1;
   }
   if (child > 0) waitpid(child, &status, 0);
