@@ -10,7 +10,6 @@ mod calls;
 mod compute;
 mod fire;
 mod fired;
-mod go;
 mod locals;
 mod looks;
 mod loops;

@@ -18,4 +18,3 @@ pub mod Safety
 pub mod Worked
 pub mod Resolved
 pub mod Resolving
-pub mod Joined
