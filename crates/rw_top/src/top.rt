@@ -42,7 +42,7 @@ use std::alloc::Global;
 ///
 /// With each other status one line on `err` says why: 2 the words, 3 a file that can't be read, 4 an output that can't be
 /// written, 5 want of memory, 6 the model, 7 the ruleset, 8 the inputs, the edits, the traces or the cell, 9 the code, 10 a file of more than 16,777,216
-/// bytes. A failure of `err` changes no status.
+/// bytes. A failure of `err` changes no status. What the files said isn't freed: the process that calls ends behind it.
 pub fn basin_main<S: Shelf, K: Sink, E: Sink, L: Ledger>(
     alloc: Global,
     words: &[String],
