@@ -119,6 +119,8 @@ def judged(said: str, of: list[Function]) -> tuple[str, str]:
         return REFUSED, own
     paths = {it.path for it in of}
     lines = [line for line in said.split("\n") if line.startswith("fn ") and line[3:].partition(": ")[0] in paths]
+    if refused := [line for line in lines if "did not prove" in line]:
+        return REFUSED, refused[0]
     if any("not proved" in line and "it calls" in line for line in lines):
         return HIDDEN, "; ".join(lines)
     is_proved = len(lines) == len(paths) and all(": no holes" in line or ": depends on a hole" in line for line in lines)
