@@ -98,14 +98,15 @@ def write_hole(crate, parts, name):
 
 
 def hollow_file(crate, file, homes, kept):
-    """Takes the bodies out of a file of a copied crate, but for the functions whose names are kept."""
+    """Takes the bodies out of a file of a copied crate, but for the functions whose names or paths are kept."""
     lines = file.read_text(encoding="utf-8").split("\n")
     gone = set()
     for at, owner, name, body in functions_of(lines):
-        if name in kept:
-            continue
         module = homes.get(owner.type if owner else None, module_of(crate, file))
-        write_hole(crate, [*module, *([owner.type + owner.trait] if owner else []), name], name)
+        parts = [*module, *([owner.type + owner.trait] if owner else []), name]
+        if name in kept or "::".join([crate.name, *parts]) in kept:
+            continue
+        write_hole(crate, parts, name)
         if body:
             gone |= {*range(body.first + 1, body.last)}
             lines[body.first] += f"\n{body.indent}    unreachable!()"
@@ -128,11 +129,12 @@ def paths_in(crate: Path) -> list[str]:
 
 
 def hollow(source: Path, copy: Path, kept=frozenset()):
-    """Copies a crate without its bodies and proofs, but for those of the functions whose names are kept."""
+    """Copies a crate without its bodies and proofs, but for those of the functions whose names are kept, or whose paths, as
+    `paths_in` has them, beside `+NAME` for each cycle of theirs. The copy's folder has the crate's name."""
     shutil.rmtree(copy, ignore_errors=True)
     shutil.copytree(source, copy, ignore=LEFT_OUT)
     for cycle in copy.glob("proofs/**/+*"):
-        if cycle.name[1:] not in kept:
+        if kept.isdisjoint((cycle.name, cycle.name[1:])):
             shutil.rmtree(cycle)
     homes = homes_of(copy)
     for file in sorted(copy.glob("src/**/*.rt")):
