@@ -2,7 +2,6 @@ pub mod Counts
 pub mod Held
 pub mod Lines
 pub mod Engine
-pub mod Parts
 pub mod Noting
 pub mod Records
 pub mod Shows

@@ -1,7 +1,12 @@
-ghost use Rattle.std.specs.Prelude.{◌≡◌, Ok, IfOk};
+ghost use Rattle.std.specs.Prelude.{◌≡◌, [], None, Ok, IfOk, length};
+ghost use Rattle.rpl_code.specs.declared.block.BlockHead.TheVariants.{Rule as RuleHead};
+ghost use Rattle.rpl_verify.specs.Fits.{count_alike};
 ghost use Rattle.rpl_verify.specs.Verified.{verified};
+ghost use Rattle.rw_base.specs.declared.number.Cell.{Cell};
+ghost use Rattle.rw_dispatch.specs.Queue.{IsQueueOf};
 ghost use Rattle.rw_model.specs.Basin.{IsBasin};
-ghost use Rattle.rw_engine.specs.Parts.{AreParts};
+ghost use Rattle.rw_rules.specs.Rules.{IsRulesOf};
+ghost use Rattle.rw_series.specs.Series.{IsSeriesOf, held};
 
 use crate::counts::Counts;
 use rpl_verify::Verified;
@@ -26,7 +31,14 @@ pub(crate) struct Parts {
 pub(crate) fn parts_of(alloc: Global, policy: &Verified, basin: &Basin) -> Result<Parts, NoMemory>
     requires { verified basin.now policy.now.blocks ≡ Ok policy.now }
     ensures basin { IsBasin basin.now }
-    ensures parts { IfOk result (AreParts basin.now policy.now) }
+    ensures counts { IfOk result (λ parts. length parts.counts ≡ length basin.now.objects) }
+    ensures firings { IfOk result
+        (λ parts. length parts.firings ≡ count_alike RuleHead policy.now.blocks) }
+    ensures queue { IfOk result (λ parts. IsQueueOf basin.now parts.queue) }
+    ensures empty { IfOk result (λ parts. parts.queue.waiting ≡ []) }
+    ensures series { IfOk result (λ parts. IsSeriesOf basin.now parts.series) }
+    ensures unknown { IfOk result (λ parts. (cell : Cell) → held parts.series cell ≡ None) }
+    ensures rules { IfOk result (λ parts. IsRulesOf basin.now policy.now parts.rules) }
 {
     let counts = Counts::zero(alloc, basin.object_count())?;
     let firings = Counts::zero(alloc, policy.rule_count())?;
