@@ -1,121 +1,163 @@
 -- Where the first declaration is cut; that what is due is one thing.
-use Rattle.rw_base.proofs.Common.{◌≡◌, ◌<◌, ◌+◌, ◌∙◌, ◌++◌, ℕ, suc, Bool, true, false, List, [], ◌∷◌, length, map, take, drop, slice_index_or, Option}
-use Rattle.rw_base.proofs.Common.{Some, None, Ok, Err, refl, sym, ap, subst, arith, if◌then◌else◌, inl, inr}
+use Rattle.rw_base.proofs.Common.{◌≡◌, ◌<◌, ◌+◌, ◌∙◌, ◌++◌, ℕ, Bool, true, false, List, [], ◌∷◌, length, map, map-append, Option, same_Some}
+use Rattle.rw_base.proofs.Common.{Some, None, Ok, Err, refl, sym, ap, subst, arith, if◌then◌else◌, inl, inr, IfSome}
+use Rattle.std.proofs.lemmas.List.{append_assoc}
 use Rattle.rpl_tree.specs.Tree.{Declared}
 use Rattle.rpl_parse.specs.declared.token.TokenAt.{TokenAt}
-use Rattle.rpl_parse.specs.Tokens.{Tok, Lined, token_seen, lined_of, toks}
-use Rattle.rpl_parse.specs.Scan.{Scanned, all, bad_at, tokens}
+use Rattle.rpl_parse.specs.Tokens.{Lined, token_seen, lined_of, toks}
+use Rattle.rpl_parse.specs.Scan.{Scanned, all, bad_at, led_by, tokens}
 use Rattle.rpl_parse.specs.Declarations.{Piece, piece, is_end, token_joined, pieces, begins_rule, begins_function, one_more_if, is_full, Due}
-use Rattle.rpl_parse.specs.Declarations.{bad_token, bad_declaration, too_many, IsDue, IsDueOf, some_reading, one_reading}
-use Rattle.rpl_parse.specs.Cut.{size}
+use Rattle.rpl_parse.specs.Declarations.{GrammarRefusal, bad_token, bad_declaration, too_many, IsDue, IsDueOf, IsReading, some_reading, one_reading}
+use Rattle.rpl_parse.specs.Cut.{IsFirst, IsRefusedAs, Takes, line_of}
 use Rattle.rpl_parse.specs.ReadingDeclared.{read_declared}
 use Rattle.rpl_parse.proofs.Both.{one_declaration, no_declaration, declared_sound}
 
 abbrev pub lineds : List ℕ → List TokenAt → List Lined
-lineds source tokens_there = map (lined_of source) tokens_there
+lineds source ts = map (lined_of source) ts
 
--- the tokens of the first declaration, and the pieces behind it
-abbrev Cut : List ℕ → TokenAt → List TokenAt → ℕ → List Piece
-Cut source a_token more size_there =
-    piece (toks source (take size_there (a_token ∷ more))) a_token.line ∷ pieces (lineds source (drop size_there (a_token ∷ more)))
+-- each token belongs to the first piece of those that follow
+abbrev pub joined : List ℕ → List TokenAt → List Piece → List Piece
+joined source [] ps = ps
+joined source (t ∷ ts) ps = token_joined (lined_of source t) (joined source ts ps)
 
-pub first_piece : (source : List ℕ) (a_token : TokenAt) (more : List TokenAt)
-    → pieces (lineds source (a_token ∷ more)) ≡ Cut source a_token more (size (toks source (a_token ∷ more)))
-first_piece source a_token [] = alone (is_end (token_seen source a_token.token))
+abbrev First : List ℕ → List TokenAt → Piece
+First source ts = piece (toks source ts) (line_of ts)
+
+-- none of these tokens ends a declaration
+abbrev pub Unended : List ℕ → List TokenAt → Type 0
+Unended source ts = (us : List Lined) → pieces (lineds source ts ++ us) ≡ joined source ts (pieces us)
+
+joined_more : (source : List ℕ) (ts : List TokenAt) (t : TokenAt) (ps : List Piece)
+    → joined source (ts ++ t ∷ []) ps ≡ joined source ts (token_joined (lined_of source t) ps)
+joined_more source [] t ps = refl
+joined_more source (other ∷ ts) t ps = ap (token_joined (lined_of source other)) (joined_more source ts t ps)
+
+joined_end : (source : List ℕ) (ts : List TokenAt) (t : TokenAt) (ps : List Piece)
+    → joined source ts (piece (token_seen source t.token ∷ []) t.line ∷ ps) ≡ First source (ts ++ t ∷ []) ∷ ps
+joined_end source [] t ps = refl
+joined_end source (other ∷ ts) t ps = ap (token_joined (lined_of source other)) (joined_end source ts t ps)
+
+joined_last : (source : List ℕ) (t : TokenAt) (ts : List TokenAt) → joined source (t ∷ ts) [] ≡ First source (t ∷ ts) ∷ []
+joined_last source t [] = refl
+joined_last source t (other ∷ ts) = ap (token_joined (lined_of source t)) (joined_last source other ts)
+
+one_more : (source : List ℕ) (ts : List TokenAt) (t : TokenAt) (us : List Lined)
+    → lineds source (ts ++ t ∷ []) ++ us ≡ lineds source ts ++ lined_of source t ∷ us
+one_more source ts t us = ap (λ ls. ls ++ us) (map-append (lined_of source) ts (t ∷ [])) ∙ append_assoc (lineds source ts) (lined_of source t ∷ []) us
+
+-- one token more, which ends the declaration or doesn't
+module _ (source : List ℕ) (ts : List TokenAt) (open_so : Unended source ts) (t : TokenAt) where
+  by_end : (us : List Lined) (test : Bool) → is_end (token_seen source t.token) ≡ test
+      → pieces (lineds source (ts ++ t ∷ []) ++ us)
+      ≡ joined source ts (if test then piece (token_seen source t.token ∷ []) t.line ∷ pieces us
+      else token_joined (lined_of source t) (pieces us))
+  by_end us test ends =
+      ap pieces (one_more source ts t us) ∙ open_so (lined_of source t ∷ us)
+      ∙ ap (λ b. joined source ts (if b then piece (token_seen source t.token ∷ []) t.line ∷ pieces us
+      else token_joined (lined_of source t) (pieces us))) ends
+
+  pub unended_more : is_end (token_seen source t.token) ≡ false → Unended source (ts ++ t ∷ [])
+  unended_more ends us = by_end us false ends ∙ sym (joined_more source ts t (pieces us))
+
+  pub ended : is_end (token_seen source t.token) ≡ true → (us : List Lined)
+      → pieces (lineds source (ts ++ t ∷ []) ++ us) ≡ First source (ts ++ t ∷ []) ∷ pieces us
+  ended ends us = by_end us true ends ∙ joined_end source ts t (pieces us)
+
+-- the last declaration of a text may lack its end
+pub last_cut : (source : List ℕ) (ts : List TokenAt) → Unended source ts → 0 < length ts → (us : List Lined) → all us ≡ all []
+    → pieces (lineds source ts ++ us) ≡ First source ts ∷ pieces us
+last_cut source [] open_so some us none = absurd (omega arith)
+last_cut source (t ∷ ts) open_so some us none =
+    let empty : us ≡ [] = ap (λ (s : Scanned). listed s) none in
+    rw empty (open_so [] ∙ joined_last source t ts)
   where
-    alone : (test : Bool)
-        → (if test then piece (token_seen source a_token.token ∷ []) a_token.line ∷ [] else token_joined (lined_of source a_token) [])
-        ≡ Cut source a_token [] (if test then 1 else suc 0)
-    alone true = refl
-    alone false = refl
-first_piece source a_token (next_token ∷ more_tokens) = by_end (is_end (token_seen source a_token.token)) (first_piece source next_token more_tokens)
-  where
-    by_end : (test : Bool)
-        → pieces (lineds source (next_token ∷ more_tokens)) ≡ Cut source next_token more_tokens (size (toks source (next_token ∷ more_tokens)))
-        → (if test then piece (token_seen source a_token.token ∷ []) a_token.line
-        ∷ pieces (lineds source (next_token ∷ more_tokens)) else token_joined (lined_of source a_token)
-        (pieces (lineds source (next_token ∷ more_tokens))))
-        ≡ Cut source a_token (next_token ∷ more_tokens) (if test then 1 else suc (size (toks source (next_token ∷ more_tokens))))
-    by_end true agree = refl
-    by_end false agree = ap (token_joined (lined_of source a_token)) agree
+    listed : Scanned → List Lined
+    listed (all vs) = vs
+    listed (bad_at line) = []
 
--- What is due at the first declaration, which has these tokens.
-module _ (source : List ℕ) (number rules_before functions_before : ℕ) (before : List Declared) where
-  abbrev pub First : List TokenAt → List Tok
-  First tokens_there = toks source (take (size (toks source tokens_there)) tokens_there)
+pub led_none : (scanned : Scanned) → led_by [] scanned ≡ scanned
+led_none (all ts) = refl
+led_none (bad_at line) = refl
 
-  pub due_full : (tokens_there : List TokenAt) → 0 < length tokens_there → is_full (First tokens_there) rules_before functions_before ≡ true
-      → IsDue number rules_before functions_before before (pieces (lineds source tokens_there)) (Err (too_many number))
-  due_full [] some_left fits_so = absurd (omega arith)
-  due_full (a_token ∷ more) some_left fits_so =
-      subst (λ ps. IsDue number rules_before functions_before before ps (Err (too_many number))) (sym (first_piece source a_token more))
-      (inl (fits_so, refl))
+-- before the first token
+pub none_led : (source : List ℕ) (ts : List TokenAt) (whole : Scanned) → ts ≡ [] → led_by (lineds source ts) whole ≡ whole
+none_led source ts whole none = rw none (led_none whole)
 
-  pub due_bad : (other : TokenAt) (tokens_there : List TokenAt) → 0 < length tokens_there
-      → is_full (First tokens_there) rules_before functions_before ≡ false → read_declared (First tokens_there) ≡ None
-      → IsDue number rules_before functions_before before (pieces (lineds source tokens_there))
-      (Err (bad_declaration number (slice_index_or tokens_there 0 other).line))
-  due_bad other [] some_left fits_so reads_so = absurd (omega arith)
-  due_bad other (a_token ∷ more) some_left fits_so reads_so =
-      subst (λ ps. IsDue number rules_before functions_before before ps (Err (bad_declaration number a_token.line)))
-      (sym (first_piece source a_token more))
-      (inr (inl (fits_so, no_declaration (First (a_token ∷ more)) reads_so, refl)))
+pub none_unended : (source : List ℕ) (ts : List TokenAt) → ts ≡ [] → Unended source ts
+none_unended source ts none = rw none (λ us. refl)
 
-  pub due_later : (tokens_there : List TokenAt) (declaration : Declared) (due : Due) → 0 < length tokens_there
-      → is_full (First tokens_there) rules_before functions_before ≡ false → read_declared (First tokens_there) ≡ Some declaration
-      → IsDue (number + 1) (one_more_if (begins_rule (First tokens_there)) rules_before)
-      (one_more_if (begins_function (First tokens_there)) functions_before) (before ++ declaration ∷ [])
-      (pieces (lineds source (drop (size (toks source tokens_there)) tokens_there))) due
-      → IsDue number rules_before functions_before before (pieces (lineds source tokens_there)) due
-  due_later [] declaration due some_left fits_so reads_so due_so = absurd (omega arith)
-  due_later (a_token ∷ more) declaration due some_left fits_so reads_so due_so =
-      subst (λ ps. IsDue number rules_before functions_before before ps due) (sym (first_piece source a_token more))
-      (inr (inr (fits_so, (declaration, declared_sound (First (a_token ∷ more)) declaration reads_so, due_so))))
+pub takes_ended : (source : List ℕ) (ts more : List TokenAt) (t : TokenAt) (whole behind : Scanned) → more ≡ ts ++ t ∷ []
+    → length more ≡ length ts + 1 → led_by (lineds source more) behind ≡ whole → Unended source ts → is_end (token_seen source t.token) ≡ true
+    → Takes source more whole behind
+takes_ended source ts more t whole behind more_is grown read_so open_so ends = record {
+  read = sym read_so;
+  cut = λ some us here. rw more_is (ended source ts open_so t ends us);
+  spent = λ none. absurd (omega (arith, grown, none));
+}
 
-moved : (number : ℕ) (due : Due) {rules_before rules_now functions_before functions_now : ℕ} {before before_too : List Declared}
-    {more_pieces other_pieces : List Piece} → rules_now ≡ rules_before → functions_now ≡ functions_before → before_too ≡ before
-    → other_pieces ≡ more_pieces
-    → IsDue number rules_now functions_now before_too other_pieces due → IsDue number rules_before functions_before before more_pieces due
-moved number due rules_are functions_are before_is pieces_are is_due = rw (← rules_are, ← functions_are, ← before_is, ← pieces_are) is_due
+pub takes_spent : (source : List ℕ) (ts : List TokenAt) (whole behind : Scanned) → led_by (lineds source ts) behind ≡ whole → Unended source ts
+    → behind ≡ all [] → Takes source ts whole behind
+takes_spent source ts whole behind read_so open_so none = record {
+  read = sym read_so;
+  cut = λ some us here. last_cut source ts open_so some us (sym here ∙ none);
+  spent = λ _. none;
+}
 
--- The same, of what the code knows: the first n tokens are the first declaration.
-module _ (source : List ℕ) (number rules_before functions_before : ℕ) (before : List Declared) (size_there : ℕ) (tokens_there : List TokenAt)
-    (size_is : size_there ≡ size (toks source tokens_there)) (some_left : 0 < length tokens_there) where
-  abbrev Here : List Tok
-  Here = toks source (take size_there tokens_there)
+-- What is due at the tokens from a place on, for the declarations from number k on.
+abbrev pub IsDueFrom : ℕ → ℕ → ℕ → List Declared → Scanned → Due → Type 0
+IsDueFrom k rules functions before (all ts) due = IsDue k rules functions before (pieces ts) due
+IsDueFrom k rules functions before (bad_at line) due = due ≡ Err (bad_token line)
 
-  here : Here ≡ First source number rules_before functions_before before tokens_there
-  here = ap (λ m. toks source (take m tokens_there)) size_is
+pub due_from_start : (scanned : Scanned) (due : Due) → IsDueFrom 1 0 0 [] scanned due → IsDueOf scanned due
+due_from_start (all ts) due is_due = is_due
+due_from_start (bad_at line) due is_due = is_due
 
-  pub found_full : is_full Here rules_before functions_before ≡ true
-      → IsDue number rules_before functions_before before (pieces (lineds source tokens_there)) (Err (too_many number))
-  found_full fits_so =
-      due_full source number rules_before functions_before before tokens_there some_left
-      (subst (λ tokens_here. is_full tokens_here rules_before functions_before ≡ true) here fits_so)
+pub due_spent : (number rules functions : ℕ) (before : List Declared) (whole : Scanned) → whole ≡ all []
+    → IsDueFrom number rules functions before whole (Ok before)
+due_spent number rules functions before whole none = subst (λ s. IsDueFrom number rules functions before s (Ok before)) (sym none) refl
 
-  pub found_bad : (other : TokenAt) → is_full Here rules_before functions_before ≡ false → read_declared Here ≡ None
-      → IsDue number rules_before functions_before before (pieces (lineds source tokens_there))
-      (Err (bad_declaration number (slice_index_or tokens_there 0 other).line))
-  found_bad other fits_so reads_so =
-      due_bad source number rules_before functions_before before other tokens_there some_left
-      (subst (λ tokens_here. is_full tokens_here rules_before functions_before ≡ false) here fits_so)
-      (subst (λ tokens_here. read_declared tokens_here ≡ None) here reads_so)
+-- Of the first declaration, which has these tokens.
+module _ (source : List ℕ) (number rules functions : ℕ) (before : List Declared) (ts : List TokenAt) where
+  cut_due : (us : List Lined) (whole : Scanned) (due : Due) → Takes source ts whole (all us) → 0 < length ts
+      → IsDue number rules functions before (First source ts ∷ pieces us) due → IsDueFrom number rules functions before whole due
+  cut_due us whole due takes some is_due =
+      subst (λ s. IsDueFrom number rules functions before s due) (sym takes.read)
+      (subst (λ ps. IsDue number rules functions before ps due) (sym (takes.cut some us refl)) is_due)
 
-  pub found_later : (declaration : Declared) (due : Due) (rules_now functions_now : ℕ) (after : List Declared) (rest : List TokenAt)
-      → is_full Here rules_before functions_before ≡ false
-      → read_declared Here ≡ Some declaration
-      → rules_now ≡ one_more_if (begins_rule Here) rules_before → functions_now ≡ one_more_if (begins_function Here) functions_before
-      → after ≡ before ++ declaration ∷ [] → rest ≡ drop size_there tokens_there
-      → IsDue (number + 1) rules_now functions_now after (pieces (lineds source rest)) due
-      → IsDue number rules_before functions_before before (pieces (lineds source tokens_there)) due
-  found_later declaration due rules_now functions_now after rest fits_so reads_so rules_are functions_are before_is rest_is due_so =
-      let same =
-      moved (number + 1) due (rules_are ∙ ap (λ tokens_here. one_more_if (begins_rule tokens_here) rules_before) here)
-      (functions_are ∙ ap (λ tokens_here. one_more_if (begins_function tokens_here) functions_before) here) before_is
-      (ap (λ l. pieces (lineds source l)) (rest_is ∙ ap (λ m. drop m tokens_there) size_is)) due_so in
-      due_later source number rules_before functions_before before tokens_there declaration due some_left
-      (subst (λ tokens_here. is_full tokens_here rules_before functions_before ≡ false) here fits_so)
-      (subst (λ tokens_here. read_declared tokens_here ≡ Some declaration) here reads_so) same
+  bad_due : (line : ℕ) (whole : Scanned) (due : Due) → Takes source ts whole (bad_at line) → due ≡ Err (bad_token line)
+      → IsDueFrom number rules functions before whole due
+  bad_due line whole due takes is_due = subst (λ s. IsDueFrom number rules functions before s due) (sym takes.read) is_due
+
+  pub due_refused : (whole behind : Scanned) (why : Option GrammarRefusal) (refusal : GrammarRefusal)
+      → Takes source ts whole behind → 0 < length ts → IfSome why (IsRefusedAs source number rules functions ts)
+      → IsFirst behind why refusal → IsDueFrom number rules functions before whole (Err refusal)
+  due_refused whole (bad_at line) why refusal takes some refused first = bad_due line whole (Err refusal) takes (ap Err first)
+  due_refused whole (all us) None refusal takes some refused first = absurd (cc first)
+  due_refused whole (all us) (Some other) refusal takes some (inl full) first =
+      cut_due us whole (Err refusal) takes some (inl (full.0, ap Err (sym (same_Some other refusal first) ∙ full.1)))
+  due_refused whole (all us) (Some other) refusal takes some (inr bad) first =
+      cut_due us whole (Err refusal) takes some
+      (inr (inl (bad.0, no_declaration (toks source ts) bad.1, ap Err (sym (same_Some other refusal first) ∙ bad.2))))
+
+  pub refused_told : (whole behind : Scanned) (why told : Option GrammarRefusal)
+      → Takes source ts whole behind → 0 < length ts → IfSome why (IsRefusedAs source number rules functions ts)
+      → IfSome told (IsFirst behind why) → ((due : Due) → IsDueFrom number rules functions before whole due → IsReading source due)
+      → IfSome told (λ refusal. IsReading source (Err refusal))
+  refused_told whole behind why None takes some refused first go = tt
+  refused_told whole behind why (Some refusal) takes some refused first go =
+      go (Err refusal) (due_refused whole behind why refusal takes some refused first)
+
+  pub due_later : (whole behind : Scanned) (d : Declared) (due : Due) (rules_now functions_now : ℕ) (after : List Declared)
+      → Takes source ts whole behind → 0 < length ts
+      → is_full (toks source ts) rules functions ≡ false → read_declared (toks source ts) ≡ Some d
+      → rules_now ≡ one_more_if (begins_rule (toks source ts)) rules → functions_now ≡ one_more_if (begins_function (toks source ts)) functions
+      → after ≡ before ++ d ∷ []
+      → IsDueFrom (number + 1) rules_now functions_now after behind due → IsDueFrom number rules functions before whole due
+  due_later whole (bad_at line) d due rules_now functions_now after takes some fits reads rules_are functions_are after_is is_due =
+      bad_due line whole due takes is_due
+  due_later whole (all us) d due rules_now functions_now after takes some fits reads rules_are functions_are after_is is_due =
+      cut_due us whole due takes some
+      (inr (inr (fits, (d, declared_sound (toks source ts) d reads, rw (← rules_are, ← functions_are, ← after_is) is_due))))
 
 -- something is due
 some_due : (number rules_before functions_before : ℕ) (before : List Declared) (more_pieces : List Piece) → (due : Due)

@@ -4,7 +4,7 @@ use Rattle.rw_base.proofs.Common.{refl, sym, ap, subst}
 use Rattle.std.proofs.lemmas.List.{append_assoc, append-nil, length-drop}
 use Rattle.rpl_parse.specs.declared.token.Span.{Span}
 use Rattle.rpl_parse.specs.Tokens.{Tok, text, Lined, lined, bytes_in}
-use Rattle.rpl_parse.specs.Scan.{number_of, scan, Scanned, all, bad_at, led_by, gap, token, bad, front, line_behind, tokens}
+use Rattle.rpl_parse.specs.Scan.{number_of, scan, Scanned, all, bad_at, led_by, gap, token, bad, front, line_behind}
 
 pub number_grows : (value_there : ℕ) (bytes : List ℕ) → value_there ≤ number_of value_there bytes
 number_grows value_there [] = omega arith
@@ -79,28 +79,30 @@ quoted_there at size_there source span starts ends =
     rw (same_size, starts, drop_more at 1 source) refl
 
 -- One turn, behind some tokens, at a place of the text.
-module _ (source : List ℕ) (lined_tokens : List Lined) (line at : ℕ) (same : led_by lined_tokens (scan 0 line (drop at source)) ≡ tokens source) where
+module _ (source : List ℕ) (whole : Scanned) (lined_tokens : List Lined) (line at : ℕ) (same : led_by lined_tokens (scan 0 line (drop at source)) ≡ whole) where
   left : at < length source → 0 < length (drop at source)
   left some_left = let dropped = length-drop at source in omega (arith, dropped)
 
-  pub all_read : length source ≤ at → tokens source ≡ all lined_tokens
-  all_read none_left =
+  pub none_read : length source ≤ at → scan 0 line (drop at source) ≡ all []
+  none_read none_left =
       let dropped = length-drop at source in
-      let spent = scan_spent line (drop at source) (omega (arith, dropped)) in
-      sym same ∙ ap (led_by lined_tokens) spent ∙ ap all (append-nil lined_tokens)
+      scan_spent line (drop at source) (omega (arith, dropped))
 
-  pub bad_read : front (drop at source) ≡ bad → at < length source → tokens source ≡ bad_at line
+  pub all_read : length source ≤ at → whole ≡ all lined_tokens
+  all_read none_left = sym same ∙ ap (led_by lined_tokens) (none_read none_left) ∙ ap all (append-nil lined_tokens)
+
+  pub bad_read : front (drop at source) ≡ bad → at < length source → whole ≡ bad_at line
   bad_read front_is some_left = sym same ∙ ap (led_by lined_tokens) (scan_bad line (drop at source) front_is (left some_left))
 
   pub gap_read : (size_there : ℕ) → front (drop at source) ≡ gap size_there → 0 < size_there → at < length source
-      → led_by lined_tokens (scan 0 (line_behind line (drop at source)) (drop (at + size_there) source)) ≡ tokens source
+      → led_by lined_tokens (scan 0 (line_behind line (drop at source)) (drop (at + size_there) source)) ≡ whole
   gap_read size_there front_is pos some_left =
       ap (λ source_bytes. led_by lined_tokens (scan 0 (line_behind line (drop at source)) source_bytes)) (sym (drop_more at size_there source))
       ∙ ap (led_by lined_tokens) (sym (scan_gap line (drop at source) size_there front_is pos (left some_left)))
       ∙ same
 
   pub token_read : (a_token : Tok) (size_there : ℕ) → front (drop at source) ≡ token a_token size_there → 0 < size_there → at < length source
-      → led_by (lined_tokens ++ lined a_token line ∷ []) (scan 0 line (drop (at + size_there) source)) ≡ tokens source
+      → led_by (lined_tokens ++ lined a_token line ∷ []) (scan 0 line (drop (at + size_there) source)) ≡ whole
   token_read a_token size_there front_is pos some_left =
       ap (λ source_bytes. led_by (lined_tokens ++ lined a_token line ∷ []) (scan 0 line source_bytes)) (sym (drop_more at size_there source))
       ∙ sym (led_again lined_tokens (lined a_token line ∷ []) (scan 0 line (drop size_there (drop at source))))

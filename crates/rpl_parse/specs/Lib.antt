@@ -10,6 +10,6 @@ pub mod ReadingDeclared
 pub mod GivesDeclared
 pub mod Statements
 pub mod Declarations
-pub mod Cut
 pub mod Parsing
+pub mod Cut
 pub mod Worked

@@ -1,16 +1,11 @@
 -- Within the crate: what the scanner's code answers, seen as what the definitions speak of.
-use Rattle.std.specs.Prelude.{◌≡◌, ◌≤◌, ◌<◌, ◌+◌, ℕ, pos, List, map, take, drop, length, Result, Ok, Err}
-use Rattle.std.specs.declared.vec.Vec.{Vec}
-use Rattle.std.specs.declared.alloc.Global.{Global}
-use Rattle.rpl_parse.specs.declared.token.TokenAt.{TokenAt}
+use Rattle.std.specs.Prelude.{◌≡◌, ◌≤◌, ◌<◌, ◌+◌, ℕ, pos, List, take, drop, length}
 use Rattle.rpl_parse.specs.declared.front.Piece.{Piece}
 use Rattle.rpl_parse.specs.declared.front.Piece.TheVariants as P
-use Rattle.rpl_parse.specs.declared.scan.ScanStop.{ScanStop}
-use Rattle.rpl_parse.specs.declared.scan.ScanStop.TheVariants as S
 use Rattle.rpl_parse.specs.declared.scan.Found.{Found}
 use Rattle.rpl_parse.specs.declared.scan.Found.TheVariants as F
-use Rattle.rpl_parse.specs.Tokens.{mark, word, digits, text, token_seen, lined_of}
-use Rattle.rpl_parse.specs.Scan.{greatest, Front, gap, token, bad, Scanned, all, bad_at}
+use Rattle.rpl_parse.specs.Tokens.{mark, word, digits, text, token_seen}
+use Rattle.rpl_parse.specs.Scan.{greatest, Front, gap, token, bad}
 
 -- what stands at the front of some bytes
 abbrev pub piece_seen : List ℕ → Piece → Front
@@ -29,11 +24,6 @@ fits_piece most (P.Name n) = (0 < n) × (n ≤ most)
 fits_piece most (P.Number v n) = (v ≤ greatest) × (0 < n) × (n ≤ most)
 fits_piece most (P.Text n) = n + 2 ≤ most
 fits_piece most P.Bad = Unit {0}
-
-abbrev pub Scans : List ℕ → Result (Vec TokenAt Global) ScanStop → Scanned → Type 0
-Scans source (Ok ts) s = s ≡ all (map (lined_of source) ts.items)
-Scans source (Err (S.BadToken line)) s = s ≡ bad_at line
-Scans source (Err S.NoMemory) s = Unit {0}
 
 -- what is found at a place of a text: as the bytes from there on say, and within the text
 abbrev pub IsFound : List ℕ → ℕ → Found → Front → Type 0

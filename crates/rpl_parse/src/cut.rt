@@ -1,12 +1,12 @@
-// Where declarations are cut, and as what they begin.
-ghost use Rattle.std.specs.Prelude.{◌≡◌, ◌≤◌, ◌<◌, length};
+// Where declarations end, and as what they begin.
+ghost use Rattle.std.specs.Prelude.{◌≡◌};
 ghost use Rattle.rpl_parse.specs.Declarations.{is_end, begins_rule, begins_function};
-ghost use Rattle.rpl_parse.specs.Cut.{size};
 ghost use Rattle.rpl_parse.specs.Tokens.{token_seen, toks};
 
 use crate::token::{Mark, Token, TokenAt};
 
-fn is_end(_text: &[u8], token: Token) -> bool
+/// Whether a token ends a declaration.
+pub(crate) fn is_end(_text: &[u8], token: Token) -> bool
     ensures { result ≡ is_end (token_seen _text.now token) }
 {
     match token {
@@ -14,20 +14,6 @@ fn is_end(_text: &[u8], token: Token) -> bool
         Token::Mark(Mark::EndFunction) => true,
         _ => false,
     }
-}
-
-/// How many tokens the first declaration has.
-pub(crate) fn size(text: &[u8], tokens: &[TokenAt]) -> usize
-    ensures value { result ≡ size (toks text.now tokens.now) }
-    ensures within { result ≤ length tokens.now }
-    ensures some { 0 < length tokens.now → 0 < result }
-{
-    for at in 0..tokens.len() {
-        if is_end(text, tokens[at].token) {
-            return at + 1;
-        }
-    }
-    tokens.len()
 }
 
 /// Whether a declaration begins as a rule.

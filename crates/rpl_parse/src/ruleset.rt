@@ -1,15 +1,16 @@
-ghost use Rattle.std.specs.Prelude.{◌≡◌, ◌≤◌, ◌<◌, ◌+◌, ◌-◌, ◌^◌, ◌++◌, ◌∷◌, [], IfOk, IfErr, OnOk, length, drop, map};
+ghost use Rattle.std.specs.Prelude.{◌≡◌, ◌≤◌, ◌<◌, ◌+◌, ◌-◌, ◌^◌, ◌++◌, ◌∷◌, [], IfOk, IfErr, IfSome, OnOk, length, map};
 ghost use Rattle.rw_base.specs.declared.limits.TheConstants.{TEXT_MAX};
 ghost use Rattle.rpl_tree.specs.Seen.{declared_of, rules_of};
-ghost use Rattle.rpl_parse.specs.Declarations.{is_full, one_more_if, begins_rule, pieces, IsDue, IsReading, IsRuleset};
-ghost use Rattle.rpl_parse.specs.Parsing.{AnswersReading, TellsDue};
-ghost use Rattle.rpl_parse.specs.Tokens.{toks, lined_of};
+ghost use Rattle.rpl_parse.specs.Cut.{IsFirst, IsPlaceIn, Judges, scanned_at, stopped};
+ghost use Rattle.rpl_parse.specs.Declarations.{is_full, one_more_if, IsReading, IsRuleset};
+ghost use Rattle.rpl_parse.specs.Parsing.{AnswersReading, TellsDue, grammar_refusal_of};
+ghost use Rattle.rpl_parse.specs.Tokens.{toks};
 
-use crate::cut::{begins_function, begins_rule, size};
+use crate::cut::{begins_function, begins_rule};
 use crate::declaration::declaration;
 use crate::fault::ParseFault;
 use crate::made;
-use crate::scan::{ScanStop, tokens_of};
+use crate::scan::{Place, ScanStop, bad_line, next_tokens};
 use crate::stop::Stop;
 use crate::token::TokenAt;
 use rpl_tree::{Declaration, ParsedRules};
@@ -33,56 +34,92 @@ fn rules_in(alloc: Global, text: &[u8]) -> Result<ParsedRules, ParseFault>
     ensures reading { TellsDue (IsReading text.now) rules_of result }
     ensures ruleset { IfOk result (λ rules. IsRuleset rules) }
 {
-    let tokens = match tokens_of(alloc, text) {
-        Ok(tokens) => tokens,
-        Err(ScanStop::BadToken(line)) => return Err(ParseFault::BadToken(line)),
-        Err(ScanStop::NoMemory) => return Err(ParseFault::NoMemory),
-    };
-    match declarations(alloc, text, &tokens) {
+    match declarations(alloc, text) {
         Ok(declarations) => Ok(ParsedRules { declarations }),
         Err(fault) => Err(fault),
     }
 }
 
-/// The declarations of some tokens, or the first that is refused.
-fn declarations(
+/// A fault of a text whose tokens are judged up to a place, unless one from there on is bad, which comes first.
+fn unless_bad(text: &[u8], from: Place, fault: ParseFault) -> ParseFault
+    requires room { length text.now ≤ TEXT_MAX }
+    requires inside { IsPlaceIn text.now from }
+    ensures { IfSome (grammar_refusal_of result)
+        (IsFirst (scanned_at text.now from) (grammar_refusal_of fault)) }
+{
+    match fault {
+        ParseFault::NoMemory => ParseFault::NoMemory,
+        _ => match bad_line(text, from) {
+            Some(line) => ParseFault::BadToken(line),
+            None => fault,
+        },
+    }
+}
+
+/// The declaration of these tokens, which is the one of a number behind so many rules and functions.
+fn judged(
     alloc: Global,
     text: &[u8],
     tokens: &[TokenAt],
-) -> Result<Vec<Declaration>, ParseFault>
-    requires { length tokens.now ≤ TEXT_MAX }
-    ensures { TellsDue (IsDue 1 0 0 [] (pieces (map (lined_of text.now) tokens.now)))
-        (λ found. map declared_of found.items) result }
+    number: u32,
+    rules: u32,
+    functions: u32,
+) -> Result<Declaration, ParseFault>
+    ensures { Judges text.now number rules functions tokens.now result }
+{
+    let [first, ..] = tokens else {
+        return Err(ParseFault::NoMemory);
+    };
+    if is_full(text, tokens, rules, functions) {
+        return Err(ParseFault::TooMany(number));
+    }
+    match declaration(alloc, text, tokens) {
+        Ok(one) => Ok(one),
+        Err(Stop::Bad) => Err(ParseFault::BadDeclaration {
+            declaration: number,
+            line: first.line,
+        }),
+        Err(Stop::NoMemory) => Err(ParseFault::NoMemory),
+    }
+}
+
+/// The fault of a scanner that stops.
+fn fault_of(stop: ScanStop) -> ParseFault
+    ensures { result ≡ stopped stop }
+{
+    match stop {
+        ScanStop::BadToken(line) => ParseFault::BadToken(line),
+        ScanStop::NoMemory => ParseFault::NoMemory,
+    }
+}
+
+/// The declarations of a text, or what is refused first. Of its tokens no more than a declaration's are there at a time.
+fn declarations(alloc: Global, text: &[u8]) -> Result<Vec<Declaration>, ParseFault>
+    requires { length text.now ≤ TEXT_MAX }
+    ensures { TellsDue (IsReading text.now) (λ found. map declared_of found.items) result }
 {
     let mut found = Vec::new(alloc);
+    let mut tokens = Vec::new(alloc);
     let mut rules = 0;
     let mut functions = 0;
     let mut number = 1;
-    let mut rest = tokens;
-    for _turn in 0..tokens.len() {
-        let [first, ..] = rest else {
+    let mut from = Place { at: 0, line: 1 };
+    for _turn in 0..text.len() {
+        tokens.clear();
+        match next_tokens(text, from, &mut tokens) {
+            Ok(behind) => from = behind,
+            Err(stop) => return Err(fault_of(stop)),
+        }
+        if tokens.is_empty() {
             return Ok(found);
-        };
-        let line = first.line;
-        let n = size(text, rest);
-        let piece = &rest[..n];
-        if is_full(text, piece, rules, functions) {
-            return Err(ParseFault::TooMany(number));
         }
-        match declaration(alloc, text, piece) {
+        match judged(alloc, text, &tokens, number, rules, functions) {
             Ok(one) => pushed(&mut found, one)?,
-            Err(Stop::Bad) => {
-                return Err(ParseFault::BadDeclaration {
-                    declaration: number,
-                    line,
-                });
-            }
-            Err(Stop::NoMemory) => return Err(ParseFault::NoMemory),
+            Err(fault) => return Err(unless_bad(text, from, fault)),
         }
-        rules = one_more_if(begins_rule(text, piece), rules);
-        functions = one_more_if(begins_function(text, piece), functions);
+        rules = one_more_if(begins_rule(text, &tokens), rules);
+        functions = one_more_if(begins_function(text, &tokens), functions);
         number += 1;
-        rest = after(n, rest);
     }
     Ok(found)
 }
@@ -106,14 +143,6 @@ fn one_more_if(more: bool, n: u32) -> u32
     ensures within { result ≤ n + 1 }
 {
     if more { n + 1 } else { n }
-}
-
-/// The tokens behind so many.
-fn after(n: usize, tokens: &[TokenAt]) -> &[TokenAt]
-    requires { n ≤ length tokens.now }
-    ensures { result.now ≡ drop n tokens.now }
-{
-    &tokens[n..]
 }
 
 fn pushed(found: &mut Vec<Declaration>, one: Declaration) -> Result<(), ParseFault>

@@ -1,13 +1,14 @@
-ghost use Rattle.std.specs.Prelude.{◌≡◌, ◌≤◌, ◌<◌, ◌+◌, ◌-◌, ◌^◌, ◌++◌, ◌∷◌, [], IfOk, IfErr, OnOk, length, drop, MatchOption};
+ghost use Rattle.std.specs.Prelude.{◌≡◌, ◌≤◌, ◌<◌, ◌+◌, ◌-◌, ◌^◌, ◌++◌, ◌∷◌, List, [], IfOk, IfErr, OnOk, length, drop, MatchOption};
 ghost use Rattle.rw_base.specs.declared.limits.TheConstants.{TEXT_MAX};
-ghost use Rattle.rpl_parse.specs.Scan.{front, gap, token, bad, tokens, line_behind};
-ghost use Rattle.rpl_parse.specs.Pieces.{piece_seen, Scans, IsFound};
-ghost use Rattle.rpl_parse.specs.Tokens.{token_seen};
+ghost use Rattle.rpl_parse.specs.Cut.{IsPlaceIn, TakesUp, scanned_at};
+ghost use Rattle.rpl_parse.specs.Scan.{all, bad_at, front, line_behind};
+ghost use Rattle.rpl_parse.specs.Pieces.{IsFound};
+ghost use Rattle.rpl_parse.specs.Tokens.{Lined};
 
 use crate::class::head_is;
+use crate::cut::is_end;
 use crate::front::{Piece, front};
 use crate::token::{Span, Token, TokenAt};
-use std::alloc::Global;
 
 /// Why a text has no tokens.
 #[derive(Clone, Copy)]
@@ -16,6 +17,15 @@ pub(crate) enum ScanStop {
     BadToken(u32),
     /// Memory ran out.
     NoMemory,
+}
+
+/// A place of a text from which it is read on, and its line.
+#[derive(Clone, Copy)]
+pub(crate) struct Place {
+    /// How many bytes are before it.
+    pub(crate) at: usize,
+    /// The line, counted from 1.
+    pub(crate) line: u32,
 }
 
 /// What is found at a place.
@@ -64,32 +74,62 @@ fn found_at(text: &[u8], at: usize) -> Found
     }
 }
 
-/// The tokens of a text, each the longest, or the line of the first place that has none.
-pub(crate) fn tokens_of(alloc: Global, text: &[u8]) -> Result<Vec<TokenAt>, ScanStop>
-    requires { length text.now ≤ TEXT_MAX }
-    ensures tokens { Scans text.now result (tokens text.now) }
-    ensures few { IfOk result (λ ts. length ts.items ≤ length text.now) }
+/// Takes up the tokens of the declaration at a place, each the longest, and answers the place behind them. There are none where
+/// nothing is left.
+pub(crate) fn next_tokens(
+    text: &[u8],
+    from: Place,
+    tokens: &mut Vec<TokenAt>,
+) -> Result<Place, ScanStop>
+    requires room { length text.now ≤ TEXT_MAX }
+    requires inside { IsPlaceIn text.now from }
+    requires none { tokens.old.items ≡ [] }
+    ensures inside { IfOk result (IsPlaceIn text.now) }
+    ensures on { IfOk result (λ behind. from.at + length tokens.new.items ≤ behind.at) }
+    ensures taken { TakesUp text.now tokens.new.items result (scanned_at text.now from) }
 {
-    let mut tokens = Vec::new(alloc);
-    let mut line: u32 = 1;
-    let mut at: usize = 0;
-    for _turn in 0..text.len() {
-        if at == text.len() {
-            return Ok(tokens);
-        }
+    let mut at = from.at;
+    let mut line = from.line;
+    while at < text.len() {
         match found_at(text, at) {
             Found::Gap(n) => {
                 line = line_behind(line, at, text);
                 at += n;
             }
             Found::Token(token, n) => {
-                pushed(&mut tokens, TokenAt { token, line })?;
+                pushed(tokens, TokenAt { token, line })?;
                 at += n;
+                if is_end(text, token) {
+                    return Ok(Place { at, line });
+                }
             }
             Found::Bad => return Err(ScanStop::BadToken(line)),
         }
     }
-    Ok(tokens)
+    Ok(Place { at, line })
+}
+
+/// The line of the first bad token from a place on.
+pub(crate) fn bad_line(text: &[u8], from: Place) -> Option<u32>
+    requires room { length text.now ≤ TEXT_MAX }
+    requires inside { IsPlaceIn text.now from }
+    ensures { MatchOption result
+        ((ts : List Lined) × (scanned_at text.now from ≡ all ts))
+        (λ line. scanned_at text.now from ≡ bad_at line) }
+{
+    let mut at = from.at;
+    let mut line = from.line;
+    while at < text.len() {
+        match found_at(text, at) {
+            Found::Gap(n) => {
+                line = line_behind(line, at, text);
+                at += n;
+            }
+            Found::Token(_, n) => at += n,
+            Found::Bad => return Some(line),
+        }
+    }
+    None
 }
 
 fn line_behind(line: u32, at: usize, text: &[u8]) -> u32
