@@ -11,6 +11,7 @@ use rpl_budget::TreeCost;
 use rpl_tree::{Declaration, ParsedRules, RplType};
 use rw_base::RuleNo;
 use std::marker::Model;
+use std::mem::drop;
 
 /// A ruleset that is accepted with a basin, the types of its nodes, and its budgets.
 #[derive(Drop)]
@@ -94,6 +95,21 @@ impl Typed {
         ensures limited { AreLimited (rules_of result.now) }
     {
         &self.rules
+    }
+
+    /// The rules and functions, as they were parsed. What was found of them goes.
+    pub fn into_rules(self) -> ParsedRules
+        ensures rules { result ≡ self.rules }
+        ensures limited { AreLimited (rules_of result) }
+    {
+        let Typed {
+            rules,
+            types,
+            costs,
+        } = self;
+        drop(types);
+        drop(costs);
+        rules
     }
 
     /// The type of a node that is an expression, of a declaration. Both are counted from 1.
