@@ -32,7 +32,7 @@ written_of w = written (scope_seen w.names) w.locals.items w.below.items w.lines
 
 abbrev pub callee_seen : Known → Callee
 callee_seen f = record {
-  head = record { name = f.name.now; takes = kinds_seen f.takes.items; result = kind_seen f.result };
+  head = record { name = f.name.items; takes = kinds_seen f.takes.items; result = kind_seen f.result };
   block = f.block;
 }
 

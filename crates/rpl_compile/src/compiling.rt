@@ -5,7 +5,7 @@ ghost use Rattle.rpl_types.specs.Judged.{rules_judged};
 ghost use Rattle.rpl_verify.specs.Verified.{verified};
 ghost use Rattle.rpl_compile.specs.Translate.{translate};
 
-use crate::ruleset::{blocks_of, text_of};
+use crate::ruleset::{blocks_of, into_blocks, text_of};
 use rpl_code::Code;
 use rpl_types::Typed;
 use rpl_verify::{Verified, VerifyFault, verify};
@@ -44,6 +44,34 @@ pub fn compile(alloc: Global, typed: &Typed, basin: &Basin) -> Result<Verified, 
 {
     let _rules = typed.rules();
     let code = code_of(alloc, typed, basin)?;
+    match verify(alloc, code, basin) {
+        Ok(code) => Ok(code),
+        Err(VerifyFault::NoMemory) => Err(NoMemory),
+        Err(VerifyFault::Refused { .. }) => unreachable!(),
+    }
+}
+
+// The code of a ruleset that goes: no more than a declaration and its block are there at a time.
+fn into_code(alloc: Global, typed: Typed, basin: &Basin) -> Result<Code, NoMemory>
+    requires { IsOk (rules_judged basin.now (rules_of typed.rules)) }
+    ensures { IfOk result (λ code. code ≡ translate (rules_of typed.rules)) }
+{
+    let rules = typed.into_rules();
+    let _objects = basin.object_count();
+    let blocks = into_blocks(alloc, rules, basin)?;
+    Ok(Code::of(blocks))
+}
+
+/// The same as `compile`, of a ruleset that goes: each declaration is freed as soon as its block is there, so that the ruleset
+/// and its code take little more memory than one of the two.
+pub fn compile_away(alloc: Global, typed: Typed, basin: &Basin) -> Result<Verified, NoMemory>
+    requires { IsOk (rules_judged basin.now (rules_of typed.rules)) }
+    ensures code { IfOk result (λ code. code.blocks ≡ translate (rules_of typed.rules)) }
+    ensures verified { IfOk result (λ code.
+        verified basin.now (translate (rules_of typed.rules)) ≡ Ok code) }
+{
+    let _rules = typed.rules();
+    let code = into_code(alloc, typed, basin)?;
     match verify(alloc, code, basin) {
         Ok(code) => Ok(code),
         Err(VerifyFault::NoMemory) => Err(NoMemory),

@@ -7,24 +7,20 @@ use rpl_scope::is_same_name;
 
 /// A function that can be called, and the number of its block, but of a predefined one.
 #[derive(Drop)]
-pub(crate) struct Known<'a> {
-    pub(crate) name: &'a [u8],
+pub(crate) struct Known {
+    pub(crate) name: Vec<u8>,
     pub(crate) takes: Vec<ValueKind>,
     pub(crate) result: ValueKind,
     pub(crate) block: Option<u32>,
 }
 
 // This function, if it has the name.
-fn known_or<'a, 'b>(
-    f: &'a Known<'b>,
-    name: &[u8],
-    otherwise: Option<&'a Known<'b>>,
-) -> Option<&'a Known<'b>>
+fn known_or<'a>(f: &'a Known, name: &[u8], otherwise: Option<&'a Known>) -> Option<&'a Known>
     ensures { callee_or_none (option_map (λ g. g.now) result)
-        ≡ if bytes_eq f.entry.now.name.now name.now then callee_seen f.entry.now
+        ≡ if bytes_eq f.entry.now.name.items name.now then callee_seen f.entry.now
         else callee_or_none (option_map (λ g. g.now) otherwise.entry) }
 {
-    if is_same_name(f.name, name) {
+    if is_same_name(&f.name, name) {
         Some(f)
     } else {
         otherwise
@@ -32,7 +28,7 @@ fn known_or<'a, 'b>(
 }
 
 /// The function of a name that was declared last.
-pub(crate) fn function_named<'a, 'b>(known: &'a [Known<'b>], name: &[u8]) -> Option<&'a Known<'b>>
+pub(crate) fn function_named<'a>(known: &'a [Known], name: &[u8]) -> Option<&'a Known>
     ensures { callee_or_none (option_map (λ f. f.now) result)
         ≡ Written.callee_named (callees_of known.now) name.now }
 {

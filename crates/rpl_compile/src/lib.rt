@@ -19,4 +19,4 @@ mod ruleset;
 mod statement;
 mod writing;
 
-pub use compiling::{code_of, code_text, compile};
+pub use compiling::{code_of, code_text, compile, compile_away};

@@ -62,8 +62,8 @@ fn names_of<'a>(alloc: Global, params: &'a [Param]) -> Result<Scope<'a, Local>, 
     Ok(names)
 }
 
-// The block of a rule.
-fn rule(alloc: Global, known: &[Known], body: &[Statement]) -> Result<Block, NoMemory>
+// The block of a rule, for which there is room for so many lines at first.
+fn rule(alloc: Global, known: &[Known], room: usize, body: &[Statement]) -> Result<Block, NoMemory>
     ensures { IfOk result (λ block. block ≡ Written.written_rule (callees_of known.now)
         (acts_in body.now)) }
 {
@@ -72,9 +72,10 @@ fn rule(alloc: Global, known: &[Known], body: &[Statement]) -> Result<Block, NoM
         names: Scope::new(alloc),
         locals: Vec::new(alloc),
         below: Vec::new(alloc),
-        lines: Vec::new(alloc),
+        lines: Vec::with_capacity(alloc, room)?,
     };
     statements(known, &mut w, body)?;
+    w.lines.shrink_to_fit();
     Ok(Block {
         head: BlockHead::Rule,
         locals: Kinds::of(w.locals),
@@ -90,7 +91,11 @@ fn from_place(kinds: &[ValueKind], k: usize) -> &[ValueKind]
 }
 
 // At the beginning of a function's block.
-fn begin_function<'a>(alloc: Global, params: &'a [Param]) -> Result<Writing<'a>, NoMemory>
+fn begin_function<'a>(
+    alloc: Global,
+    params: &'a [Param],
+    room: usize,
+) -> Result<Writing<'a>, NoMemory>
     ensures { IfOk result (λ w. written_of w ≡ Written.begun_function
         (map parameter_of params.now)) }
 {
@@ -101,7 +106,7 @@ fn begin_function<'a>(alloc: Global, params: &'a [Param]) -> Result<Writing<'a>,
         names,
         locals,
         below: Vec::new(alloc),
-        lines: Vec::new(alloc),
+        lines: Vec::with_capacity(alloc, room)?,
     })
 }
 
@@ -109,7 +114,7 @@ fn begin_function<'a>(alloc: Global, params: &'a [Param]) -> Result<Writing<'a>,
 #[tactic(auto, using(crate::proofs::Found::code_of_seen, crate::proofs::Found::params_length))]
 fn end_function(
     alloc: Global,
-    w: Writing,
+    mut w: Writing,
     params: &[Param],
     answers: ValueKind,
 ) -> Result<Block, NoMemory>
@@ -118,6 +123,7 @@ fn end_function(
 {
     let takes = parameters_of(alloc, params)?;
     let locals = Vec::from_slice(alloc, from_place(&w.locals, params.len()))?;
+    w.lines.shrink_to_fit();
     Ok(Block {
         head: BlockHead::Function {
             result: answers,
@@ -132,6 +138,7 @@ fn end_function(
 fn function(
     alloc: Global,
     known: &[Known],
+    room: usize,
     params: &[Param],
     answers: ValueKind,
     body: &Expr,
@@ -139,18 +146,19 @@ fn function(
     ensures { IfOk result (λ block. block ≡ Written.written_function (callees_of known.now)
         (map parameter_of params.now) (kind_seen answers) (tree_of body.now)) }
 {
-    let mut w = begin_function(alloc, params)?;
+    let mut w = begin_function(alloc, params, room)?;
     let own = code(known, &mut w, body)?;
     give_room(&mut w, answers, own)?;
     end_function(alloc, w, params, answers)
 }
 
 // The block of a declaration of a number. A function can be called by those that follow.
-fn block_of<'a>(
+fn block_of(
     alloc: Global,
-    known: &mut Vec<Known<'a>>,
+    known: &mut Vec<Known>,
+    room: usize,
     number: u32,
-    declaration: &'a Declaration,
+    declaration: &Declaration,
 ) -> Result<Block, NoMemory>
     ensures block { IfOk result (λ block. block
         ≡ Written.written_block (callees_of known.old.items) (declared_of declaration.now)) }
@@ -158,7 +166,7 @@ fn block_of<'a>(
         ≡ Written.and_callee (callees_of known.old.items) number (declared_of declaration.now)) }
 {
     match declaration {
-        Declaration::Rule { body, .. } => rule(alloc, known, body),
+        Declaration::Rule { body, .. } => rule(alloc, known, room, body),
         Declaration::Function {
             name,
             params,
@@ -166,9 +174,9 @@ fn block_of<'a>(
             body,
         } => {
             let result = written_kind(result);
-            let block = function(alloc, known, params, result, body)?;
+            let block = function(alloc, known, room, params, result, body)?;
             known.push(Known {
-                name,
+                name: Vec::from_slice(alloc, name)?,
                 takes: takes_of(alloc, params)?,
                 result,
                 block: Some(number),
@@ -179,30 +187,31 @@ fn block_of<'a>(
 }
 
 // A function of numbers that there is in each ruleset.
-fn of_numbers(name: &'static [u8], takes: Vec<ValueKind>) -> Known<'static>
-    ensures { callee_seen result ≡ Written.of_numbers name.now (kinds_seen takes.items) }
+fn of_numbers(alloc: Global, name: &[u8], takes: Vec<ValueKind>) -> Result<Known, NoMemory>
+    ensures { IfOk result (λ known. callee_seen known
+        ≡ Written.of_numbers name.now (kinds_seen takes.items)) }
 {
-    Known {
-        name,
+    Ok(Known {
+        name: Vec::from_slice(alloc, name)?,
         takes,
         result: ValueKind::N,
         block: None,
-    }
+    })
 }
 
 // The functions that there are in each ruleset, the last of them first.
-fn predefined(alloc: Global) -> Result<Vec<Known<'static>>, NoMemory>
+fn predefined(alloc: Global) -> Result<Vec<Known>, NoMemory>
     ensures { IfOk result (λ known. callees_of known.items ≡ predefined_callees) }
 {
     let one = ValueKind::N;
     let mut known = Vec::new(alloc);
-    known.push(of_numbers(b"MulDiv", vec![in alloc; one, one, one]?))?;
-    known.push(of_numbers(b"Sign", vec![in alloc; one]?))?;
-    known.push(of_numbers(b"RoundDown", vec![in alloc; one, one]?))?;
-    known.push(of_numbers(b"Clamp", vec![in alloc; one, one, one]?))?;
-    known.push(of_numbers(b"Abs", vec![in alloc; one]?))?;
-    known.push(of_numbers(b"Max", vec![in alloc; one, one]?))?;
-    known.push(of_numbers(b"Min", vec![in alloc; one, one]?))?;
+    known.push(of_numbers(alloc, b"MulDiv", vec![in alloc; one, one, one]?)?)?;
+    known.push(of_numbers(alloc, b"Sign", vec![in alloc; one]?)?)?;
+    known.push(of_numbers(alloc, b"RoundDown", vec![in alloc; one, one]?)?)?;
+    known.push(of_numbers(alloc, b"Clamp", vec![in alloc; one, one, one]?)?)?;
+    known.push(of_numbers(alloc, b"Abs", vec![in alloc; one]?)?)?;
+    known.push(of_numbers(alloc, b"Max", vec![in alloc; one, one]?)?)?;
+    known.push(of_numbers(alloc, b"Min", vec![in alloc; one, one]?)?)?;
     Ok(known)
 }
 
@@ -217,7 +226,24 @@ fn written_blocks(alloc: Global, rules: &ParsedRules) -> Result<Vec<Block>, NoMe
         let Ok(number) = u32::try_from(blocks.len() + 1) else {
             return Err(NoMemory);
         };
-        let block = block_of(alloc, &mut known, number, declaration)?;
+        let block = block_of(alloc, &mut known, 0, number, declaration)?;
+        blocks.push(block)?;
+    }
+    Ok(blocks)
+}
+
+// The blocks of all declarations, as they are written. Each declaration goes as soon as its block is there.
+fn taken_blocks(alloc: Global, declarations: Vec<Declaration>) -> Result<Vec<Block>, NoMemory>
+    ensures { IfOk result (λ blocks. blocks.items
+        ≡ Written.written_from predefined_callees 1 (map declared_of declarations.items)) }
+{
+    let mut known = predefined(alloc)?;
+    let mut room = 0;
+    let mut blocks = Vec::with_capacity(alloc, declarations.len())?;
+    for declaration in declarations {
+        let block_number = number(blocks.len() + 1)?;
+        let block = block_of(alloc, &mut known, room, block_number, &declaration)?;
+        room = block.lines.as_slice().len();
         blocks.push(block)?;
     }
     Ok(blocks)
@@ -229,11 +255,13 @@ fn written_text(alloc: Global, declarations: &[Declaration]) -> Result<String, N
         (Written.written_from predefined_callees 1 (map declared_of declarations.now))) }
 {
     let mut known = predefined(alloc)?;
+    let mut room = 0;
     let mut text = begin_code(alloc)?;
     for place in 0..declarations.len() {
         let declaration = &declarations[place];
         let block_number = number(place + 1)?;
-        let block = block_of(alloc, &mut known, block_number, declaration)?;
+        let block = block_of(alloc, &mut known, room, block_number, declaration)?;
+        room = block.lines.as_slice().len();
         push_block(&mut text, &block)?;
     }
     Ok(text)
@@ -252,6 +280,21 @@ pub(crate) fn text_of(
     let _objects = basin.object_count();
     let text = written_text(alloc, &rules.declarations)?;
     Ok(text.into_bytes())
+}
+
+/// The blocks of a ruleset for a basin, which goes. `NoMemory` tells nothing of the ruleset.
+pub(crate) fn into_blocks(
+    alloc: Global,
+    rules: ParsedRules,
+    basin: &Basin,
+) -> Result<Vec<Block>, NoMemory>
+    requires kinded { AreKinded basin.now (rules_of rules) }
+    requires rooms { AreRoomy (rules_of rules) }
+    ensures { IfOk result (λ blocks. blocks.items ≡ translate (rules_of rules)) }
+{
+    let _objects = basin.object_count();
+    let blocks = taken_blocks(alloc, rules.declarations)?;
+    Ok(blocks)
 }
 
 /// The blocks of a ruleset for a basin. `NoMemory` tells nothing of the ruleset.
