@@ -1,7 +1,10 @@
 // Verified code that runs as the policy of a file does.
-ghost use Rattle.std.specs.Prelude.{◌≡◌, IfOk, IsOk, Ok};
+ghost use Rattle.std.specs.Prelude.{◌≡◌, IfOk, IsOk, List, Ok};
 ghost use Rattle.rw_model.specs.Draft.{Draft};
+ghost use Rattle.rpl_compile.specs.Translate.{translate};
+ghost use Rattle.rpl_tree.specs.Bounds.{AreLimited};
 ghost use Rattle.rpl_tree.specs.Seen.{rules_of};
+ghost use Rattle.rpl_tree.specs.Tree.{Declared};
 ghost use Rattle.rpl_types.specs.Judged.{rules_judged};
 ghost use Rattle.rpl_verify.specs.Verified.{Accepted, verified};
 ghost use Rattle.rw_top.specs.Policy.{Ruleset, Code};
@@ -11,7 +14,7 @@ ghost use Rattle.rw_top.specs.Seen.{policy_of};
 
 use crate::policy::Policy;
 use rpl_compile::accepted::compiled_budgets;
-use rpl_compile::compile;
+use rpl_compile::{compile, compile_away};
 use rpl_policy::law::firings_are_verified;
 use rpl_rulesets::law::{firings_of_rules_are_verified, rules_keep_promises, rulesets_have_runs};
 use rpl_types::Typed;
@@ -33,6 +36,21 @@ pub(crate) fn code_runs()
     firings_are_verified();
 }
 
+// The code of a ruleset that is accepted for the basin runs as the ruleset does.
+fn rules_run()
+    ensures { (basin : Draft) (rules : List Declared) (code : Accepted)
+        → IsOk (rules_judged basin rules) → AreLimited rules → code.blocks ≡ translate rules
+        → IsCodeOf basin (Ruleset rules) code }
+{
+    accepted();
+    compiled_budgets();
+    rulesets_have_runs();
+    rules_keep_promises();
+    same_asks();
+    choices();
+    firings_of_rules_are_verified();
+}
+
 /// The code of a ruleset that is accepted for the basin, which runs as the ruleset does.
 pub(crate) fn code_of_rules(
     alloc: Global,
@@ -43,15 +61,21 @@ pub(crate) fn code_of_rules(
     ensures fits { IfOk result (λ code. verified basin.now code.blocks ≡ Ok code) }
     ensures runs { IfOk result (IsCodeOf basin.now (Ruleset (rules_of typed.now.rules))) }
 {
-    accepted();
-    compiled_budgets();
-    rulesets_have_runs();
-    rules_keep_promises();
-    same_asks();
-    choices();
-    firings_of_rules_are_verified();
+    rules_run();
     let _rules = typed.rules();
     let code = compile(alloc, typed, basin)?;
+    Ok(code)
+}
+
+// The same of a ruleset that goes as its code is made.
+fn code_of_taken(alloc: Global, typed: Typed, basin: &Basin) -> Result<Verified, NoMemory>
+    requires { IsOk (rules_judged basin.now (rules_of typed.rules)) }
+    ensures fits { IfOk result (λ code. verified basin.now code.blocks ≡ Ok code) }
+    ensures runs { IfOk result (IsCodeOf basin.now (Ruleset (rules_of typed.rules))) }
+{
+    rules_run();
+    let _rules = typed.rules();
+    let code = compile_away(alloc, typed, basin)?;
     Ok(code)
 }
 
@@ -63,7 +87,7 @@ pub(crate) fn code_of(alloc: Global, policy: Policy, basin: &Basin) -> Result<Ve
 {
     code_runs();
     match policy {
-        Policy::Ruleset(typed) => code_of_rules(alloc, &typed, basin),
+        Policy::Ruleset(typed) => code_of_taken(alloc, typed, basin),
         Policy::Code(code) => Ok(code),
     }
 }

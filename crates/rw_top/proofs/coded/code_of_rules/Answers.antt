@@ -1,15 +1,8 @@
-use Rattle.rw_top.proofs.Common.{[], ap, subst, ◌∙◌}
-use Rattle.rw_run.specs.Runs.{with_inputs}
-use Rattle.rpl_compile.specs.Translate.{translate}
-use Rattle.rpl_policy.specs.Policy.{policy_of_code}
-use Rattle.rpl_rulesets.specs.RulesPolicy.{policy_of_rules}
-use Rattle.rw_inputs.specs.Placings.{placings}
+use Rattle.rw_top.proofs.Common.{ap, subst, ◌∙◌}
 use Rattle.rpl_tree.specs.Bounds.{AreLimited}
 use Rattle.rpl_tree.specs.Seen.{rules_of}
 use Rattle.rpl_tree.specs.declared.rules.ParsedRules.{ParsedRules}
-use Rattle.rpl_types.specs.Judged.{rules_judged}
 use Rattle.rpl_verify.specs.Verified.{verified}
-use Rattle.rw_top.proofs.RulesText.{alike_turned, code_of_ruleset, types_of}
 use Rattle.rw_top.proofs.coded.code_of_rules.Goals as goal
 
 pub returns-clause-fits : goal.returns-clause-fits
@@ -17,17 +10,6 @@ returns-clause-fits c = ap (verified c.args.basin.now) c.in_ok-code.ensures.code
 
 pub returns-clause-runs : goal.returns-clause-runs
 returns-clause-runs c =
-    let basin = c.args.basin.now in
-    let rules = rules_of c.args.typed.now.rules in
-    let types = types_of (rules_judged basin rules) c.requires in
-    let typed = c.accepted.ensures basin rules types.0 types.1 in
-    let bounded : AreLimited rules =
+    let bounded : AreLimited (rules_of c.args.typed.now.rules) =
     subst (λ (r : ParsedRules). AreLimited (rules_of r)) c.rules-rules.ensures.rules c.rules-rules.ensures.limited in
-    code_of_ruleset basin rules c.in_ok-code.code c.in_ok-code.ensures.code
-    (c.compiled_budgets.ensures basin rules typed bounded.rules bounded.functions)
-    (λ inputs log. (c.rulesets_have_runs.ensures.same basin rules (placings basin inputs) log typed bounded.rules bounded.functions).1)
-    (λ inputs log whole. c.firings_of_rules_are_verified.ensures basin rules (placings basin inputs) log typed bounded.rules bounded.functions whole)
-    (λ inputs log whole.
-    (c.same_asks.ensures basin (policy_of_code basin (translate rules)) (policy_of_rules basin rules) (placings basin inputs) whole.events log
-    (alike_turned (c.rules_keep_promises.ensures.alike basin rules typed bounded.rules bounded.functions))
-    (c.choices.ensures.events basin (policy_of_code basin (translate rules)) (with_inputs [] (placings basin inputs)) whole.events log whole.leads)).1)
+    c.rules_run.ensures c.args.basin.now (rules_of c.args.typed.now.rules) c.in_ok-code.code c.requires bounded c.in_ok-code.ensures.code
