@@ -295,7 +295,8 @@ fn status_after(ended: Result<RunEnd, Refusal>) -> Result<u8, Refusal>
     }
 }
 
-// Writes the sections of the runs of the files by their policy. They are left without their policy and their inputs.
+// Writes the sections of the runs of the files by their policy. They are left without their policy and their inputs. Its code isn't
+// freed: the process ends behind it, as behind the files.
 fn run<K: Sink, L: Ledger>(
     alloc: Global,
     files: &mut Files,
@@ -330,7 +331,9 @@ fn run<K: Sink, L: Ledger>(
         policy: &by,
         predefs,
     };
-    status_after(write_runs(alloc, &setup, extras, inputs, batches, steps, out))
+    let written = write_runs(alloc, &setup, extras, inputs, batches, steps, out);
+    forget(by);
+    status_after(written)
 }
 
 // Writes the sections of the runs of the files' scenarios by their policy, and the summary. They are left without their policy.
@@ -365,7 +368,9 @@ fn many<K: Sink, L: Ledger>(
         policy: &by,
         predefs,
     };
-    write_many(alloc, &setup, inputs, scenarios, steps, out)
+    let written = write_many(alloc, &setup, inputs, scenarios, steps, out);
+    forget(by);
+    written
 }
 
 // The one text of a job that lends its files and makes it whole, and the status with which it is written.
