@@ -59,6 +59,7 @@ fn behind(at: usize, text: &[u8]) -> &[u8]
 }
 
 /// What stands at a place of the text.
+#[inline(always)]
 fn found_at(text: &[u8], at: usize) -> Found
     requires room { length text.now ≤ TEXT_MAX }
     requires inside { at < length text.now }
