@@ -1,7 +1,7 @@
 -- How the proofs hang together. The pass costs functions with numbers that stop above the limits (Sums). What stops of exact costs (Exact)
 -- is what each form costs so (Costs, Heights), so the pass finds it (Passed), declaration by declaration (Declared).
 mod Costs
-mod Declared
+pub mod Declared
 mod Exact
 mod Found
 mod Heights

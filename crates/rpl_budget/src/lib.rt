@@ -5,6 +5,7 @@
 
 mod acts;
 mod cost;
+mod in_turn;
 mod kind;
 mod known;
 pub mod law;
@@ -15,4 +16,5 @@ mod ruleset;
 mod work;
 
 pub use cost::TreeCost;
+pub use in_turn::InTurn;
 pub use ruleset::budgets;

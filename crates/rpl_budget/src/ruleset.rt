@@ -83,8 +83,8 @@ fn param_names<'a>(alloc: Global, params: &'a [Param]) -> Result<Scope<'a, TreeK
     Ok(names)
 }
 
-// The budgets of a declaration. A function can be called by those that follow.
-fn declared<'a>(
+/// The budgets of a declaration. A function can be called by those that follow.
+pub(crate) fn declared<'a>(
     alloc: Global,
     known: &mut Vec<Known<'a>>,
     declaration: &'a Declaration,
@@ -143,8 +143,8 @@ fn of_numbers(name: &'static [u8], takes: Vec<TreeKind>) -> Known<'static>
     }
 }
 
-// The functions that there are in each ruleset, the last of them first.
-fn predefined(alloc: Global) -> Result<Vec<Known<'static>>, NoMemory>
+/// The functions that there are in each ruleset, the last of them first.
+pub(crate) fn predefined(alloc: Global) -> Result<Vec<Known<'static>>, NoMemory>
     ensures { IfOk result (λ known. functions_of known.items ≡ Pass.predefined_priced) }
 {
     let one = TreeKind::Number;

@@ -1,5 +1,5 @@
 -- Budgets and declarations, each in its place.
-use Rattle.rw_base.proofs.Common.{◌≡◌, ℕ, zero, suc, ◌+◌, ◌≤◌, ◌<◌, List, [], ◌∷◌, map, length, get_or, Some, option_map, ap, ◌∙◌, sym, arith}
+use Rattle.rw_base.proofs.Common.{◌≡◌, ℕ, zero, suc, ◌+◌, ◌++◌, ◌≤◌, ◌<◌, List, [], ◌∷◌, map, length, get_or, Some, option_map, ap, ◌∙◌, refl, sym, arith}
 use Rattle.rw_base.proofs.Common.{length-map, slice_get-get_or, slice_get-map, slice_get}
 use Rattle.rpl_budget.proofs.Ordered.{budget_at, budgets_length}
 use Rattle.rpl_budget.specs.Budgets.{budgets_of}
@@ -26,6 +26,23 @@ module _ (costs : List TreeCost) (rules : List Declared) (are : map budget_seen 
       sym (slice_get-map budget_seen costs place ∙ ap (option_map budget_seen) here) ∙ ap (λ budgets. slice_get budgets place) are
       ∙ budget_at rules place less in
       cc
+
+-- what stands behind so many
+at_seam : {X : Type 0} (xs : List X) (x : X) (ys : List X) → slice_get (xs ++ x ∷ ys) (length xs) ≡ Some x
+at_seam [] x ys = refl
+at_seam (y ∷ xs) x ys = at_seam xs x ys
+
+pub its_next : (before : List Budget) (rules : List Declared) (place : ℕ) (mine : Budget) (behind : List Budget) → place < length rules
+    → length before ≡ place → before ++ mine ∷ behind ≡ budgets_of rules → mine ≡ budget_of rules (place + 1)
+its_next before rules place mine behind less many are =
+    let seen : Some mine ≡ Some (budget_of rules (place + 1)) =
+    sym (at_seam before mine behind) ∙ ap (λ n. slice_get (before ++ mine ∷ behind) n) many
+    ∙ ap (λ budgets. slice_get budgets place) are ∙ budget_at rules place less in
+    cc
+
+pub none_left : {X : Type 0} (xs : List X) → length xs ≡ 0 → xs ≡ []
+none_left [] none = refl
+none_left (x ∷ xs) none = absurd (omega arith)
 
 -- a rule's declaration is one of them
 within_from : (first_number number place : ℕ) (declarations : List Declared) → declaration_from first_number declarations number ≡ Some place

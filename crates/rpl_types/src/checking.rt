@@ -7,9 +7,7 @@ ghost use Rattle.rpl_types.specs.declared.fault.TypeFault.TheVariants as Fault;
 
 use crate::declarations::types_of_all;
 use crate::{TypeFault, Typed};
-use rpl_budget::budgets;
 use rpl_tree::ParsedRules;
-use rw_base::NoMemory;
 use rw_model::Basin;
 use std::alloc::Global;
 
@@ -21,11 +19,8 @@ pub fn check(alloc: Global, rules: ParsedRules, basin: &Basin) -> Result<Typed, 
     ensures answers { Answers Fault.NoMemory type_refusal_of checked_of result
         (checked basin.now (rules_of rules)) }
 {
-    let costs = match budgets(alloc, &rules) {
-        Ok(costs) => costs,
-        Err(NoMemory) => return Err(TypeFault::NoMemory),
-    };
-    match types_of_all(alloc, basin, &rules.declarations, &costs) {
+    let mut costs = Vec::new(alloc);
+    match types_of_all(alloc, basin, &rules.declarations, &mut costs) {
         Ok(types) => Ok(Typed {
             rules,
             types,

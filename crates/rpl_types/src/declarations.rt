@@ -1,8 +1,9 @@
 // Declarations, judged one after the other.
-ghost use Rattle.std.specs.Prelude.{◌≡◌, ◌+◌, IfErr, None, OnOk, Some, map};
+ghost use Rattle.std.specs.Prelude.{◌≡◌, ◌+◌, ◌++◌, ◌∷◌, [], IfErr, IfOk, None, OnOk, Some, map};
 ghost use Rattle.std.specs.Option.{ForSome};
 ghost use Rattle.rw_base.specs.Answers.{Answers};
 ghost use Rattle.rpl_budget.specs.Budgets.{budgets_of};
+ghost use Rattle.rpl_budget.specs.Pass.{and_priced, declared_budget, predefined_priced};
 ghost use Rattle.rpl_budget.specs.Seen.{budget_seen};
 ghost use Rattle.rpl_tree.specs.Seen.{declared_of, parameter_of, type_of, tree_of};
 ghost use Rattle.rpl_tree.specs.Tree.{function};
@@ -22,8 +23,9 @@ use crate::heads::{head_refusal, param_scope, signature, type_here};
 use crate::known::Known;
 use crate::stop::Stop;
 use crate::{TypeFault, TypeKind};
-use rpl_budget::TreeCost;
+use rpl_budget::{InTurn, TreeCost};
 use rpl_tree::{Declaration, Expr, Param, RplType, TypeText};
+use rw_base::NoMemory;
 use rw_base::limits::{INSTRUCTIONS_MAX, LOOKS_MAX, PUTS_MAX, WORDS_MAX};
 use rw_model::Basin;
 use std::alloc::Global;
@@ -153,30 +155,69 @@ fn fault_at(number: usize, stop: Stop) -> TypeFault
     }
 }
 
-/// The types of the nodes of all declarations, or the first refusal.
+/// The same with the budgets that it has in its turn, which are noted.
+fn priced_types<'a>(
+    known: &Known,
+    turn: &mut InTurn<'a>,
+    costs: &mut Vec<TreeCost>,
+    declaration: &'a Declaration,
+) -> Result<NodeTypes, Stop>
+    ensures types { Answers Stop.NoMemory stop_refusal (λ types. types.items) result
+        (with_budget known.now.basin.now (callable_in known.now)
+        (declared_budget turn.old (declared_of declaration.now)) (declared_of declaration.now)) }
+    ensures costs { OnOk result (map budget_seen costs.new.items
+        ≡ map budget_seen costs.old.items
+        ++ declared_budget turn.old (declared_of declaration.now) ∷ []) }
+    ensures turn { OnOk result (turn.new ≡ and_priced turn.old (declared_of declaration.now)) }
+{
+    let cost = match turn.next(known.alloc, declaration) {
+        Ok(cost) => cost,
+        Err(NoMemory) => return Err(Stop::NoMemory),
+    };
+    let types = with_budget(known, declaration, &cost)?;
+    match costs.push(cost) {
+        Ok(()) => Ok(types),
+        Err(_) => Err(Stop::NoMemory),
+    }
+}
+
+/// Where the budgets of declarations begin.
+fn first_turn<'a>(alloc: Global) -> Result<InTurn<'a>, TypeFault>
+    ensures ok { IfOk result (λ turn. turn ≡ predefined_priced) }
+    ensures err { IfErr result (λ fault. fault ≡ TypeFault.NoMemory) }
+{
+    match InTurn::begin(alloc) {
+        Ok(turn) => Ok(turn),
+        Err(NoMemory) => Err(TypeFault::NoMemory),
+    }
+}
+
+/// The types of the nodes of all declarations, or the first refusal. Their budgets are added to none.
 pub(crate) fn types_of_all(
     alloc: Global,
     basin: &Basin,
     declarations: &[Declaration],
-    costs: &[TreeCost],
+    costs: &mut Vec<TreeCost>,
 ) -> Result<Vec<NodeTypes>, TypeFault>
-    requires costs { map budget_seen costs.now ≡ budgets_of (map declared_of declarations.now) }
-    ensures { Answers TypeFault.NoMemory type_refusal_of
+    requires none { costs.old.items ≡ [] }
+    ensures types { Answers TypeFault.NoMemory type_refusal_of
         (λ all. map (λ types. types.items) all.items)
         result (rules_judged basin.now (map declared_of declarations.now)) }
+    ensures costs { OnOk result (map budget_seen costs.new.items
+        ≡ budgets_of (map declared_of declarations.now)) }
 {
     let mut all = Vec::new(alloc);
     let mut earlier = Vec::new(alloc);
+    let mut turn = first_turn(alloc)?;
     for place in 0..declarations.len() {
         let declaration = &declarations[place];
-        let cost = &costs[place];
         let known = Known {
             alloc,
             basin,
             earlier: &earlier,
             later: &declarations[place..],
         };
-        let types = match with_budget(&known, declaration, cost) {
+        let types = match priced_types(&known, &mut turn, costs, declaration) {
             Ok(types) => types,
             Err(stop) => return Err(fault_at(place + 1, stop)),
         };
