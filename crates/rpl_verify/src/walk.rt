@@ -194,9 +194,9 @@ impl Walk {
         ensures { IfOk result (λ walk. walk
             ≡ record { before = before [] []; spots = spots lines.now }) }
     {
+        let mut landings = Vec::with_capacity(alloc, lines.len())?;
         let mut stacks = Stacks::new(alloc);
         let mut openers = Vec::new(alloc);
-        let mut landings = Vec::new(alloc);
         for place in 0..lines.len() {
             let innermost = start_of(&openers);
             let line = &lines[place];
