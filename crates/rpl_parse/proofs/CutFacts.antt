@@ -8,7 +8,7 @@ use Rattle.rpl_parse.specs.Tokens.{Lined, token_seen, lined_of, toks}
 use Rattle.rpl_parse.specs.Scan.{Scanned, all, bad_at, led_by, tokens}
 use Rattle.rpl_parse.specs.Declarations.{Piece, piece, is_end, token_joined, pieces, begins_rule, begins_function, one_more_if, is_full, Due}
 use Rattle.rpl_parse.specs.Declarations.{GrammarRefusal, bad_token, bad_declaration, too_many, IsDue, IsDueOf, IsReading, some_reading, one_reading}
-use Rattle.rpl_parse.specs.Cut.{IsFirst, IsRefusedAs, Takes, line_of}
+use Rattle.rpl_parse.specs.Cut.{IsRefusedFirst, IsRefusedAs, TakesTokens, first_line}
 use Rattle.rpl_parse.specs.ReadingDeclared.{read_declared}
 use Rattle.rpl_parse.proofs.Both.{one_declaration, no_declaration, declared_sound}
 
@@ -21,7 +21,7 @@ joined source [] ps = ps
 joined source (t ∷ ts) ps = token_joined (lined_of source t) (joined source ts ps)
 
 abbrev First : List ℕ → List TokenAt → Piece
-First source ts = piece (toks source ts) (line_of ts)
+First source ts = piece (toks source ts) (first_line ts)
 
 -- none of these tokens ends a declaration
 abbrev pub Unended : List ℕ → List TokenAt → Type 0
@@ -88,7 +88,7 @@ none_unended source ts none = rw none (λ us. refl)
 
 pub takes_ended : (source : List ℕ) (ts more : List TokenAt) (t : TokenAt) (whole behind : Scanned) → more ≡ ts ++ t ∷ []
     → length more ≡ length ts + 1 → led_by (lineds source more) behind ≡ whole → Unended source ts → is_end (token_seen source t.token) ≡ true
-    → Takes source more whole behind
+    → TakesTokens source more whole behind
 takes_ended source ts more t whole behind more_is grown read_so open_so ends = record {
   read = sym read_so;
   cut = λ some us here. rw more_is (ended source ts open_so t ends us);
@@ -96,7 +96,7 @@ takes_ended source ts more t whole behind more_is grown read_so open_so ends = r
 }
 
 pub takes_spent : (source : List ℕ) (ts : List TokenAt) (whole behind : Scanned) → led_by (lineds source ts) behind ≡ whole → Unended source ts
-    → behind ≡ all [] → Takes source ts whole behind
+    → behind ≡ all [] → TakesTokens source ts whole behind
 takes_spent source ts whole behind read_so open_so none = record {
   read = sym read_so;
   cut = λ some us here. last_cut source ts open_so some us (sym here ∙ none);
@@ -108,29 +108,25 @@ abbrev pub IsDueFrom : ℕ → ℕ → ℕ → List Declared → Scanned → Due
 IsDueFrom k rules functions before (all ts) due = IsDue k rules functions before (pieces ts) due
 IsDueFrom k rules functions before (bad_at line) due = due ≡ Err (bad_token line)
 
-pub due_from_start : (scanned : Scanned) (due : Due) → IsDueFrom 1 0 0 [] scanned due → IsDueOf scanned due
-due_from_start (all ts) due is_due = is_due
-due_from_start (bad_at line) due is_due = is_due
-
 pub due_spent : (number rules functions : ℕ) (before : List Declared) (whole : Scanned) → whole ≡ all []
     → IsDueFrom number rules functions before whole (Ok before)
 due_spent number rules functions before whole none = subst (λ s. IsDueFrom number rules functions before s (Ok before)) (sym none) refl
 
 -- Of the first declaration, which has these tokens.
 module _ (source : List ℕ) (number rules functions : ℕ) (before : List Declared) (ts : List TokenAt) where
-  cut_due : (us : List Lined) (whole : Scanned) (due : Due) → Takes source ts whole (all us) → 0 < length ts
+  cut_due : (us : List Lined) (whole : Scanned) (due : Due) → TakesTokens source ts whole (all us) → 0 < length ts
       → IsDue number rules functions before (First source ts ∷ pieces us) due → IsDueFrom number rules functions before whole due
   cut_due us whole due takes some is_due =
       subst (λ s. IsDueFrom number rules functions before s due) (sym takes.read)
       (subst (λ ps. IsDue number rules functions before ps due) (sym (takes.cut some us refl)) is_due)
 
-  bad_due : (line : ℕ) (whole : Scanned) (due : Due) → Takes source ts whole (bad_at line) → due ≡ Err (bad_token line)
+  bad_due : (line : ℕ) (whole : Scanned) (due : Due) → TakesTokens source ts whole (bad_at line) → due ≡ Err (bad_token line)
       → IsDueFrom number rules functions before whole due
   bad_due line whole due takes is_due = subst (λ s. IsDueFrom number rules functions before s due) (sym takes.read) is_due
 
   pub due_refused : (whole behind : Scanned) (why : Option GrammarRefusal) (refusal : GrammarRefusal)
-      → Takes source ts whole behind → 0 < length ts → IfSome why (IsRefusedAs source number rules functions ts)
-      → IsFirst behind why refusal → IsDueFrom number rules functions before whole (Err refusal)
+      → TakesTokens source ts whole behind → 0 < length ts → IfSome why (IsRefusedAs source number rules functions ts)
+      → IsRefusedFirst behind why refusal → IsDueFrom number rules functions before whole (Err refusal)
   due_refused whole (bad_at line) why refusal takes some refused first = bad_due line whole (Err refusal) takes (ap Err first)
   due_refused whole (all us) None refusal takes some refused first = absurd (cc first)
   due_refused whole (all us) (Some other) refusal takes some (inl full) first =
@@ -140,15 +136,15 @@ module _ (source : List ℕ) (number rules functions : ℕ) (before : List Decla
       (inr (inl (bad.0, no_declaration (toks source ts) bad.1, ap Err (sym (same_Some other refusal first) ∙ bad.2))))
 
   pub refused_told : (whole behind : Scanned) (why told : Option GrammarRefusal)
-      → Takes source ts whole behind → 0 < length ts → IfSome why (IsRefusedAs source number rules functions ts)
-      → IfSome told (IsFirst behind why) → ((due : Due) → IsDueFrom number rules functions before whole due → IsReading source due)
+      → TakesTokens source ts whole behind → 0 < length ts → IfSome why (IsRefusedAs source number rules functions ts)
+      → IfSome told (IsRefusedFirst behind why) → ((due : Due) → IsDueFrom number rules functions before whole due → IsReading source due)
       → IfSome told (λ refusal. IsReading source (Err refusal))
   refused_told whole behind why None takes some refused first go = tt
   refused_told whole behind why (Some refusal) takes some refused first go =
       go (Err refusal) (due_refused whole behind why refusal takes some refused first)
 
   pub due_later : (whole behind : Scanned) (d : Declared) (due : Due) (rules_now functions_now : ℕ) (after : List Declared)
-      → Takes source ts whole behind → 0 < length ts
+      → TakesTokens source ts whole behind → 0 < length ts
       → is_full (toks source ts) rules functions ≡ false → read_declared (toks source ts) ≡ Some d
       → rules_now ≡ one_more_if (begins_rule (toks source ts)) rules → functions_now ≡ one_more_if (begins_function (toks source ts)) functions
       → after ≡ before ++ d ∷ []

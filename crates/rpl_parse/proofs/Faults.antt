@@ -21,7 +21,3 @@ pub tree_fault : (source : List ℕ) (deepest : ℕ) (result : Result (Expr × �
     → IsErrAnd result (λ fault_there. fault_there ≡ fault) → Fails fault read → GivesExpression source deepest result read
 tree_fault source deepest (Ok answer) read fault same why = absurd same
 tree_fault source deepest (Err fault_there) read fault same why = subst (λ any_fault. Fails any_fault read) (sym same) why
-
-pub fails_bad : {A : Type 0} (fault : Stop) (first_found : Option A) → fault ≡ S.Bad → Fails fault first_found → first_found ≡ None
-fails_bad S.Bad first_found same reads_none = reads_none
-fails_bad S.NoMemory first_found same reads_none = absurd (cc same)

@@ -1,7 +1,7 @@
 ghost use Rattle.std.specs.Prelude.{◌≡◌, ◌≤◌, ◌<◌, ◌+◌, ◌-◌, ◌^◌, ◌++◌, ◌∷◌, [], IfOk, IfErr, IfSome, OnOk, length, map};
 ghost use Rattle.rw_base.specs.declared.limits.TheConstants.{TEXT_MAX};
 ghost use Rattle.rpl_tree.specs.Seen.{declared_of, rules_of};
-ghost use Rattle.rpl_parse.specs.Cut.{IsFirst, IsPlaceIn, Judges, scanned_at, stopped};
+ghost use Rattle.rpl_parse.specs.Cut.{IsRefusedFirst, IsPlaceIn, Judges, scanned_at, scan_fault};
 ghost use Rattle.rpl_parse.specs.Declarations.{is_full, one_more_if, IsReading, IsRuleset};
 ghost use Rattle.rpl_parse.specs.Parsing.{AnswersReading, TellsDue, grammar_refusal_of};
 ghost use Rattle.rpl_parse.specs.Tokens.{toks};
@@ -45,7 +45,7 @@ fn unless_bad(text: &[u8], from: Place, fault: ParseFault) -> ParseFault
     requires room { length text.now ≤ TEXT_MAX }
     requires inside { IsPlaceIn text.now from }
     ensures { IfSome (grammar_refusal_of result)
-        (IsFirst (scanned_at text.now from) (grammar_refusal_of fault)) }
+        (IsRefusedFirst (scanned_at text.now from) (grammar_refusal_of fault)) }
 {
     match fault {
         ParseFault::NoMemory => ParseFault::NoMemory,
@@ -85,7 +85,7 @@ fn judged(
 
 /// The fault of a scanner that stops.
 fn fault_of(stop: ScanStop) -> ParseFault
-    ensures { result ≡ stopped stop }
+    ensures { result ≡ scan_fault stop }
 {
     match stop {
         ScanStop::BadToken(line) => ParseFault::BadToken(line),

@@ -8,10 +8,6 @@ use Rattle.rpl_budget.specs.declared.cost.TreeCost.{TreeCost}
 use Rattle.rpl_tree.proofs.Common.{Budget, budget_of, Declared, rule, function}
 use Rattle.rpl_types.specs.Checked.{declaration_from, declaration_of_rule, rule_budget}
 
--- what is read past the end
-abbrev pub no_cost : TreeCost
-no_cost = record { instructions = 0; reads = 0; puts = 0; words = 0 }
-
 module _ (costs : List TreeCost) (rules : List Declared) (are : map budget_seen costs ≡ budgets_of rules) where
   -- there are as many budgets as declarations
   pub as_many : length costs ≡ length rules
