@@ -232,7 +232,8 @@ fn written_blocks(alloc: Global, rules: &ParsedRules) -> Result<Vec<Block>, NoMe
     Ok(blocks)
 }
 
-// The blocks of all declarations, as they are written. Each declaration goes as soon as its block is there.
+// The blocks of all declarations, as they are written. Each declaration goes as soon as its block is there, whose lines have the room of
+// those before them from the first: a list that grows while names are made beside it finds no room in what declarations leave.
 fn taken_blocks(alloc: Global, declarations: Vec<Declaration>) -> Result<Vec<Block>, NoMemory>
     ensures { IfOk result (λ blocks. blocks.items
         ≡ Written.written_from predefined_callees 1 (map declared_of declarations.items)) }
