@@ -12,6 +12,7 @@ pub mod Caps
 pub mod BlockFacts
 pub mod BlockRuled
 pub mod Resolving
+pub mod Joined
 -- ---- a block that fits: what holds at each place, its loops and jumps, what each way through it comes to
 pub mod Judged
 pub mod Loops

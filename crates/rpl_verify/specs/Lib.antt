@@ -18,3 +18,4 @@ pub mod Safety
 pub mod Worked
 pub mod Resolved
 pub mod Resolving
+pub mod Joined

@@ -7,6 +7,7 @@
 mod block;
 mod block_fault;
 mod budget;
+mod join;
 mod judge;
 mod kinds;
 pub mod law;
