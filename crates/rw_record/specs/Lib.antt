@@ -1,6 +1,7 @@
 pub mod Noted
 pub mod Notes
 pub mod Marks
+pub mod HeldList
 pub mod Record
 pub mod Merge
 pub mod Back

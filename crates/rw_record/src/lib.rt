@@ -5,13 +5,17 @@
 
 mod alike;
 mod back;
+mod held_list;
+mod kept_step;
 pub mod law;
 mod marks;
 mod noted;
 mod record;
 
-pub use alike::is_alike;
-pub use back::{put_back, take_back};
+pub use alike::{is_alike, is_kept_alike};
+pub use back::{put_back, put_back_kept, take_back};
+pub use held_list::HeldList;
+pub use kept_step::KeptStep;
 pub use noted::Noted;
-pub use record::StepRecord;
+pub use record::{StepRecord, listed};
 pub use rw_run::Held;

@@ -1,5 +1,5 @@
 use rw_base::StepNo;
-use rw_engine::{Engine, StepRecord};
+use rw_engine::{Engine, KeptStep};
 
 /// A run on its way: its engine, the timesteps that it ran, what is to be kept of each one behind which it has come, where that
 /// changes, and whether a fault has ended it.
@@ -7,6 +7,6 @@ use rw_engine::{Engine, StepRecord};
 pub(crate) struct Pass {
     pub(crate) engine: Engine,
     pub(crate) reran: Vec<StepNo>,
-    pub(crate) changes: Vec<Option<Option<StepRecord>>>,
+    pub(crate) changes: Vec<Option<Option<KeptStep>>>,
     pub(crate) over: bool,
 }
