@@ -1,6 +1,6 @@
 use Rattle.rw_engine.proofs.Common.{seen, sym, ◌∙◌}
 use Rattle.rw_engine.proofs.Records.{if_ok, record_or_not, told_some, untold_none}
-use Rattle.rw_engine.proofs.state.State.last_record.Goals as goal
+use Rattle.rw_engine.proofs.state.State.last_kept.Goals as goal
 
 pub returns-then-count-eq0-clause-noted : goal.returns-then-count-eq0-clause-noted
 returns-then-count-eq0-clause-noted c = λ basin step old events has is.

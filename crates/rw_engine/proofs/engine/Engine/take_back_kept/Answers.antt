@@ -1,4 +1,4 @@
-use Rattle.rw_engine.proofs.engine.Engine.take_back.Goals as goal
+use Rattle.rw_engine.proofs.engine.Engine.take_back_kept.Goals as goal
 
 pub invariant_of-self : goal.invariant_of-self
 invariant_of-self c =
