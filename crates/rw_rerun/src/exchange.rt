@@ -20,10 +20,7 @@ pub(crate) fn nothing_kept(alloc: Global, count: u16) -> Result<Vec<Option<KeptS
 }
 
 /// Each change takes the place of what was kept. It takes no memory.
-pub(crate) fn exchange(
-    kept: &mut Vec<Option<KeptStep>>,
-    mut changes: Vec<Option<Option<KeptStep>>>,
-)
+pub(crate) fn exchange(kept: &mut Vec<Option<KeptStep>>, mut changes: Vec<Option<Option<KeptStep>>>)
     requires { length changes.items ≡ length kept.old.items }
     ensures { kept.new.items ≡ changed kept.old.items changes.items }
 {

@@ -14,7 +14,7 @@ use crate::spare::{Spare, bring, give_all, unchanged};
 use rpl_policy::law::code_keeps_promises;
 use rpl_verify::law::answered_code_is_safe;
 use rw_base::{Cell, Ledger, NoMemory, Steps};
-use rw_engine::{RunSetup, KeptStep};
+use rw_engine::{KeptStep, RunSetup};
 use rw_inputs::Inputs;
 use rw_model::Basin;
 use std::alloc::Global;

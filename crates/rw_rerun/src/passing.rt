@@ -12,7 +12,7 @@ use crate::pass::Pass;
 use rpl_policy::law::code_keeps_promises;
 use rpl_verify::law::answered_code_is_safe;
 use rw_base::{Ledger, NoMemory, StepNo, Steps};
-use rw_engine::{Engine, RunSetup, StepEnd, KeptStep};
+use rw_engine::{Engine, KeptStep, RunSetup, StepEnd};
 use rw_inputs::Inputs;
 use rw_record::law::how_many;
 use std::alloc::Global;

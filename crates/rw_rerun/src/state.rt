@@ -22,7 +22,7 @@ use rpl_policy::law::code_keeps_promises;
 use rpl_verify::Verified;
 use rpl_verify::law::answered_code_is_safe;
 use rw_base::{Cell, Ledger, NoMemory, StepNo, Steps};
-use rw_engine::{Engine, Run, RunSetup, KeptStep};
+use rw_engine::{Engine, KeptStep, Run, RunSetup};
 use rw_inputs::{Batch, Inputs, apply};
 use rw_model::Basin;
 use std::alloc::Global;
