@@ -4,5 +4,6 @@ pub mod Marks
 pub mod HeldList
 pub mod Record
 pub mod Merge
+pub mod InOrder
 pub mod Back
 pub mod Worked

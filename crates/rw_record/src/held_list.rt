@@ -2,6 +2,7 @@ ghost use Rattle.std.specs.Prelude.{◌≡◌, ◌<◌, ◌≤◌, ◌++◌, ◌
 ghost use Rattle.rw_run.specs.Reuse.{most_kept};
 ghost use Rattle.rw_run.specs.declared.held.Held.{Held as WasHeld};
 ghost use Rattle.rw_record.specs.HeldList.{AreListed, KeepsContent, held_of};
+ghost use Rattle.rw_record.specs.InOrder.{picked};
 
 use rw_base::{Cell, NoMemory};
 use rw_model::Content;
@@ -63,6 +64,17 @@ impl HeldList {
     }
 }
 
+/// The cells that stand in these places. The one error is want of memory.
+pub(crate) fn in_order(alloc: Global, items: &[Held], order: &[u16]) -> Result<HeldList, NoMemory>
+    requires { length order.now ≤ most_kept }
+    ensures { IfOk result (λ list. list ≡ picked items.now order.now) }
+{
+    let mut cells = Vec::with_capacity(alloc, items.len())?;
+    let mut contents = Vec::with_capacity(alloc, count_known(items))?;
+    add_picked(&mut cells, &mut contents, items, order)?;
+    Ok(HeldList { cells, contents })
+}
+
 // How many of the cells held something.
 fn count_known(items: &[Held]) -> usize
     ensures { result ≤ length items.now }
@@ -91,6 +103,44 @@ fn add_all(
         add(cells, contents, one)?;
     }
     Ok(())
+}
+
+// Adds those that stand in these places to none.
+fn add_picked(
+    cells: &mut Vec<PlacedCell>,
+    contents: &mut Vec<Content>,
+    items: &[Held],
+    order: &[u16],
+) -> Result<(), NoMemory>
+    requires few { length order.now ≤ most_kept }
+    requires cells { cells.old.items ≡ [] }
+    requires contents { contents.old.items ≡ [] }
+    ensures { IfOk result
+        (λ _. AreListed (picked items.now order.now) cells.new.items contents.new.items) }
+{
+    for place in order {
+        add_found(cells, contents, items, *place)?;
+    }
+    Ok(())
+}
+
+// Adds the one that stands in a place, if one does.
+#[inline(always)]
+fn add_found(
+    cells: &mut Vec<PlacedCell>,
+    contents: &mut Vec<Content>,
+    items: &[Held],
+    place: u16,
+) -> Result<(), NoMemory>
+    requires { vec_len contents.old < 65535 }
+    ensures { (before : List WasHeld) → AreListed before cells.old.items contents.old.items
+        → IfOk result (λ _. AreListed (before ++ picked items.now (place ∷ []))
+        cells.new.items contents.new.items) }
+{
+    match items.get(usize::from(place)) {
+        Some(one) => add(cells, contents, one),
+        None => Ok(()),
+    }
 }
 
 // Adds a cell.

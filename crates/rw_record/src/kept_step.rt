@@ -1,14 +1,13 @@
-ghost use Rattle.std.specs.Prelude.{◌≡◌, ◌≤◌, ◌↔◌, ◌++◌, ◌||◌, nat_lt, IfOk, MatchOption, Contains, Some, drop, length, true};
+ghost use Rattle.std.specs.Prelude.{◌≡◌, ◌||◌, nat_lt, IfOk, MatchOption, Some, drop, length};
 ghost use Rattle.rw_run.specs.Reuse.{most_kept};
 ghost use Rattle.rw_run.specs.Trace.{lines_in};
-ghost use Rattle.rw_run.specs.declared.held.Held.{Held as WasHeld};
-ghost use Rattle.rw_record.specs.Noted.{AreOnce, noted_in};
-ghost use Rattle.rw_record.specs.Merge.{AddsBelow, MergesInto, NeverFall, PartsInto};
-ghost use Rattle.rw_record.specs.Record.{AreRisingCells, IsBelow, IsLarge, IsRecordOf, greatest_step, least_step};
+ghost use Rattle.rw_record.specs.Noted.{noted_in};
+ghost use Rattle.rw_record.specs.Record.{IsLarge, IsRecordOf, greatest_step, least_step};
 
+use crate::ordered::risen;
 use crate::{HeldList, Noted};
-use rw_base::{Cell, NoMemory, SlotNo, StepNo};
-use rw_run::{Held, MOST_KEPT, Trace};
+use rw_base::{NoMemory, StepNo};
+use rw_run::{MOST_KEPT, Trace};
 use std::alloc::Global;
 use std::marker::Model;
 
@@ -41,13 +40,15 @@ impl Model for KeptStep {
 impl KeptStep {
     /// The record of a timestep of which this is noted, and whose lines stand in the trace from this place on. `None`
     /// exactly where it has more than `MOST_KEPT` cells or lines. The one error is want of memory. `docs/DEFINITIONS.md`
-    /// says under "Reuse" what is kept.
+    /// says under "Reuse" what is kept. `order` is that in which the noted cells of another timestep rose, or any other:
+    /// where these rise so too they need no sorting.
     pub fn of(
         alloc: Global,
         step: StepNo,
         noted: &Noted,
         trace: &Trace,
         from: usize,
+        order: &mut Vec<u16>,
     ) -> Result<Option<KeptStep>, NoMemory>
         ensures { IfOk result (λ kept. MatchOption kept
             (IsLarge (noted_in noted.now) (drop from (lines_in trace.now)))
@@ -56,13 +57,12 @@ impl KeptStep {
         if is_large(noted.as_slice().len(), trace, from) {
             return Ok(None);
         }
-        let cells = rising(alloc, noted.as_slice())?;
-        let looked = HeldList::of(alloc, cells.as_slice())?;
+        let looked = risen(alloc, noted.as_slice(), order)?;
         let lines = lines_from(alloc, trace, from)?;
         Ok(Some(KeptStep {
             step,
-            first: StepNo(least_step(cells.as_slice())),
-            last: StepNo(greatest_step(cells.as_slice())),
+            first: StepNo(least_step(&looked)),
+            last: StepNo(greatest_step(&looked)),
             looked,
             lines,
         }))
@@ -112,114 +112,24 @@ fn is_large(cells: usize, trace: &Trace, from: usize) -> bool
     cells > MOST_KEPT || trace.len().saturating_sub(from) > MOST_KEPT
 }
 
-// Whether a cell is of a lower slot than another, or of the same slot at an earlier timestep.
-#[inline(always)]
-fn is_below(cell: Cell, other: Cell) -> bool
-    ensures { (result ≡ true) ↔ IsBelow cell other }
-{
-    cell.slot.0 < other.slot.0 || (cell.slot.0 == other.slot.0 && cell.step.0 < other.step.0)
-}
-
-// Those of the cells that rise as they stand, and the others. They were noted object by object, so most of them rise.
-fn part(alloc: Global, cells: &[Held]) -> Result<(Vec<Held>, Vec<Held>), NoMemory>
-    ensures { IfOk result (λ parts. PartsInto cells.now parts.0.items parts.1.items) }
-{
-    let mut rising = Vec::with_capacity(alloc, cells.len())?;
-    let mut others = Vec::new(alloc);
-    let mut last = Cell {
-        slot: SlotNo(0),
-        step: StepNo(0),
-    };
-    for one in cells {
-        if is_below(one.cell, last) {
-            others.push(*one)?;
-        } else {
-            last = one.cell;
-            rising.push(*one)?;
-        }
-    }
-    Ok((rising, others))
-}
-
-// Adds those of the others, from a place on, that are below a cell, and answers the place behind them.
-#[inline(always)]
-fn add_below(
-    all: &mut Vec<Held>,
-    others: &[Held],
-    from: usize,
-    cell: Cell,
-) -> Result<usize, NoMemory>
-    requires { from ≤ length others.now }
-    ensures { IfOk result (AddsBelow others.now from cell all.old.items all.new.items) }
-{
-    let mut place = from;
-    while place < others.len() {
-        if !is_below(others[place].cell, cell) {
-            return Ok(place);
-        }
-        all.push(others[place])?;
-        place = place + 1;
-    }
-    Ok(place)
-}
-
-// Adds the cells from a place on.
-fn add_rest(all: &mut Vec<Held>, others: &[Held], from: usize) -> Result<(), NoMemory>
-    ensures { IfOk result (λ _. all.new.items ≡ all.old.items ++ drop from others.now) }
-{
-    for place in from..others.len() {
-        all.push(others[place])?;
-    }
-    Ok(())
-}
-
-// Brings two lists of cells that never fall into one.
-fn merge(alloc: Global, rising: &[Held], others: &[Held]) -> Result<Vec<Held>, NoMemory>
-    requires rising { NeverFall rising.now }
-    requires others { NeverFall others.now }
-    ensures { IfOk result (λ all. MergesInto rising.now others.now all.items) }
-{
-    let mut all = Vec::with_capacity(alloc, rising.len() + others.len())?;
-    let mut place = 0;
-    for one in rising {
-        place = add_below(&mut all, others, place, one.cell)?;
-        all.push(*one)?;
-    }
-    add_rest(&mut all, others, place)?;
-    Ok(all)
-}
-
-// The cells, rising by slot and then by timestep.
-fn rising(alloc: Global, cells: &[Held]) -> Result<Vec<Held>, NoMemory>
-    requires { AreOnce cells.now }
-    ensures rising { IfOk result (λ sorted. AreRisingCells sorted.items) }
-    ensures members { IfOk result (λ sorted. (one : WasHeld)
-        → Contains sorted.items one ↔ Contains cells.now one) }
-    ensures many { IfOk result (λ sorted. length sorted.items ≡ length cells.now) }
-{
-    let (rising, mut others) = part(alloc, cells)?;
-    others.sort_unstable_by_key(|held| (held.cell.slot.0, held.cell.step.0));
-    merge(alloc, rising.as_slice(), others.as_slice())
-}
-
 // The least timestep at which one of the cells is.
-fn least_step(cells: &[Held]) -> u16
+fn least_step(cells: &HeldList) -> u16
     ensures { result ≡ least_step cells.now }
 {
     let mut least = u16::MAX;
-    for one in cells {
-        least = least.min(one.cell.step.0);
+    for place in 0..cells.len() {
+        least = least.min(cells.get(place).cell.step.0);
     }
     least
 }
 
 // The greatest timestep at which one of the cells is.
-fn greatest_step(cells: &[Held]) -> u16
+fn greatest_step(cells: &HeldList) -> u16
     ensures { result ≡ greatest_step cells.now }
 {
     let mut greatest = 0;
-    for one in cells {
-        greatest = greatest.max(one.cell.step.0);
+    for place in 0..cells.len() {
+        greatest = greatest.max(cells.get(place).cell.step.0);
     }
     greatest
 }

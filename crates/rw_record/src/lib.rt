@@ -10,6 +10,7 @@ mod kept_step;
 pub mod law;
 mod marks;
 mod noted;
+mod ordered;
 mod record;
 
 pub use alike::{is_alike, is_kept_alike};

@@ -42,7 +42,8 @@ impl StepRecord {
             (IsLarge (noted_in noted.now) (drop from (lines_in trace.now)))
             (IsRecordOf step.0 (noted_in noted.now) (drop from (lines_in trace.now)))) }
     {
-        let kept = KeptStep::of(alloc, step, noted, trace, from)?;
+        let mut order = Vec::new(alloc);
+        let kept = KeptStep::of(alloc, step, noted, trace, from, &mut order)?;
         listed(alloc, kept)
     }
 

@@ -1,10 +1,11 @@
-use Rattle.rw_record.proofs.Common.{rules, ◌≡◌}
+use Rattle.rw_record.proofs.Common.{get_or_from_slice_get, rules, slice_get_within, sym, ◌≡◌}
 use Rattle.rw_base.proofs.Common.{min}
 use Rattle.rw_record.proofs.Spans.{least_more}
 use Rattle.rw_record.proofs.kept_step.least_step.Goals as goal
 
-pub loop-one-preserved : goal.loop-one-preserved
-loop-one-preserved c =
-    let lesser : c.min-least.result ≡ min c.loop-one.least c.one-item.result.cell.step.0 = search rules in
-    least_more c.args.cells.now c.loop-one.one-index c.one-item.result c.loop-one-test.true c.one-item.is c.loop-one.least
-    c.min-least.result c.loop-one.invariant lesser
+pub loop-place-preserved : goal.loop-place-preserved
+loop-place-preserved c =
+    let lesser : c.min-least.result ≡ min c.loop-place.least c.get.result.cell.step.0 = search rules in
+    least_more c.args.cells.now c.loop-place.place c.get.result (slice_get_within c.args.cells.now c.loop-place.place c.get.result c.get.ensures)
+    (sym (get_or_from_slice_get c.args.cells.now c.loop-place.place c.get.result c.get.result c.get.ensures)) c.loop-place.least
+    c.min-least.result c.loop-place.invariant lesser

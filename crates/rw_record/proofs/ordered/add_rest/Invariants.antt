@@ -1,5 +1,5 @@
 use Rattle.rw_record.proofs.Common.{drop, ◌++◌, ◌≡◌}
-use Rattle.rw_record.proofs.kept_step.add_rest.Given as goal
+use Rattle.rw_record.proofs.ordered.add_rest.Given as goal
 
 -- what is there and what is left to add are all of them
 abbrev pub invariant-loop-place : goal.invariant-loop-place

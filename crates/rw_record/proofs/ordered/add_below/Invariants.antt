@@ -1,6 +1,6 @@
 use Rattle.rw_record.proofs.Common.{length, ◌-◌}
 use Rattle.rw_record.proofs.Merging.{Adding}
-use Rattle.rw_record.proofs.kept_step.add_below.Given as goal
+use Rattle.rw_record.proofs.ordered.add_below.Given as goal
 
 abbrev pub invariant-loop-place : goal.invariant-loop-place
 invariant-loop-place l = Adding l.others l.from l.cell l.fn.all.items l.all.items l.place

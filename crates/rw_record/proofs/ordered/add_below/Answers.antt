@@ -1,7 +1,7 @@
 use Rattle.rw_record.proofs.Common.{Held, List, get_or_default, rules, slice_index_or, subst, sym, true, ◌+◌, ◌∙◌, ◌≡◌}
 use Rattle.rw_record.specs.Record.{IsBelow}
 use Rattle.rw_record.proofs.Merging.{Adding, one_added}
-use Rattle.rw_record.proofs.kept_step.add_below.Goals as goal
+use Rattle.rw_record.proofs.ordered.add_below.Goals as goal
 
 pub loop-place-preserved : goal.loop-place-preserved
 loop-place-preserved c =

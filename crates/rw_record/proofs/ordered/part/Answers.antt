@@ -1,7 +1,7 @@
 use Rattle.rw_record.proofs.Common.{Held, List, [], ap, ◌++◌, ◌∙◌, ◌∷◌, ◌≡◌}
 use Rattle.rw_record.proofs.Merging.{by_test, to_others, to_rising}
-use Rattle.rw_record.proofs.kept_step.part.Goals as goal
-use Rattle.rw_record.proofs.kept_step.part.Goals.{then-is_below+in_ok-push, else-is_below+in_ok-push-2}
+use Rattle.rw_record.proofs.ordered.part.Goals as goal
+use Rattle.rw_record.proofs.ordered.part.Goals.{then-is_below+in_ok-push, else-is_below+in_ok-push-2}
 
 pub loop-one-preserved : goal.loop-one-preserved
 loop-one-preserved c =

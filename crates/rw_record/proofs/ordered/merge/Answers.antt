@@ -1,6 +1,6 @@
 use Rattle.rw_record.proofs.Common.{Held, List, subst, sym, ◌+◌}
 use Rattle.rw_record.proofs.Merging.{Merging, one_merged}
-use Rattle.rw_record.proofs.kept_step.merge.Goals as goal
+use Rattle.rw_record.proofs.ordered.merge.Goals as goal
 
 pub loop-one-preserved : goal.loop-one-preserved
 loop-one-preserved c =

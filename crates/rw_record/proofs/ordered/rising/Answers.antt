@@ -6,8 +6,8 @@ use Rattle.rw_record.specs.Merge.{MergesInto, NeverFall}
 use Rattle.rw_record.specs.Record.{AreRisingCells}
 use Rattle.rw_record.proofs.Merging.{for_ok, moved_through, sorted_up, strict}
 use Rattle.rw_record.proofs.Rising.{place_of, rising, same_members, sorted_once}
-use Rattle.rw_record.proofs.kept_step.rising.Goals as goal
-use Rattle.rw_record.proofs.kept_step.rising.Goals.{After-drop-rising}
+use Rattle.rw_record.proofs.ordered.rising.Goals as goal
+use Rattle.rw_record.proofs.ordered.rising.Goals.{After-drop-rising}
 
 pub merge-requires-clause-others : goal.merge-requires-clause-others
 merge-requires-clause-others c =
