@@ -192,18 +192,24 @@ impl Engine {
             → IfOk result (RecordsOrNot basin step old events) }
         ensures untold { IsUntold self.now → IfOk result (λ kept. kept ≡ None) }
     {
-        let kept = self.last_kept(alloc)?;
+        let mut order = Vec::new(alloc);
+        let kept = self.last_kept(alloc, &mut order)?;
         listed(alloc, kept)
     }
 
-    /// The same as it is kept.
-    pub fn last_kept(&self, alloc: Global) -> Result<Option<KeptStep>, NoMemory>
+    /// The same as it is kept. `order` is that in which the cells of another timestep rose, or any other: where those of this one
+    /// rise so too they need no sorting.
+    pub fn last_kept(
+        &self,
+        alloc: Global,
+        order: &mut Vec<u16>,
+    ) -> Result<Option<KeptStep>, NoMemory>
         ensures noted { (basin : Draft) (step : ℕ) (old : Log) (events : List Event)
             → HasNoted basin step old events self.now → self.now.closed ≡ step
             → IfOk result (RecordsOrNot basin step old events) }
         ensures untold { IsUntold self.now → IfOk result (λ kept. kept ≡ None) }
     {
-        self.state.last_kept(alloc)
+        self.state.last_kept(alloc, order)
     }
 
     /// Whether each cell at which a timestep looked holds what it held before it then.

@@ -395,7 +395,11 @@ impl State {
     }
 
     /// The record of the timestep that was closed last, if its lines are noted and it isn't too large.
-    pub(crate) fn last_kept(&self, alloc: Global) -> Result<Option<KeptStep>, NoMemory>
+    pub(crate) fn last_kept(
+        &self,
+        alloc: Global,
+        order: &mut Vec<u16>,
+    ) -> Result<Option<KeptStep>, NoMemory>
         ensures noted { (basin : Draft) (step : ℕ) (old : Log) (events : List Event)
             → HasNoted basin step old events (seen self.now) → self.now.run.closed ≡ step
             → IfOk result (RecordsOrNot basin step old events) }
@@ -405,7 +409,14 @@ impl State {
         if count == 0 {
             return Ok(None);
         }
-        KeptStep::of(alloc, StepNo(self.run.closed), &self.noted, &self.lines, 0)
+        KeptStep::of(
+            alloc,
+            StepNo(self.run.closed),
+            &self.noted,
+            &self.lines,
+            0,
+            order,
+        )
     }
 
     // Passes a timestep again.

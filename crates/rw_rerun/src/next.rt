@@ -70,6 +70,7 @@ fn pass_from(
             reran: Vec::new(alloc),
             changes,
             over: false,
+            order: Vec::new(alloc),
         }),
         Err(NoMemory) => {
             drop(spare);

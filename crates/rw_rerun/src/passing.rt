@@ -70,7 +70,7 @@ fn run_anew<L: Ledger>(
     pass.reran.push(step)?;
     match end {
         StepEnd::Closed => {
-            let kept = pass.engine.last_kept(alloc)?;
+            let kept = pass.engine.last_kept(alloc, &mut pass.order)?;
             pass.changes.push(Some(kept))?;
             Ok(())
         }
@@ -191,6 +191,7 @@ pub(crate) fn pass_all<L: Ledger>(
         reran: Vec::new(alloc),
         changes: Vec::new(alloc),
         over: false,
+        order: Vec::new(alloc),
     };
     passed(alloc, pass, setup, kept, 0, steps)
 }

@@ -96,6 +96,7 @@ impl<'a> State<'a> {
             reran,
             changes,
             over: _,
+            order: _,
         } = pass;
         exchange(&mut kept, changes);
         Ok(State {
@@ -175,6 +176,7 @@ impl<'a> State<'a> {
             reran,
             changes,
             over: _,
+            order: _,
         } = pass;
         let was = replace(&mut self.engine, engine);
         self.spare = spare_of(was, setup.basin, &self.kept, &inputs, cells, behind);
