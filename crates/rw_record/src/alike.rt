@@ -11,7 +11,7 @@ pub fn is_alike(series: &Series, looked: &[Held]) -> bool
     ensures { (result ≡ true) ↔ AreHeld (held series.now) looked.now }
 {
     for one in looked {
-        if series.get(one.cell) != one.content {
+        if !is_one_alike(series, one) {
             return false;
         }
     }
@@ -23,10 +23,17 @@ pub fn is_kept_alike(series: &Series, looked: &HeldList) -> bool
     ensures { (result ≡ true) ↔ AreHeld (held series.now) looked.now }
 {
     for place in 0..looked.len() {
-        let one = looked.get(place);
-        if series.get(one.cell) != one.content {
+        if !is_one_alike(series, &looked.get(place)) {
             return false;
         }
     }
     true
+}
+
+// Whether a cell holds what it held then.
+#[inline(always)]
+fn is_one_alike(series: &Series, one: &Held) -> bool
+    ensures { (result ≡ true) ↔ (held series.now one.now.cell ≡ one.now.content) }
+{
+    series.get(one.cell) == one.content
 }

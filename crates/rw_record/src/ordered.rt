@@ -77,10 +77,15 @@ fn above(items: &[Held], place: u16, last: Cell) -> Option<Cell>
 }
 
 // By slot, and then by timestep.
-fn rank(items: &[Held], place: u16) -> (u16, u16) {
+fn rank(cell: Cell) -> u32 {
+    u32::from(cell.slot.0) * 65_536 + u32::from(cell.step.0)
+}
+
+// The rank of the cell in a place.
+fn rank_at(items: &[Held], place: u16) -> u32 {
     match items.get(usize::from(place)) {
-        Some(one) => (one.cell.slot.0, one.cell.step.0),
-        None => (0, 0),
+        Some(one) => rank(one.cell),
+        None => 0,
     }
 }
 
@@ -92,7 +97,7 @@ fn set_order(items: &[Held], order: &mut Vec<u16>) -> Result<(), NoMemory>
     for place in 0..items.len() {
         order.push(place as u16)?;
     }
-    order.sort_unstable_by_key(|place| rank(items, *place));
+    order.sort_unstable_by_key(|place| rank_at(items, *place));
     Ok(())
 }
 
