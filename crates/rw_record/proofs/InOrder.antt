@@ -1,19 +1,40 @@
 -- Cells that are picked by their places, and rise.
 use Rattle.rw_record.proofs.Common.{AreOnce, Cell, Contains, Contains-append_right, Contains-from_any, Contains-push_cases, Held, IsDistinct-push, List}
 use Rattle.rw_record.proofs.Common.{Option, None, Some, [], ap, arith, cells_noted, false, false≢true, get_or_from_slice_get, inl, inr, is_noted}
-use Rattle.rw_record.proofs.Common.{is_same_cell, length, length-map, list_any, list_any-from_Contains, nat_tests, refl, slice_get, slice_get_within}
+use Rattle.rw_record.proofs.Common.{is_same_cell, length, length-map, list_any, list_any-from_Contains, map, nat_tests, refl, slice_get, slice_get-get_or, slice_get_within}
 use Rattle.rw_record.proofs.Common.{subst, suc, sym, true, Bool, ℕ, ◌++◌, ◌+◌, ◌<◌, ◌↔◌, ◌∙◌, ◌∷◌, ◌≡◌, ◌≤◌, ◌⊎◌}
 use Rattle.std.proofs.Math.ListN.{length-append}
 use Rattle.std.proofs.lemmas.List.Elements.{All-contains, All-from_recursion, All-push, filter_map-append}
+use Rattle.std.proofs.lemmas.List.Elements.{Contains-get_or}
+use Rattle.std.proofs.lemmas.List.FromFn.{fill_by_all, get_or-range_with_len, length-range_with_len}
+use Rattle.std.proofs.lemmas.List.Sorted.{Contains-permutation, IsPermutation-map, IsPermutation-sym, length_permutation}
 use Rattle.std.proofs.lemmas.Map.Keys.{IsDistinct-head, IsDistinct-tail}
 use Rattle.std.proofs.lemmas.Map.Made.{length-le_from_is_member}
-use Rattle.std.specs.List.{AllByRecursion, IsDistinct, cons_option}
-use Rattle.rw_record.specs.InOrder.{IsAbove, RisesSo, RisesTo, picked}
-use Rattle.rw_record.specs.Merge.{IsBelowOrSame}
+use Rattle.std.specs.List.{AllByRecursion, IsDistinct, cons_option, range_with_len}
+use Rattle.std.specs.List.Sorted.{IsPermutation, IsSortedByKey}
+use Rattle.std.specs.Ordering.{is_lt, ordering_then}
+use Rattle.rw_base.proofs.Common.{get_or, get_or-map, nat_cmp, zero}
+use Rattle.rw_record.proofs.Rising.{place_of, rising}
+use Rattle.std.specs.Prelude.{Err, IfOk, Ok, Result}
+use Rattle.rw_record.specs.InOrder.{IsAbove, IsBelowOrSame, RisesAll, RisesSo, RisesTo, picked, rank_in, rank_of}
 use Rattle.rw_record.specs.Record.{AreRisingCells, IsBelow}
 use Rattle.rw_record.proofs.Cells.{cells_equiv, first_of, first_or, map_from, map_of, same_cell}
-use Rattle.rw_record.proofs.Merging.{at_most_both, below_at_most, itself}
 use Rattle.rw_record.proofs.Noting.{noted_from, noted_of}
+
+-- ---- the order of cells
+
+below_at_most : (a b : Cell) → IsBelow a b → IsBelowOrSame a b
+below_at_most a b (inl slot) = inl slot
+below_at_most a b (inr (slot, step)) = inr (slot, omega (arith, step))
+
+itself : (a : Cell) → IsBelowOrSame a a
+itself a = inr (refl, omega arith)
+
+at_most_both : (a b c : Cell) → IsBelowOrSame a b → IsBelowOrSame b c → IsBelowOrSame a c
+at_most_both a b c (inl one) (inl other) = inl (omega (arith, one, other))
+at_most_both a b c (inl one) (inr (slot, step)) = inl (omega (arith, one, slot))
+at_most_both a b c (inr (slot, step)) (inl other) = inl (omega (arith, other, slot))
+at_most_both a b c (inr (slot, step)) (inr (same, later)) = inr (slot ∙ same, omega (arith, step, later))
 
 -- ---- each of them is one of all
 
@@ -114,12 +135,17 @@ all_there items some once apart many from one has = by (is_noted some one.cell) 
         let there = length-map some (λ (held : Held). held.cell) in
         let all = length-map items (λ (held : Held). held.cell) in absurd (omega (arith, few, longer, there, all, many))
 
-pub members : (items : List Held) (order : List ℕ) → AreOnce items → length order ≡ length items → RisesSo items order
+pub members : (items : List Held) (order : List ℕ) → AreOnce items → RisesAll items order
     → (one : Held) → Contains (picked items order) one ↔ Contains items one
-members items order once many rises one = (
+members items order once rises one = (
   picked_from items order one,
-  all_there items (picked items order) once (rising_once (picked items order) rises.up) (rises.many ∙ many) (picked_from items order) one,
+  all_there items (picked items order) once (rising_once (picked items order) rises.so.up) (rises.so.many ∙ rises.all) (picked_from items order) one,
 )
+
+-- what is so of an answer gives another
+pub for_ok : {X E : Type 0} (P Q : X → Type 0) (result : Result X E) → IfOk result P → ((x : X) → P x → Q x) → IfOk result Q
+for_ok P Q (Ok x) holds gives = gives x holds
+for_ok P Q (Err why) holds gives = holds
 
 -- ---- one place more
 
@@ -165,3 +191,73 @@ one_above items order place last cell to above = record {
 
 pub none_yet : (items : List Held) (last : Cell) → RisesTo items [] last
 none_yet items last = record { so = record { many = refl; up = tt }; under = λ one has. absurd (omega (arith, has.1)) }
+
+-- ---- places that are sorted
+
+pub numbered : (from count last : ℕ) → from + count ≡ last → range_with_len from (suc count) ≡ range_with_len from count ++ last ∷ []
+numbered from zero last is = let same : from ≡ last = omega (arith, is) in ap (λ n. n ∷ []) same
+numbered from (suc count) last is =
+    let next : (from + 1) + count ≡ last = omega (arith, is) in ap (λ rest. from ∷ rest) (numbered (from + 1) count last next)
+
+module _ (items : List Held) (blank : Held) where
+  abbrev at : ℕ → Held
+  at place = get_or items place blank
+
+  picked_all : (order : List ℕ) → ((place : ℕ) → Contains order place → place < length items) → picked items order ≡ map at order
+  picked_all [] near = refl
+  picked_all (place ∷ order) near =
+      ap (λ found. cons_option found (picked items order)) (slice_get-get_or items place blank (near place (first_of place order)))
+      ∙ ap (λ rest. at place ∷ rest) (picked_all order (λ other has. near other (Contains-append_right (place ∷ []) order other has)))
+
+  in_range : (order : List ℕ) → IsPermutation (range_with_len 0 (length items)) order → (place : ℕ) → Contains order place → place < length items
+  in_range order moved place has =
+      let there = Contains-permutation order (range_with_len 0 (length items)) place (IsPermutation-sym _ _ moved) has in
+      let many = length-range_with_len 0 (length items) in
+      let near : there.0 < length items = let within = there.1 in omega (arith, within, many) in
+      let is = get_or-range_with_len 0 (length items) there.0 place near in
+      let same = there.2 in omega (arith, is, same, near)
+
+  sorted_at : (order : List ℕ) → ((place : ℕ) → Contains order place → place < length items)
+      → IsSortedByKey (rank_in items) (λ one other. ordering_then (nat_cmp one.0 other.0) (nat_cmp one.1 other.1)) order
+      → IsSortedByKey place_of (λ one other. ordering_then (nat_cmp one.0 other.0) (nat_cmp one.1 other.1)) (map at order)
+  sorted_at order near up k d low high =
+      let many = length-map order at in
+      let next : k + 1 < length order = omega (arith, high, many) in
+      let this : k < length order = omega (arith, next) in
+      let one = ranked k this in
+      let other = ranked (k + 1) next in
+      subst (λ it. is_lt (ordering_then (nat_cmp (place_of (get_or (map at order) (k + 1) d)).0 it.0)
+      (nat_cmp (place_of (get_or (map at order) (k + 1) d)).1 it.1)) ≡ false) (one d)
+      (subst (λ it. is_lt (ordering_then (nat_cmp it.0 (rank_in items (get_or order k 0)).0) (nat_cmp it.1 (rank_in items (get_or order k 0)).1)) ≡ false)
+      (other d) (up k 0 low next))
+    where
+      ranked : (k : ℕ) → k < length order → (d : Held) → rank_in items (get_or order k 0) ≡ place_of (get_or (map at order) k d)
+      ranked k within d =
+          ap rank_of (slice_get-get_or items (get_or order k 0) blank (near (get_or order k 0) (Contains-get_or order k 0 within)))
+          ∙ ap place_of (sym (get_or-map at order k 0 d within))
+
+  sorted_all : (order : List ℕ) → AreOnce items → IsPermutation (range_with_len 0 (length items)) order
+      → IsSortedByKey (rank_in items) (λ one other. ordering_then (nat_cmp one.0 other.0) (nat_cmp one.1 other.1)) order → RisesAll items order
+  sorted_all order once moved up =
+      let near = in_range order moved in
+      let here : picked items order ≡ map at order = picked_all order near in
+      let whole : items ≡ map at (range_with_len 0 (length items)) = fill_by_all at items (length items) blank refl (λ k within. refl) in
+      let moves : IsPermutation items (map at order) =
+      subst (λ all. IsPermutation all (map at order)) (sym whole) (IsPermutation-map at (range_with_len 0 (length items)) order moved) in
+      record {
+        all = length_permutation (range_with_len 0 (length items)) order moved ∙ length-range_with_len 0 (length items);
+        so = record {
+          many = ap length here ∙ length-map order at;
+          up = subst AreRisingCells (sym here) (rising items (map at order) moves once (sorted_at order near up));
+        };
+      }
+
+pub sorted_rises : (items : List Held) (order : List ℕ) → AreOnce items → IsPermutation (range_with_len 0 (length items)) order
+    → IsSortedByKey (rank_in items) (λ one other. ordering_then (nat_cmp one.0 other.0) (nat_cmp one.1 other.1)) order → RisesAll items order
+sorted_rises [] order once moved up =
+    let none = length_permutation [] order moved in empty order none
+  where
+    empty : (order : List ℕ) → length order ≡ 0 → RisesAll [] order
+    empty [] none = record { all = refl; so = record { many = refl; up = tt } }
+    empty (place ∷ order) none = absurd (omega (arith, none))
+sorted_rises (first ∷ items) order once moved up = sorted_all (first ∷ items) first order once moved up

@@ -35,14 +35,14 @@ impl Model for HeldList {
 }
 
 impl HeldList {
-    /// These cells. The one error is want of memory.
-    pub fn of(alloc: Global, items: &[Held]) -> Result<HeldList, NoMemory>
-        requires { length items.now ≤ most_kept }
-        ensures { IfOk result (λ list. list ≡ items.now) }
+    /// The cells that stand in these places. The one error is want of memory.
+    pub(crate) fn of(alloc: Global, items: &[Held], order: &[u16]) -> Result<HeldList, NoMemory>
+        requires { length order.now ≤ most_kept }
+        ensures { IfOk result (λ list. list ≡ picked items.now order.now) }
     {
         let mut cells = Vec::with_capacity(alloc, items.len())?;
         let mut contents = Vec::with_capacity(alloc, count_known(items))?;
-        add_all(&mut cells, &mut contents, items)?;
+        add_all(&mut cells, &mut contents, items, order)?;
         Ok(HeldList { cells, contents })
     }
 
@@ -64,17 +64,6 @@ impl HeldList {
     }
 }
 
-/// The cells that stand in these places. The one error is want of memory.
-pub(crate) fn in_order(alloc: Global, items: &[Held], order: &[u16]) -> Result<HeldList, NoMemory>
-    requires { length order.now ≤ most_kept }
-    ensures { IfOk result (λ list. list ≡ picked items.now order.now) }
-{
-    let mut cells = Vec::with_capacity(alloc, items.len())?;
-    let mut contents = Vec::with_capacity(alloc, count_known(items))?;
-    add_picked(&mut cells, &mut contents, items, order)?;
-    Ok(HeldList { cells, contents })
-}
-
 // How many of the cells held something.
 fn count_known(items: &[Held]) -> usize
     ensures { result ≤ length items.now }
@@ -88,25 +77,8 @@ fn count_known(items: &[Held]) -> usize
     count
 }
 
-// Adds these cells to none.
-fn add_all(
-    cells: &mut Vec<PlacedCell>,
-    contents: &mut Vec<Content>,
-    items: &[Held],
-) -> Result<(), NoMemory>
-    requires few { length items.now ≤ most_kept }
-    requires cells { cells.old.items ≡ [] }
-    requires contents { contents.old.items ≡ [] }
-    ensures { IfOk result (λ _. AreListed items.now cells.new.items contents.new.items) }
-{
-    for one in items {
-        add(cells, contents, one)?;
-    }
-    Ok(())
-}
-
 // Adds those that stand in these places to none.
-fn add_picked(
+fn add_all(
     cells: &mut Vec<PlacedCell>,
     contents: &mut Vec<Content>,
     items: &[Held],
