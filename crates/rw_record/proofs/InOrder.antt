@@ -1,7 +1,7 @@
 -- Cells that are picked by their places, and rise.
 use Rattle.rw_record.proofs.Common.{AreOnce, Cell, Contains, Contains-append_right, Contains-from_any, Contains-push_cases, Held, IsDistinct-push, List}
 use Rattle.rw_record.proofs.Common.{Option, None, Some, [], ap, arith, cells_noted, false, false≢true, get_or_from_slice_get, inl, inr, is_noted}
-use Rattle.rw_record.proofs.Common.{is_same_cell, length, length-map, list_any, list_any-from_Contains, map, nat_tests, refl, slice_get, slice_get-get_or, slice_get_within}
+use Rattle.rw_record.proofs.Common.{is_same_cell, length, length-map, map, nat_tests, refl, slice_get, slice_get-get_or, slice_get_within}
 use Rattle.rw_record.proofs.Common.{subst, suc, sym, true, Bool, ℕ, ◌++◌, ◌+◌, ◌<◌, ◌↔◌, ◌∙◌, ◌∷◌, ◌≡◌, ◌≤◌, ◌⊎◌}
 use Rattle.std.proofs.Math.ListN.{length-append}
 use Rattle.std.proofs.lemmas.List.Elements.{All-contains, All-from_recursion, All-push, filter_map-append}
@@ -16,7 +16,7 @@ use Rattle.std.specs.Ordering.{is_lt, ordering_then}
 use Rattle.rw_base.proofs.Common.{get_or, get_or-map, nat_cmp, zero}
 use Rattle.rw_record.proofs.Rising.{place_of, rising}
 use Rattle.std.specs.Prelude.{Err, IfOk, Ok, Result}
-use Rattle.rw_record.specs.InOrder.{IsAbove, IsBelowOrSame, RisesAll, RisesSo, RisesTo, picked, rank_in, rank_of}
+use Rattle.rw_record.specs.InOrder.{IsAbove, IsBelowOrSame, RisesAll, RisesTo, picked, rank_in, rank_of}
 use Rattle.rw_record.specs.Record.{AreRisingCells, IsBelow}
 use Rattle.rw_record.proofs.Cells.{cells_equiv, first_of, first_or, map_from, map_of, same_cell}
 use Rattle.rw_record.proofs.Noting.{noted_from, noted_of}

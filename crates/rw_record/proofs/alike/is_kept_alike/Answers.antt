@@ -1,4 +1,4 @@
-use Rattle.rw_record.proofs.Common.{false≢true, get_or_from_slice_get, held, length, refl, rules, slice_get_within, subst, sym, ◌≡◌, ◌≢◌, ◌≤◌}
+use Rattle.rw_record.proofs.Common.{false≢true, get_or_from_slice_get, held, refl, rules, slice_get_within, subst, sym, ◌≡◌, ◌≢◌, ◌≤◌}
 use Rattle.rw_record.proofs.Holding.{all_of, one_more}
 use Rattle.rw_record.proofs.alike.is_kept_alike.Goals as goal
 

@@ -1,6 +1,5 @@
-use Rattle.rw_record.proofs.Common.{List, length, rules, subst, sym, ℕ}
+use Rattle.rw_record.proofs.Common.{List, rules, subst, ℕ}
 use Rattle.rw_base.proofs.Common.{always_returns_same, of_calls}
-use Rattle.std.specs.List.{range_with_len}
 use Rattle.std.specs.List.Sorted.{IsPermutation}
 use Rattle.rw_record.specs.InOrder.{rank_in}
 use Rattle.rw_record.proofs.InOrder.{sorted_rises}

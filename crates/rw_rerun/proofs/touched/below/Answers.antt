@@ -1,4 +1,4 @@
-use Rattle.rw_base.proofs.Common.{◌≡◌, ◌+◌, ◌-◌, ◌/◌, ◌<◌, ◌≤◌, ℕ, Some, arith, false≢true, length, refl, slice_get, subst, sym, ◌∙◌}
+use Rattle.rw_base.proofs.Common.{◌≡◌, ◌+◌, ◌-◌, ◌/◌, ◌<◌, ℕ, arith, false≢true, length, subst, sym, ◌∙◌}
 use Rattle.rw_rerun.specs.Touched.{AreNotBelow}
 use Rattle.rw_rerun.proofs.Order.{no_others, none_below, on_below, on_others}
 use Rattle.rw_rerun.proofs.touched.below.Goals as goal

@@ -1,4 +1,4 @@
-use Rattle.rw_base.proofs.Common.{ap, arith, length, refl, sym, ◌∙◌}
+use Rattle.rw_base.proofs.Common.{arith, sym}
 use Rattle.std.proofs.lemmas.Option.{slice_get_past}
 use Rattle.rw_rerun.proofs.Order.{found_there, nothing_there}
 use Rattle.rw_rerun.proofs.touched.is_among.Goals as goal
