@@ -1,8 +1,9 @@
 -- Passing a timestep again, by its record.
 use Rattle.rw_engine.proofs.Common.{Cell, Cells, Draft, Event, Leads, List, Log, None, Option, Policy, Some, State, [], ap, append_assoc, cells_of}
-use Rattle.rw_engine.proofs.Common.{closed, held, last_put, length, lines, opened, option_or, refl, rests, seen, standing, subst, sym, trace_of, ℕ}
+use Rattle.rw_engine.proofs.Common.{closed, held, last_put, length, lines, opened, option_map, option_or, refl, rests, seen, standing, subst, sym, trace_of, ℕ}
 use Rattle.rw_engine.proofs.Common.{◌++◌, ◌+◌, ◌∙◌, ◌∷◌, ◌≡◌, ◌≤◌}
-use Rattle.std.specs.Prelude.{Contains, Err, IfSome, Ok, Result, ◌⊎◌}
+use Rattle.core.specs.Result.{IsErrAnd}
+use Rattle.std.specs.Prelude.{Contains, Err, IfSome, Ok, Result, is_some, ◌⊎◌}
 use Rattle.std.specs.List.{flat_map}
 use Rattle.rw_base.proofs.Common.{arith, inl, inr}
 use Rattle.rw_base.specs.declared.memory.NoMemory.{NoMemory}
@@ -13,13 +14,14 @@ use Rattle.rw_run.specs.Waiting.{first_waiting}
 use Rattle.rw_run.specs.Step.{reached_by}
 use Rattle.rw_run.specs.Timestep.{AreLooked, IsTimestep}
 use Rattle.rw_run.specs.declared.held.Held.{Held}
+use Rattle.rw_run.specs.declared.trace.TraceEvent.{TraceEvent}
 use Rattle.rw_record.specs.Noted.{AreHeld, AreOnce, cells_noted, noted_after, with_noted}
 use Rattle.rw_record.specs.Record.{StepRecord}
 use Rattle.rw_record.proofs.Cells.{map_from, map_of}
 use Rattle.rw_record.proofs.Noting.{IsNew, new_in, old_or, once}
 use Rattle.rw_record.proofs.Taking.{opened as nothing_noted}
-use Rattle.rw_engine.specs.Passing.{Replays}
-use Rattle.rw_engine.specs.Records.{CanWriteLines, puts_in}
+use Rattle.rw_engine.specs.Passing.{Replays, ReplaysKept}
+use Rattle.rw_engine.specs.Records.{CanWriteLines, IsUntold, puts_in}
 use Rattle.rw_engine.specs.Shows.{CanReplay}
 use Rattle.rw_engine.specs.State.{HasReplayed, IsSoundState, cleared}
 use Rattle.rw_engine.proofs.Records.{held_again}
@@ -178,4 +180,81 @@ replays basin kept old new (Ok done) again step can has = record {
   untold = tt;
   keeps = record { trace = has.keeps_trace; noted = has.notes };
   closed_steps = has.ends.1;
+}
+
+-- ---- with no timestep noted behind it
+
+pub kept_fails : (basin : Draft) (kept : StepRecord) (old new : State) (want : NoMemory) → Replays basin kept (seen old) (seen new) (Err want)
+    → ReplaysKept basin kept (seen old) (seen new) (Err want)
+kept_fails basin kept old new want replays = record {
+  made = replays.made;
+  passes = λ policy log framed records shows before alike. tt;
+  before = replays.before;
+  untold = replays.untold;
+  keeps = replays.keeps;
+  closed_steps = tt;
+}
+
+pub kept_wants : (basin : Draft) (kept : StepRecord) (old new : State) (result : Result (Unit {0}) NoMemory) (P : NoMemory → Type 0)
+    → IsErrAnd result P
+    → ((want : NoMemory) → ReplaysKept basin kept (seen old) (seen new) (Err want)) → ReplaysKept basin kept (seen old) (seen new) result
+kept_wants basin kept old new (Ok done) P wants fails = absurd wants
+kept_wants basin kept old new (Err want) P wants fails = fails want
+
+-- a state that would have noted it too
+abbrev pub noting : StepRecord → State → State → State
+noting kept old new = record new {
+  noted = with_noted (held old.run.series) (cells_noted kept.looked) (cleared old.noted);
+  lines = option_map (λ told. kept.lines) old.lines;
+}
+
+pub noting_some : (cells : Cells) (more : List Cell) (found : Option (List Held)) → is_some (with_noted cells more (cleared found)) ≡ is_some found
+noting_some cells more None = refl
+noting_some cells more (Some noted) = refl
+
+pub telling_some : (told : List TraceEvent) (lines : Option (List TraceEvent)) → is_some (option_map (λ these. told) lines) ≡ is_some lines
+telling_some told None = refl
+telling_some told (Some lines) = refl
+
+pub telling : (told : List TraceEvent) (lines : Option (List TraceEvent)) → IfSome (option_map (λ these. told) lines) (λ these. these ≡ told)
+telling told None = tt
+telling told (Some lines) = refl
+
+-- what is so of that one is so of one that hasn't
+pub kept_passes : (basin : Draft) (kept : StepRecord) (old new : State) (done : Unit {0})
+    → Replays basin kept (seen old) (seen (noting kept old new)) (Ok done)
+    → is_some new.noted ≡ is_some old.noted → is_some new.lines ≡ is_some old.lines → is_some new.run.trace ≡ is_some old.run.trace
+    → IsUntold (seen new) → ReplaysKept basin kept (seen old) (seen new) (Ok done)
+kept_passes basin kept old new done replays notes keeps_lines keeps_trace untold = record {
+  made = λ policy made.
+      let also = replays.made policy made in
+      record {
+        valid = also.valid;
+        fits = also.fits;
+        objects = also.objects;
+        rules = also.rules;
+        series = also.series;
+        closed_steps = also.closed_steps;
+        notes = alike_on old.noted new.noted old.lines new.lines old.run.trace new.run.trace notes keeps_lines keeps_trace made.notes;
+      };
+  passes = λ policy log framed records shows before alike.
+      let also = replays.passes policy log framed records shows before alike in
+      record {
+        events = also.events;
+        last = also.last;
+        before = also.before;
+        leads = also.leads;
+        within = also.within;
+        ends = also.ends;
+        shows = record {
+          cells = also.shows.cells;
+          trace = also.shows.trace;
+          closed_steps = also.shows.closed_steps;
+          end = also.shows.end;
+        };
+      };
+  before = λ log shows. tt;
+  untold = untold;
+  keeps = record { trace = keeps_trace; noted = notes };
+  closed_steps = replays.closed_steps;
 }

@@ -77,6 +77,26 @@ pub record Replays (basin : Draft) (kept : StepRecord) (old new : Engine) (resul
   pub keeps : KeepsOn old new
   pub closed_steps : IfOk result (λ done. new.closed ≡ kept.step)
 
+-- the events of the timestep follow, up to its closing, and the engine shows them
+pub record PassesAgain (basin : Draft) (policy : Policy) (log : Log) (engine : Engine) (step : ℕ) : Type 0 where
+  pub events : List Event
+  pub last : Event
+  pub before : Log
+  pub leads : Leads basin policy log events (last ∷ before)
+  pub within : standing before ≡ inside step
+  pub ends : EndsBy IsClosed step last
+  pub shows : Shows basin engine (last ∷ before)
+
+-- a call does so, and no timestep is noted behind it
+pub record ReplaysKept (basin : Draft) (kept : StepRecord) (old new : Engine) (result : Result (Unit {0}) NoMemory) : Type 0 where
+  pub made : (policy : Accepted) → IsEngineOf basin policy old → IsEngineOf basin policy new
+  pub passes : (policy : Policy) (log : Log) → IsFramed policy → Records basin policy kept → Shows basin old log → IsBefore basin kept.step log
+      → AreHeld (held old.series) kept.looked → IfOk result (λ done. PassesAgain basin policy log new kept.step)
+  pub before : (log : Log) → Shows basin old log → IfErr result (λ fault. Shows basin new log)
+  pub untold : IsUntold new
+  pub keeps : KeepsOn old new
+  pub closed_steps : IfOk result (λ done. new.closed ≡ kept.step)
+
 -- an engine has come back to this log, and is one of what it was one of
 pub record ComesBack (basin : Draft) (log : Log) (old new : Engine) : Type 0 where
   pub made : (policy : Accepted) → IsEngineOf basin policy old → IsEngineOf basin policy new

@@ -9,7 +9,7 @@ ghost use Rattle.rw_model.specs.Links.{IsBetween, bounds_in};
 ghost use Rattle.rw_series.specs.Series.{IsCell, held};
 ghost use Rattle.rw_record.specs.Noted.{AreHeld};
 ghost use Rattle.rw_engine.specs.Shows.{CanReplay, IsEngineOf, Shows};
-ghost use Rattle.rw_engine.specs.Passing.{BeginsRun, CanRun, GivesInput, Replays, RunsStep, TakesBack, steps_of};
+ghost use Rattle.rw_engine.specs.Passing.{BeginsRun, CanRun, GivesInput, Replays, ReplaysKept, RunsStep, TakesBack, steps_of};
 ghost use Rattle.rw_engine.specs.Picked.{RunsStepBy};
 ghost use Rattle.rw_engine.specs.Records.{CanWriteLines, HasNoted, IsUntold, RecordsOrNot};
 
@@ -24,7 +24,7 @@ use rw_dispatch::{Oldest, Pick};
 use rw_inputs::Inputs;
 use rw_method::Catalogue;
 use rw_model::Basin;
-use rw_record::{Noted, StepRecord, is_alike};
+use rw_record::{KeptStep, Noted, StepRecord, is_alike, is_kept_alike, listed};
 use rw_run::{Run, Trace};
 use std::alloc::Global;
 use std::marker::Model;
@@ -192,7 +192,24 @@ impl Engine {
             → IfOk result (RecordsOrNot basin step old events) }
         ensures untold { IsUntold self.now → IfOk result (λ kept. kept ≡ None) }
     {
-        self.state.last_record(alloc)
+        let mut order = Vec::new(alloc);
+        let kept = self.last_kept(alloc, &mut order)?;
+        listed(alloc, kept)
+    }
+
+    /// The same as it is kept. `order` is that in which the cells of another timestep rose, or any other: where those of this one
+    /// rise so too they need no sorting.
+    pub fn last_kept(
+        &self,
+        alloc: Global,
+        order: &mut Vec<u16>,
+    ) -> Result<Option<KeptStep>, NoMemory>
+        ensures noted { (basin : Draft) (step : ℕ) (old : Log) (events : List Event)
+            → HasNoted basin step old events self.now → self.now.closed ≡ step
+            → IfOk result (RecordsOrNot basin step old events) }
+        ensures untold { IsUntold self.now → IfOk result (λ kept. kept ≡ None) }
+    {
+        self.state.last_kept(alloc, order)
     }
 
     /// Whether each cell at which a timestep looked holds what it held before it then.
@@ -200,6 +217,13 @@ impl Engine {
         ensures { (result ≡ true) ↔ AreHeld (held self.now.series) kept.now.looked }
     {
         is_alike(&self.state.run().series, kept.looked())
+    }
+
+    /// So by what is kept of it.
+    pub fn is_kept_alike(&self, kept: &KeptStep) -> bool
+        ensures { (result ≡ true) ↔ AreHeld (held self.now.series) kept.now.looked }
+    {
+        is_kept_alike(&self.state.run().series, kept.looked())
     }
 
     /// Passes a timestep again, by its record, without asking methods and rules. Where its cells are alike, and it comes after the
@@ -211,11 +235,29 @@ impl Engine {
         requires made { CanReplay basin.now self.old }
         ensures { Replays basin.now kept.now self.old self.new result }
     {
-        self.state.replay(basin, kept)
+        self.state.replay(basin, kept.kept())
+    }
+
+    /// The same by what is kept of it, but no timestep is noted behind it.
+    pub fn replay_kept(&mut self, basin: &Basin, kept: &KeptStep) -> Result<(), NoMemory>
+        requires step { IsStep basin.now kept.now.step }
+        requires can { CanWriteLines basin.now kept.now.lines }
+        requires made { CanReplay basin.now self.old }
+        ensures { ReplaysKept basin.now kept.now self.old self.new result }
+    {
+        self.state.replay_kept(basin, kept)
     }
 
     /// Takes the timestep that was closed last back, by its record: the engine shows the log before it. It takes no memory.
     pub fn take_back(&mut self, basin: &Basin, kept: &StepRecord)
+        requires made { CanReplay basin.now self.old }
+        ensures { TakesBack basin.now kept.now self.old self.new }
+    {
+        self.take_back_kept(basin, kept.kept())
+    }
+
+    /// The same by what is kept of it.
+    pub fn take_back_kept(&mut self, basin: &Basin, kept: &KeptStep)
         requires made { CanReplay basin.now self.old }
         ensures { TakesBack basin.now kept.now self.old self.new }
     {

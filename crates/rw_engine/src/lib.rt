@@ -21,7 +21,7 @@ mod turn;
 
 pub use engine::Engine;
 pub use running::{run_all, run_all_of, run_by_of};
-pub use rw_record::{Held, StepRecord};
+pub use rw_record::{Held, HeldList, KeptStep, StepRecord};
 pub use rw_run::{Run, RunEnd, RunFault, Trace, TraceEvent};
 pub use setup::RunSetup;
 pub use step_end::StepEnd;

@@ -15,16 +15,16 @@ ghost use Rattle.rw_engine.specs.Records.{CanWriteLines, puts_in};
 use rw_base::NoMemory;
 use rw_dispatch::make;
 use rw_model::Basin;
-use rw_record::{Held, Noted, StepRecord};
+use rw_record::{HeldList, KeptStep, Noted};
 use rw_run::{Trace, Write};
 use rw_series::Series;
 
 // Notes these cells, with what they hold now.
-fn note_again(noted: &mut Noted, series: &Series, looked: &[Held]) -> Result<(), NoMemory>
+fn note_again(noted: &mut Noted, series: &Series, looked: &HeldList) -> Result<(), NoMemory>
     ensures { NotesAll (held series.now) (cells_noted looked.now) noted.old noted.new result }
 {
-    for one in looked {
-        noted.note(series, one.cell)?;
+    for place in 0..looked.len() {
+        noted.note(series, looked.get(place).cell)?;
     }
     Ok(())
 }
@@ -35,7 +35,7 @@ pub(crate) fn retell(
     lines: &mut Trace,
     trace: &mut Trace,
     series: &Series,
-    kept: &StepRecord,
+    kept: &KeptStep,
 ) -> Result<(), NoMemory>
     requires { IfSome lines.old (λ these. these ≡ []) }
     ensures kept { is_some noted.new ≡ is_some noted.old }

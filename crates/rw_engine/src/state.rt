@@ -11,7 +11,7 @@ ghost use Rattle.rw_model.specs.Links.{IsBetween, bounds_in};
 ghost use Rattle.rw_series.specs.Series.{IsCell};
 ghost use Rattle.rw_dispatch.specs.Pick.{picked_at};
 ghost use Rattle.rw_dispatch.specs.Queue.{IsTaken};
-ghost use Rattle.rw_engine.specs.Passing.{CanRun, GivesInput, Replays, TakesBack};
+ghost use Rattle.rw_engine.specs.Passing.{CanRun, GivesInput, Replays, ReplaysKept, TakesBack};
 ghost use Rattle.rw_run.specs.Runs.{inside};
 ghost use Rattle.rw_engine.specs.Picked.{PicksAt, RunsStepBy};
 ghost use Rattle.rw_engine.specs.Shows.{CanReplay, IsEngineOf, Shows};
@@ -35,7 +35,7 @@ use rw_base::{Cell, NoMemory, ObjectNo, Qty, RuleNo, StepNo};
 use rw_dispatch::{Pick, Queue, Workspace, judge_dispatch, make};
 use rw_inputs::Inputs;
 use rw_model::Basin;
-use rw_record::{Noted, StepRecord, put_back, take_back};
+use rw_record::{KeptStep, Noted, put_back_kept, take_back};
 use rw_rules::{RuleSetup, Rules};
 use rw_run::law::again;
 use rw_run::{Run, RunEnd, RunFault, Trace, TraceEvent};
@@ -395,7 +395,11 @@ impl State {
     }
 
     /// The record of the timestep that was closed last, if its lines are noted and it isn't too large.
-    pub(crate) fn last_record(&self, alloc: Global) -> Result<Option<StepRecord>, NoMemory>
+    pub(crate) fn last_kept(
+        &self,
+        alloc: Global,
+        order: &mut Vec<u16>,
+    ) -> Result<Option<KeptStep>, NoMemory>
         ensures noted { (basin : Draft) (step : ℕ) (old : Log) (events : List Event)
             → HasNoted basin step old events (seen self.now) → self.now.run.closed ≡ step
             → IfOk result (RecordsOrNot basin step old events) }
@@ -405,11 +409,18 @@ impl State {
         if count == 0 {
             return Ok(None);
         }
-        StepRecord::of(alloc, StepNo(self.run.closed), &self.noted, &self.lines, 0)
+        KeptStep::of(
+            alloc,
+            StepNo(self.run.closed),
+            &self.noted,
+            &self.lines,
+            0,
+            order,
+        )
     }
 
     // Passes a timestep again.
-    fn pass_again(&mut self, basin: &Basin, kept: &StepRecord) -> Result<(), NoMemory>
+    fn pass_again(&mut self, basin: &Basin, kept: &KeptStep) -> Result<(), NoMemory>
         requires can { CanWriteLines basin.now kept.now.lines }
         requires made { IsHeldIn basin.now self.old.run.series }
         ensures { HasReplayed basin.now kept.now self.old self.new result }
@@ -436,7 +447,7 @@ impl State {
     }
 
     /// Passes a timestep again, by its record.
-    pub(crate) fn replay(&mut self, basin: &Basin, kept: &StepRecord) -> Result<(), NoMemory>
+    pub(crate) fn replay(&mut self, basin: &Basin, kept: &KeptStep) -> Result<(), NoMemory>
         requires step { IsStep basin.now kept.now.step }
         requires can { CanWriteLines basin.now kept.now.lines }
         requires made { CanReplay basin.now (seen self.old) }
@@ -447,8 +458,26 @@ impl State {
         self.pass_again(basin, kept)
     }
 
+    /// The same, but no timestep is noted behind it.
+    pub(crate) fn replay_kept(&mut self, basin: &Basin, kept: &KeptStep) -> Result<(), NoMemory>
+        requires step { IsStep basin.now kept.now.step }
+        requires can { CanWriteLines basin.now kept.now.lines }
+        requires made { CanReplay basin.now (seen self.old) }
+        ensures replays { ReplaysKept basin.now kept.now (seen self.old) (seen self.new) result }
+        ensures sound { IsSoundState self.old → IsSoundState self.new }
+    {
+        again();
+        self.noted.begin_step();
+        self.lines.truncate(0);
+        self.run.trace.append(kept.lines(), 0)?;
+        write_again(basin, &mut self.run.series, kept.lines());
+        self.run.closed = kept.step().0;
+        self.run.end = RunEnd::Settled;
+        Ok(())
+    }
+
     /// Takes the timestep that was closed last back, by its record.
-    pub(crate) fn take_back(&mut self, basin: &Basin, kept: &StepRecord)
+    pub(crate) fn take_back(&mut self, basin: &Basin, kept: &KeptStep)
         requires made { CanReplay basin.now (seen self.old) }
         ensures back { TakesBack basin.now kept.now (seen self.old) (seen self.new) }
         ensures sound { IsSoundState self.old → IsSoundState self.new }
@@ -457,7 +486,7 @@ impl State {
         self.lines.truncate(0);
         let before = self.run.trace.len().saturating_sub(kept.lines().len());
         self.run.trace.truncate(before);
-        put_back(basin, &mut self.run.series, kept.looked());
+        put_back_kept(basin, &mut self.run.series, kept.looked());
         self.run.closed = kept.step().0.saturating_sub(1);
         self.run.end = RunEnd::Settled;
     }

@@ -1,7 +1,8 @@
 pub mod Noted
 pub mod Notes
 pub mod Marks
+pub mod HeldList
 pub mod Record
-pub mod Merge
+pub mod InOrder
 pub mod Back
 pub mod Worked

@@ -6,7 +6,7 @@ ghost use Rattle.rw_record.specs.Back.{AreCellsOf, is_cell};
 ghost use Rattle.rw_record.specs.Noted.{noted_in};
 ghost use Rattle.rw_record.specs.Notes.{CanTakeBack};
 
-use crate::Noted;
+use crate::{HeldList, Noted};
 use rw_base::Cell;
 use rw_model::Basin;
 use rw_run::Held;
@@ -43,6 +43,19 @@ pub fn put_back(basin: &Basin, series: &mut Series, items: &[Held])
 {
     for one in items {
         put_one(basin, series, one);
+    }
+}
+
+/// So of a list that is kept.
+pub fn put_back_kept(basin: &Basin, series: &mut Series, items: &HeldList)
+    requires made { IsSeriesOf basin.now series.old }
+    ensures made { IsSeriesOf basin.now series.new }
+    ensures back { (before : Cells) → AreCellsOf basin.now before
+        → CanTakeBack before (held series.old) items.now
+        → (cell : Cell) → held series.new cell ≡ before cell }
+{
+    for place in 0..items.len() {
+        put_one(basin, series, &items.get(place));
     }
 }
 

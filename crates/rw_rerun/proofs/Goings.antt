@@ -22,7 +22,7 @@ use Rattle.std.specs.List.{flat_map}
 use Rattle.rw_record.specs.Noted.{AreHeld, AreOnce}
 use Rattle.rw_record.specs.Record.{StepRecord}
 use Rattle.rw_engine.specs.Engine.{Engine}
-use Rattle.rw_engine.specs.Passing.{Passes, Replays, RunsStep}
+use Rattle.rw_engine.specs.Passing.{Passes, PassesAgain, ReplaysKept, RunsStep}
 use Rattle.rw_engine.specs.Records.{HasNoted, RecordsOrNot}
 use Rattle.rw_engine.specs.Shows.{CanShow, IsBefore, IsEngineOf}
 use Rattle.rw_engine.specs.declared.step_end.StepEnd.TheVariants.{Closed as IsClosed, Fault as IsFault}
@@ -85,7 +85,7 @@ module _ (basin : Draft) (policy : Accepted) (step : ℕ) (old new : Pass) (made
 
   pub take_goes : (steps : ℕ) (done : Unit {0}) (kept : StepRecord) → old.over ≡ false → new.over ≡ false → IsStep basin step
       → IsReplayable basin step kept
-      → AreHeld (held old.engine.series) kept.looked → Replays basin kept old.engine new.engine (Ok done) → new.reran.items ≡ old.reran.items
+      → AreHeld (held old.engine.series) kept.looked → ReplaysKept basin kept old.engine new.engine (Ok done) → new.reran.items ≡ old.reran.items
       → new.changes.items ≡ old.changes.items ++ None ∷ [] → GoesOn basin policy step (λ entry. entry ≡ Some kept) old new steps steps (Ok done)
   take_goes steps done kept goes still_goes exists can alike replays reran changes = record {
     made = record { made = replays.made policy made.made; noted = replays.keeps.noted ∙ made.noted };
@@ -100,8 +100,8 @@ module _ (basin : Draft) (policy : Accepted) (step : ℕ) (old new : Pass) (made
         before_next basin in_run inputs earlier was old new last step entry None way next_one there.there changes goes exists.last in
         let none : (other : ℕ) → step ≤ other → events_of other now ≡ [] =
         none_open basin in_run inputs earlier was old new last step entry None way next_one there.there changes in
-        let passes : Passes basin in_run now IsClosed new.engine step =
-        subst (λ s. Passes basin in_run now IsClosed new.engine s) can.step_is
+        let passes : PassesAgain basin in_run now new.engine step =
+        subst (λ s. PassesAgain basin in_run now new.engine s) can.step_is
         (replays.passes in_run now framed (record_stands basin in_run earlier now now step kept is held_now) way.shows
         (subst (λ s. IsBefore basin s now) (sym can.step_is) before) alike) in
         let timestep : IsTimestep basin in_run step now is.first is.events =

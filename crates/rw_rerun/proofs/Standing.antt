@@ -15,10 +15,9 @@ use Rattle.rw_run.specs.Timestep.{IsTimestep}
 use Rattle.rw_run.proofs.Passings.{one_timestep}
 use Rattle.rw_record.specs.Noted.{AreHeld, is_noted}
 use Rattle.rw_record.specs.Record.{StepRecord}
-use Rattle.rw_engine.specs.Passing.{ComesBack, Passes, Replays, TakesBack}
+use Rattle.rw_engine.specs.Passing.{ComesBack, PassesAgain, ReplaysKept, TakesBack}
 use Rattle.rw_engine.specs.Records.{Records, RecordsThese}
 use Rattle.rw_engine.specs.Shows.{CanShow, IsBefore, Shows}
-use Rattle.rw_engine.specs.declared.step_end.StepEnd.TheVariants.{Closed as IsClosed}
 use Rattle.rpl_verify.specs.Verified.{Accepted, verified}
 use Rattle.rw_engine.proofs.Backs.{taken}
 use Rattle.rw_engine.proofs.Steps.{trace_after}
@@ -105,7 +104,7 @@ length_taken (suc count) [] few = absurd (omega (arith, few))
 length_taken (suc count) (one ∷ was) few = ap suc (length_taken count was (omega (arith, few)))
 
 link_on : (basin : Draft) (policy : Policy) (step : ℕ) (log next : Log) (kept : StepRecord) (old new : Spare) (done : Unit {0}) → IsFramed policy
-    → step ≤ basin.control.stamps.count → IsLinkOf basin policy step log kept next → Replays basin kept old.engine new.engine (Ok done)
+    → step ≤ basin.control.stamps.count → IsLinkOf basin policy step log kept next → ReplaysKept basin kept old.engine new.engine (Ok done)
     → Shows basin old.engine log → Shows basin new.engine next
 link_on basin policy step log next kept old new done framed exists link replays shows =
     let at = sym link.these.step_is in
@@ -119,8 +118,8 @@ link_on basin policy step log next kept old new done framed exists link replays 
     let before : IsBefore basin step log =
     record { last = link.timestep.last; rest = link.timestep.rest; next_one = link.timestep.next_one; exists = exists } in
     let alike : AreHeld (held old.engine.series) kept.looked = λ one has. shows.cells one.cell ∙ sym ((link.these.looked one).0 has).1 in
-    let passes : Passes basin policy log IsClosed new.engine step =
-    subst (λ s. Passes basin policy log IsClosed new.engine s) link.these.step_is
+    let passes : PassesAgain basin policy log new.engine step =
+    subst (λ s. PassesAgain basin policy log new.engine s) link.these.step_is
     (replays.passes policy log framed records shows (subst (λ s. IsBefore basin s log) at before) alike) in
     let ends : (passes.last ∷ passes.before) ≡ closed step ∷ passes.before = ap (λ e. e ∷ passes.before) passes.ends in
     let same : (passes.last ∷ passes.before) ≡ log_after (link.first ∷ link.events) (opened step ∷ log) =
@@ -132,7 +131,7 @@ link_on basin policy step log next kept old new done framed exists link replays 
 pub goes_on : (basin : Draft) (was : List (Option StepRecord)) (next : ℕ) (old new : Spare) (kept : StepRecord) (done : Unit {0})
     → ((policy : Accepted) → verified basin policy.blocks ≡ Ok policy → IsFramed (policy_in basin policy))
     → old.behind + 1 ≤ basin.control.stamps.count
-    → next ≡ old.behind + 1 → new.behind ≡ next → slice_get was old.behind ≡ Some (Some kept) → Replays basin kept old.engine new.engine (Ok done)
+    → next ≡ old.behind + 1 → new.behind ≡ next → slice_get was old.behind ≡ Some (Some kept) → ReplaysKept basin kept old.engine new.engine (Ok done)
     → BringsTo basin was next old new
 goes_on basin was next old new kept done framed exists on at there replays = record {
   behind_is = at;

@@ -5,11 +5,11 @@ ghost use Rattle.rw_rerun.specs.Touched.{ReachFrom};
 
 use crate::reach::{least_reached, lesser};
 use rw_base::{Cell, NoMemory};
-use rw_engine::StepRecord;
+use rw_engine::KeptStep;
 use std::alloc::Global;
 
 /// Nothing is kept of so many timesteps.
-pub(crate) fn nothing_kept(alloc: Global, count: u16) -> Result<Vec<Option<StepRecord>>, NoMemory>
+pub(crate) fn nothing_kept(alloc: Global, count: u16) -> Result<Vec<Option<KeptStep>>, NoMemory>
     ensures { IfOk result (λ kept. kept.items ≡ replicate count None) }
 {
     let mut kept = Vec::new(alloc);
@@ -20,10 +20,7 @@ pub(crate) fn nothing_kept(alloc: Global, count: u16) -> Result<Vec<Option<StepR
 }
 
 /// Each change takes the place of what was kept. It takes no memory.
-pub(crate) fn exchange(
-    kept: &mut Vec<Option<StepRecord>>,
-    mut changes: Vec<Option<Option<StepRecord>>>,
-)
+pub(crate) fn exchange(kept: &mut Vec<Option<KeptStep>>, mut changes: Vec<Option<Option<KeptStep>>>)
     requires { length changes.items ≡ length kept.old.items }
     ensures { kept.new.items ≡ changed kept.old.items changes.items }
 {
@@ -38,8 +35,8 @@ pub(crate) fn exchange(
 /// Each change takes its place, and the answer is a timestep before which none of these cells is, nor one that is held by what is
 /// kept from this place on, before the changes or after them.
 pub(crate) fn exchange_for(
-    kept: &mut Vec<Option<StepRecord>>,
-    changes: Vec<Option<Option<StepRecord>>>,
+    kept: &mut Vec<Option<KeptStep>>,
+    changes: Vec<Option<Option<KeptStep>>>,
     cells: &[Cell],
     behind: u16,
 ) -> u16

@@ -14,7 +14,7 @@ use crate::spare::{Spare, bring, give_all, unchanged};
 use rpl_policy::law::code_keeps_promises;
 use rpl_verify::law::answered_code_is_safe;
 use rw_base::{Cell, Ledger, NoMemory, Steps};
-use rw_engine::{RunSetup, StepRecord};
+use rw_engine::{KeptStep, RunSetup};
 use rw_inputs::Inputs;
 use rw_model::Basin;
 use std::alloc::Global;
@@ -25,11 +25,11 @@ fn make_ready(
     alloc: Global,
     spare: &mut Spare,
     basin: &Basin,
-    kept: &[Option<StepRecord>],
+    kept: &[Option<KeptStep>],
     inputs: &Inputs,
     cells: &[Cell],
     behind: u16,
-) -> Result<Vec<Option<Option<StepRecord>>>, NoMemory>
+) -> Result<Vec<Option<Option<KeptStep>>>, NoMemory>
     requires many { length kept.now ≡ basin.now.control.stamps.count }
     requires stands { IsSpare basin.now kept.now spare.old }
     requires known { AreKeptFrom kept.now 0 spare.old.behind }
@@ -51,7 +51,7 @@ fn pass_from(
     alloc: Global,
     mut spare: Spare,
     basin: &Basin,
-    kept: &[Option<StepRecord>],
+    kept: &[Option<KeptStep>],
     inputs: &Inputs,
     cells: &[Cell],
     behind: u16,
@@ -70,6 +70,7 @@ fn pass_from(
             reran: Vec::new(alloc),
             changes,
             over: false,
+            order: Vec::new(alloc),
         }),
         Err(NoMemory) => {
             drop(spare);
@@ -83,7 +84,7 @@ fn pass_from(
 pub(crate) fn pass_behind<L: Ledger>(
     alloc: Global,
     setup: &RunSetup<'_>,
-    kept: &[Option<StepRecord>],
+    kept: &[Option<KeptStep>],
     spare: Spare,
     inputs: &Inputs,
     cells: &[Cell],

@@ -12,7 +12,7 @@ use crate::pass::Pass;
 use rpl_policy::law::code_keeps_promises;
 use rpl_verify::law::answered_code_is_safe;
 use rw_base::{Ledger, NoMemory, StepNo, Steps};
-use rw_engine::{Engine, RunSetup, StepEnd, StepRecord};
+use rw_engine::{Engine, KeptStep, RunSetup, StepEnd};
 use rw_inputs::Inputs;
 use rw_record::law::how_many;
 use std::alloc::Global;
@@ -33,7 +33,7 @@ fn skip(pass: &mut Pass, _setup: &RunSetup<'_>, _step: StepNo) -> Result<(), NoM
 fn take_over(
     pass: &mut Pass,
     setup: &RunSetup<'_>,
-    kept: &StepRecord,
+    kept: &KeptStep,
     step: StepNo,
 ) -> Result<(), NoMemory>
     requires made { IsPassOf setup.now.basin.now setup.now.policy.now pass.old }
@@ -45,7 +45,7 @@ fn take_over(
         (λ entry. entry ≡ Some kept.now) pass.old pass.new steps steps result }
 {
     pass.changes.push(None)?;
-    pass.engine.replay(setup.basin, kept)?;
+    pass.engine.replay_kept(setup.basin, kept)?;
     Ok(())
 }
 
@@ -70,7 +70,7 @@ fn run_anew<L: Ledger>(
     pass.reran.push(step)?;
     match end {
         StepEnd::Closed => {
-            let kept = pass.engine.last_record(alloc)?;
+            let kept = pass.engine.last_kept(alloc, &mut pass.order)?;
             pass.changes.push(Some(kept))?;
             Ok(())
         }
@@ -87,7 +87,7 @@ fn pass_step<L: Ledger>(
     alloc: Global,
     pass: &mut Pass,
     setup: &RunSetup<'_>,
-    entry: &Option<StepRecord>,
+    entry: &Option<KeptStep>,
     step: StepNo,
     steps: &mut Steps<L>,
 ) -> Result<(), NoMemory>
@@ -105,7 +105,7 @@ fn pass_step<L: Ledger>(
     match entry {
         None => run_anew(alloc, pass, setup, step, steps),
         Some(kept) => {
-            if pass.engine.alike(kept) {
+            if pass.engine.is_kept_alike(kept) {
                 return take_over(pass, setup, kept, step);
             }
             run_anew(alloc, pass, setup, step, steps)
@@ -118,7 +118,7 @@ fn pass_rest<L: Ledger>(
     alloc: Global,
     pass: &mut Pass,
     setup: &RunSetup<'_>,
-    kept: &[Option<StepRecord>],
+    kept: &[Option<KeptStep>],
     behind: u16,
     steps: &mut Steps<L>,
 ) -> Result<(), NoMemory>
@@ -146,7 +146,7 @@ pub(crate) fn passed<L: Ledger>(
     alloc: Global,
     mut pass: Pass,
     setup: &RunSetup<'_>,
-    kept: &[Option<StepRecord>],
+    kept: &[Option<KeptStep>],
     behind: u16,
     steps: &mut Steps<L>,
 ) -> Result<Pass, NoMemory>
@@ -173,7 +173,7 @@ pub(crate) fn passed<L: Ledger>(
 pub(crate) fn pass_all<L: Ledger>(
     alloc: Global,
     setup: &RunSetup<'_>,
-    kept: &[Option<StepRecord>],
+    kept: &[Option<KeptStep>],
     inputs: &Inputs,
     traced: bool,
     steps: &mut Steps<L>,
@@ -191,6 +191,7 @@ pub(crate) fn pass_all<L: Ledger>(
         reran: Vec::new(alloc),
         changes: Vec::new(alloc),
         over: false,
+        order: Vec::new(alloc),
     };
     passed(alloc, pass, setup, kept, 0, steps)
 }

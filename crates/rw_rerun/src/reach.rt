@@ -3,7 +3,7 @@ ghost use Rattle.std.specs.Prelude.{◌≤◌};
 ghost use Rattle.rw_rerun.specs.Touched.{AreFrom, AreKeptOf, IsFrom, ReachFrom};
 
 use rw_base::Cell;
-use rw_engine::StepRecord;
+use rw_engine::KeptStep;
 
 /// The lesser of two timesteps.
 #[inline(always)]
@@ -25,7 +25,7 @@ fn least_named(cells: &[Cell]) -> u16
 }
 
 // The least timestep at which a timestep holds a cell as it is kept, which is 0 where it isn't.
-fn least_in(entry: &Option<StepRecord>) -> u16
+fn least_in(entry: &Option<KeptStep>) -> u16
     ensures { IsFrom result entry.now }
 {
     match entry {
@@ -35,7 +35,7 @@ fn least_in(entry: &Option<StepRecord>) -> u16
 }
 
 // So of all that is kept from this place on.
-fn least_kept(kept: &[Option<StepRecord>], behind: u16) -> u16
+fn least_kept(kept: &[Option<KeptStep>], behind: u16) -> u16
     ensures { AreKeptOf result behind kept.now }
 {
     let mut least = u16::MAX;
@@ -46,7 +46,7 @@ fn least_kept(kept: &[Option<StepRecord>], behind: u16) -> u16
 }
 
 /// A timestep before which none of these cells is, nor one that is held by what is kept from this place on.
-pub(crate) fn least_reached(cells: &[Cell], kept: &[Option<StepRecord>], behind: u16) -> u16
+pub(crate) fn least_reached(cells: &[Cell], kept: &[Option<KeptStep>], behind: u16) -> u16
     ensures { ReachFrom cells.now kept.now behind result }
 {
     lesser(least_named(cells), least_kept(kept, behind))

@@ -13,7 +13,7 @@ use rpl_policy::law::code_keeps_promises;
 use rpl_verify::Verified;
 use rpl_verify::law::answered_code_is_safe;
 use rw_base::{Cell, NoMemory};
-use rw_engine::{Engine, StepRecord};
+use rw_engine::{Engine, KeptStep};
 use rw_inputs::Inputs;
 use rw_model::Basin;
 use std::alloc::Global;
@@ -65,7 +65,7 @@ pub(crate) fn found_or_fresh(
 }
 
 // Takes the timestep back behind which it stands.
-fn go_back(spare: &mut Spare, basin: &Basin, kept: &[Option<StepRecord>])
+fn go_back(spare: &mut Spare, basin: &Basin, kept: &[Option<KeptStep>])
     requires some { 1 ≤ spare.old.behind }
     requires stands { IsSpare basin.now kept.now spare.old }
     requires known { AreKeptFrom kept.now (spare.old.behind - 1) spare.old.behind }
@@ -73,7 +73,7 @@ fn go_back(spare: &mut Spare, basin: &Basin, kept: &[Option<StepRecord>])
 {
     spare.behind = spare.behind - 1;
     if let Some(record) = &kept[usize::from(spare.behind)] {
-        spare.engine.take_back(basin, record);
+        spare.engine.take_back_kept(basin, record);
     }
 }
 
@@ -81,7 +81,7 @@ fn go_back(spare: &mut Spare, basin: &Basin, kept: &[Option<StepRecord>])
 fn go_on(
     spare: &mut Spare,
     basin: &Basin,
-    kept: &[Option<StepRecord>],
+    kept: &[Option<KeptStep>],
     step: u16,
 ) -> Result<(), NoMemory>
     requires next_one { step ≡ spare.old.behind + 1 }
@@ -96,13 +96,13 @@ fn go_on(
     let Some(record) = &kept[usize::from(spare.behind)] else {
         return Ok(());
     };
-    spare.engine.replay(basin, record)?;
+    spare.engine.replay_kept(basin, record)?;
     spare.behind = step;
     Ok(())
 }
 
 /// Brings it back before all timesteps but so many.
-pub(crate) fn bring_back(spare: &mut Spare, basin: &Basin, kept: &[Option<StepRecord>], behind: u16)
+pub(crate) fn bring_back(spare: &mut Spare, basin: &Basin, kept: &[Option<KeptStep>], behind: u16)
     requires some { behind ≤ spare.old.behind }
     requires stands { IsSpare basin.now kept.now spare.old }
     requires known { AreKeptFrom kept.now behind spare.old.behind }
@@ -117,7 +117,7 @@ pub(crate) fn bring_back(spare: &mut Spare, basin: &Basin, kept: &[Option<StepRe
 pub(crate) fn bring_on(
     spare: &mut Spare,
     basin: &Basin,
-    kept: &[Option<StepRecord>],
+    kept: &[Option<KeptStep>],
     behind: u16,
 ) -> Result<(), NoMemory>
     requires some { spare.old.behind ≤ behind }
@@ -138,7 +138,7 @@ pub(crate) fn bring_on(
 pub(crate) fn bring(
     spare: &mut Spare,
     basin: &Basin,
-    kept: &[Option<StepRecord>],
+    kept: &[Option<KeptStep>],
     behind: u16,
 ) -> Result<(), NoMemory>
     requires many { length kept.now ≡ basin.now.control.stamps.count }
@@ -168,7 +168,7 @@ pub(crate) fn give_all(engine: &mut Engine, basin: &Basin, inputs: &Inputs, cell
 }
 
 // Whether each timestep from this one on is kept.
-fn are_kept(kept: &[Option<StepRecord>], behind: u16) -> bool
+fn are_kept(kept: &[Option<KeptStep>], behind: u16) -> bool
     ensures { (result ≡ true) → AreKeptFrom kept.now behind (length kept.now) }
 {
     for place in usize::from(behind)..kept.len() {
@@ -180,7 +180,7 @@ fn are_kept(kept: &[Option<StepRecord>], behind: u16) -> bool
 }
 
 // Whether at least half of the timesteps are left, and each of the others is kept.
-fn can_come_back(kept: &[Option<StepRecord>], behind: u16) -> bool
+fn can_come_back(kept: &[Option<KeptStep>], behind: u16) -> bool
     ensures { (result ≡ true) → AreKeptFrom kept.now behind (length kept.now) }
 {
     kept.len() <= usize::from(behind) * 2 && are_kept(kept, behind)
@@ -190,7 +190,7 @@ fn can_come_back(kept: &[Option<StepRecord>], behind: u16) -> bool
 fn come_back(
     engine: Engine,
     basin: &Basin,
-    kept: &[Option<StepRecord>],
+    kept: &[Option<KeptStep>],
     inputs: &Inputs,
     cells: &[Cell],
     behind: u16,
@@ -222,7 +222,7 @@ fn come_back(
 pub(crate) fn spare_of(
     engine: Engine,
     basin: &Basin,
-    kept: &[Option<StepRecord>],
+    kept: &[Option<KeptStep>],
     inputs: &Inputs,
     cells: &[Cell],
     behind: u16,
@@ -250,7 +250,7 @@ pub(crate) fn spare_of(
 pub(crate) fn unchanged(
     alloc: Global,
     behind: u16,
-) -> Result<Vec<Option<Option<StepRecord>>>, NoMemory>
+) -> Result<Vec<Option<Option<KeptStep>>>, NoMemory>
     ensures { IfOk result (λ changes. changes.items ≡ replicate behind None) }
 {
     let mut changes = Vec::new(alloc);

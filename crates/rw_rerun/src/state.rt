@@ -22,7 +22,7 @@ use rpl_policy::law::code_keeps_promises;
 use rpl_verify::Verified;
 use rpl_verify::law::answered_code_is_safe;
 use rw_base::{Cell, Ledger, NoMemory, StepNo, Steps};
-use rw_engine::{Engine, Run, RunSetup, StepRecord};
+use rw_engine::{Engine, KeptStep, Run, RunSetup};
 use rw_inputs::{Batch, Inputs, apply};
 use rw_model::Basin;
 use std::alloc::Global;
@@ -38,7 +38,7 @@ pub struct State<'a> {
     pub(crate) policy: &'a Verified,
     pub(crate) inputs: Inputs,
     pub(crate) engine: Engine,
-    pub(crate) kept: Vec<Option<StepRecord>>,
+    pub(crate) kept: Vec<Option<KeptStep>>,
     pub(crate) reran: Vec<StepNo>,
     pub(crate) same: u16,
     pub(crate) spare: Option<Spare>,
@@ -96,6 +96,7 @@ impl<'a> State<'a> {
             reran,
             changes,
             over: _,
+            order: _,
         } = pass;
         exchange(&mut kept, changes);
         Ok(State {
@@ -175,6 +176,7 @@ impl<'a> State<'a> {
             reran,
             changes,
             over: _,
+            order: _,
         } = pass;
         let was = replace(&mut self.engine, engine);
         self.spare = spare_of(was, setup.basin, &self.kept, &inputs, cells, behind);

@@ -12,7 +12,7 @@ ghost use Rattle.rw_rerun.specs.Edited.{AreEdited, cells_named};
 ghost use Rattle.rw_rerun.specs.Touched.{AreRisingIn, CountsBelow, CountsUntouched, is_reached, is_untouched, spans};
 
 use rw_base::{Cell, NoMemory, SlotNo, StepNo};
-use rw_engine::{Held, StepRecord};
+use rw_engine::{HeldList, KeptStep};
 use rw_inputs::{Batch, Edit};
 use rw_model::Basin;
 use std::alloc::Global;
@@ -80,7 +80,7 @@ fn is_below(cell: Cell, other: Cell) -> bool
 }
 
 // How many of the rising cells are below this one.
-fn below(looked: &[Held], cell: Cell) -> usize
+fn below(looked: &HeldList, cell: Cell) -> usize
     requires { AreRisingCells looked.now }
     ensures { CountsBelow looked.now cell result }
 {
@@ -88,7 +88,7 @@ fn below(looked: &[Held], cell: Cell) -> usize
     let mut last = looked.len();
     while first < last {
         let middle = first + (last - first) / 2;
-        if is_below(looked[middle].cell, cell) {
+        if is_below(looked.get(middle).cell, cell) {
             first = middle + 1;
         } else {
             last = middle;
@@ -105,19 +105,19 @@ fn is_same(cell: Cell, other: Cell) -> bool
 }
 
 // Whether a cell is one of these, which rise.
-fn is_among(looked: &[Held], cell: Cell) -> bool
+fn is_among(looked: &HeldList, cell: Cell) -> bool
     requires { AreRisingCells looked.now }
     ensures { result ≡ is_noted looked.now cell }
 {
     let place = below(looked, cell);
     if place < looked.len() {
-        return is_same(cell, looked[place].cell);
+        return is_same(cell, looked.get(place).cell);
     }
     false
 }
 
 // Whether a cell of one of these slots is one of these.
-fn is_one_among(looked: &[Held], slots: &[SlotNo], step: StepNo) -> bool
+fn is_one_among(looked: &HeldList, slots: &[SlotNo], step: StepNo) -> bool
     requires { AreRisingCells looked.now }
     ensures { result
         ≡ list_any (λ (slot : SlotNo). is_noted looked.now (cell_at slot.0 step.0)) slots.now }
@@ -131,14 +131,14 @@ fn is_one_among(looked: &[Held], slots: &[SlotNo], step: StepNo) -> bool
 }
 
 // Whether a timestep is between those at which a record holds cells.
-fn spans(kept: &StepRecord, step: StepNo) -> bool
+fn spans(kept: &KeptStep, step: StepNo) -> bool
     ensures { result ≡ spans kept.now.looked step.0 }
 {
     kept.first().0 <= step.0 && step.0 <= kept.last().0
 }
 
 // Whether a record holds a cell that shares its value with this one.
-fn is_reached(basin: &Basin, kept: &StepRecord, cell: Cell) -> bool
+fn is_reached(basin: &Basin, kept: &KeptStep, cell: Cell) -> bool
     requires rising { AreRisingCells kept.now.looked }
     requires slot { IsSlot basin.now.objects cell.slot.0 }
     ensures { result ≡ is_reached basin.now kept.now.looked cell }
@@ -151,7 +151,7 @@ fn is_reached(basin: &Basin, kept: &StepRecord, cell: Cell) -> bool
 }
 
 // Whether it holds one of these cells, or one that shares its value with one of them.
-fn is_touched(basin: &Basin, kept: &StepRecord, cells: &[Cell]) -> bool
+fn is_touched(basin: &Basin, kept: &KeptStep, cells: &[Cell]) -> bool
     requires rising { AreRisingCells kept.now.looked }
     requires known { All (λ (cell : Cell). IsSlot basin.now.objects cell.slot.0) cells.now }
     ensures { result ≡ list_any (is_reached basin.now kept.now.looked) cells.now }
@@ -165,7 +165,7 @@ fn is_touched(basin: &Basin, kept: &StepRecord, cells: &[Cell]) -> bool
 }
 
 // Whether a timestep is kept, and looked at none of these cells, nor reached one.
-fn is_untouched(basin: &Basin, entry: &Option<StepRecord>, cells: &[Cell]) -> bool
+fn is_untouched(basin: &Basin, entry: &Option<KeptStep>, cells: &[Cell]) -> bool
     requires rising { IfSome entry.now (λ kept. AreRisingCells kept.looked) }
     requires known { All (λ (cell : Cell). IsSlot basin.now.objects cell.slot.0) cells.now }
     ensures { result ≡ is_untouched basin.now cells.now entry.now }
@@ -177,7 +177,7 @@ fn is_untouched(basin: &Basin, entry: &Option<StepRecord>, cells: &[Cell]) -> bo
 }
 
 /// How many first timesteps are kept and look at none of these cells, nor reach one.
-pub(crate) fn untouched(basin: &Basin, kept: &[Option<StepRecord>], cells: &[Cell]) -> u16
+pub(crate) fn untouched(basin: &Basin, kept: &[Option<KeptStep>], cells: &[Cell]) -> u16
     requires many { length kept.now ≡ basin.now.control.stamps.count }
     requires rising { AreRisingIn kept.now }
     requires known { All (λ (cell : Cell). IsSlot basin.now.objects cell.slot.0) cells.now }
@@ -197,7 +197,7 @@ const FEW: usize = 200;
 
 /// How many first timesteps a batch leaves as they are, by its cells: none where these are many, since each is looked for in each
 /// timestep.
-pub(crate) fn left(basin: &Basin, kept: &[Option<StepRecord>], cells: &[Cell]) -> u16
+pub(crate) fn left(basin: &Basin, kept: &[Option<KeptStep>], cells: &[Cell]) -> u16
     requires many { length kept.now ≡ basin.now.control.stamps.count }
     requires rising { AreRisingIn kept.now }
     requires known { All (λ (cell : Cell). IsSlot basin.now.objects cell.slot.0) cells.now }

@@ -11,7 +11,7 @@ returns-in-Some c =
     let there : slice_get c.args.kept.now (c.args.spare.now.behind - 1) ≡ Some c.index-kept-from.result =
     entry_there c.args.kept.now (c.args.spare.now.behind - 1) c.from.result (length c.args.kept.now) c.index-kept-from.result c.from.ensures near refl
     c.index-kept-from.is in
-    goes_back c.args.basin.now c.args.kept.now c.args.spare.now _ c.in-Some.record some refl (there ∙ ap Some c.in-Some.is) c.take_back.ensures
+    goes_back c.args.basin.now c.args.kept.now c.args.spare.now _ c.in-Some.record some refl (there ∙ ap Some c.in-Some.is) c.take_back_kept.ensures
 
 pub returns-in_default : goal.returns-in_default
 returns-in_default c =

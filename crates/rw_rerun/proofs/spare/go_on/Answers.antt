@@ -4,8 +4,8 @@ use Rattle.rw_rerun.proofs.Sessions.{entry_there}
 use Rattle.rw_rerun.proofs.Standing.{goes_on, replays_on}
 use Rattle.rw_rerun.proofs.spare.go_on.Goals as goal
 
-pub replay-requires-clause-step : goal.replay-requires-clause-step
-replay-requires-clause-step c =
+pub replay_kept-requires-clause-step : goal.replay_kept-requires-clause-step
+replay_kept-requires-clause-step c =
     let next = c.requires.next_one in
     let near : c.args.spare.now.behind < length c.args.kept.now = let last = c.requires.near in omega (arith, next, last) in
     let there : slice_get c.args.kept.now c.args.spare.now.behind ≡ Some c.index-kept-from.result =
@@ -17,8 +17,8 @@ replay-requires-clause-step c =
     (there ∙ ap Some c.in-Some.is) in
     subst (IsStep c.args.basin.now) (next ∙ sym can.step_is) c.requires.exists
 
-pub replay-requires-clause-can : goal.replay-requires-clause-can
-replay-requires-clause-can c =
+pub replay_kept-requires-clause-can : goal.replay_kept-requires-clause-can
+replay_kept-requires-clause-can c =
     let next = c.requires.next_one in
     let near : c.args.spare.now.behind < length c.args.kept.now = let last = c.requires.near in omega (arith, next, last) in
     let there : slice_get c.args.kept.now c.args.spare.now.behind ≡ Some c.index-kept-from.result =
@@ -50,4 +50,4 @@ returns c =
     goes_on basin c.args.kept.now c.args.step c.args.spare.now _ c.in-Some.record _
     (λ policy fits. (c.code_keeps_promises.ensures basin policy.blocks policy.budgets
     (c.answered_code_is_safe.ensures.accepted basin policy.blocks policy fits)).framed)
-    exists next refl (there ∙ ap Some c.in-Some.is) c.in_ok-replay.ensures
+    exists next refl (there ∙ ap Some c.in-Some.is) c.in_ok-replay_kept.ensures

@@ -1,30 +1,27 @@
-use Rattle.rw_base.proofs.Common.{◌≡◌, ◌+◌, ◌-◌, ◌/◌, ◌<◌, ◌≤◌, ℕ, Some, arith, false≢true, length, refl, slice_get, subst, sym, ◌∙◌}
-use Rattle.std.proofs.lemmas.Option.{slice_get_read}
-use Rattle.rw_run.specs.declared.held.Held.{Held}
-use Rattle.rw_record.specs.Record.{IsBelow}
+use Rattle.rw_base.proofs.Common.{◌≡◌, ◌+◌, ◌-◌, ◌/◌, ◌<◌, ℕ, arith, false≢true, length, subst, sym, ◌∙◌}
+use Rattle.rw_rerun.specs.Touched.{AreNotBelow}
 use Rattle.rw_rerun.proofs.Order.{no_others, none_below, on_below, on_others}
 use Rattle.rw_rerun.proofs.touched.below.Goals as goal
 
 pub loop-first-init : goal.loop-first-init
-loop-first-init c = record {
-  order = omega arith;
-  few = omega arith;
-  below = none_below c.args.looked.now c.args.cell;
-  others = no_others c.args.looked.now c.args.cell;
-}
+loop-first-init c =
+    let many = c.len-last.ensures in
+    record {
+      order = omega arith;
+      few = omega (arith, many);
+      below = none_below c.args.looked.now c.args.cell;
+      others = subst (AreNotBelow c.args.looked.now c.args.cell) (sym many) (no_others c.args.looked.now c.args.cell);
+    }
 
 pub loop-first-preserved-then-is_below : goal.loop-first-preserved-then-is_below
 loop-first-preserved-then-is_below c =
     let middle : ℕ = c.loop-first.first + (c.loop-first.last - c.loop-first.first) / 2 in
     let less = c.loop-first-test.true in
     let few = c.loop-first.invariant.few in
-    let near : middle < length c.args.looked.now = omega (arith, less, few) in
-    let there : slice_get c.args.looked.now middle ≡ Some c.index-looked-middle.result =
-    slice_get_read c.args.looked.now (length c.args.looked.now) middle c.index-looked-middle.result refl near c.index-looked-middle.is in record {
+    record {
       order = omega (arith, less);
       few = few;
-      below = on_below c.args.looked.now c.args.cell middle c.index-looked-middle.result c.requires there
-          (subst (λ (it : Held). IsBelow it.cell c.args.cell) (sym c.index-looked-middle.is) (c.is_below.ensures.0 c.if-is_below.true));
+      below = on_below c.args.looked.now c.args.cell middle c.get.result c.requires c.get.ensures (c.is_below.ensures.0 c.if-is_below.true);
       others = c.loop-first.invariant.others;
     }
 
@@ -34,14 +31,12 @@ loop-first-preserved c =
     let less = c.loop-first-test.true in
     let few = c.loop-first.invariant.few in
     let near : middle < length c.args.looked.now = omega (arith, less, few) in
-    let there : slice_get c.args.looked.now middle ≡ Some c.index-looked-middle.result =
-    slice_get_read c.args.looked.now (length c.args.looked.now) middle c.index-looked-middle.result refl near c.index-looked-middle.is in record {
+    record {
       order = omega arith;
       few = omega (arith, near);
       below = c.loop-first.invariant.below;
-      others = on_others c.args.looked.now c.args.cell middle c.index-looked-middle.result c.requires there
-          (λ below. false≢true (sym c.if-is_below.false
-          ∙ c.is_below.ensures.1 (subst (λ (it : Held). IsBelow it.cell c.args.cell) c.index-looked-middle.is below)));
+      others = on_others c.args.looked.now c.args.cell middle c.get.result c.requires c.get.ensures
+          (λ below. false≢true (sym c.if-is_below.false ∙ c.is_below.ensures.1 below));
     }
 
 pub returns : goal.returns

@@ -15,7 +15,7 @@ module _ (c : goal.After-self-2-1) where
     lines = c.truncate.new.self;
     run = record c.args.self.now.run {
       trace = c.truncate-2.new.self;
-      series = c.put_back.new.series;
+      series = c.put_back_kept.new.series;
       closed = c.saturating_sub-self.result;
       end = Settled;
     };
@@ -30,9 +30,9 @@ module _ (c : goal.After-self-2-1) where
     firings = refl;
     notes = ap is_some c.begin_step.ensures ∙ cleared_some c.args.self.now.noted;
     keeps_lines = ap is_some c.truncate.ensures ∙ short_some c.args.self.now.lines 0;
-    made = c.put_back.ensures.made;
+    made = c.put_back_kept.ensures.made;
     back =
-        λ before made can. c.put_back.ensures.back before made
+        λ before made can. c.put_back_kept.ensures.back before made
         (subst (CanTakeBack before (held c.args.self.now.run.series)) (sym c.looked.ensures) can);
     trace = c.truncate-2.ensures ∙ ap (λ count. option_map (take count) c.args.self.now.run.trace)
         (c.saturating_sub-before.ensures ∙ ap₂ (λ all last. all - last) c.len.ensures

@@ -1,0 +1,6 @@
+use Rattle.rw_record.proofs.Common.{take, ◌≡◌}
+use Rattle.rw_record.specs.Record.{least_step}
+use Rattle.rw_record.proofs.kept_step.least_step.Given as goal
+
+abbrev pub invariant-loop-place : goal.invariant-loop-place
+invariant-loop-place l = l.least ≡ least_step (take l.place l.cells)

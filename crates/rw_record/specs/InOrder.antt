@@ -1,0 +1,43 @@
+-- Within the crate: cells that are picked by their places.
+use Rattle.std.specs.Prelude.{◌≡◌, ◌⊎◌, ◌<◌, ◌≤◌, ℕ, List, Contains, None, Option, Some, filter_map, length, slice_get}
+use Rattle.rw_base.specs.declared.number.Cell.{Cell}
+use Rattle.rw_run.specs.declared.held.Held.{Held}
+use Rattle.rw_record.specs.Record.{AreRisingCells, IsBelow}
+
+-- the cell is below the other one, or the same
+abbrev pub IsBelowOrSame : Cell → Cell → Type 0
+IsBelowOrSame cell other = (cell.slot.0 < other.slot.0) ⊎ ((cell.slot.0 ≡ other.slot.0) × (cell.step.0 ≤ other.step.0))
+
+-- by slot, and then by timestep
+abbrev pub rank_of : Option Held → ℕ × ℕ
+rank_of None = (0, 0)
+rank_of (Some one) = (one.cell.slot.0, one.cell.step.0)
+
+abbrev pub rank_in : List Held → ℕ → ℕ × ℕ
+rank_in items place = rank_of (slice_get items place)
+
+-- the cells that stand in these places
+abbrev pub picked : List Held → List ℕ → List Held
+picked items order = filter_map (slice_get items) order
+
+-- the cell in a place, and it is above another one
+pub record IsAbove (items : List Held) (place : ℕ) (last cell : Cell) : Type 0 where
+  pub one : Held
+  pub there : slice_get items place ≡ Some one
+  pub is : one.cell ≡ cell
+  pub above : IsBelow last cell
+
+-- there is a cell in each place, and they rise
+pub record RisesSo (items : List Held) (order : List ℕ) : Type 0 where
+  pub many : length (picked items order) ≡ length order
+  pub up : AreRisingCells (picked items order)
+
+-- and there are as many places as cells
+pub record RisesAll (items : List Held) (order : List ℕ) : Type 0 where
+  pub all : length order ≡ length items
+  pub so : RisesSo items order
+
+-- so far, up to this one
+pub record RisesTo (items : List Held) (order : List ℕ) (last : Cell) : Type 0 where
+  pub so : RisesSo items order
+  pub under : (one : Held) → Contains (picked items order) one → IsBelowOrSame one.cell last

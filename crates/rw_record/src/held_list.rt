@@ -1,0 +1,160 @@
+ghost use Rattle.std.specs.Prelude.{◌≡◌, ◌<◌, ◌≤◌, ◌++◌, ◌∷◌, [], IfOk, List, Some, length, map, slice_get, vec_len};
+ghost use Rattle.rw_run.specs.Reuse.{most_kept};
+ghost use Rattle.rw_run.specs.declared.held.Held.{Held as WasHeld};
+ghost use Rattle.rw_record.specs.HeldList.{AreListed, KeepsContent, held_of};
+ghost use Rattle.rw_record.specs.InOrder.{picked};
+
+use rw_base::{Cell, NoMemory};
+use rw_model::Content;
+use rw_run::Held;
+use std::alloc::Global;
+use std::marker::Model;
+
+/// A cell, and the place of what it held among contents. It held nothing where there is no such place.
+#[derive(Clone, Copy)]
+pub(crate) struct PlacedCell {
+    pub(crate) cell: Cell,
+    pub(crate) place: u16,
+}
+
+/// Cells and what they held, seen as their list. It keeps six bytes for a cell that held nothing.
+#[derive(Drop)]
+pub struct HeldList {
+    cells: Vec<PlacedCell>,
+    contents: Vec<Content>,
+}
+
+impl Model for HeldList {
+    ghost use Rattle.std.specs.Prelude.{List, map};
+    ghost use Rattle.rw_run.specs.declared.held.Held.{Held};
+    ghost use Rattle.rw_record.specs.HeldList.{held_of};
+
+    ghost Value = { List Held };
+
+    ghost view = { λ list. map (held_of list.contents.items) list.cells.items };
+}
+
+impl HeldList {
+    /// The cells that stand in these places. The one error is want of memory.
+    pub(crate) fn of(alloc: Global, items: &[Held], order: &[u16]) -> Result<HeldList, NoMemory>
+        requires { length order.now ≤ most_kept }
+        ensures { IfOk result (λ list. list ≡ picked items.now order.now) }
+    {
+        let mut cells = Vec::with_capacity(alloc, items.len())?;
+        let mut contents = Vec::with_capacity(alloc, count_known(items))?;
+        add_all(&mut cells, &mut contents, items, order)?;
+        Ok(HeldList { cells, contents })
+    }
+
+    /// How many there are.
+    #[inline(always)]
+    pub fn len(&self) -> usize
+        ensures { result ≡ length self.now }
+    {
+        self.cells.len()
+    }
+
+    /// The cell in a place, counted from 0, and what it held.
+    #[inline(always)]
+    pub fn get(&self, place: usize) -> Held
+        requires { place < length self.now }
+        ensures { slice_get self.now place ≡ Some result }
+    {
+        held_at(&self.cells, &self.contents, place)
+    }
+}
+
+// How many of the cells held something.
+fn count_known(items: &[Held]) -> usize
+    ensures { result ≤ length items.now }
+{
+    let mut count = 0;
+    for one in items {
+        if one.content.is_some() {
+            count = count + 1;
+        }
+    }
+    count
+}
+
+// Adds those that stand in these places to none.
+fn add_all(
+    cells: &mut Vec<PlacedCell>,
+    contents: &mut Vec<Content>,
+    items: &[Held],
+    order: &[u16],
+) -> Result<(), NoMemory>
+    requires few { length order.now ≤ most_kept }
+    requires cells { cells.old.items ≡ [] }
+    requires contents { contents.old.items ≡ [] }
+    ensures { IfOk result
+        (λ _. AreListed (picked items.now order.now) cells.new.items contents.new.items) }
+{
+    for place in order {
+        add_found(cells, contents, items, *place)?;
+    }
+    Ok(())
+}
+
+// Adds the one that stands in a place, if one does.
+#[inline(always)]
+fn add_found(
+    cells: &mut Vec<PlacedCell>,
+    contents: &mut Vec<Content>,
+    items: &[Held],
+    place: u16,
+) -> Result<(), NoMemory>
+    requires { vec_len contents.old < 65535 }
+    ensures { (before : List WasHeld) → AreListed before cells.old.items contents.old.items
+        → IfOk result (λ _. AreListed (before ++ picked items.now (place ∷ []))
+        cells.new.items contents.new.items) }
+{
+    match items.get(usize::from(place)) {
+        Some(one) => add(cells, contents, one),
+        None => Ok(()),
+    }
+}
+
+// Adds a cell.
+#[inline(always)]
+fn add(cells: &mut Vec<PlacedCell>, contents: &mut Vec<Content>, one: &Held) -> Result<(), NoMemory>
+    requires { vec_len contents.old < 65535 }
+    ensures { (before : List WasHeld) → AreListed before cells.old.items contents.old.items
+        → IfOk result (λ _. AreListed (before ++ one.now ∷ []) cells.new.items contents.new.items) }
+{
+    let place = keep(contents, &one.content)?;
+    cells.push(PlacedCell {
+        cell: one.cell,
+        place,
+    })?;
+    Ok(())
+}
+
+// Adds what a cell held, if it held something, and answers its place.
+#[inline(always)]
+fn keep(contents: &mut Vec<Content>, content: &Option<Content>) -> Result<u16, NoMemory>
+    requires { vec_len contents.old < 65535 }
+    ensures { IfOk result (KeepsContent content.now contents.old.items contents.new.items) }
+{
+    match content {
+        Some(known) => {
+            let place = contents.len() as u16;
+            contents.push(*known)?;
+            Ok(place)
+        }
+        None => Ok(u16::MAX),
+    }
+}
+
+// What stands in a place.
+#[inline(always)]
+fn held_at(cells: &[PlacedCell], contents: &[Content], place: usize) -> Held
+    requires { place < length cells.now }
+    ensures { slice_get (map (held_of contents.now) cells.now) place ≡ Some result }
+{
+    let one = cells[place];
+    Held {
+        cell: one.cell,
+        content: contents.get(usize::from(one.place)).copied(),
+    }
+}

@@ -1,0 +1,144 @@
+ghost use Rattle.std.specs.Prelude.{◌≡◌, ◌||◌, nat_lt, IfOk, MatchOption, Some, drop, length};
+ghost use Rattle.rw_run.specs.Reuse.{most_kept};
+ghost use Rattle.rw_run.specs.Trace.{lines_in};
+ghost use Rattle.rw_record.specs.Noted.{noted_in};
+ghost use Rattle.rw_record.specs.Record.{IsLarge, IsRecordOf, greatest_step, least_step};
+
+use crate::ordered::risen;
+use crate::{HeldList, Noted};
+use rw_base::{NoMemory, StepNo};
+use rw_run::{MOST_KEPT, Trace};
+use std::alloc::Global;
+use std::marker::Model;
+
+/// A closed timestep: the cells at which it looked or which its puts reached, with what they held before it, rising by slot and
+/// then by timestep, and its lines.
+#[derive(Drop)]
+pub struct KeptStep {
+    step: StepNo,
+    first: StepNo,
+    last: StepNo,
+    looked: HeldList,
+    lines: Trace,
+}
+
+impl Model for KeptStep {
+    ghost use Rattle.std.specs.Prelude.{◌≡◌, Some};
+    ghost use Rattle.rw_run.specs.Trace.{lines_in};
+    ghost use Rattle.rw_record.specs.Record as specs;
+
+    ghost Value = { specs.StepRecord };
+
+    ghost view = { λ r.
+        record { step = r.step.0; looked = r.looked; lines = lines_in r.lines } };
+
+    ghost invariant = { λ r. (r.lines ≡ Some (lines_in r.lines))
+        × ((r.first.0 ≡ specs.least_step r.looked)
+        × (r.last.0 ≡ specs.greatest_step r.looked)) };
+}
+
+impl KeptStep {
+    /// The record of a timestep of which this is noted, and whose lines stand in the trace from this place on. `None`
+    /// exactly where it has more than `MOST_KEPT` cells or lines. The one error is want of memory. `docs/DEFINITIONS.md`
+    /// says under "Reuse" what is kept. `order` is that in which the noted cells of another timestep rose, or any other:
+    /// where these rise so too they need no sorting.
+    pub fn of(
+        alloc: Global,
+        step: StepNo,
+        noted: &Noted,
+        trace: &Trace,
+        from: usize,
+        order: &mut Vec<u16>,
+    ) -> Result<Option<KeptStep>, NoMemory>
+        ensures { IfOk result (λ kept. MatchOption kept
+            (IsLarge (noted_in noted.now) (drop from (lines_in trace.now)))
+            (IsRecordOf step.0 (noted_in noted.now) (drop from (lines_in trace.now)))) }
+    {
+        if is_large(noted.as_slice().len(), trace, from) {
+            return Ok(None);
+        }
+        let looked = risen(alloc, noted.as_slice(), order)?;
+        let lines = lines_from(alloc, trace, from)?;
+        Ok(Some(KeptStep {
+            step,
+            first: StepNo(least_step(&looked)),
+            last: StepNo(greatest_step(&looked)),
+            looked,
+            lines,
+        }))
+    }
+
+    /// Which timestep it is.
+    pub fn step(&self) -> StepNo
+        ensures { result.0 ≡ self.now.step }
+    {
+        self.step
+    }
+
+    /// The cells at which it looked or which its puts reached, with what they held before it.
+    pub fn looked(&self) -> &HeldList
+        ensures { result.now ≡ self.now.looked }
+    {
+        &self.looked
+    }
+
+    /// The least timestep at which one of these cells is, and 65,535 where there is none.
+    pub fn first(&self) -> StepNo
+        ensures { result.0 ≡ least_step self.now.looked }
+    {
+        self.first
+    }
+
+    /// The greatest timestep at which one of these cells is, and 0 where there is none.
+    pub fn last(&self) -> StepNo
+        ensures { result.0 ≡ greatest_step self.now.looked }
+    {
+        self.last
+    }
+
+    /// Its lines.
+    pub fn lines(&self) -> &Trace
+        ensures { result.now ≡ Some self.now.lines }
+    {
+        &self.lines
+    }
+}
+
+// Whether so many cells, or the lines of a trace from a place on, are too many to be kept.
+fn is_large(cells: usize, trace: &Trace, from: usize) -> bool
+    ensures { result
+        ≡ (nat_lt most_kept cells || nat_lt most_kept (length (drop from (lines_in trace.now)))) }
+{
+    cells > MOST_KEPT || trace.len().saturating_sub(from) > MOST_KEPT
+}
+
+// The least timestep at which one of the cells is.
+fn least_step(cells: &HeldList) -> u16
+    ensures { result ≡ least_step cells.now }
+{
+    let mut least = u16::MAX;
+    for place in 0..cells.len() {
+        least = least.min(cells.get(place).cell.step.0);
+    }
+    least
+}
+
+// The greatest timestep at which one of the cells is.
+fn greatest_step(cells: &HeldList) -> u16
+    ensures { result ≡ greatest_step cells.now }
+{
+    let mut greatest = 0;
+    for place in 0..cells.len() {
+        greatest = greatest.max(cells.get(place).cell.step.0);
+    }
+    greatest
+}
+
+// The lines of a trace from a place on.
+fn lines_from(alloc: Global, trace: &Trace, from: usize) -> Result<Trace, NoMemory>
+    ensures { IfOk result (λ lines. lines ≡ Some (drop from (lines_in trace.now))) }
+{
+    let mut lines = Trace::new(alloc);
+    lines.append(trace, from)?;
+    Ok(lines)
+}
