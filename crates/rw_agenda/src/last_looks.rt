@@ -100,8 +100,9 @@ fn fill(looks: &mut Vec<Look>, looked: &[Look])
     ensures room { looks.old.cap ≤ looks.new.cap }
 {
     looks.clear();
-    for look in looked {
-        looks.push_reserved(*look);
+    match looks.extend_from_slice(looked) {
+        Ok(()) => {}
+        Err(_) => unreachable!(),
     }
 }
 
