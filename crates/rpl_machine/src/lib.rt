@@ -4,6 +4,7 @@
 //! memory.
 #![tactic(auto)]
 
+mod around;
 mod blocks;
 mod call;
 mod calls;
