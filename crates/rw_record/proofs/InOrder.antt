@@ -16,7 +16,7 @@ use Rattle.std.specs.Ordering.{is_lt, ordering_then}
 use Rattle.rw_base.proofs.Common.{get_or, get_or-map, nat_cmp, zero}
 use Rattle.rw_record.proofs.Rising.{place_of, rising}
 use Rattle.std.specs.Prelude.{Err, IfOk, Ok, Result}
-use Rattle.rw_record.specs.InOrder.{IsAbove, IsBelowOrSame, RisesAll, RisesTo, picked, rank_in, rank_of}
+use Rattle.rw_record.specs.InOrder.{RisesAbove, IsBelowOrSame, RisesAll, RisesTo, picked_out, rank_in, rank_of}
 use Rattle.rw_record.specs.Record.{AreRisingCells, IsBelow}
 use Rattle.rw_record.proofs.Cells.{cells_equiv, first_of, first_or, map_from, map_of, same_cell}
 use Rattle.rw_record.proofs.Noting.{noted_from, noted_of}
@@ -50,23 +50,23 @@ one_from items more place one rest (Some it) there has = by (first_or it more on
     by (inl same) = subst (Contains items) same (at_place items place it there)
     by (inr later) = rest later
 
-pub picked_from : (items : List Held) (order : List ℕ) (one : Held) → Contains (picked items order) one → Contains items one
+pub picked_from : (items : List Held) (order : List ℕ) (one : Held) → Contains (picked_out items order) one → Contains items one
 picked_from items [] one has = absurd (omega (arith, has.1))
 picked_from items (place ∷ order) one has =
-    one_from items (picked items order) place one (picked_from items order one) (slice_get items place) refl has
+    one_from items (picked_out items order) place one (picked_from items order one) (slice_get items place) refl has
 
 pub picked_push : (items : List Held) (order : List ℕ) (place : ℕ)
-    → picked items (order ++ place ∷ []) ≡ picked items order ++ picked items (place ∷ [])
+    → picked_out items (order ++ place ∷ []) ≡ picked_out items order ++ picked_out items (place ∷ [])
 picked_push items order place = filter_map-append (slice_get items) order (place ∷ [])
 
 one_few : {A : Type 0} (found : Option A) (more : List A) (count : ℕ) → length more ≤ count → length (cons_option found more) ≤ count + 1
 one_few None more count few = omega (arith, few)
 one_few (Some one) more count few = omega (arith, few)
 
-pub few_picked : (items : List Held) (order : List ℕ) → length (picked items order) ≤ length order
+pub few_picked : (items : List Held) (order : List ℕ) → length (picked_out items order) ≤ length order
 few_picked items [] = omega arith
 few_picked items (place ∷ order) =
-    let few = one_few (slice_get items place) (picked items order) (length order) (few_picked items order) in omega (arith, few)
+    let few = one_few (slice_get items place) (picked_out items order) (length order) (few_picked items order) in omega (arith, few)
 
 -- ---- cells that rise stand there once
 
@@ -136,10 +136,10 @@ all_there items some once apart many from one has = by (is_noted some one.cell) 
         let all = length-map items (λ (held : Held). held.cell) in absurd (omega (arith, few, longer, there, all, many))
 
 pub members : (items : List Held) (order : List ℕ) → AreOnce items → RisesAll items order
-    → (one : Held) → Contains (picked items order) one ↔ Contains items one
+    → (one : Held) → Contains (picked_out items order) one ↔ Contains items one
 members items order once rises one = (
   picked_from items order one,
-  all_there items (picked items order) once (rising_once (picked items order) rises.so.up) (rises.so.many ∙ rises.all) (picked_from items order) one,
+  all_there items (picked_out items order) once (rising_once (picked_out items order) rises.so.up) (rises.so.many ∙ rises.all) (picked_from items order) one,
 )
 
 -- what is so of an answer gives another
@@ -164,27 +164,27 @@ rises_on (first ∷ rest) one last up under over = (
     below_on a b c (inr (slot, step)) (inl other) = inl (omega (arith, other, slot))
     below_on a b c (inr (slot, step)) (inr (same, later)) = inr (slot ∙ same, omega (arith, step, later))
 
-pub one_above : (items : List Held) (order : List ℕ) (place : ℕ) (last cell : Cell) → RisesTo items order last → IsAbove items place last cell
+pub one_above : (items : List Held) (order : List ℕ) (place : ℕ) (last cell : Cell) → RisesTo items order last → RisesAbove items place last cell
     → RisesTo items (order ++ place ∷ []) cell
 one_above items order place last cell to above = record {
   so = record {
-    many = ap length next ∙ length-append (picked items order) (above.one ∷ [])
+    many = ap length next ∙ length-append (picked_out items order) (above.one ∷ [])
         ∙ (let before = to.so.many in let after = length-append order (place ∷ []) in omega (arith, before, after));
-    up = subst AreRisingCells (sym next) (rises_on (picked items order) above.one last to.so.up to.under over);
+    up = subst AreRisingCells (sym next) (rises_on (picked_out items order) above.one last to.so.up to.under over);
   };
   under = λ it has.
-      by it (Contains-push_cases (picked items order) above.one it (subst (λ all. Contains all it) next has));
+      by it (Contains-push_cases (picked_out items order) above.one it (subst (λ all. Contains all it) next has));
 }
   where
-    next : picked items (order ++ place ∷ []) ≡ picked items order ++ above.one ∷ []
+    next : picked_out items (order ++ place ∷ []) ≡ picked_out items order ++ above.one ∷ []
     next =
         filter_map-append (slice_get items) order (place ∷ [])
-        ∙ ap (λ found. picked items order ++ cons_option found []) above.there
+        ∙ ap (λ found. picked_out items order ++ cons_option found []) above.there
 
     over : IsBelow last above.one.cell
     over = subst (IsBelow last) (sym above.is) above.above
 
-    by : (it : Held) → Contains (picked items order) it ⊎ (above.one ≡ it) → IsBelowOrSame it.cell cell
+    by : (it : Held) → Contains (picked_out items order) it ⊎ (above.one ≡ it) → IsBelowOrSame it.cell cell
     by it (inl before) =
         at_most_both it.cell last cell (to.under it before) (below_at_most last cell above.above)
     by it (inr same) = subst (λ (other : Cell). IsBelowOrSame other cell) (sym above.is ∙ ap (λ (held : Held). held.cell) same) (itself cell)
@@ -203,10 +203,10 @@ module _ (items : List Held) (blank : Held) where
   abbrev at : ℕ → Held
   at place = get_or items place blank
 
-  picked_all : (order : List ℕ) → ((place : ℕ) → Contains order place → place < length items) → picked items order ≡ map at order
+  picked_all : (order : List ℕ) → ((place : ℕ) → Contains order place → place < length items) → picked_out items order ≡ map at order
   picked_all [] near = refl
   picked_all (place ∷ order) near =
-      ap (λ found. cons_option found (picked items order)) (slice_get-get_or items place blank (near place (first_of place order)))
+      ap (λ found. cons_option found (picked_out items order)) (slice_get-get_or items place blank (near place (first_of place order)))
       ∙ ap (λ rest. at place ∷ rest) (picked_all order (λ other has. near other (Contains-append_right (place ∷ []) order other has)))
 
   in_range : (order : List ℕ) → IsPermutation (range_with_len 0 (length items)) order → (place : ℕ) → Contains order place → place < length items
@@ -240,7 +240,7 @@ module _ (items : List Held) (blank : Held) where
       → IsSortedByKey (rank_in items) (λ one other. ordering_then (nat_cmp one.0 other.0) (nat_cmp one.1 other.1)) order → RisesAll items order
   sorted_all order once moved up =
       let near = in_range order moved in
-      let here : picked items order ≡ map at order = picked_all order near in
+      let here : picked_out items order ≡ map at order = picked_all order near in
       let whole : items ≡ map at (range_with_len 0 (length items)) = fill_by_all at items (length items) blank refl (λ k within. refl) in
       let moves : IsPermutation items (map at order) =
       subst (λ all. IsPermutation all (map at order)) (sym whole) (IsPermutation-map at (range_with_len 0 (length items)) order moved) in

@@ -1,12 +1,12 @@
 -- Cells in order.
-use Rattle.rw_record.proofs.Common.{AreOnce, Bool, Cell, Contains, Held, List, [], arith, cells_noted, false, false≢true, inl, inr, is_same_cell}
-use Rattle.rw_record.proofs.Common.{length, length-map, nat_tests, refl, slice_index_or, subst, suc, sym, true, ℕ, ◌<◌, ◌==◌, ◌↔◌, ◌∙◌, ◌∷◌, ◌≡◌, ◌≤◌}
+use Rattle.rw_record.proofs.Common.{AreOnce, Bool, Cell, Held, List, [], arith, cells_noted, false, false≢true, inl, inr, is_same_cell}
+use Rattle.rw_record.proofs.Common.{length, length-map, nat_tests, refl, slice_index_or, subst, suc, sym, true, ℕ, ◌<◌, ◌==◌, ◌∙◌, ◌∷◌, ◌≡◌, ◌≤◌}
 use Rattle.rw_record.proofs.Common.{◌⊎◌}
 use Rattle.rw_base.proofs.Common.{get_or-map, nat_cmp, nat_lt}
 use Rattle.std.proofs.lemmas.Bool.{cases_order}
 use Rattle.std.proofs.lemmas.Cmp.{nat_cmp_total, on_total, then_total}
 use Rattle.std.proofs.lemmas.List.Elements.{All-from_recursion}
-use Rattle.std.proofs.lemmas.List.Sorted.{Contains-permutation, IsPermutation-map, IsPermutation-sym, ranks_by, sorted_far}
+use Rattle.std.proofs.lemmas.List.Sorted.{IsPermutation-map, ranks_by, sorted_far}
 use Rattle.std.proofs.lemmas.Map.Keys.{IsDistinct-IsPermutation, IsDistinct-head, IsDistinct-tail}
 use Rattle.std.specs.List.Sorted.{IsPermutation, IsSortedByKey}
 use Rattle.std.specs.Ordering.{is_lt, ordering_then}
@@ -72,7 +72,3 @@ rising items sorted moved once up =
     (sorted_far (λ one other. comes_first one.cell other.cell)
     (ranks_by (then_total (on_total (λ (pair : ℕ × ℕ). pair.0) nat_cmp_total) (on_total (λ (pair : ℕ × ℕ). pair.1) nat_cmp_total))
     place_of) sorted up)
-
-pub same_members : (items sorted : List Held) → IsPermutation items sorted → (one : Held) → Contains sorted one ↔ Contains items one
-same_members items sorted moved one =
-    (Contains-permutation sorted items one (IsPermutation-sym items sorted moved), Contains-permutation items sorted one moved)

@@ -17,11 +17,11 @@ abbrev pub rank_in : List Held → ℕ → ℕ × ℕ
 rank_in items place = rank_of (slice_get items place)
 
 -- the cells that stand in these places
-abbrev pub picked : List Held → List ℕ → List Held
-picked items order = filter_map (slice_get items) order
+abbrev pub picked_out : List Held → List ℕ → List Held
+picked_out items order = filter_map (slice_get items) order
 
 -- the cell in a place, and it is above another one
-pub record IsAbove (items : List Held) (place : ℕ) (last cell : Cell) : Type 0 where
+pub record RisesAbove (items : List Held) (place : ℕ) (last cell : Cell) : Type 0 where
   pub one : Held
   pub there : slice_get items place ≡ Some one
   pub is : one.cell ≡ cell
@@ -29,8 +29,8 @@ pub record IsAbove (items : List Held) (place : ℕ) (last cell : Cell) : Type 0
 
 -- there is a cell in each place, and they rise
 pub record RisesSo (items : List Held) (order : List ℕ) : Type 0 where
-  pub many : length (picked items order) ≡ length order
-  pub up : AreRisingCells (picked items order)
+  pub many : length (picked_out items order) ≡ length order
+  pub up : AreRisingCells (picked_out items order)
 
 -- and there are as many places as cells
 pub record RisesAll (items : List Held) (order : List ℕ) : Type 0 where
@@ -40,4 +40,4 @@ pub record RisesAll (items : List Held) (order : List ℕ) : Type 0 where
 -- so far, up to this one
 pub record RisesTo (items : List Held) (order : List ℕ) (last : Cell) : Type 0 where
   pub so : RisesSo items order
-  pub under : (one : Held) → Contains (picked items order) one → IsBelowOrSame one.cell last
+  pub under : (one : Held) → Contains (picked_out items order) one → IsBelowOrSame one.cell last

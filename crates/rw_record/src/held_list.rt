@@ -2,7 +2,7 @@ ghost use Rattle.std.specs.Prelude.{◌≡◌, ◌<◌, ◌≤◌, ◌++◌, ◌
 ghost use Rattle.rw_run.specs.Reuse.{most_kept};
 ghost use Rattle.rw_run.specs.declared.held.Held.{Held as WasHeld};
 ghost use Rattle.rw_record.specs.HeldList.{AreListed, KeepsContent, held_of};
-ghost use Rattle.rw_record.specs.InOrder.{picked};
+ghost use Rattle.rw_record.specs.InOrder.{picked_out};
 
 use rw_base::{Cell, NoMemory};
 use rw_model::Content;
@@ -38,7 +38,7 @@ impl HeldList {
     /// The cells that stand in these places. The one error is want of memory.
     pub(crate) fn of(alloc: Global, items: &[Held], order: &[u16]) -> Result<HeldList, NoMemory>
         requires { length order.now ≤ most_kept }
-        ensures { IfOk result (λ list. list ≡ picked items.now order.now) }
+        ensures { IfOk result (λ list. list ≡ picked_out items.now order.now) }
     {
         let mut cells = Vec::with_capacity(alloc, items.len())?;
         let mut contents = Vec::with_capacity(alloc, count_known(items))?;
@@ -88,7 +88,7 @@ fn add_all(
     requires cells { cells.old.items ≡ [] }
     requires contents { contents.old.items ≡ [] }
     ensures { IfOk result
-        (λ _. AreListed (picked items.now order.now) cells.new.items contents.new.items) }
+        (λ _. AreListed (picked_out items.now order.now) cells.new.items contents.new.items) }
 {
     for place in order {
         add_found(cells, contents, items, *place)?;
@@ -106,7 +106,7 @@ fn add_found(
 ) -> Result<(), NoMemory>
     requires { vec_len contents.old < 65535 }
     ensures { (before : List WasHeld) → AreListed before cells.old.items contents.old.items
-        → IfOk result (λ _. AreListed (before ++ picked items.now (place ∷ []))
+        → IfOk result (λ _. AreListed (before ++ picked_out items.now (place ∷ []))
         cells.new.items contents.new.items) }
 {
     match items.get(usize::from(place)) {

@@ -4,7 +4,7 @@ ghost use Rattle.std.specs.List.{range_with_len};
 ghost use Rattle.rw_run.specs.Reuse.{most_kept};
 ghost use Rattle.rw_run.specs.declared.held.Held.{Held as WasHeld};
 ghost use Rattle.rw_record.specs.Noted.{AreOnce};
-ghost use Rattle.rw_record.specs.InOrder.{IsAbove, RisesAll, RisesSo, rank_in};
+ghost use Rattle.rw_record.specs.InOrder.{RisesAbove, RisesAll, RisesSo, rank_in};
 ghost use Rattle.rw_record.specs.Record.{AreRisingCells, IsBelow};
 
 use crate::HeldList;
@@ -68,7 +68,7 @@ fn do_rise(items: &[Held], order: &[u16]) -> bool
 // The cell in a place, if it is above this one.
 #[inline(always)]
 fn above(items: &[Held], place: u16, last: Cell) -> Option<Cell>
-    ensures { IfSome result (IsAbove items.now place last) }
+    ensures { IfSome result (RisesAbove items.now place last) }
 {
     match items.get(usize::from(place)) {
         Some(one) => {

@@ -1,7 +1,7 @@
 use Rattle.rw_record.proofs.Common.{take}
 use Rattle.rw_record.specs.HeldList.{AreListed}
-use Rattle.rw_record.specs.InOrder.{picked}
+use Rattle.rw_record.specs.InOrder.{picked_out}
 use Rattle.rw_record.proofs.held_list.add_all.Given as goal
 
 abbrev pub invariant-loop-place : goal.invariant-loop-place
-invariant-loop-place l = AreListed (picked l.items (take l.place-index l.order)) l.cells.items l.contents.items
+invariant-loop-place l = AreListed (picked_out l.items (take l.place-index l.order)) l.cells.items l.contents.items
