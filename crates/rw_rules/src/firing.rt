@@ -24,9 +24,11 @@ pub fn fire<'m>(
     step: StepNo,
 ) -> Fired<'m>
     requires turn { IsRuleTurn setup.now.basin.now setup.now.policy.now rule.0 step.0 }
-    ensures event { firing_event setup.now.basin.now setup.now.policy.now (held series.now) rule.0 step.0
+    ensures event { firing_event setup.now.basin.now setup.now.policy.now (held series.now)
+        rule.0 step.0
         ≡ Some (event_of_fired setup.now.basin.now (held series.now) rule.0 step.0 result) }
-    ensures looked { looks_at (held series.now) (look_cells result.looked.now) ≡ result.looked.now }
+    ensures looked { looks_at (held series.now) (look_cells result.looked.now)
+        ≡ result.looked.now }
     ensures few { length result.looked.now ≤ most_looks setup.now.policy.now rule.0 }
     ensures puts { HasPuts setup.now.basin.now
         (event_of_fired setup.now.basin.now (held series.now) rule.0 step.0 result) writes.new }
