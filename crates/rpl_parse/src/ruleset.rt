@@ -65,11 +65,10 @@ fn judged(
     rules: u32,
     functions: u32,
 ) -> Result<Declaration, ParseFault>
+    requires { 0 < length tokens.now }
     ensures { Judges text.now number rules functions tokens.now result }
 {
-    let [first, ..] = tokens else {
-        return Err(ParseFault::NoMemory);
-    };
+    let [first, ..] = tokens else { unreachable!() };
     if is_full(text, tokens, rules, functions) {
         return Err(ParseFault::TooMany(number));
     }

@@ -75,7 +75,7 @@ fn found_at(text: &[u8], at: usize) -> Found
     }
 }
 
-/// TakesTokens up the tokens of the declaration at a place, each the longest, and answers the place behind them. There are none where
+/// Takes up the tokens of the declaration at a place, each the longest, and answers the place behind them. There are none where
 /// nothing is left.
 pub(crate) fn next_tokens(
     text: &[u8],
