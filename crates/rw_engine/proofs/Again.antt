@@ -2,8 +2,7 @@
 use Rattle.rw_engine.proofs.Common.{Cell, Cells, Draft, Event, Leads, List, Log, None, Option, Policy, Some, State, [], ap, append_assoc, cells_of}
 use Rattle.rw_engine.proofs.Common.{closed, held, last_put, length, lines, opened, option_map, option_or, refl, rests, seen, standing, subst, sym, trace_of, ℕ}
 use Rattle.rw_engine.proofs.Common.{◌++◌, ◌+◌, ◌∙◌, ◌∷◌, ◌≡◌, ◌≤◌}
-use Rattle.core.specs.Result.{IsErrAnd}
-use Rattle.std.specs.Prelude.{Contains, Err, IfSome, Ok, Result, is_some, ◌⊎◌}
+use Rattle.std.specs.Prelude.{Contains, Err, IfSome, IsErrAnd, Ok, Result, is_some, ◌⊎◌}
 use Rattle.std.specs.List.{flat_map}
 use Rattle.rw_base.proofs.Common.{arith, inl, inr}
 use Rattle.rw_base.specs.declared.memory.NoMemory.{NoMemory}
