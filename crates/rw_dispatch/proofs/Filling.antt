@@ -1,11 +1,13 @@
 -- A list that is filled place by place.
-use Rattle.rw_base.proofs.Common.{append-nil, ◌≡◌, ◌<◌, ◌+◌, ℕ, List, [], ◌∷◌, ◌++◌, drop, drop_more, map, set, length, sym, ap, ap₂, ◌∙◌, arith}
+use Rattle.rw_base.proofs.Common.{append-nil, ◌≡◌, ◌<◌, ◌≤◌, ◌+◌, ℕ, List, [], ◌∷◌, ◌++◌, drop, drop_more, map, set, length, sym, ap, ap₂, ◌∙◌, arith}
 use Rattle.rw_base.proofs.Common.{append_assoc, get_or-map-range_with_len, range_with_len, set-append_seam, slice_index_or, map-range_with_len_more}
 use Rattle.rw_base.proofs.Common.{length-map-range_with_len, IfSome, None, Option, Some, refl}
 use Rattle.std.proofs.Math.ListN.{drop_of_length-le}
 use Rattle.rw_base.specs.declared.number.SlotNo.{SlotNo}
-use Rattle.rw_model.specs.Draft.{IsSlot}
-use Rattle.rw_model.proofs.Common.{Object, known_in_place, slot_in_place}
+use Rattle.rw_model.specs.Draft.{Draft, IsSlot}
+use Rattle.rw_model.specs.Turn.{IsStep}
+use Rattle.rw_model.proofs.Common.{Object, all_slots, known_in_place, slot_in_place}
+use Rattle.rw_series.specs.Series.{IsSeriesOf, Series}
 use Rattle.rw_run.specs.Log.{Cells}
 use Rattle.rw_dispatch.specs.Seeing.{content_at_slot}
 
@@ -46,6 +48,20 @@ pub number_known : (objects : List Object) (object place : ℕ) (number : Option
     → IfSome number (IsSlot objects)
 number_known objects object place None is = tt
 number_known objects object place (Some number) is = known_in_place objects object place number (sym is)
+
+-- a series of the basin has cells for them
+pub number_within : (objects : List Object) (object place slots : ℕ) (number : Option ℕ) → number ≡ slot_in_place objects object place
+    → length (all_slots objects) ≤ slots → IfSome number (λ slot. slot ≤ slots)
+number_within objects object place slots None is many = tt
+number_within objects object place slots (Some number) is many =
+    let known = known_in_place objects object place number (sym is) in omega (arith, known.last, many)
+
+pub enough_columns : (basin : Draft) (step : ℕ) (series row : Series) → IsStep basin step → IsSeriesOf basin series
+    → (1 ≤ step → step ≤ series.steps → row.columns ≡ series.columns) → length (all_slots basin.objects) ≤ length row.columns
+enough_columns basin step series row at made columns =
+    let last : step ≤ series.steps = omega (arith, at.last, made.steps) in
+    let same = ap length (columns at.first last) in
+    omega (arith, same, made.slots, made.columns.all)
 
 -- what slots hold at a timestep of one series and at one of another, where that is the same
 pub content_there : (one other : Cells) (at there : ℕ) (number : Option ℕ)

@@ -10,7 +10,7 @@ ghost use Rattle.rw_series.specs.Series.{held};
 ghost use Rattle.rw_run.specs.Dispatch.{answered, asked_for, dispatched, looks_of, put_by, view_of};
 ghost use Rattle.rw_dispatch.specs.Answer.{Ends, Tells, answer_of, asked_by_solution, written_in};
 ghost use Rattle.rw_dispatch.specs.Putting.{ArePuts};
-ghost use Rattle.rw_dispatch.specs.Stage.{AreBounded, IsStageOf, Leaves, stage};
+ghost use Rattle.rw_dispatch.specs.Stage.{IsHeldIn, IsStageOf, Leaves, stage};
 ghost use Rattle.rw_model.specs.Turn.{IsTurn};
 
 use crate::dispatch_end::DispatchEnd;
@@ -37,7 +37,7 @@ fn see<'a>(
     step: StepNo,
 ) -> &'a Kind
     requires turn { IsTurn basin.now object.0 step.0 }
-    requires bounded { AreBounded basin.now (held series.now) }
+    requires made { IsHeldIn basin.now series.now }
     ensures seen { view.new ≡ view_of basin.now (held series.now) object.0 step.0 }
     ensures kind { option_map (λ found. found.kind) (object_at basin.now.objects object.0)
         ≡ Some result.now }
@@ -212,7 +212,7 @@ pub fn judge_dispatch(
 )
     requires order { AreInOrder (map (λ b. code (b.vtable, b.value)) methods.now.methods.items) }
     requires turn { IsTurn basin.now object.0 step.0 }
-    requires bounded { AreBounded basin.now (held series.now) }
+    requires made { IsHeldIn basin.now series.now }
     ensures ends { Ends basin.now (looks_of basin.now (held series.now) object.0 step.0)
         object.0 step.0 (dispatched basin.now (held series.now) object.0 step.0) work.new.end }
     ensures work { HasJudged basin.now

@@ -1,6 +1,6 @@
-ghost use Rattle.std.specs.Prelude.{◌≡◌, ◌<◌, IfSome, map, set};
+ghost use Rattle.std.specs.Prelude.{◌≡◌, ◌<◌, ◌≤◌, IfSome, length, map, set};
 ghost use Rattle.rw_model.specs.Draft.{IsObject, IsSlot};
-ghost use Rattle.rw_series.specs.Series.{held};
+ghost use Rattle.rw_series.specs.Series.{IsSeriesOf, held};
 ghost use Rattle.rw_run.specs.Dispatch.{slot_or_none, content_in, bounds_in_place, places};
 ghost use Rattle.rw_model.specs.Turn.{IsTurn};
 ghost use Rattle.rw_dispatch.specs.Seeing.{content_at_slot, bounds_of_slot};
@@ -42,13 +42,14 @@ fn see_slot(
 )
     requires place { place < 12 }
     requires known { IfSome number (IsSlot basin.now.objects) }
+    requires column { IfSome number (λ slot. slot ≤ length cells.now.columns) }
     ensures content { now.new ≡ set now.old place (content_at_slot (held cells.now) 1 number) }
     ensures bounds { bounds.new ≡ set bounds.old place (bounds_of_slot basin.now number) }
 {
     match number {
         Some(number) => {
             let slot = SlotNo(number);
-            match cells.get(slot) {
+            match cells.content(slot) {
                 Some(content) => now[place] = Some(content),
                 None => now[place] = None,
             }
@@ -72,6 +73,7 @@ pub(crate) fn see_slots(
     step: StepNo,
 )
     requires turn { IsTurn basin.now object.0 step.0 }
+    requires made { IsSeriesOf basin.now series.now }
     ensures contents { now.new
         ≡ map (content_in basin.now (held series.now) object.0 step.0) places }
     ensures bounds { bounds.new ≡ map (bounds_in_place basin.now object.0) places }

@@ -55,8 +55,12 @@ fn are_alike(values: &[KeptValue], basin: &Basin, series: &Series, step: StepNo)
         (length (all_slots basin.now.objects)) }
 {
     let cells = series.at_step(step);
-    for before in 0..basin.slot_count() {
-        if !values[usize::from(before)].is_in(cells.get(SlotNo(before + 1))) {
+    let count = basin.slot_count();
+    if cells.slot_count() < usize::from(count) {
+        return false;
+    }
+    for before in 0..count {
+        if !values[usize::from(before)].is_in(cells.content(SlotNo(before + 1))) {
             return false;
         }
     }

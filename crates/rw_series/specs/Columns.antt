@@ -7,6 +7,11 @@ use Rattle.rw_model.specs.Links.{is_together}
 abbrev pub column_of : List ℕ → ℕ → ℕ
 column_of columns slot = if nat_le 1 slot then slice_index_or columns (slot - 1) 0 else 0
 
+-- each of the slots has one of so many columns
+abbrev pub HaveColumns : ℕ → List ℕ → Type 0
+HaveColumns width columns =
+    (slot : ℕ) → 1 ≤ slot → slot ≤ length columns → (1 ≤ column_of columns slot) × (column_of columns slot ≤ width)
+
 -- the columns of the first slots, so many of them
 pub record AreColumns (basin : Draft) (count width : ℕ) (columns : List ℕ) : Type 0 where
   pub all : length columns ≡ count

@@ -1,12 +1,12 @@
 -- What the cells of a basin hold.
-use Rattle.std.specs.Prelude.{◌≡◌, ℕ, ◌≤◌, ◌==◌, Bool, ◌&&◌, IsTrue, if◌then◌else◌, List, length, Option}
+use Rattle.std.specs.Prelude.{◌≡◌, ℕ, ◌≤◌, ◌*◌, ◌==◌, Bool, ◌&&◌, IsTrue, if◌then◌else◌, List, length, Option}
 use Rattle.rw_base.specs.declared.number.Cell.{Cell}
 use Rattle.rw_model.specs.declared.content.Content.{Content}
 use Rattle.rw_model.specs.Objects.{all_slots}
 use Rattle.rw_model.specs.Draft.{Draft, IsSlot}
 use Rattle.rw_model.specs.Links.{is_among, group_of}
 use Rattle.rw_series.specs.Cells.{kept_at}
-use Rattle.rw_series.specs.Columns.{column_of, AreColumns}
+use Rattle.rw_series.specs.Columns.{column_of, AreColumns, HaveColumns}
 
 -- contents for so many slots at so many timesteps, in so many columns
 pub record Series : Type 0 where
@@ -15,6 +15,11 @@ pub record Series : Type 0 where
   pub columns : List ℕ
   pub width : ℕ
   pub cells : List (Option Content)
+
+-- Within the crate: each slot has a column, and each column a cell for each timestep.
+pub record KeepsCells (steps width : ℕ) (columns : List ℕ) (cells : ℕ) : Type 0 where
+  pub whole : cells ≡ width * steps
+  pub have : HaveColumns width columns
 
 -- what a cell holds, which is nothing where it is unknown
 abbrev pub held : Series → Cell → Option Content

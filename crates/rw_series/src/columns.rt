@@ -31,6 +31,15 @@ pub(crate) fn column_of(columns: &[u16], slot: u16) -> u16
     }
 }
 
+/// The column of a slot that is there.
+pub(crate) fn known_column(columns: &[u16], slot: u16) -> u16
+    requires first { 1 ≤ slot }
+    requires last { slot ≤ length columns.now }
+    ensures { result ≡ column_of columns.now slot }
+{
+    columns[usize::from(slot) - 1]
+}
+
 // The first of the slots that is one of the first so many.
 fn earlier(group: &[SlotNo], before: u16) -> Option<u16>
     ensures { MatchOption result (All (λ (slot : SlotNo). before < slot.0) group.now)

@@ -1,4 +1,4 @@
-ghost use Rattle.std.specs.Prelude.{◌≡◌, ◌≢◌, ◌↔◌, IfOk, true};
+ghost use Rattle.std.specs.Prelude.{◌≡◌, ◌≢◌, ◌↔◌, ◌≤◌, IfOk, true};
 ghost use Rattle.rw_base.specs.declared.number.Cell.{Cell};
 ghost use Rattle.rw_base.specs.declared.number.SlotNo.{SlotNo as Slot};
 ghost use Rattle.rw_model.specs.declared.put.PutEnd.TheVariants as PutEnd;
@@ -7,7 +7,7 @@ ghost use Rattle.rw_model.specs.Put.{end_of_put};
 ghost use Rattle.rw_series.specs.Series.{held, IsCell, IsSeriesOf, Sets};
 
 use crate::cells::{keep_at, kept_at};
-use crate::columns::{column_of, columns_of};
+use crate::columns::{column_of, columns_of, known_column};
 use crate::kept::{Kept, unknown};
 use crate::step_cells::{StepCells, cells_at_step};
 use rw_base::{Cell, NoMemory, StepNo};
@@ -26,7 +26,7 @@ pub struct Series {
 }
 
 impl Model for Series {
-    ghost use Rattle.std.specs.Prelude.{◌≡◌, ◌*◌, length, map};
+    ghost use Rattle.std.specs.Prelude.{length, map};
     ghost use Rattle.rw_series.specs.Kept.{content_of};
     ghost use Rattle.rw_series.specs.Series as specs;
 
@@ -40,7 +40,8 @@ impl Model for Series {
       cells = map content_of s.cells.items;
     } };
 
-    ghost invariant = { λ s. length s.cells.items ≡ s.width * s.steps };
+    ghost invariant = { λ s.
+        specs.KeepsCells s.steps s.width s.columns.items (length s.cells.items) };
 }
 
 // What becomes of a put of the content to a cell that holds this.
@@ -94,8 +95,10 @@ impl Series {
 
     /// Its cells at one timestep, counted from 1. There are none where it has no such timestep.
     pub fn at_step(&self, step: StepNo) -> StepCells<'_>
-        ensures { (slot : Slot) → held result (record { slot = slot; step = record { 0 = 1 } })
+        ensures cells { (slot : Slot) → held result (record { slot = slot; step = record { 0 = 1 } })
             ≡ held self.now (record { slot = slot; step = step }) }
+        ensures columns { 1 ≤ step.0 → step.0 ≤ self.now.steps
+            → result.columns ≡ self.now.columns }
     {
         cells_at_step(
             self.columns.as_slice(),
@@ -134,7 +137,7 @@ impl Series {
         ensures made { IsSeriesOf basin.now self.new }
     {
         let _slots = basin.slot_count();
-        let column = column_of(self.columns.as_slice(), c.slot.0);
+        let column = known_column(self.columns.as_slice(), c.slot.0);
         keep_at(
             &mut self.cells,
             self.width,

@@ -3,11 +3,11 @@ ghost use Rattle.rw_base.specs.declared.number.SlotNo.{SlotNo as Slot};
 ghost use Rattle.rw_series.specs.Cells.{kept_at};
 ghost use Rattle.rw_series.specs.Columns.{column_of};
 ghost use Rattle.rw_series.specs.Kept.{content_of};
-ghost use Rattle.rw_series.specs.Series.{held};
+ghost use Rattle.rw_series.specs.Series.{KeepsCells, held};
 
 use crate::cells::kept_at;
-use crate::columns::column_of;
-use crate::kept::Kept;
+use crate::columns::{column_of, known_column};
+use crate::kept::{Kept, content_of};
 use rw_base::SlotNo;
 use rw_model::Content;
 use std::marker::Model;
@@ -21,7 +21,7 @@ pub struct StepCells<'a> {
 }
 
 impl<'a> Model for StepCells<'a> {
-    ghost use Rattle.std.specs.Prelude.{◌≡◌, ◌*◌, length, map};
+    ghost use Rattle.std.specs.Prelude.{length, map};
     ghost use Rattle.rw_series.specs.Kept.{content_of};
     ghost use Rattle.rw_series.specs.Series as specs;
 
@@ -35,7 +35,7 @@ impl<'a> Model for StepCells<'a> {
       cells = map content_of s.cells.now;
     } };
 
-    ghost invariant = { λ s. length s.cells.now ≡ s.width * 1 };
+    ghost invariant = { λ s. specs.KeepsCells 1 s.width s.columns.now (length s.cells.now) };
 }
 
 impl<'a> StepCells<'a> {
@@ -52,6 +52,26 @@ impl<'a> StepCells<'a> {
             column_of(self.columns, slot.0),
             1,
         )
+    }
+
+    /// How many slots have cells.
+    #[inline(always)]
+    pub fn slot_count(&self) -> usize
+        ensures { result ≡ length self.now.columns }
+    {
+        self.columns.len()
+    }
+
+    /// What the cell of a slot holds which is there, its value in the base units of the slot's dimension. `None` exactly
+    /// where it is unknown.
+    #[inline(always)]
+    pub fn content(&self, slot: SlotNo) -> Option<Content>
+        requires first { 1 ≤ slot.0 }
+        requires last { slot.0 ≤ length self.now.columns }
+        ensures { result ≡ held self.now (record { slot = slot; step = record { 0 = 1 } }) }
+    {
+        let column = known_column(self.columns, slot.0);
+        content_of(&self.cells[usize::from(column) - 1])
     }
 }
 
@@ -81,10 +101,11 @@ pub(crate) fn cells_at_step<'a>(
     cells: &'a [Kept],
     step: u16,
 ) -> StepCells<'a>
-    requires { length cells.now ≡ width * steps }
-    ensures { (slot : Slot) → held result (record { slot = slot; step = record { 0 = 1 } })
+    requires { KeepsCells steps width columns.now (length cells.now) }
+    ensures cells { (slot : Slot) → held result (record { slot = slot; step = record { 0 = 1 } })
         ≡ kept_at width steps (map content_of cells.entry.now)
         (column_of columns.entry.now slot.0) step }
+    ensures columns { 1 ≤ step → step ≤ steps → result.columns ≡ columns.entry.now }
 {
     if has_step(steps, step) {
         let cells = row_of(cells, width, step);
@@ -95,7 +116,7 @@ pub(crate) fn cells_at_step<'a>(
         }
     } else {
         StepCells {
-            columns,
+            columns: &[],
             width: 0,
             cells: &[],
         }

@@ -13,4 +13,4 @@ pub returns-clause-view : goal.returns-clause-view
 returns-clause-view c =
     subst (IsViewOf c.kind.result.now) (sym (returns-clause-seen c))
     (IsViewOf-view c.args.basin.now (held c.args.series.now) c.args.object.0 c.args.step.0 c.kind.result.now c.object_count-objects.ensures.valid
-    c.requires.turn.known c.kind.ensures.kind c.kind.ensures.sound c.requires.turn.at.first c.requires.turn.at.last c.requires.bounded)
+    c.requires.turn.known c.kind.ensures.kind c.kind.ensures.sound c.requires.turn.at.first c.requires.turn.at.last c.requires.made.bounded)

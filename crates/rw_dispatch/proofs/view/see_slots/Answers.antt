@@ -2,7 +2,7 @@ use Rattle.rw_dispatch.proofs.Common.{None, ap, arith, held, length, rules, slic
 use Rattle.std.proofs.Math.ListN.{length-set}
 use Rattle.rw_run.specs.Dispatch.{bounds_in_place, content_in}
 use Rattle.rw_dispatch.specs.Seeing.{bounds_of_slot, content_at_slot}
-use Rattle.rw_dispatch.proofs.Filling.{content_there, filled-all, filled-more, number_known, number_there}
+use Rattle.rw_dispatch.proofs.Filling.{content_there, enough_columns, filled-all, filled-more, number_known, number_there, number_within}
 use Rattle.rw_dispatch.proofs.view.see_slots.Goals as goal
 
 pub see_slot-requires-clause-known : goal.see_slot-requires-clause-known
@@ -11,6 +11,15 @@ see_slot-requires-clause-known c =
     let near : c.loop-place.place < 12 = omega (arith, c.loop-place-test.true) in
     number_known objects c.args.object.0 c.loop-place.place (slice_index_or c.row-numbers.result.now c.loop-place.place None)
     (number_there objects c.args.object.0 c.loop-place.place c.row-numbers.result.now c.row-numbers.ensures near)
+
+pub see_slot-requires-clause-column : goal.see_slot-requires-clause-column
+see_slot-requires-clause-column c =
+    let basin = c.args.basin.now in
+    let near : c.loop-place.place < 12 = omega (arith, c.loop-place-test.true) in
+    number_within basin.objects c.args.object.0 c.loop-place.place (length c.at_step-cells.result.columns)
+    (slice_index_or c.row-numbers.result.now c.loop-place.place None)
+    (number_there basin.objects c.args.object.0 c.loop-place.place c.row-numbers.result.now c.row-numbers.ensures near)
+    (enough_columns basin c.args.step.0 c.args.series.now c.at_step-cells.result c.requires.turn.at c.requires.made c.at_step-cells.ensures.columns)
 
 pub loop-place-preserved : goal.loop-place-preserved
 loop-place-preserved c =
@@ -22,7 +31,7 @@ loop-place-preserved c =
     let number = number_there basin.objects c.args.object.0 place c.row-numbers.result.now c.row-numbers.ensures near in
     let same =
     content_there (held c.at_step-cells.result) (held c.args.series.now) 1 c.args.step.0 (slice_index_or c.row-numbers.result.now place None)
-    c.at_step-cells.ensures in
+    c.at_step-cells.ensures.cells in
     record {
       contents =
           seen.content ∙ filled-more (content_in basin (held c.args.series.now) c.args.object.0 c.args.step.0) c.args.now.now place c.loop-place.now _
@@ -40,6 +49,14 @@ see_slot-requires-in-loop-late-clause-known c =
     number_known objects c.args.object.0 c.loop-late.late (slice_index_or c.row-numbers.result.now c.loop-late.late None)
     (number_there objects c.args.object.0 c.loop-late.late c.row-numbers.result.now c.row-numbers.ensures c.loop-late-test.true)
 
+pub see_slot-requires-in-loop-late-clause-column : goal.see_slot-requires-in-loop-late-clause-column
+see_slot-requires-in-loop-late-clause-column c =
+    let basin = c.args.basin.now in
+    number_within basin.objects c.args.object.0 c.loop-late.late (length c.at_step-cells.result.columns)
+    (slice_index_or c.row-numbers.result.now c.loop-late.late None)
+    (number_there basin.objects c.args.object.0 c.loop-late.late c.row-numbers.result.now c.row-numbers.ensures c.loop-late-test.true)
+    (enough_columns basin c.args.step.0 c.args.series.now c.at_step-cells.result c.requires.turn.at c.requires.made c.at_step-cells.ensures.columns)
+
 pub loop-late-preserved : goal.loop-late-preserved
 loop-late-preserved c =
     let basin = c.args.basin.now in
@@ -49,7 +66,7 @@ loop-late-preserved c =
     let number = number_there basin.objects c.args.object.0 late c.row-numbers.result.now c.row-numbers.ensures c.loop-late-test.true in
     let same =
     content_there (held c.at_step-cells.result) (held c.args.series.now) 1 c.args.step.0 (slice_index_or c.row-numbers.result.now late None)
-    c.at_step-cells.ensures in
+    c.at_step-cells.ensures.cells in
     record {
       contents =
           seen.content ∙ filled-more (content_in basin (held c.args.series.now) c.args.object.0 c.args.step.0) c.args.now.now late c.loop-late.now _

@@ -10,4 +10,4 @@ loop-before-preserved c =
     let values : (ℕ → Option ℤ) = λ slot. values_in (held c.args.series.now) slot c.args.step.0 in
     value_put values c.loop-before.before c.loop-before.values.items c.push.new.self.items c.of.result c.in_ok-push.ensures.items
     c.loop-before.invariant
-    (c.of.ensures ∙ ap (λ content. option_map (λ (held : Content). held.value) content) (c.get.ensures ∙ c.at_step-cells.ensures _))
+    (c.of.ensures ∙ ap (λ content. option_map (λ (held : Content). held.value) content) (c.get.ensures ∙ c.at_step-cells.ensures.cells _))

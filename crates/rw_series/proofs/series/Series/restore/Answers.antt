@@ -9,14 +9,14 @@ use Rattle.rw_series.proofs.series.Series.restore.Goals as goal
 pub keep_at-requires-clause-kept : goal.keep_at-requires-clause-kept
 keep_at-requires-clause-kept c =
     ap (λ column. is_kept c.self.inside.width c.self.inside.steps column c.args.c.step.0)
-    (c.column_of-column.ensures ∙ ap (λ columns. column_of columns c.args.c.slot.0) c.as_slice.ensures.value)
+    (c.known_column-column.ensures ∙ ap (λ columns. column_of columns c.args.c.slot.0) c.as_slice.ensures.value)
     ∙ subst (λ (series : Series). is_kept series.width series.steps (column_of series.columns c.args.c.slot.0) c.args.c.step.0 ≡ true)
     (sym c.self.view_is)
     (column_kept c.args.basin.now c.args.self.now c.args.c c.requires.made c.requires.cell)
 
 pub returns-clause-cells : goal.returns-clause-cells
 returns-clause-cells c other =
-    let column = c.column_of-column.ensures ∙ ap (λ columns. column_of columns c.args.c.slot.0) c.as_slice.ensures.value in
+    let column = c.known_column-column.ensures ∙ ap (λ columns. column_of columns c.args.c.slot.0) c.as_slice.ensures.value in
     let before = c.self.inside.columns.items in
     c.keep_at.ensures.cells (column_of before other.slot.0) other.step.0
     ∙ ap₂ (λ test old. if test then c.args.held else old)
