@@ -55,6 +55,7 @@ fn same_put(put: &Put) -> Put
 
 /// Adds those of the puts that are written, and what they write, by what the object sees: that is what the cells hold before
 /// the first of them. The first that is denied is the answer.
+#[inline(always)]
 pub(crate) fn judge(
     view: &View,
     basin: &Basin,

@@ -85,6 +85,7 @@ fn value_of_past(
 }
 
 /// The earlier value at which a dispatch of an object looks. `None` where it looks at none, or where it is unknown.
+#[inline(always)]
 pub(crate) fn past_value(
     basin: &Basin,
     series: &Series,

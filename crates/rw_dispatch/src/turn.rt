@@ -29,6 +29,7 @@ use rw_series::Series;
 
 // Fills the view in anew with what an object sees, and answers its kind. Its method is asked where the answer is used: each
 // function that hands on a `Solved` copies it.
+#[inline(always)]
 fn see<'a>(
     view: &mut View,
     basin: &'a Basin,
@@ -52,6 +53,7 @@ fn see<'a>(
 }
 
 // What becomes of the puts that an object asks for.
+#[inline(always)]
 fn put_all(
     view: &View,
     basin: &Basin,
@@ -87,6 +89,7 @@ fn put_all(
 }
 
 // What becomes of what a method answers, with what is to be written.
+#[inline(always)]
 fn answer(
     view: &View,
     basin: &Basin,
@@ -202,6 +205,7 @@ fn answer_of(end: DispatchEnd, solved: Solved, written: PutList) -> Dispatched
 /// asks for is judged by the put rules, all by what the cells hold before. If one put is denied, that is a conflict; otherwise
 /// those that aren't there already are to be written. The workspace has them afterwards, whatever it had before, and how the
 /// dispatch ended, and where it keeps that, all that was asked for. It takes no memory.
+#[inline(always)]
 pub fn judge_dispatch(
     basin: &Basin,
     methods: &Catalogue,

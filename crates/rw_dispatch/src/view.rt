@@ -64,6 +64,7 @@ fn see_slot(
 
 /// Fills in what the object's slots hold and their bounds, by place, whatever stood there. The view is filled where it stands:
 /// it is large.
+#[inline(always)]
 pub(crate) fn see_slots(
     now: &mut [Option<Content>; 12],
     bounds: &mut [(i64, i64); 12],
