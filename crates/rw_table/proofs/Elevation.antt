@@ -1,6 +1,7 @@
 -- The elevation at a volume in a table: the count finds the greatest, and so does the last on the line of the interval.
 use Rattle.rw_table.proofs.Common.{IsAtMost, IsElevationInside, IsGreatest, IsLastOnLine, IsTable, IsVolumeInside, List, None, Option, Row, Some, ap}
-use Rattle.rw_table.proofs.Common.{arith, elev_of, first_row, greatest_up_to, inl, inr, ints, last_row, length, negsuc, pos, refl, row_at, suc}
+use Rattle.std.specs.Prelude.{is_some}
+use Rattle.rw_table.proofs.Common.{arith, elev_of, first_row, greatest_up_to, inl, inr, int_le, ints, last_row, length, negsuc, pos, refl, row_at, suc, sym}
 use Rattle.rw_table.proofs.Common.{unsigned_abs, vol_of, zero, ℕ, ℤ, ◌+ℤ◌, ◌-◌, ◌<ℤ◌, ◌<◌, ◌∙◌, ◌≡◌, ◌≤ℤ◌}
 use Rattle.rw_table.proofs.Comparison.{below_or_not, le_passes, le_fails}
 use Rattle.rw_table.proofs.Order.{no_less}
@@ -156,3 +157,12 @@ last_elevation rows s table same =
 -- above the last volume there is none
 pub elevation_after : (rows : List Row) (s : ℤ) → (last_row rows).1 <ℤ s → elev_of rows s ≡ None
 elevation_after rows s past = elev_outside rows s (λ within. omega (arith, ints, within.to_last))
+
+-- from the first volume on there is one up to the last
+pub some_up_to : (rows : List Row) (s : ℤ) → IsTable rows → (first_row rows).1 ≤ℤ s → int_le s (last_row rows).1 ≡ is_some (elev_of rows s)
+some_up_to rows s table from = elim (below_or_not (last_row rows).1 s) [
+  | inl past ↦ le_fails s (last_row rows).1 past ∙ sym (ap is_some (elevation_after rows s past))
+  | inr to ↦
+      let has = elev_held rows s table (record { from_first = from; to_last = to }) in
+      le_passes s (last_row rows).1 to ∙ sym (ap is_some has.is)
+]

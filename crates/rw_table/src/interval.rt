@@ -2,13 +2,17 @@ ghost use Rattle.std.specs.Prelude.{◌≡◌, ℕ, pos, ◌+◌, ◌-◌, ◌*�
 ghost use Rattle.rw_table.specs.Table.{IsWithinBounds, IsAbove};
 ghost use Rattle.rw_table.specs.Line.{between, IsLastOnLine};
 
-// Of a rise over a run, the share of it after `along` of the run, rounded down.
+// Of a rise over a run, the share of it after `along` of the run, rounded down. What fits 64 bits is divided there: that is
+// quicker.
 fn share(along: u64, rise: u64, run: u64) -> u64
     requires { along < run }
     ensures share { result ≡ along * rise / run }
     ensures below { 0 < rise → result < rise }
 {
-    (u128::from(along) * u128::from(rise) / u128::from(run)) as u64
+    match along.checked_mul(rise) {
+        Some(product) => product / run,
+        None => (u128::from(along) * u128::from(rise) / u128::from(run)) as u64,
+    }
 }
 
 // How far along the run the share of the rise is still at most `held`, which is less than the rise.
@@ -19,7 +23,10 @@ fn reach(held: u64, rise: u64, run: u64) -> u64
     ensures greatest { (along : ℕ) → result < along → held < along * rise / run }
     ensures below { result < run }
 {
-    (((u128::from(held) + 1) * u128::from(run) - 1) / u128::from(rise)) as u64
+    match (held + 1).checked_mul(run) {
+        Some(product) => (product - 1) / rise,
+        None => (((u128::from(held) + 1) * u128::from(run) - 1) / u128::from(rise)) as u64,
+    }
 }
 
 fn distance(from: i64, to: i64) -> u64

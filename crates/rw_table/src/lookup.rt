@@ -1,4 +1,4 @@
-ghost use Rattle.std.specs.Prelude.{◌≡◌};
+ghost use Rattle.std.specs.Prelude.{◌≡◌, is_some};
 ghost use Rattle.rw_table.specs.Table.{IsTable};
 ghost use Rattle.rw_table.specs.Curve.{vol_of, elev_of};
 
@@ -41,4 +41,34 @@ pub(crate) fn elevation_at(rows: &[(i64, i64)], s: i64) -> Option<i64>
         return Some(low.0);
     }
     None
+}
+
+/// Whether the rows of a table have an elevation for a volume of s m3.
+pub(crate) fn has_elevation(rows: &[(i64, i64)], s: i64) -> bool
+    requires { IsTable rows.now }
+    ensures { result ≡ is_some (elev_of rows.now s) }
+{
+    rows[0].1 <= s && s <= rows[rows.len() - 1].1
+}
+
+/// As `volume_at`, without a search where e is from the row before a place up to the one there.
+pub(crate) fn volume_near(rows: &[(i64, i64)], place: usize, e: i64) -> Option<i64>
+    requires { IsTable rows.now }
+    ensures { result ≡ vol_of rows.now e }
+{
+    if 0 < place && place < rows.len() && rows[place - 1].0 <= e && e < rows[place].0 {
+        return Some(volume_between(rows[place - 1], rows[place], e));
+    }
+    volume_at(rows, e)
+}
+
+/// As `elevation_at`, without a search where s is from the row before a place up to the one there.
+pub(crate) fn elevation_near(rows: &[(i64, i64)], place: usize, s: i64) -> Option<i64>
+    requires { IsTable rows.now }
+    ensures { result ≡ elev_of rows.now s }
+{
+    if 0 < place && place < rows.len() && rows[place - 1].1 <= s && s < rows[place].1 {
+        return Some(elevation_between(rows[place - 1], rows[place], s));
+    }
+    elevation_at(rows, s)
 }

@@ -1,11 +1,12 @@
-ghost use Rattle.std.specs.Prelude.{◌≡◌, OnOk, IsOk, IfOk, IsErrOf};
+ghost use Rattle.std.specs.Prelude.{◌≡◌, ◌≤◌, length, OnOk, IsOk, IfOk, IsErrOf, is_some};
 ghost use Rattle.std.specs.Option.{ForSome};
 ghost use Rattle.rw_base.specs.Answers.{Answers};
 ghost use Rattle.rw_table.specs.Table.{IsTable, rows_refusal_of, table_of};
 ghost use Rattle.rw_table.specs.Curve.{vol_of, elev_of, first_row, IsElevationInside};
 
 use crate::fault::{TableFault, judge};
-use crate::lookup::{elevation_at, volume_at};
+use crate::lookup::{elevation_at, elevation_near, has_elevation, volume_at, volume_near};
+use crate::search::rows_up_to_volume;
 use std::alloc::Global;
 use std::marker::Model;
 
@@ -64,6 +65,37 @@ impl Rating {
         ensures table { IsTable self.now }
     {
         elevation_at(&self.rows, s)
+    }
+
+    /// Whether the table has an elevation for s m3, which is quicker than `elev`: it looks at the first and the last row alone.
+    pub fn has_elev(&self, s: i64) -> bool
+        ensures { result ≡ is_some (elev_of self.now s) }
+    {
+        has_elevation(&self.rows, s)
+    }
+
+    /// How many rows have at most a volume of s m3: where `elev_near` and `vol_near` look first.
+    pub fn rows_up_to(&self, s: i64) -> usize
+        ensures { result ≤ length self.now }
+    {
+        rows_up_to_volume(&self.rows, s)
+    }
+
+    /// As `vol`, which is quicker where e is between the row before a place and the one there.
+    pub fn vol_near(&self, place: usize, e: i64) -> Option<i64>
+        ensures volume { result ≡ vol_of self.now e }
+        ensures table { IsTable self.now }
+    {
+        volume_near(&self.rows, place, e)
+    }
+
+    /// As `elev`, which is quicker where s is between the volumes of the row before a place and of the one there.
+    pub fn elev_near(&self, place: usize, s: i64) -> Option<i64>
+        ensures elevation { result ≡ elev_of self.now s }
+        ensures inside { ForSome result (IsElevationInside self.now) }
+        ensures table { IsTable self.now }
+    {
+        elevation_near(&self.rows, place, s)
     }
 
     /// The lowest elevation of the table in mm.
