@@ -67,7 +67,7 @@ pub(crate) fn can_hold(table: Option<&Rating>, storage: i64) -> bool
     ensures { result ≡ can_hold (option_map (λ rating. rating.now) table.entry) storage }
 {
     match table {
-        Some(rating) => rating.elev(storage).is_some(),
+        Some(rating) => rating.has_elev(storage),
         None => true,
     }
 }

@@ -43,7 +43,7 @@ pub use method::Method;
 pub use past::past_in;
 pub use put::Put;
 pub use put_list::PutList;
-pub use puts::{add_put, begin_puts, ended, held_after, known_after, put_solved};
+pub use puts::{add_put, begin_asking, begin_puts, ended, held_after, known_after, put_solved};
 pub use releasing::{ask_released, released};
 pub use share::{Release, Seepage, Share};
 pub use side::side_flows;

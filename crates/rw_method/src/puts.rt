@@ -7,6 +7,7 @@ ghost use Rattle.rw_method.specs.Puts.{put, is_bounded, solved_put, held_by, hel
 ghost use Rattle.rw_method.specs.Solve.{AllFit, answer_of_puts, answer};
 ghost use Rattle.rw_method.specs.declared.put.Put.{Put};
 
+use crate::asking::narrow;
 use crate::{Balanced, Given, Put, PutList, Solved, View};
 use rw_base::{QUANTITY_MAX, Qty};
 use rw_model::Content;
@@ -26,12 +27,21 @@ fn bounds_at(view: &View, place: u8) -> (i64, i64)
     }
 }
 
-// Whether the slot in a place can have the value.
+// Whether a quantity is within bounds.
+fn is_inside(bounds: (i64, i64), value: i64) -> bool
+    ensures { result ≡ is_between bounds value }
+{
+    bounds.0 <= value && value <= bounds.1
+}
+
+// Whether the slot in a place can have the value. Whether that is a quantity comes first: then it is compared in 64 bits.
 fn is_bounded(view: &View, place: u8, value: i128) -> bool
     ensures { result ≡ is_bounded view.entry.now (put place value 0) }
 {
-    let (low, high) = bounds_at(view, place);
-    is_between(low, high, value) && is_between(-QUANTITY_MAX, QUANTITY_MAX, value)
+    if !is_between(-QUANTITY_MAX, QUANTITY_MAX, value) {
+        return false;
+    }
+    is_inside(bounds_at(view, place), narrow(value))
 }
 
 // The quantity of this value.
@@ -73,20 +83,19 @@ pub fn add_put(
     Ok(())
 }
 
-/// The puts that an answer begins with: the solved term, if one is solved, in the base units of its slot's dimension. The
-/// error is the answer otherwise: `Idle` where too little is known, `Conflict` where the terms conflict, `OutOfRange` where
-/// the slot of the solved term can't have its value.
+/// The puts that an answer begins with, in an empty list: as of `begin_puts`, where the list stands, since it is large.
 #[inline(always)]
-pub fn begin_puts(view: &View, balanced: Balanced) -> Result<PutList, Solved>
-    ensures ok { IfOk result (λ puts. puts ≡ solved_put balanced) }
+pub fn begin_asking(view: &View, puts: &mut PutList, balanced: Balanced) -> Result<(), Solved>
+    requires { puts.old ≡ [] }
+    ensures ok { OnOk result (puts.new ≡ solved_put balanced) }
     ensures fits { IsOk result → AllFit (is_bounded view.entry.now) (solved_put balanced) }
     ensures open { IsOk result → (fit : Put → Bool) (puts : List Put)
         → answer fit puts balanced None ≡ answer_of_puts fit puts }
     ensures err { IfErr result (λ ended. (fit : Put → Bool) (more : List Put)
         → All (λ put. fit put ≡ is_bounded view.entry.now put) (solved_put balanced)
         → ended ≡ answer fit (solved_put balanced ++ more) balanced None) }
+    ensures unchanged { OnErr result (puts.new ≡ puts.old) }
 {
-    let mut puts = PutList::none();
     match balanced {
         Balanced::Idle => return Err(Solved::Idle),
         Balanced::Conflicts {
@@ -106,12 +115,32 @@ pub fn begin_puts(view: &View, balanced: Balanced) -> Result<PutList, Solved>
             value,
             number,
         } => {
-            if let Err(answer) = add_put(view, &mut puts, place, value, number) {
+            if let Err(answer) = add_put(view, puts, place, value, number) {
                 return Err(answer);
             }
         }
     }
-    Ok(puts)
+    Ok(())
+}
+
+/// The puts that an answer begins with: the solved term, if one is solved, in the base units of its slot's dimension. The
+/// error is the answer otherwise: `Idle` where too little is known, `Conflict` where the terms conflict, `OutOfRange` where
+/// the slot of the solved term can't have its value.
+#[inline(always)]
+pub fn begin_puts(view: &View, balanced: Balanced) -> Result<PutList, Solved>
+    ensures ok { IfOk result (λ puts. puts ≡ solved_put balanced) }
+    ensures fits { IsOk result → AllFit (is_bounded view.entry.now) (solved_put balanced) }
+    ensures open { IsOk result → (fit : Put → Bool) (puts : List Put)
+        → answer fit puts balanced None ≡ answer_of_puts fit puts }
+    ensures err { IfErr result (λ ended. (fit : Put → Bool) (more : List Put)
+        → All (λ put. fit put ≡ is_bounded view.entry.now put) (solved_put balanced)
+        → ended ≡ answer fit (solved_put balanced ++ more) balanced None) }
+{
+    let mut puts = PutList::none();
+    match begin_asking(view, &mut puts, balanced) {
+        Ok(()) => Ok(puts),
+        Err(answer) => Err(answer),
+    }
 }
 
 /// What is answered before puts are judged, if anything is: `Idle` where too little is known, else what is wrong with what

@@ -1,7 +1,7 @@
 use Rattle.rw_method.proofs.Common.{All, Balanced, Bool, FitsSigned, List, None, Put, Solves, View, answer, arith, false, is_bounded, put, refl}
 use Rattle.rw_method.proofs.Common.{rules, solved_put, to_z-of_z, w128, ℕ, ℤ, ◌++◌, ◌∙◌, ◌≡◌}
 use Rattle.rw_method.specs.declared.solved.Solved.TheVariants.{OutOfRange}
-use Rattle.rw_method.proofs.puts.begin_puts.Goals as goal
+use Rattle.rw_method.proofs.puts.begin_asking.Goals as goal
 
 -- a solved term that doesn't fit is the answer, whatever else would be put
 solved_misfit : (view : View) (balanced : Balanced) (place : ℕ) (value : ℤ) (number : ℕ) (fit : Put → Bool) (more : List Put)
