@@ -1,14 +1,15 @@
-ghost use Rattle.std.specs.Prelude.{◌≡◌, ◌≤◌, ◌-ℤ◌, ◌++◌, None};
+ghost use Rattle.std.specs.Prelude.{◌≡◌, ◌≤◌, ◌-ℤ◌, ◌++◌, [], None, OnOk, IfErr};
 ghost use Rattle.rw_model.specs.declared.limits.TheConstants.{SEEPAGE_MAX};
 ghost use Rattle.rw_model.specs.declared.kind.Kind.TheVariants as Kind;
+ghost use Rattle.rw_method.specs.declared.solved.Solved.TheVariants as Solved;
 ghost use Rattle.rw_method.specs.declared.places.TheConstants.{INFLOW, OUTFLOW};
 ghost use Rattle.rw_method.specs.Puts.{is_bounded, solved_put, seepage_put, known_after};
 ghost use Rattle.rw_method.specs.Solve.{answer, solve_of};
 
 use rw_method::places::{INFLOW, OUTFLOW, SEEPAGE};
 use rw_method::{
-    Balanced, Given, Method, Seepage, Share, Solved, View, add_put, begin_puts, known_after,
-    solve_balance,
+    Balanced, Given, Method, PutList, Seepage, Share, Solved, View, add_put, begin_asking,
+    known_after, solve_balance,
 };
 use rw_model::Kind;
 
@@ -22,34 +23,58 @@ fn seeping(inflow: Given, outflow: Given) -> i128
     i128::from(inflow.value) - i128::from(outflow.value)
 }
 
-// What it answers that puts its solved flow, if one is solved, and what seeps away.
-fn put_seepage(view: &View, balanced: Balanced) -> Solved
-    ensures { result ≡ answer (is_bounded view.entry.now)
+// Puts its solved flow, if one is solved, and what seeps away.
+#[inline(always)]
+fn ask_seepage(view: &View, puts: &mut PutList, balanced: Balanced) -> Result<(), Solved>
+    requires { puts.old ≡ [] }
+    ensures ok { OnOk result (Solved.Puts puts.new ≡ answer (is_bounded view.entry.now)
         (solved_put balanced ++ seepage_put (known_after view.entry.now balanced INFLOW)
-        (known_after view.entry.now balanced OUTFLOW)) balanced None }
+        (known_after view.entry.now balanced OUTFLOW)) balanced None) }
+    ensures err { IfErr result (λ ended. ended ≡ answer (is_bounded view.entry.now)
+        (solved_put balanced ++ seepage_put (known_after view.entry.now balanced INFLOW)
+        (known_after view.entry.now balanced OUTFLOW)) balanced None) }
 {
-    let mut puts = match begin_puts(view, balanced) {
-        Ok(puts) => puts,
-        Err(answer) => return answer,
-    };
+    if let Err(answer) = begin_asking(view, puts, balanced) {
+        return Err(answer);
+    }
     let inflow = known_after(view, balanced, INFLOW);
     let outflow = known_after(view, balanced, OUTFLOW);
     let seeping = seeping(inflow, outflow);
-    if let Err(answer) = add_put(view, &mut puts, SEEPAGE, seeping, inflow.number) {
-        return answer;
+    if let Err(answer) = add_put(view, puts, SEEPAGE, seeping, inflow.number) {
+        return Err(answer);
     }
-    Solved::Puts(puts)
+    Ok(())
 }
 
-pub(crate) fn solve_canal(view: &View, seepage: u16) -> Solved
+// Answers what puts its solved flow, if one is solved, and what seeps away.
+#[inline(always)]
+fn put_seepage(view: &View, balanced: Balanced, solved: &mut Solved)
+    ensures { solved.new ≡ answer (is_bounded view.entry.now)
+        (solved_put balanced ++ seepage_put (known_after view.entry.now balanced INFLOW)
+        (known_after view.entry.now balanced OUTFLOW)) balanced None }
+{
+    solved.clear();
+    let asked = match solved {
+        Solved::Puts(puts) => ask_seepage(view, puts, balanced),
+        _ => Ok(()),
+    };
+    if let Err(answer) = asked {
+        *solved = answer;
+    }
+}
+
+pub(crate) fn solve_canal(view: &View, seepage: u16, solved: &mut Solved)
     requires { seepage ≤ SEEPAGE_MAX }
-    ensures { result ≡ solve_of (Kind.Canal seepage) view.entry.now }
+    ensures { solved.new ≡ solve_of (Kind.Canal seepage) view.entry.now }
 {
     let terms = [
         view.term(Share::Conveys(Seepage::of(seepage)), INFLOW),
         view.term(Share::Takes, OUTFLOW),
     ];
-    put_seepage(view, solve_balance(Some(0), &terms))
+    match solve_balance(Some(0), &terms) {
+        Balanced::Idle => *solved = Solved::Idle,
+        balanced => put_seepage(view, balanced, solved),
+    }
 }
 
 impl Method for CanalMethod {
@@ -61,7 +86,7 @@ impl Method for CanalMethod {
 
     fn solve(&self, kind: &Kind, view: &View, solved: &mut Solved) {
         match kind {
-            Kind::Canal { seepage } => *solved = solve_canal(view, *seepage),
+            Kind::Canal { seepage } => solve_canal(view, *seepage, solved),
             _ => unreachable!(),
         }
     }

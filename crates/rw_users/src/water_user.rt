@@ -1,5 +1,6 @@
-ghost use Rattle.std.specs.Prelude.{◌≡◌, ℕ, ◌-ℤ◌, ◌++◌, None};
+ghost use Rattle.std.specs.Prelude.{◌≡◌, ℕ, ◌-ℤ◌, ◌++◌, [], None, OnOk, IfErr};
 ghost use Rattle.std.specs.Option.{ForSome};
+ghost use Rattle.rw_method.specs.declared.solved.Solved.TheVariants as Solved;
 ghost use Rattle.rw_method.specs.declared.places.TheConstants.{DIVERSION};
 ghost use Rattle.rw_method.specs.Term.{IsWithin, per_mille};
 ghost use Rattle.rw_method.specs.View.{known_value};
@@ -9,8 +10,8 @@ ghost use Rattle.rw_method.specs.Solve.{answer, balanced_of, solve_of};
 
 use rw_method::places::{DEPLETION, DIVERSION, DIVERSION_REQUEST, RETURN_FLOW};
 use rw_method::{
-    Balanced, Given, Method, Share, Solved, View, add_put, begin_puts, known_after, per_mille,
-    solve_balance,
+    Balanced, Given, Method, PutList, Share, Solved, View, add_put, begin_asking, known_after,
+    per_mille, solve_balance,
 };
 use rw_model::{Kind, Supply};
 
@@ -36,10 +37,11 @@ fn used_up(diversion: Given, depletion: u16) -> i128
     per_mille(diversion.value, depletion)
 }
 
-fn flowing_back(diversion: Given, depletion: u16) -> i128
-    ensures { result ≡ diversion.value -ℤ per_mille diversion.value depletion }
+fn flowing_back(diversion: Given, used: i128) -> i128
+    requires { IsWithin 1 used }
+    ensures { result ≡ diversion.value -ℤ used }
 {
-    i128::from(diversion.value) - used_up(diversion, depletion)
+    i128::from(diversion.value) - used
 }
 
 // What its diversion comes to: it is the request, or is set by a rule.
@@ -56,32 +58,61 @@ fn balanced_by(view: &View, supply: Supply) -> Balanced
     }
 }
 
-// What it answers that puts its diversion, if that is solved, and what is used up and flows back of it.
-fn put_uses(view: &View, depletion: u16, balanced: Balanced) -> Solved
-    ensures { result ≡ answer (is_bounded view.entry.now)
+// Puts its diversion, if that is solved, and what is used up and flows back of it.
+#[inline(always)]
+fn ask_uses(
+    view: &View,
+    puts: &mut PutList,
+    depletion: u16,
+    balanced: Balanced,
+) -> Result<(), Solved>
+    requires { puts.old ≡ [] }
+    ensures ok { OnOk result (Solved.Puts puts.new ≡ answer (is_bounded view.entry.now)
+        (solved_put balanced
+        ++ user_puts depletion (known_after view.entry.now balanced DIVERSION)) balanced None) }
+    ensures err { IfErr result (λ ended. ended ≡ answer (is_bounded view.entry.now)
+        (solved_put balanced
+        ++ user_puts depletion (known_after view.entry.now balanced DIVERSION)) balanced None) }
+{
+    if let Err(answer) = begin_asking(view, puts, balanced) {
+        return Err(answer);
+    }
+    let diversion = known_after(view, balanced, DIVERSION);
+    let used = used_up(diversion, depletion);
+    if let Err(answer) = add_put(view, puts, DEPLETION, used, diversion.number) {
+        return Err(answer);
+    }
+    let back = flowing_back(diversion, used);
+    if let Err(answer) = add_put(view, puts, RETURN_FLOW, back, diversion.number) {
+        return Err(answer);
+    }
+    Ok(())
+}
+
+// Answers what puts its diversion, if that is solved, and what is used up and flows back of it.
+#[inline(always)]
+fn put_uses(view: &View, depletion: u16, balanced: Balanced, solved: &mut Solved)
+    ensures { solved.new ≡ answer (is_bounded view.entry.now)
         (solved_put balanced
         ++ user_puts depletion (known_after view.entry.now balanced DIVERSION)) balanced None }
 {
-    let mut puts = match begin_puts(view, balanced) {
-        Ok(puts) => puts,
-        Err(answer) => return answer,
+    solved.clear();
+    let asked = match solved {
+        Solved::Puts(puts) => ask_uses(view, puts, depletion, balanced),
+        _ => Ok(()),
     };
-    let diversion = known_after(view, balanced, DIVERSION);
-    let used = used_up(diversion, depletion);
-    if let Err(answer) = add_put(view, &mut puts, DEPLETION, used, diversion.number) {
-        return answer;
+    if let Err(answer) = asked {
+        *solved = answer;
     }
-    let back = flowing_back(diversion, depletion);
-    if let Err(answer) = add_put(view, &mut puts, RETURN_FLOW, back, diversion.number) {
-        return answer;
-    }
-    Solved::Puts(puts)
 }
 
-pub(crate) fn solve_user(view: &View, depletion: u16, supply: Supply) -> Solved
-    ensures { result ≡ solve_of (Kind.WaterUser depletion supply) view.entry.now }
+pub(crate) fn solve_user(view: &View, depletion: u16, supply: Supply, solved: &mut Solved)
+    ensures { solved.new ≡ solve_of (Kind.WaterUser depletion supply) view.entry.now }
 {
-    put_uses(view, depletion, balanced_by(view, supply))
+    match balanced_by(view, supply) {
+        Balanced::Idle => *solved = Solved::Idle,
+        balanced => put_uses(view, depletion, balanced, solved),
+    }
 }
 
 impl Method for WaterUserMethod {
@@ -94,7 +125,7 @@ impl Method for WaterUserMethod {
     fn solve(&self, kind: &Kind, view: &View, solved: &mut Solved) {
         match kind {
             Kind::WaterUser { depletion, supply } => {
-                *solved = solve_user(view, *depletion, *supply);
+                solve_user(view, *depletion, *supply, solved);
             }
             _ => unreachable!(),
         }
