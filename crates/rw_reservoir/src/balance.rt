@@ -1,15 +1,17 @@
-ghost use Rattle.std.specs.Prelude.{◌≡◌, ◌+◌, ◌+ℤ◌, ◌-ℤ◌, ◌∷◌, [], ℤ, Option, if◌then◌else◌, is_some, nat_le, true};
+ghost use Rattle.std.specs.Prelude.{◌≡◌, ◌+ℤ◌, ◌-ℤ◌, ◌∷◌, [], ℤ, List, Option, None, nat_le, true};
 ghost use Rattle.std.specs.Option.{ForSome};
+ghost use Rattle.rw_table.specs.Table.{Row};
 ghost use Rattle.rw_method.specs.declared.balanced.Balanced.TheVariants as Balanced;
-ghost use Rattle.rw_method.specs.declared.places.TheConstants.{INFLOW, OUTFLOW};
+ghost use Rattle.rw_method.specs.declared.places.TheConstants.{INFLOW, OUTFLOW, POOL_ELEVATION, STORAGE};
+ghost use Rattle.rw_method.specs.View.{given};
 ghost use Rattle.rw_method.specs.Term.{IsWithin};
-ghost use Rattle.rw_method.specs.Contents.{difference};
-ghost use Rattle.rw_method.specs.Balance.{known_sum, brings, takes};
-ghost use Rattle.rw_method.specs.Solving.{solved_balance};
+ghost use Rattle.rw_method.specs.Contents.{basis_of, contents_by, difference};
+ghost use Rattle.rw_method.specs.Balance.{known_sum, brings, takes, stores};
+ghost use Rattle.rw_method.specs.Solving.{missing, solved_balance};
 
 use rw_base::Qty;
-use rw_method::places::{INFLOW, OUTFLOW};
-use rw_method::{Balanced, Given, Share, Term, View, solve_balance};
+use rw_method::places::{INFLOW, OUTFLOW, POOL_ELEVATION, STORAGE};
+use rw_method::{Balanced, Share, Term, View, solve_balance};
 
 fn with_side(past: Qty, side: i128) -> i128
     requires { IsWithin 3 side }
@@ -43,30 +45,40 @@ fn steady(past: Option<Qty>, side: Option<i128>, evaporation: Option<i128>) -> O
     }
 }
 
-// Whether two of these aren't given.
-#[inline(always)]
-fn are_two_missing(one: Option<Given>, other: Option<Given>, last: Option<Given>) -> bool
-    ensures { result ≡ nat_le 2 ((if is_some one then 0 else 1)
-        + ((if is_some other then 0 else 1) + ((if is_some last then 0 else 1) + 0))) }
+// Whether neither the storage nor the elevation is given.
+fn is_empty(view: &View) -> bool
+    ensures { result ≡ true → (table : Option (List Row))
+        → contents_by table (basis_of (given view.entry.now STORAGE)
+        (given view.entry.now POOL_ELEVATION)) ≡ None }
 {
-    match (one, other, last) {
-        (None, None, _) | (None, _, None) | (_, None, None) => true,
-        _ => false,
+    view.given(STORAGE).is_none() && view.given(POOL_ELEVATION).is_none()
+}
+
+// Whether two of the terms aren't given.
+#[inline(always)]
+fn are_two_missing(view: &View) -> bool
+    ensures { result ≡ true → (table : Option (List Row)) → nat_le 2 (missing
+        (brings view.entry.now INFLOW ∷ takes view.entry.now OUTFLOW
+        ∷ stores (contents_by table (basis_of (given view.entry.now STORAGE)
+        (given view.entry.now POOL_ELEVATION))) ∷ [])) ≡ true }
+{
+    match (view.given(INFLOW), view.given(OUTFLOW)) {
+        (None, None) => true,
+        (Some(_), Some(_)) => false,
+        _ => is_empty(view),
     }
 }
 
-/// Whether too little is known, whatever evaporates.
+/// Whether too little is known, whatever flows by the side and evaporates.
 #[inline(always)]
-pub(crate) fn is_short(view: &View, contents: &Term, side: Option<i128>) -> bool
-    ensures { result ≡ true → (evaporated : Option ℤ)
-        → solved_balance (difference (known_sum view.entry.now.past side) evaporated)
-        (brings view.entry.now INFLOW ∷ takes view.entry.now OUTFLOW ∷ contents.now ∷ [])
-        ≡ Balanced.Idle }
+pub(crate) fn is_short(view: &View) -> bool
+    ensures { result ≡ true → (table : Option (List Row)) (steady : Option ℤ)
+        → solved_balance steady
+        (brings view.entry.now INFLOW ∷ takes view.entry.now OUTFLOW
+        ∷ stores (contents_by table (basis_of (given view.entry.now STORAGE)
+        (given view.entry.now POOL_ELEVATION))) ∷ []) ≡ Balanced.Idle }
 {
-    match side {
-        None => true,
-        Some(_) => { are_two_missing(view.given(INFLOW), view.given(OUTFLOW), contents.given) }
-    }
+    are_two_missing(view)
 }
 
 /// What the balance comes to, beside what flows by the side and what evaporates.

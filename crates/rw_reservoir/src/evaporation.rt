@@ -44,11 +44,15 @@ fn evaporated(rating: &Rating, storage: i64, rate: Qty) -> Option<i128>
     ensures amount { result ≡ evaporated rating.now storage rate }
     ensures bound { ForSome result (IsWithin 1) }
 {
-    let Some(elevation) = rating.elev(storage) else {
+    let place = rating.rows_up_to(storage);
+    let Some(elevation) = rating.elev_near(place, storage) else {
         return None;
     };
     let sunk = sunk(elevation, rate, rating.lowest());
-    difference(rating.vol(elevation), rating.vol(sunk))
+    difference(
+        rating.vol_near(place, elevation),
+        rating.vol_near(place, sunk),
+    )
 }
 
 // How much evaporates, where the storage before and the rate are known.

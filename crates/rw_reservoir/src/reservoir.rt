@@ -81,6 +81,7 @@ fn answer_by(
 }
 
 // What a dispatch of a reservoir answers, beside what flows by the side.
+#[inline(never)]
 pub(crate) fn solve_reservoir(
     view: &View,
     table: Option<&Rating>,
@@ -98,11 +99,11 @@ pub(crate) fn solve_reservoir(
         diversion return_flow evaporation
         max_release) view.entry.now }
 {
-    let contents = stores(view, table);
-    if is_short(view, &contents, side) {
+    if side.is_none() {
         *solved = Solved::Idle;
         return;
     }
+    let contents = stores(view, table);
     let evaporated = evaporation_of(evaporation, table, view);
     let balanced = balance(view, &contents, side, evaporated);
     answer_by(
@@ -125,6 +126,7 @@ impl Method for ReservoirMethod {
 
     fn solve(&self, kind: &Kind, view: &View, solved: &mut Solved) {
         match kind {
+            Kind::Reservoir { .. } if is_short(view) => *solved = Solved::Idle,
             Kind::Reservoir {
                 table,
                 local_inflow,
