@@ -155,6 +155,7 @@ fn operation(word: TwoWord, kind: TreeKind) -> u128
 }
 
 /// A word between two expressions.
+#[inline(always)]
 pub(crate) fn two_load(word: TwoWord, left: Work, right: Load) -> Load
     ensures { result ≡ Pass.two_load word (measured_seen left) right }
 {

@@ -67,6 +67,7 @@ fn word_front(n: usize, bytes: &[u8]) -> Piece
     }
 }
 
+#[inline(always)]
 fn single(b: u8) -> Option<Mark>
     ensures { result ≡ single b }
 {
@@ -89,6 +90,7 @@ fn single(b: u8) -> Option<Mark>
     }
 }
 
+#[inline(always)]
 fn one_or_two(short: Mark, long: Mark, bytes: &[u8]) -> Piece
     ensures value { (b : ℕ) → piece_seen (b ∷ bytes.now) result ≡ short_or_long short long
         (head_is 61 bytes.now) }
@@ -101,6 +103,7 @@ fn one_or_two(short: Mark, long: Mark, bytes: &[u8]) -> Piece
     }
 }
 
+#[inline(always)]
 fn mark_front(b: u8, bytes: &[u8]) -> Piece
     ensures value { piece_seen (b ∷ bytes.now) result ≡ mark_front b bytes.now }
     ensures within { fits_piece (length bytes.now + 1) result }
@@ -124,6 +127,7 @@ fn mark_front(b: u8, bytes: &[u8]) -> Piece
 }
 
 /// What stands at the front.
+#[inline(always)]
 pub(crate) fn front(bytes: &[u8]) -> Piece
     ensures value { piece_seen bytes.now result ≡ front bytes.now }
     ensures within { fits_piece (length bytes.now) result }

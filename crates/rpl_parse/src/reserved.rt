@@ -11,6 +11,7 @@ fn is_word(a: &[u8], b: &[u8]) -> bool
 }
 
 /// The mark of a reserved word.
+#[inline(never)]
 pub(crate) fn reserved(word: &[u8]) -> Option<Mark>
     ensures { result ≡ reserved word.now }
 {

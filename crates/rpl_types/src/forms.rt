@@ -238,6 +238,7 @@ fn item_type(a: &RplType, b: &RplType) -> Result<RplType, TypeKind>
 }
 
 /// The type of a word between two parts.
+#[inline(always)]
 pub(crate) fn two_type(word: TwoWord, a: &RplType, b: &RplType) -> Result<RplType, TypeKind>
     ensures { result ≡ two_type word a.now b.now }
 {

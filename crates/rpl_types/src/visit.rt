@@ -32,6 +32,7 @@ fn at_node(node: usize, found: Result<RplType, TypeKind>) -> Result<RplType, Sto
 }
 
 /// Sets the type of a node, or tells what is wrong there.
+#[inline(always)]
 fn settle(
     progress: &mut Progress,
     node: usize,
