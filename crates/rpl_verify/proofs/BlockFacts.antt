@@ -1,15 +1,12 @@
 -- What is left of a block is the whole block.
 use Rattle.std.proofs.Common.{◌≡◌, ℕ, suc, ◌+◌, List, [], ◌∷◌, ◌++◌, Result, Ok, Err, refl, sym, ap, ap₂, ◌∙◌, subst, arith, append_assoc}
 use Rattle.rpl_code.specs.declared.instruction.Instruction.{Instruction}
-use Rattle.rpl_code.specs.declared.block.Block.{Block}
 use Rattle.rpl_tree.specs.Budget.{Budget}
 use Rattle.rpl_verify.specs.declared.notes.Note.{Note}
-use Rattle.rpl_verify.specs.declared.resolved.Resolved.{Resolved}
 use Rattle.rpl_verify.specs.Places.{Spot}
 use Rattle.rpl_verify.specs.Names.{Scope}
 use Rattle.rpl_verify.specs.Fits.{Before, Misplaced, at_place, before, befores, ended_block, judged_at, then_do}
 use Rattle.rpl_verify.specs.Notes.{notes_of}
-use Rattle.rpl_verify.specs.Resolved.{resolved}
 use Rattle.rpl_verify.specs.Walked.{Walked}
 
 -- the scope of a walk
@@ -23,12 +20,9 @@ at_spots scope spots = record {
   spots = spots;
 }
 
--- what the two walks make
+-- what the walk makes
 abbrev pub noting : Scope → List Budget → ℕ → List Before → List Instruction → List Note
 noting scope budgets place befores_there lines = notes_of scope budgets befores_there lines
-
-abbrev pub resolving : List Block → Scope → ℕ → List Before → List Instruction → List Resolved
-resolving blocks scope place befores_there lines = resolved blocks scope place befores_there lines
 
 -- what is made of a block of this scope, place by place, by what is before each
 module _ {A : Type 0} (scope : Scope) (made : ℕ → List Before → List Instruction → List A) (all : List Instruction) where

@@ -1,7 +1,8 @@
--- The code's two passes over a block are its ruling.
-use Rattle.rw_base.proofs.Common.{◌≡◌, ◌<◌, ◌+◌, ℕ, suc, Bool, true, nat_lt, List, [], ◌∷◌, length, Result, Ok, Err, refl, sym, ap, ◌∙◌, arith}
+-- The code's passes over a block are its ruling.
+use Rattle.rw_base.proofs.Common.{◌≡◌, ◌<◌, ◌+◌, ℕ, suc, Bool, true, nat_lt, List, [], ◌∷◌, ◌++◌, length, take, drop, get_or, Some, Result, Ok, Err}
 use Rattle.rw_base.specs.declared.limits.TheConstants.{RULES_MAX}
-use Rattle.rw_base.proofs.Common.{if◌then◌else◌, nat_tests}
+use Rattle.rw_base.proofs.Common.{if◌then◌else◌, refl, sym, ap, ap₂, ◌∙◌, arith, nat_tests, slice_get-get_or, take_more}
+use Rattle.rw_base.proofs.Lists.{dropped_to}
 use Rattle.rw_model.specs.Draft.{Draft}
 use Rattle.rpl_code.specs.declared.block.Block.{Block}
 use Rattle.rpl_code.specs.declared.instruction.Instruction.{Instruction}
@@ -14,8 +15,9 @@ use Rattle.rpl_verify.specs.Places.{rest_of, spots}
 use Rattle.rpl_verify.specs.Steps.{scope_in}
 use Rattle.rpl_code.specs.declared.kind.ValueKind.{ValueKind}
 use Rattle.rpl_verify.specs.Names.{Scope}
-use Rattle.rpl_verify.specs.Fits.{Before, Misplaced, at_place, before, befores, block_befores, count_alike, locals_of, scope_of, then_do}
-use Rattle.rpl_verify.specs.Budget.{block_ruling, budget_by, within_limits}
+use Rattle.rpl_verify.specs.Fits.{Before, Misplaced, at_place, before, befores, block_befores, count_alike, each_block, in_block, locals_of, scope_of}
+use Rattle.rpl_verify.specs.Fits.{then_do}
+use Rattle.rpl_verify.specs.Budget.{block_ruling, budget_by, ruling, within_limits}
 use Rattle.rpl_verify.specs.Notes.{budget_noted, noted_block, notes_of}
 use Rattle.rpl_verify.proofs.KindFacts.{then_do_ok, same_ok}
 use Rattle.rpl_verify.proofs.Caps.{most_is}
@@ -77,3 +79,18 @@ module _ (basin : Draft) (blocks earlier : List Block) (budgets : List Budget) (
   ruled_by notes its_budget result below noted_block_is its_budget_is within_limits_is =
       ruled below notes noted_block_is ∙ ap (λ r. at_place (length block.lines) r (λ b. Ok b)) (ap within_limits (sym its_budget_is)
       ∙ within_limits_is)
+
+-- one block more is judged
+pub ruling_on : (basin : Draft) (blocks : List Block) (place : ℕ) (block : Block) (budgets new : List Budget) (its_budget : Budget)
+    → place < length blocks → block ≡ get_or blocks place block → block_ruling basin blocks (take place blocks) budgets block ≡ Ok its_budget
+    → new ≡ budgets ++ its_budget ∷ []
+    → ruling basin blocks ≡ each_block (block_ruling basin blocks) (take place blocks) budgets (drop place blocks)
+    → ruling basin blocks ≡ each_block (block_ruling basin blocks) (take (place + 1) blocks) new (drop (place + 1) blocks)
+ruling_on basin blocks place block budgets new its_budget within got judged new_is so_far =
+    let left = drop (place + 1) blocks in
+    let next = dropped_to blocks place block (slice_get-get_or blocks place block within ∙ ap (λ b. Some b) (sym got)) in
+    let taken = take_more blocks place block within ∙ ap (λ b. take place blocks ++ b ∷ []) (sym got) in
+    so_far ∙ ap (each_block (block_ruling basin blocks) (take place blocks) budgets) next
+    ∙ ap (λ r. in_block (suc (length (take place blocks))) r
+    (λ b. each_block (block_ruling basin blocks) (take place blocks ++ block ∷ []) (budgets ++ b ∷ []) left)) judged
+    ∙ ap₂ (λ earlier done. each_block (block_ruling basin blocks) earlier done left) (sym taken) (sym new_is)

@@ -26,6 +26,7 @@ module _ (scope : Scope) (budgets : List Budget) where
   abbrev pub note_of : Before → Instruction → Note
   note_of here instruction = record {
     room = room_on_top here.kinds;
+    below = room_on_top (rest_of here.kinds);
     count = capped limits.count (count_of scope budgets here instruction);
     looks = capped limits.looks (looks_of scope budgets here instruction);
     puts = capped limits.puts (puts_of scope budgets here instruction);
@@ -34,7 +35,7 @@ module _ (scope : Scope) (budgets : List Budget) where
 
   -- at the end of the block
   abbrev pub end_note : Before → Note
-  end_note here = record { room = 0; count = 0; looks = 0; puts = 0; words = capped limits.words (words_before scope budgets here) }
+  end_note here = record { room = 0; below = 0; count = 0; looks = 0; puts = 0; words = capped limits.words (words_before scope budgets here) }
 
   -- of each place, and of the end
   abbrev pub notes_of : List Before → List Instruction → List Note

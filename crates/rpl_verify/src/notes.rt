@@ -41,12 +41,12 @@ pub(crate) enum Part {
     Words,
 }
 
-/// What a table has to know of a place: for how many elements the list on top has room, and how
-/// much the instruction there counts, looks, puts and keeps, each up to the first number above its
-/// limit.
+/// What has to be known of a place once it is judged: for how many elements the list on top has room, and the one below it, and
+/// how much the instruction there counts, looks, puts and keeps, each up to the first number above its limit.
 #[derive(Clone, Copy)]
 pub(crate) struct Note {
     pub(crate) room: u16,
+    pub(crate) below: u16,
     pub(crate) count: u32,
     pub(crate) looks: u32,
     pub(crate) puts: u32,
@@ -222,6 +222,7 @@ pub(crate) fn place_note(
 {
     Note {
         room: walk.room(),
+        below: walk.room_below(),
         count: count(blocks, locals, budgets, walk, instruction),
         looks: looks(budgets, instruction),
         puts: puts(budgets, instruction),
@@ -237,6 +238,7 @@ pub(crate) fn end_note(local_words: u32, walk: &Walk) -> Note
 {
     Note {
         room: 0,
+        below: 0,
         count: 0,
         looks: 0,
         puts: 0,

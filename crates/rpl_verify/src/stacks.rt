@@ -71,6 +71,7 @@ fn words_above(kind: ValueKind, below: u32) -> u32
 }
 
 // Whether the list of the next number is this one, with this kind on top.
+#[inline(always)]
 fn is_next(nodes: &[Node], below: u32, kind: ValueKind) -> bool
     ensures { result ≡ is_next nodes.now below kind }
 {
@@ -110,8 +111,25 @@ impl Stacks {
         Ok(below + 1)
     }
 
-    /// The number of a list with one kind more.
+    /// The number of a list with one kind more. The next one is looked at in place, since it mostly is that one.
+    #[inline(always)]
     pub(crate) fn push(&mut self, below: u32, kind: ValueKind) -> Result<u32, NoMemory>
+        requires { below < length self.old }
+        ensures grows { Grows self.old self.new }
+        ensures made { IfOk result (λ n. IsPushed self.old self.new kind below n) }
+    {
+        if self.nodes.len() >= 4294967295 {
+            return Err(NoMemory);
+        }
+        if is_next(&self.nodes, below, kind) {
+            return Ok(below + 1);
+        }
+        self.push_found(below, kind)
+    }
+
+    // The number of a list with one kind more, wherever it is found.
+    #[inline(never)]
+    fn push_found(&mut self, below: u32, kind: ValueKind) -> Result<u32, NoMemory>
         requires { below < length self.old }
         ensures grows { Grows self.old self.new }
         ensures made { IfOk result (λ n. IsPushed self.old self.new kind below n) }

@@ -11,8 +11,8 @@ use rpl_code::Instruction;
 use rw_base::NoMemory;
 use std::alloc::Global;
 
-// The note of a place.
-fn note_at(notes: &[Note], place: usize) -> Note
+/// The note of a place.
+pub(crate) fn note_at(notes: &[Note], place: usize) -> Note
     requires { place < length notes.now }
     ensures { drop place notes.now ≡ result ∷ drop (place + 1) notes.now }
 {
@@ -32,6 +32,7 @@ fn price_in(part: Part, note: &Note) -> u32
 }
 
 // How much one thing and another behind it come to.
+#[inline(always)]
 fn join(part: Part, a: u32, b: u32) -> u32
     ensures { result ≡ capped (limit_of part) (part_joined part a b) }
 {
@@ -42,6 +43,7 @@ fn join(part: Part, a: u32, b: u32) -> u32
 }
 
 // How much so many turns come to.
+#[inline(always)]
 fn repeat(part: Part, room: u16, a: u32) -> u32
     ensures { result ≡ capped (limit_of part) (repeated part room a) }
 {
@@ -59,6 +61,7 @@ fn read(numbers: &[u32], at: usize) -> u32
 }
 
 // The most from a place on that a place before it goes to, or else from the next place on.
+#[inline(always)]
 fn look(most: &[u32], place: usize, to: usize) -> u32
     requires { place < length most.now }
     ensures { result ≡ slice_index (drop (suc place) most.now) (to - suc place) }
@@ -72,6 +75,7 @@ fn look(most: &[u32], place: usize, to: usize) -> u32
 
 // The most from a place on, where the list of a loop that begins here has room for so many, and
 // the loop ends before that place.
+#[inline(always)]
 fn most_from(
     part: Part,
     most: &[u32],
@@ -136,6 +140,7 @@ pub(crate) fn follow_back(
 
 /// The most of all ways through a block, by the notes of its places and of its end, up to the first
 /// number above the limit.
+#[inline(always)]
 pub(crate) fn most(
     alloc: Global,
     part: Part,
