@@ -1,6 +1,6 @@
 -- Numbers that stop at a limit, and the table of them.
 use Rattle.rw_base.proofs.Common.{◌≡◌, ℕ, zero, suc, ◌+◌, ◌-◌, ◌*◌, ◌≤◌, ◌<◌, max, Bool, true, false, nat_lt, List, [], ◌∷◌, map, length, refl, sym}
-use Rattle.rw_base.proofs.Common.{ap, ap₂, ◌∙◌, subst, arith, drop, set, slice_index, nat_tests, drop-set}
+use Rattle.rw_base.proofs.Common.{ap, ap₂, ◌∙◌, subst, arith, drop, set, slice_index, nat_tests, drop-set, length-set}
 use Rattle.rpl_code.specs.declared.instruction.Instruction.{Instruction}
 use Rattle.rpl_tree.specs.Budget.{Budget, capped, limits}
 use Rattle.rpl_verify.specs.declared.notes.Note.{Note}
@@ -188,6 +188,26 @@ noted_on part most most2 place next_place note notes left instruction lines on f
     (λ to. slice_index xs (to - suc place))) drop_is_so in
     ap (drop place) most2_is ∙ drop-set most place first below ∙ ap₂ (λ y ys. y ∷ ys) first_is_so (ap (λ j. drop j most) place_is ∙ drop_is_so)
     ∙ ap₂ (noted part place) (sym left_is) (sym on_is)
+
+-- a table is filled in from a place on
+abbrev pub IsFilled : Part → ℕ → List Note → List Instruction → List ℕ → Type 0
+IsFilled part place notes lines most =
+    (length most ≡ length lines + 1) × (drop place most ≡ noted part place (drop place notes) (drop place lines))
+
+pub filled_on : (part : Part) (most new : List ℕ) (place next_place : ℕ) (note : Note) (notes : List Note) (instruction : Instruction)
+    (lines : List Instruction) → place < length lines → next_place ≡ place + 1 → drop place notes ≡ note ∷ drop next_place notes
+    → drop place lines ≡ instruction ∷ drop next_place lines → IsFilled part next_place notes lines most
+    → new ≡ set most place (most_from (stopping part) place (going_of instruction) (price_in part note) note.room (drop next_place lines)
+    (λ to. slice_index (drop (suc place) most) (to - suc place)))
+    → IsFilled part place notes lines new
+filled_on part most new place next_place note notes instruction lines within next_is notes_is lines_is filled new_is =
+    let first = most_from (stopping part) place (going_of instruction) (price_in part note) note.room (drop next_place lines)
+    (λ to. slice_index (drop (suc place) most) (to - suc place)) in
+    let long = filled.0 in (
+      ap length new_is ∙ length-set most place first ∙ filled.0,
+      noted_on part most new place next_place note (drop next_place notes) (drop place notes) instruction (drop next_place lines) (drop place lines) first
+          next_is filled.1 notes_is lines_is (omega (arith, within, long)) new_is refl,
+    )
 
 pub index-drop : (n : ℕ) (counts : List ℕ) (more index : ℕ) → n + more ≡ index → slice_index (drop n counts) more ≡ slice_index counts index
 index-drop zero counts more index n_is = ap (slice_index counts) (omega (arith, n_is))

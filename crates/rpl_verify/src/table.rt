@@ -1,11 +1,12 @@
 // The most of all ways through a block, from its end back.
-ghost use Rattle.std.specs.Prelude.{◌≡◌, ◌<◌, ◌+◌, ◌-◌, ◌^◌, ℕ, suc, ◌∷◌, List, drop, length, reverse, slice_index, IfOk};
+ghost use Rattle.std.specs.Prelude.{◌≡◌, ◌<◌, ◌+◌, ◌-◌, ◌^◌, ℕ, suc, ◌∷◌, List, drop, length, reverse, set, slice_index, IfOk};
 ghost use Rattle.rpl_code.specs.declared.instruction.Instruction.{Instruction};
 ghost use Rattle.rpl_tree.specs.Budget.{capped};
 ghost use Rattle.rpl_verify.specs.Places.{bracket, ends_before, loop_end};
 ghost use Rattle.rpl_verify.specs.Budget.{most_from, going_of};
-ghost use Rattle.rpl_verify.specs.Notes.{part_joined, limit_of, noted, price_in, repeated, stopping};
+ghost use Rattle.rpl_verify.specs.Notes.{budget_noted, limit_of, numbers_seen, part_joined, price_in, repeated, stopping};
 
+use crate::Budget;
 use crate::notes::{Note, Part, cap_of};
 use rpl_code::Instruction;
 use rw_base::NoMemory;
@@ -138,38 +139,63 @@ pub(crate) fn follow_back(
     Ok(())
 }
 
-/// The most of all ways through a block, by the notes of its places and of its end, up to the first
-/// number above the limit.
+// Fills in a place of a table, from those behind it.
 #[inline(always)]
-pub(crate) fn most(
-    alloc: Global,
+fn fill_place(
     part: Part,
+    most: &mut Vec<u32>,
+    place: usize,
+    note: &Note,
+    end: usize,
+    instruction: &Instruction,
+)
+    requires { place < length most.old.items }
+    ensures { (is : List Instruction) → loop_end (suc place) is ≡ end → most.new.items
+        ≡ set most.old.items place (most_from (stopping part) place (going_of instruction.now)
+        (price_in part note.now) note.now.room is
+        (λ to. slice_index (drop (suc place) most.old.items) (to - suc place))) }
+{
+    let price = price_in(part, note);
+    let found = most_from(part, most, place, price, note.room, end, instruction);
+    most[place] = found;
+}
+
+/// The budget of a block, by the notes of its places and of its end: the most of all ways through it, each number up to the
+/// first one above its limit. All four tables are filled in one pass.
+pub(crate) fn budget_noted(
+    alloc: Global,
     notes: &[Note],
     lines: &[Instruction],
-) -> Result<u32, NoMemory>
+) -> Result<Budget, NoMemory>
     requires { length notes.now ≡ length lines.now + 1 }
-    ensures { IfOk result (λ n. n ≡ slice_index (noted part 0 notes.now lines.now) 0) }
+    ensures { IfOk result (λ budget. numbers_seen budget ≡ budget_noted notes.now lines.now) }
 {
-    let mut most = Vec::from_elem(alloc, 0, notes.len())?;
+    let mut counts = Vec::from_elem(alloc, 0, notes.len())?;
+    let mut looks = Vec::from_elem(alloc, 0, notes.len())?;
+    let mut puts = Vec::from_elem(alloc, 0, notes.len())?;
+    let mut words = Vec::from_elem(alloc, 0, notes.len())?;
     let mut ends = Vec::new(alloc);
     let mut place = lines.len();
-    most[place] = price_in(part, &note_at(notes, place));
+    let last = note_at(notes, place);
+    counts[place] = last.count;
+    looks[place] = last.looks;
+    puts[place] = last.puts;
+    words[place] = last.words;
     while place > 0 {
         place -= 1;
         let line = &lines[place];
         let note = note_at(notes, place);
         let end = loop_end(&ends);
-        let found = most_from(
-            part,
-            &most,
-            place,
-            price_in(part, &note),
-            note.room,
-            end,
-            line,
-        );
-        most[place] = found;
+        fill_place(Part::Count, &mut counts, place, &note, end, line);
+        fill_place(Part::Looks, &mut looks, place, &note, end, line);
+        fill_place(Part::Puts, &mut puts, place, &note, end, line);
+        fill_place(Part::Words, &mut words, place, &note, end, line);
         follow_back(&mut ends, place, line)?;
     }
-    Ok(read(&most, 0))
+    Ok(Budget {
+        instructions: u64::from(read(&counts, 0)),
+        reads: u64::from(read(&looks, 0)),
+        puts: u64::from(read(&puts, 0)),
+        words: u64::from(read(&words, 0)),
+    })
 }

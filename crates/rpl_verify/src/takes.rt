@@ -18,6 +18,7 @@ use crate::walk::Walk;
 use rpl_code::ValueKind;
 
 /// Takes operands of these kinds, the last one first.
+#[inline(always)]
 pub(crate) fn take(walk: &mut Walk, needs: &[ValueKind]) -> Result<(), PlaceFault>
     ensures { Goes (taken_by (takes (reverse needs.now) []) walk.old.before)
         walk.old walk.new result }
@@ -42,6 +43,7 @@ pub(crate) fn take(walk: &mut Walk, needs: &[ValueKind]) -> Result<(), PlaceFaul
 }
 
 /// Takes operands of these kinds, the last one first, and leaves one in their place.
+#[inline(always)]
 pub(crate) fn pass(
     walk: &mut Walk,
     needs: &[ValueKind],
