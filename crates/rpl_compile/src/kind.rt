@@ -91,6 +91,7 @@ fn difference_kind(a: ValueKind, b: ValueKind) -> ValueKind
     }
 }
 
+#[inline(always)]
 pub(crate) fn kind_of_two(word: TwoWord, a: ValueKind, b: ValueKind) -> ValueKind
     ensures { kind_seen result ≡ Written.kind_of_two word (kind_seen a) (kind_seen b) }
 {

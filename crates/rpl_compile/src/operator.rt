@@ -155,6 +155,7 @@ fn opposite(w: &mut Writing, test: Instruction) -> Result<(), NoMemory>
 }
 
 /// A word between two expressions of these kinds, which are there. OR and AND are branches.
+#[inline(always)]
 pub(crate) fn two_lines(
     w: &mut Writing,
     word: TwoWord,

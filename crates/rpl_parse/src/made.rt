@@ -5,6 +5,7 @@ use crate::stop::Stop;
 use std::alloc::Global;
 
 /// A box.
+#[inline(always)]
 pub(crate) fn boxed<T: Drop>(alloc: Global, value: T) -> Result<Box<T>, Stop>
     ensures ok { IfOk result (λ b. b.value ≡ value) }
     ensures err { IfErr result (λ f. f ≡ Stop.NoMemory) }
@@ -16,6 +17,7 @@ pub(crate) fn boxed<T: Drop>(alloc: Global, value: T) -> Result<Box<T>, Stop>
 }
 
 /// Two boxes.
+#[inline(always)]
 pub(crate) fn pair<T: Drop>(alloc: Global, one: T, other: T) -> Result<(Box<T>, Box<T>), Stop>
     ensures one { IfOk result (λ both. both.0.value ≡ one) }
     ensures other { IfOk result (λ both. both.1.value ≡ other) }
