@@ -27,7 +27,7 @@ use crate::replaying::{retell, write_again};
 use crate::setup::RunSetup;
 use crate::step_end::StepEnd;
 use crate::trace_lines::{
-    fault_by, note_firing_lines, note_lines, tell_firing, tell_line, trace_where,
+    fault_by, fault_of_rule, note_firing_lines, note_lines, tell_line, trace_where,
 };
 use crate::turn::next_turn;
 use rpl_verify::Verified;
@@ -274,9 +274,10 @@ impl State {
         )?;
         let writes = self.rules.written();
         note_firing_lines(&mut self.lines, rule, step, &fired, writes)?;
-        let fault = tell_firing(&mut self.run.trace, rule, step, &fired, writes)?;
+        note_firing_lines(&mut self.run.trace, rule, step, &fired, writes)?;
         self.rules
             .write(setup.basin, &mut self.run.series, &mut self.queue, step);
+        let fault = fault_of_rule(rule, step, &fired.end);
         Ok(self.end_by(fault))
     }
 

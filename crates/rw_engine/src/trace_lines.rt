@@ -103,9 +103,9 @@ fn tell(
     }
 }
 
-/// Writes the lines of a rule's firing that writes these, and answers the fault that it is, if it is one.
+// Writes the lines of a rule's firing that writes these, and answers the fault that it is, if it is one.
 #[inline(always)]
-pub(crate) fn tell_firing(
+fn tell_firing(
     trace: &mut Trace,
     rule: RuleNo,
     step: StepNo,
@@ -152,6 +152,22 @@ pub(crate) fn fault_by(object: ObjectNo, step: StepNo, end: &DispatchEnd) -> Opt
         DispatchEnd::OutOfRange { slot, value } => Some(RunFault::ObjectOutOfRange {
             object,
             slot: *slot,
+            step,
+            value: *value,
+        }),
+    }
+}
+
+/// The fault that a firing is which ended so, if it is one.
+#[inline(always)]
+pub(crate) fn fault_of_rule(rule: RuleNo, step: StepNo, end: &FireEnd) -> Option<RunFault>
+    ensures { result ≡ fault_of_rule rule.0 step.0 end.now }
+{
+    match end {
+        FireEnd::Done | FireEnd::Unknown => None,
+        FireEnd::ZeroDivisor => Some(RunFault::ZeroDivisor { rule, step }),
+        FireEnd::OutOfRange(value) => Some(RunFault::RuleOutOfRange {
+            rule,
             step,
             value: *value,
         }),

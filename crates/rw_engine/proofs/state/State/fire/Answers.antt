@@ -55,17 +55,17 @@ returns-in_err-note_firing_lines g c =
     (cells_looked c.looked-looked.result.now ++ cells_reached basin c.asked-asked.result.now, c.in_ok-note_firing.ensures))
     (record { closed_steps = refl; end = refl }) (sym c.requires.within.made.engine.notes.same ∙ c.in_err-note_firing_lines.ensures.wants)
 
-pub returns-in_err-fault : goal.returns-in_err-fault
-returns-in_err-fault g c =
+pub returns-in_err-note_firing_lines-2 : goal.returns-in_err-note_firing_lines-2
+returns-in_err-note_firing_lines-2 g c =
     let basin = c.args.setup.now.basin.now in
     let policy = c.args.setup.now.policy.now in
     let old = c.args.self.now in
-    wanted basin policy None c.args.step.0 old _ _ c.from_residual-in_err-fault.result _ c.from_residual-in_err-fault.ensures.1
+    wanted basin policy None c.args.step.0 old _ _ c.from_residual-in_err-note_firing_lines-2.result _ c.from_residual-in_err-note_firing_lines-2.ensures.1
     (keeps_noted basin policy old _ c.requires.within
     (stays_fired basin policy old _ c.args.rule.0 c.raise.ensures refl c.fire-fired.ensures.made refl refl)
-    (c.fire-fired.ensures.keeps.indexed c.requires.within.indexed) refl refl c.tell_firing.ensures.grows c.note_firing_lines.ensures.grows
+    (c.fire-fired.ensures.keeps.indexed c.requires.within.indexed) refl refl c.note_firing_lines-2.ensures.grows c.note_firing_lines.ensures.grows
     (cells_looked c.looked-looked.result.now ++ cells_reached basin c.asked-asked.result.now, c.in_ok-note_firing.ensures))
-    (record { closed_steps = refl; end = refl }) (c.requires.within.made.engine.notes.traced c.in_err-fault.ensures.wants)
+    (record { closed_steps = refl; end = refl }) (c.requires.within.made.engine.notes.traced c.in_err-note_firing_lines-2.ensures.wants)
 
 pub returns : goal.returns
 returns g c =
@@ -97,15 +97,15 @@ returns g c =
     ∙ ap (λ count. lines_of_rule rule step c.fire-fired.result.end count (written_by event)) tells.count
     ∙ ap (λ so. lines_of_rule rule step so fire.count (written_by event)) tells.end in
     rw (c.end_by.ensures.state, c.end_by.ensures.end) (record {
-      keeps = keeps_ended basin policy old _ c.in_ok-fault.fault
+      keeps = keeps_ended basin policy old _ c.fault_of_rule-fault.result
           (keeps_done basin policy old _ within
           (stays_fired basin policy old _ rule c.raise.ensures refl
           (rules_on basin policy cells (held c.write.new.series) c.fire-fired.new.self c.write.new.self on c.fire-fired.ensures.made) refl refl)
           (fired firing) reached (on.indexed (c.fire-fired.ensures.keeps.indexed within.indexed))
-          c.write.ensures.made made c.tell_firing.ensures.grows c.note_firing_lines.ensures.grows c.in_ok-note_firing.ensures
+          c.write.ensures.made made c.note_firing_lines-2.ensures.grows c.note_firing_lines.ensures.grows c.in_ok-note_firing.ensures
           (λ kept. subst (λ puts. (cell : Cell) → Contains (cells_reached basin puts) cell → Contains reached cell) (sym tells.written)
           (written_reached basin event reached reaches asks)));
-      on_the_way = on_the_way_rule basin step old _ c.in_ok-fault.fault rule known c.requires.below c.raise.ensures refl refl refl;
+      on_the_way = on_the_way_rule basin step old _ c.fault_of_rule-fault.result rule known c.requires.below c.raise.ensures refl refl refl;
       goes = λ log given.
           let holds = given.0 in
           let written = tells.written in record {
@@ -114,10 +114,10 @@ returns g c =
                 ∙ rule_fires basin (policy_in basin policy) cells step log rule (rw (← holds.firings rule turn.first) c.requires.below)
                 ∙ tells.event;
             goes =
-                fired_on basin policy old _ rule step log fire holds refl c.fire-fired.result.end tells.end c.in_ok-fault.fault
-                c.in_ok-fault.ensures.fault (record {
+                fired_on basin policy old _ rule step log fire holds refl c.fire-fired.result.end tells.end c.fault_of_rule-fault.result
+                c.fault_of_rule-fault.ensures (record {
                   cells = λ cell. made.cells cell ∙ ap (λ puts. option_or (last_put basin puts cell) (cells cell)) written;
-                  trace = c.in_ok-fault.ensures.told ∙ ap (told old.run.trace) said;
+                  trace = c.in_ok-note_firing_lines-2.ensures.told ∙ ap (told old.run.trace) said;
                   closed_steps = refl;
                   counted = known;
                   firings = c.raise.ensures;
@@ -127,14 +127,14 @@ returns g c =
                       (c.fire-fired.ensures.keeps.shows log firing same (tells.looked ∙ ap (λ looks. Some looks) (sym looked)) holds.looks);
                 });
             notes =
-                λ calm. ended_noted c.in_ok-fault.fault _
+                λ calm. ended_noted c.fault_of_rule-fault.result _
                 ∙ notes_same cells reached (reached_by basin event) old.noted _ c.in_ok-note_firing.ensures (λ kept. reaches calm);
-            lines_are = ended_lines c.in_ok-fault.fault _ ∙ c.in_ok-note_firing_lines.ensures.told
+            lines_are = ended_lines c.fault_of_rule-fault.result _ ∙ c.in_ok-note_firing_lines.ensures.told
                 ∙ ap (told old.lines) (said ∙ firing_lines basin cells rule step fire fire.end);
             asks = asks;
             can = subst (AreWrites basin) written c.fire-fired.ensures.can;
-            turned = counts_ended old.turns _ event c.in_ok-fault.fault (counts_firing basin cells rule step fire old.turns fire.end);
+            turned = counts_ended old.turns _ event c.fault_of_rule-fault.result (counts_firing basin cells rule step fire old.turns fire.end);
           };
-      few = few_ended basin old _ c.in_ok-fault.fault (omega arith);
+      few = few_ended basin old _ c.fault_of_rule-fault.result (omega arith);
       wants = tt;
     })
