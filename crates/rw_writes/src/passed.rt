@@ -23,7 +23,8 @@ fn cell_of(write: &Write) -> Cell
 }
 
 // Whether a later one is to a cell that shares its value with that of this one.
-fn is_put_again(basin: &Basin, write: &Write, later: &[Write]) -> bool
+#[inline(never)]
+fn is_reached(basin: &Basin, write: &Write, later: &[Write]) -> bool
     requires { CanWrite basin.now write.now }
     ensures { result ≡ is_put_again basin.now write.now later.now }
 {
@@ -33,6 +34,19 @@ fn is_put_again(basin: &Basin, write: &Write, later: &[Write]) -> bool
         }
     }
     false
+}
+
+// The same. Most firings have one put.
+#[inline(always)]
+fn is_put_again(basin: &Basin, write: &Write, later: &[Write]) -> bool
+    requires { CanWrite basin.now write.now }
+    ensures { result ≡ is_put_again basin.now write.now later.now }
+{
+    if later.is_empty() {
+        false
+    } else {
+        is_reached(basin, write, later)
+    }
 }
 
 // Whether it is written, by what the cells hold.

@@ -1,6 +1,6 @@
 use Rattle.rw_base.proofs.Common.{drop, ◌≡◌}
 use Rattle.rw_run.specs.Next.{is_put_again}
-use Rattle.rw_writes.proofs.passed.is_put_again.Given as goal
+use Rattle.rw_writes.proofs.passed.is_reached.Given as goal
 
 abbrev pub invariant-loop-other : goal.invariant-loop-other
 invariant-loop-other l =
