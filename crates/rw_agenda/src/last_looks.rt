@@ -100,9 +100,8 @@ fn fill(looks: &mut Vec<Look>, looked: &[Look])
     ensures room { looks.old.cap ≤ looks.new.cap }
 {
     looks.clear();
-    match looks.extend_from_slice(looked) {
-        Ok(()) => {}
-        Err(_) => unreachable!(),
+    for look in looked {
+        looks.push_reserved(*look);
     }
 }
 
