@@ -96,7 +96,7 @@ met_past watches (suc times) number rule step past = ap (met_in watches times ru
 
 -- ---- an index with one watch more
 
-module _ (slots steps room : ℕ) (newest : List ℕ) (watches : List Watch) (full : Bool) (place rule step : ℕ) where
+module _ (slots room : ℕ) (newest : List ℕ) (watches : List Watch) (full : Bool) (place rule step : ℕ) where
   abbrev before_it : ℕ
   before_it = before_in watches (slice_index_or newest place 0)
 
@@ -104,10 +104,10 @@ module _ (slots steps room : ℕ) (newest : List ℕ) (watches : List Watch) (fu
   whole = watches ++ record { rule = rule; step = step; place = place; before = before_it } ∷ []
 
   abbrev old : CellIndex
-  old = record { slots = slots; steps = steps; newest = newest; watches = watches; room = room; is_full = full }
+  old = record { slots = slots; newest = newest; watches = watches; room = room; is_full = full }
 
   abbrev new : CellIndex
-  new = record { slots = slots; steps = steps; newest = set newest place (length whole); watches = whole; room = room; is_full = full }
+  new = record { slots = slots; newest = set newest place (length whole); watches = whole; room = room; is_full = full }
 
   -- who was met from the cell's newest watch is met from the one before the new one
   met_before : (earlier time : ℕ) → is_met watches (length watches) (slice_index_or newest place 0) earlier time ≡ true
@@ -131,17 +131,14 @@ module _ (slots steps room : ℕ) (newest : List ℕ) (watches : List Watch) (fu
   kept_watch near other earlier is =
       or_either full (is_met watches (length watches) (newest_at old other) earlier other.step.0)
       (is_met whole (length whole) (newest_at new other) earlier other.step.0)
-      (by (index_position slots steps other)) is
+      (by (index_position slots other)) is
     where
       time : ℕ
       time = other.step.0
 
-      by : (at : Option ℕ) → is_met watches (length watches) (unwrap_or (option_map (λ p. slice_index_or newest p 0) at) 0) earlier time ≡ true
-          → is_met whole (length whole) (unwrap_or (option_map (λ p. slice_index_or (set newest place (length whole)) p 0) at) 0) earlier time ≡ true
-      by None met =
-          met_more watches _ (length watches) (length whole) 0 earlier time
-          (omega (arith, length-append watches (record { rule = rule; step = step; place = place; before = before_it } ∷ []))) met
-      by (Some p) met = at (nat_eq p place) refl
+      by : (p : ℕ) → is_met watches (length watches) (slice_index_or newest p 0) earlier time ≡ true
+          → is_met whole (length whole) (slice_index_or (set newest place (length whole)) p 0) earlier time ≡ true
+      by p met = at (nat_eq p place) refl
         where
           at : (same : Bool) → nat_eq p place ≡ same
               → is_met whole (length whole) (slice_index_or (set newest place (length whole)) p 0) earlier time ≡ true
@@ -155,12 +152,12 @@ module _ (slots steps room : ℕ) (newest : List ℕ) (watches : List Watch) (fu
               ∙ met_more watches _ (length watches) (length whole) (get_or newest p 0) earlier time
               (omega (arith, length-append watches (record { rule = rule; step = step; place = place; before = before_it } ∷ []))) met
 
-  pub new_watch : place < length newest → (cell : Cell) → cell.step.0 ≡ step → index_position slots steps cell ≡ Some place
+  pub new_watch : place < length newest → (cell : Cell) → cell.step.0 ≡ step → index_position slots cell ≡ place
       → is_watching new cell rule ≡ true
   new_watch near cell same is =
       or_right full _
       (ap (is_met whole (length whole) (newest_at new cell) rule) same
-      ∙ ap (λ at. is_met whole (length whole) (unwrap_or (option_map (λ p. slice_index_or (set newest place (length whole)) p 0) at) 0) rule step) is
+      ∙ ap (λ p. is_met whole (length whole) (slice_index_or (set newest place (length whole)) p 0) rule step) is
       ∙ ap (λ n. is_met whole (length whole) n rule step) (get_or-set_same newest place (length whole) 0 near)
       ∙ met_newest watches (record { rule = rule; step = step; place = place; before = before_it }) rule step
       ∙ ap₂ (λ a b. (a && b) || is_met whole (length watches) before_it rule step) (nat_eq_equiv.refl rule) (nat_eq_equiv.refl step))
@@ -169,12 +166,12 @@ module _ (slots steps room : ℕ) (newest : List ℕ) (watches : List Watch) (fu
   module _ (seen count : ℕ) (pushed : List Watch) (saw : seen ≡ slice_index_or newest place 0)
       (is : pushed ≡ watches ++ record { rule = rule; step = step; place = place; before = before_in watches seen } ∷ []) (many : count ≡ length pushed) where
     abbrev made : List Watch → ℕ → CellIndex
-    made all number = record { slots = slots; steps = steps; newest = set newest place number; watches = all; room = room; is_full = full }
+    made all number = record { slots = slots; newest = set newest place number; watches = all; room = room; is_full = full }
 
     whole_is : pushed ≡ whole
     whole_is = is ∙ ap (λ n. watches ++ record { rule = rule; step = step; place = place; before = before_in watches n } ∷ []) saw
 
-    pub watching_now : place < length newest → (cell : Cell) → cell.step.0 ≡ step → index_position slots steps cell ≡ Some place
+    pub watching_now : place < length newest → (cell : Cell) → cell.step.0 ≡ step → index_position slots cell ≡ place
         → is_watching (made pushed count) cell rule ≡ true
     watching_now near cell same at =
         subst (λ k. is_watching (made pushed k) cell rule ≡ true) (sym many)
@@ -199,9 +196,9 @@ watching_more old new rule looks k look near is kept all watching =
     (λ place d there. kept (get_or (take k looks) place d).cell rule (all place d there)) watching)
 
 -- an index without watches
-pub idle : (slots steps room : ℕ) (newest : List ℕ) (watches : List Watch) (full : Bool) → full ≡ false → length watches ≡ 0
+pub idle : (slots room : ℕ) (newest : List ℕ) (watches : List Watch) (full : Bool) → full ≡ false → length watches ≡ 0
     → (cell : Cell) (rule : ℕ)
-    → is_watching (record { slots = slots; steps = steps; newest = newest; watches = watches; room = room; is_full = full }) cell rule ≡ false
-idle slots steps room newest watches full spare none cell rule =
+    → is_watching (record { slots = slots; newest = newest; watches = watches; room = room; is_full = full }) cell rule ≡ false
+idle slots room newest watches full spare none cell rule =
     ap₂ (λ f n. f || is_met watches n (newest_at
-    (record { slots = slots; steps = steps; newest = newest; watches = watches; room = room; is_full = full }) cell) rule cell.step.0) spare none
+    (record { slots = slots; newest = newest; watches = watches; room = room; is_full = full }) cell) rule cell.step.0) spare none

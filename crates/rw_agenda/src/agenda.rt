@@ -77,6 +77,11 @@ impl Agenda {
         ensures rules { self.new.rules ≡ self.old.rules }
         ensures marked { MarksThose basin.now c self.old self.new }
     {
+        if self.index.is_full() {
+            self.index
+                .mark_anywhere(&mut self.marks, basin.group(c.slot), c.step);
+            return;
+        }
         if self.index.is_idle() {
             return;
         }

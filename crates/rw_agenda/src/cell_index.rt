@@ -1,4 +1,4 @@
-ghost use Rattle.std.specs.Prelude.{◌≡◌, ◌≤◌, ◌<◌, ◌+◌, ◌*◌, ◌-◌, ◌==◌, ◌||◌, ◌&&◌, ◌++◌, ◌∷◌, [], ℕ, All, IfOk, IfSome, IsSomeAnd, Some, None, true, false, length, option_map, slice_index_or, vec_len};
+ghost use Rattle.std.specs.Prelude.{◌≡◌, ◌≤◌, ◌<◌, ◌+◌, ◌*◌, ◌-◌, ◌==◌, ◌||◌, ◌&&◌, ◌++◌, ◌∷◌, [], ℕ, All, IfOk, IsSomeAnd, Some, None, true, false, length, slice_index_or, take, vec_len};
 ghost use Rattle.std.specs.List.{list_any, slice_get};
 ghost use Rattle.rw_base.specs.declared.number.Cell.{Cell};
 ghost use Rattle.rw_model.specs.Kept.{numbers_of};
@@ -25,7 +25,6 @@ use std::marker::Model;
 #[derive(Drop)]
 pub(crate) struct CellIndex {
     slots: u16,
-    steps: u16,
     newest: Vec<u32>,
     watches: Vec<Watch>,
     room: u32,
@@ -33,21 +32,20 @@ pub(crate) struct CellIndex {
 }
 
 impl Model for CellIndex {
+    ghost use Rattle.std.specs.Prelude.{◌≤◌};
     ghost use Rattle.rw_agenda.specs.CellIndex as specs;
 
     ghost Value = { specs.CellIndex };
 
     ghost view = { λ index. record {
       slots = index.slots;
-      steps = index.steps;
       newest = index.newest.items;
       watches = index.watches.items;
       room = index.room;
       is_full = index.full;
     } };
 
-    ghost invariant = { λ index.
-        specs.HasWatchRoom index.slots index.newest.items index.room index.watches.cap };
+    ghost invariant = { λ index. index.room ≤ index.watches.cap };
 }
 
 impl CellIndex {
@@ -57,12 +55,10 @@ impl CellIndex {
             → is_watching index cell rule ≡ false) }
     {
         let slots = slots_for(basin, room);
-        let steps = basin.control().stamps.count();
-        let newest = Vec::from_elem(alloc, 0, usize::from(slots) * usize::from(INDEX_STEPS))?;
+        let newest = Vec::from_elem(alloc, 0, usize::from(slots) * usize::from(INDEX_STEPS) + 1)?;
         let watches = Vec::with_capacity(alloc, room as usize)?;
         Ok(CellIndex {
             slots,
-            steps,
             newest,
             watches,
             room,
@@ -87,10 +83,11 @@ impl CellIndex {
             → is_watching self.new other earlier ≡ true }
         ensures room { CanWatch self.old cell → self.new.is_full ≡ self.old.is_full }
     {
-        let Some(place) = position_of(self.slots, self.steps, cell) else {
+        let place = position_of(self.slots, cell);
+        if place >= self.newest.len() {
             self.full = true;
             return;
-        };
+        }
         let newest = self.newest[place];
         let step = cell.step.0;
         if is_known(self.watches.as_slice(), newest, rule, step, again) {
@@ -113,32 +110,32 @@ impl CellIndex {
         ensures kept { (other : Cell) (earlier : ℕ) → is_watching self.old other earlier ≡ true
             → is_watching self.new other earlier ≡ true }
     {
-        let mut last = None;
         for place in 0..looked.len() {
             let cell = looked[place].cell;
-            self.watch_behind(last, rule, before, most, place, cell);
-            last = Some(cell);
+            self.watch_behind(rule, before, most, looked, place, cell);
         }
     }
 
-    // The rule looked at a cell at this place of its looks, behind a look at another cell or the same.
+    // The rule looked at a cell at this place of its looks, and watches those in front.
     fn watch_behind(
         &mut self,
-        last: Option<Cell>,
         rule: u16,
         before: &[Look],
         most: usize,
+        looked: &[Look],
         place: usize,
         cell: Cell,
     )
-        requires last { IfSome last (λ seen. is_watching self.old seen rule ≡ true) }
+        requires front { All (λ (look : Look). is_watching self.old look.cell rule ≡ true)
+            (take place looked.now) }
+        requires place { place ≤ length looked.now }
         requires before { All
             (λ (look : Look). is_watching self.old look.cell rule ≡ true) before.now }
         ensures watching { is_watching self.new cell rule ≡ true }
         ensures kept { (other : Cell) (earlier : ℕ) → is_watching self.old other earlier ≡ true
             → is_watching self.new other earlier ≡ true }
     {
-        if !is_cell(last, cell) {
+        if !is_repeated(looked, place, cell) {
             self.watch_at(rule, before, most, place, cell);
         }
     }
@@ -156,16 +153,49 @@ impl CellIndex {
         self.watch(rule, cell, place < most);
     }
 
-    /// Marks each rule that watches a cell of one of these slots at the timestep, and no other.
-    #[inline(always)]
-    pub(crate) fn mark(&self, marks: &mut Marks, group: &[SlotNo], step: StepNo)
+    /// Marks each rule, where there was no room for a watch.
+    #[cold]
+    #[inline(never)]
+    pub(crate) fn mark_anywhere(&self, marks: &mut Marks, group: &[SlotNo], step: StepNo)
+        requires { self.now.is_full ≡ true }
         ensures { MarksMore
             (λ rule. list_any (λ slot. is_watching self.now (cell_at slot step.0) rule)
             (numbers_of group.now)) marks.old marks.new }
     {
         for slot in group {
-            self.mark_at(marks, Cell { slot: *slot, step });
+            self.mark_all(marks, Cell { slot: *slot, step });
         }
+    }
+
+    // Marks each rule, where each watches each cell.
+    fn mark_all(&self, marks: &mut Marks, _cell: Cell)
+        requires { self.now.is_full ≡ true }
+        ensures { MarksMore (is_watching self.now _cell) marks.old marks.new }
+    {
+        marks.set_all();
+    }
+
+    /// Marks each rule that watches a cell of one of these slots at the timestep, and no other, where there was room for all
+    /// watches.
+    #[inline(always)]
+    pub(crate) fn mark(&self, marks: &mut Marks, group: &[SlotNo], step: StepNo)
+        requires { self.now.is_full ≡ false }
+        ensures { MarksMore
+            (λ rule. list_any (λ slot. is_watching self.now (cell_at slot step.0) rule)
+            (numbers_of group.now)) marks.old marks.new }
+    {
+        let slots = self.slots;
+        for slot in group {
+            self.mark_at(marks, slots, Cell { slot: *slot, step });
+        }
+    }
+
+    /// Whether there was no room for a watch, so that every rule watches each cell.
+    #[inline(always)]
+    pub(crate) fn is_full(&self) -> bool
+        ensures { result ≡ self.now.is_full }
+    {
+        self.full
     }
 
     /// Whether it is known that no rule watches a cell.
@@ -181,30 +211,28 @@ impl CellIndex {
         }
     }
 
-    // Marks each rule that watches a cell.
-    fn mark_at(&self, marks: &mut Marks, cell: Cell)
+    // Marks each rule that watches a cell, where there was room for all watches.
+    #[inline(always)]
+    fn mark_at(&self, marks: &mut Marks, slots: u16, cell: Cell)
+        requires room { self.now.is_full ≡ false }
+        requires slots { slots ≡ self.now.slots }
         ensures { MarksMore (is_watching self.now cell) marks.old marks.new }
     {
-        if self.full {
-            marks.set_all();
-        } else {
-            mark_from(
-                marks,
-                self.watches.as_slice(),
-                self.newest_at(cell),
-                cell.step.0,
-            );
-        }
+        mark_from(
+            marks,
+            self.watches.as_slice(),
+            self.newest_at(slots, cell),
+            cell.step.0,
+        );
     }
 
     // The number of the newest watch of a cell's place, 0 where there is none.
-    fn newest_at(&self, cell: Cell) -> u32
+    #[inline(always)]
+    fn newest_at(&self, slots: u16, cell: Cell) -> u32
+        requires { slots ≡ self.now.slots }
         ensures { result ≡ newest_at self.now cell }
     {
-        match position_of(self.slots, self.steps, cell) {
-            Some(place) => self.newest[place],
-            None => 0,
-        }
+        number_in(self.newest.as_slice(), position_of(slots, cell))
     }
 }
 
@@ -214,26 +242,30 @@ fn slots_for(basin: &Basin, room: u32) -> u16 {
 }
 
 // The place of a cell, which it shares with those of its slot that lie so many timesteps away.
-fn position_of(slots: u16, steps: u16, cell: Cell) -> Option<usize>
-    ensures is { result ≡ index_position slots steps cell }
-    ensures within { IfSome result (λ place. place < slots * INDEX_STEPS) }
+#[inline(always)]
+fn position_of(slots: u16, cell: Cell) -> usize
+    ensures { result ≡ index_position slots cell }
 {
-    let (slot, step) = (cell.slot.0, cell.step.0);
-    if (1 <= slot && slot <= slots) && (1 <= step && step <= steps) {
-        Some(place_in_row(slots, (step - 1) % INDEX_STEPS, slot - 1))
-    } else {
-        None
-    }
+    place_in_row(slots, cell.step.0 % INDEX_STEPS, cell.slot.0)
 }
 
 // The place in a row of so many slots.
+#[inline(always)]
 fn place_in_row(slots: u16, row: u16, slot: u16) -> usize
-    requires row { row < INDEX_STEPS }
-    requires slot { slot < slots }
-    ensures is { result ≡ row * slots + slot }
-    ensures within { result < slots * INDEX_STEPS }
+    ensures { result ≡ row * slots + slot }
 {
     usize::from(row) * usize::from(slots) + usize::from(slot)
+}
+
+// The number in a place, 0 where there is none.
+#[inline(always)]
+fn number_in(numbers: &[u32], place: usize) -> u32
+    ensures { result ≡ slice_index_or numbers.now place 0 }
+{
+    match numbers.get(place) {
+        Some(number) => *number,
+        None => 0,
+    }
 }
 
 // Whether a watch is of this rule and this timestep.
@@ -293,13 +325,17 @@ fn is_known(watches: &[Watch], newest: u32, rule: u16, step: u16, again: bool) -
     }
 }
 
-// Whether the last look was at this cell, if there was one.
-fn is_cell(last: Option<Cell>, cell: Cell) -> bool
-    ensures { result ≡ true → IsSomeAnd last (λ seen. seen ≡ cell) }
+// Whether the look in front of a place was at this cell, if there was one.
+#[inline(always)]
+fn is_repeated(looks: &[Look], place: usize, cell: Cell) -> bool
+    requires { place ≤ length looks.now }
+    ensures { result ≡ true → IsSomeAnd (slice_get (take place looks.now) (place - 1))
+        (λ look. look.cell ≡ cell) }
 {
-    match last {
-        Some(seen) => seen == cell,
-        None => false,
+    if place == 0 {
+        false
+    } else {
+        looks[place - 1].cell == cell
     }
 }
 
@@ -369,6 +405,7 @@ fn mark_one(marks: &mut Marks, watch: Watch, step: u16)
 }
 
 // Marks each rule that is met at the timestep, going from the watch of this number to the one before, and so on.
+#[inline(never)]
 fn mark_met(marks: &mut Marks, watches: &[Watch], newest: u32, step: u16)
     ensures { MarksMore (λ rule. is_met watches.now (length watches.now) newest rule step)
         marks.old marks.new }

@@ -8,5 +8,5 @@ returns-else-self c is cell rule =
     let none : length c.self.inside.watches.items ≡ 0 = grind (arith, nat_tests, is, c.is_empty.ensures) in
     let room : c.self.inside.full ≡ false = c.if-self.false in
     subst (λ index. is_watching index cell rule ≡ false) c.self.view_is
-    (idle c.self.inside.slots c.self.inside.steps c.self.inside.room c.self.inside.newest.items c.self.inside.watches.items c.self.inside.full room
+    (idle c.self.inside.slots c.self.inside.room c.self.inside.newest.items c.self.inside.watches.items c.self.inside.full room
     none cell rule)

@@ -12,7 +12,6 @@ loop-place-preserved c =
     let watching : is_watching c.watch_behind.new.self c.index-looked-place.result.cell c.args.rule ≡ true =
     ap (λ (look : Look). is_watching c.watch_behind.new.self look.cell c.args.rule) c.index-looked-place.is
     ∙ c.watch_behind.ensures.watching in record {
-      last = c.watch_behind.ensures.watching;
       watching = watching_more c.loop-place.self c.watch_behind.new.self c.args.rule c.args.looked.now c.loop-place.place c.index-looked-place.result
           (omega (arith, c.loop-place-test.true)) c.index-looked-place.is c.watch_behind.ensures.kept c.loop-place.invariant.watching watching;
       kept = λ other earlier watching. c.watch_behind.ensures.kept other earlier (c.loop-place.invariant.kept other earlier watching);
