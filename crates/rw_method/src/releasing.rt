@@ -23,6 +23,7 @@ fn spill(outflow: i64, release: i64) -> i128
 }
 
 // Puts a release and a spill.
+#[inline(always)]
 fn ask_parts(
     view: &View,
     table: Option<&Rating>,
@@ -45,6 +46,7 @@ fn ask_parts(
 
 /// Puts the release and the spill of an outflow, in m3/step, in these two places, where `most` is the greatest release.
 /// `OutOfRange` as of `ask`.
+#[inline(always)]
 pub fn ask_released(
     view: &View,
     table: Option<&Rating>,

@@ -12,6 +12,7 @@ use rw_method::{Balanced, Given, PutList, Solved, View, ask_level, ask_solved, k
 use rw_table::Rating;
 
 // Puts the term that was solved, and what is known of the contents by it.
+#[inline(always)]
 fn ask_contents(
     view: &View,
     table: Option<&Rating>,
@@ -41,6 +42,7 @@ fn ask_contents(
 }
 
 // Puts how much evaporates, and the parts of the outflow.
+#[inline(always)]
 fn ask_derived(
     view: &View,
     table: Option<&Rating>,
@@ -62,6 +64,7 @@ fn ask_derived(
 }
 
 // Puts all of it, one after the other.
+#[inline(always)]
 fn ask_all(
     view: &View,
     table: Option<&Rating>,
@@ -101,7 +104,43 @@ fn ask_all(
     }
 }
 
-/// What is answered once the balance is solved: all that is put, or the first put that its slot can't get.
+/// What is answered once the balance is solved: all that is put, or the first put that its slot can't get. Where all fit,
+/// `put_all` answers the same sooner.
+#[inline(never)]
+pub(crate) fn puts_or_misfit(
+    view: &View,
+    table: Option<&Rating>,
+    evaporation: bool,
+    evaporated: Option<i128>,
+    max_release: Option<i64>,
+    balanced: Balanced,
+) -> Solved
+    ensures { result
+        ≡ answer_of_puts (can_get (option_map (λ rating. rating.now) table.entry) view.entry.now)
+        (solved_put balanced
+        ++ level_puts (option_map (λ rating. rating.now) table.entry) (given view.entry.now STORAGE)
+        (given view.entry.now POOL_ELEVATION) balanced
+        ++ evaporation_put evaporation evaporated ++ release_puts max_release
+        (known_after view.entry.now balanced OUTFLOW)) }
+{
+    let mut puts = PutList::none();
+    match ask_all(
+        view,
+        table,
+        &mut puts,
+        evaporation,
+        evaporated,
+        max_release,
+        balanced,
+    ) {
+        Ok(()) => Solved::Puts(puts),
+        Err(answer) => answer,
+    }
+}
+
+/// What is answered once the balance is solved, in the place of another answer. A put that its slot can't get is seldom: what
+/// it answers isn't handed about, since it is large, but found anew.
+#[inline(always)]
 pub(crate) fn put_all(
     view: &View,
     table: Option<&Rating>,
@@ -132,7 +171,7 @@ pub(crate) fn put_all(
         ),
         _ => Ok(()),
     };
-    if let Err(answer) = asked {
-        *solved = answer;
+    if asked.is_err() {
+        *solved = puts_or_misfit(view, table, evaporation, evaporated, max_release, balanced);
     }
 }

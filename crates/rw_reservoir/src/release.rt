@@ -8,6 +8,7 @@ use rw_method::{Given, PutList, Solved, View, ask, ask_released};
 use rw_table::Rating;
 
 /// Where evaporation is chosen, puts how much evaporates, with priority 0.
+#[inline(always)]
 pub(crate) fn ask_evaporation(
     view: &View,
     table: Option<&Rating>,
@@ -29,6 +30,7 @@ pub(crate) fn ask_evaporation(
 }
 
 /// Where there is a greatest release, puts the release and the spill of an outflow.
+#[inline(always)]
 pub(crate) fn ask_release(
     view: &View,
     table: Option<&Rating>,

@@ -1,4 +1,4 @@
-ghost use Rattle.std.specs.Prelude.{◌≡◌, option_map, ◌++◌, ℤ, Bool, List, Some};
+ghost use Rattle.std.specs.Prelude.{◌≡◌, option_map, ◌++◌, ℤ, Bool, List, None, Some, true};
 ghost use Rattle.std.specs.Option.{ForSome};
 ghost use Rattle.rw_model.specs.declared.kind.Kind.TheVariants as Kind;
 ghost use Rattle.rw_method.specs.declared.places.TheConstants.{OUTFLOW, POOL_ELEVATION, RESERVOIR_SIDE, STORAGE};
@@ -12,8 +12,9 @@ ghost use Rattle.rw_method.specs.Asking.{can_get};
 
 use crate::balance::{balance, is_short};
 use crate::evaporation::evaporation_of;
-use crate::puts::put_all;
-use rw_method::places::RESERVOIR_SIDE;
+use crate::puts::{put_all, puts_or_misfit};
+use rw_base::Qty;
+use rw_method::places::{POOL_ELEVATION, RESERVOIR_SIDE, STORAGE};
 use rw_method::{
     Balanced, Method, Solved, View, ended, fault_of_level, fault_of_past, side_flows, stores,
 };
@@ -36,6 +37,64 @@ fn faulty(balanced: Balanced, fault: Solved) -> Solved
 }
 
 // What is answered, by what the balance comes to, and by what is wrong with the storage before or with the contents that are given.
+#[inline(never)]
+fn answer_by_faults(
+    view: &View,
+    table: Option<&Rating>,
+    evaporation: bool,
+    evaporated: Option<i128>,
+    max_release: Option<i64>,
+    balanced: Balanced,
+) -> Solved
+    ensures { result
+        ≡ answer (can_get (option_map (λ rating. rating.now) table.entry) view.entry.now)
+        (solved_put balanced
+        ++ level_puts (option_map (λ rating. rating.now) table.entry) (given view.entry.now STORAGE)
+        (given view.entry.now POOL_ELEVATION) balanced
+        ++ evaporation_put evaporation evaporated ++ release_puts max_release
+        (known_after view.entry.now balanced OUTFLOW))
+        balanced
+        (or_else
+        (fault_of_past evaporation (option_map (λ rating. rating.now) table.entry)
+        view.entry.now.past)
+        (fault_of_level (option_map (λ rating. rating.now) table.entry) view.entry.now)) }
+{
+    if let Some(fault) = fault_of_past(evaporation, table, view.past) {
+        return faulty(balanced, fault);
+    }
+    if let Some(fault) = fault_of_level(view, table) {
+        return faulty(balanced, fault);
+    }
+    match ended(balanced, None) {
+        Some(answer) => answer,
+        None => puts_or_misfit(view, table, evaporation, evaporated, max_release, balanced),
+    }
+}
+
+// Whether nothing is wrong with the storage before.
+fn is_past_faultless(evaporation: bool, table: Option<&Rating>, past: Option<Qty>) -> bool
+    ensures { result ≡ true
+        → fault_of_past evaporation (option_map (λ rating. rating.now) table.entry) past ≡ None }
+{
+    match (past, table) {
+        (Some(storage), Some(rating)) if evaporation => rating.has_elev(storage.get()),
+        _ => true,
+    }
+}
+
+// Whether nothing is wrong with the storage before, and no contents are given.
+fn is_faultless(view: &View, table: Option<&Rating>, evaporation: bool) -> bool
+    ensures { result ≡ true → or_else
+        (fault_of_past evaporation (option_map (λ rating. rating.now) table.entry)
+        view.entry.now.past)
+        (fault_of_level (option_map (λ rating. rating.now) table.entry) view.entry.now) ≡ None }
+{
+    view.given(STORAGE).is_none()
+        && view.given(POOL_ELEVATION).is_none()
+        && is_past_faultless(evaporation, table, view.past)
+}
+
+// The same in the place of another answer. What is solved, of no contents that are given, is put where it stands.
 fn answer_by(
     view: &View,
     table: Option<&Rating>,
@@ -58,17 +117,8 @@ fn answer_by(
         view.entry.now.past)
         (fault_of_level (option_map (λ rating. rating.now) table.entry) view.entry.now)) }
 {
-    if let Some(fault) = fault_of_past(evaporation, table, view.past) {
-        *solved = faulty(balanced, fault);
-        return;
-    }
-    if let Some(fault) = fault_of_level(view, table) {
-        *solved = faulty(balanced, fault);
-        return;
-    }
-    match ended(balanced, None) {
-        Some(answer) => *solved = answer,
-        None => put_all(
+    match balanced {
+        Balanced::Solves { .. } if is_faultless(view, table, evaporation) => put_all(
             view,
             table,
             evaporation,
@@ -77,6 +127,9 @@ fn answer_by(
             balanced,
             solved,
         ),
+        _ => {
+            *solved = answer_by_faults(view, table, evaporation, evaporated, max_release, balanced);
+        }
     }
 }
 
