@@ -95,6 +95,7 @@ pub(crate) fn list_of(items: Vec<Expr>) -> Expr
 }
 
 /// A word between two expressions, or before both.
+#[inline(always)]
 pub(crate) fn two(alloc: Global, word: TwoWord, left: Expr, right: Expr) -> Result<Expr, Stop>
     ensures ok { IfOk result (λ e. tree_of e ≡ two word (tree_of left) (tree_of right)) }
     ensures err { IfErr result (λ f. f ≡ Stop.NoMemory) }
@@ -122,6 +123,7 @@ pub(crate) fn brackets(alloc: Global, e: Expr) -> Result<Expr, Stop>
 }
 
 /// `slot[step]`.
+#[inline(always)]
 pub(crate) fn at_step(alloc: Global, slot: Expr, step: Expr) -> Result<Expr, Stop>
     ensures ok { IfOk result (λ e. tree_of e ≡ at (tree_of slot) (tree_of step)) }
     ensures err { IfErr result (λ f. f ≡ Stop.NoMemory) }
