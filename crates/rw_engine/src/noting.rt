@@ -1,19 +1,21 @@
 //! Noting at what an event looked, and what the puts reach that it asked for.
-ghost use Rattle.std.specs.Prelude.{◌≡◌, ◌++◌, IsSome};
+ghost use Rattle.std.specs.Prelude.{◌≡◌, ◌++◌, [], IsSome, unwrap_or};
 ghost use Rattle.std.specs.List.{filter_map};
 ghost use Rattle.rw_model.specs.Turn.{IsTurn};
 ghost use Rattle.rw_series.specs.Series.{held};
+ghost use Rattle.rw_agenda.specs.Agenda.{IsListed, looked_by};
 ghost use Rattle.rw_dispatch.specs.Writes.{AreWrites};
 ghost use Rattle.rw_run.specs.Dispatch.{cell_in, if_cell, looked_cells, places};
 ghost use Rattle.rw_run.specs.Frame.{cells_looked};
 ghost use Rattle.rw_run.specs.Step.{cells_reached};
 ghost use Rattle.rw_engine.specs.Noting.{NotesAll};
 
-use rw_base::{Cell, NoMemory, ObjectNo, StepNo};
+use rw_base::{Cell, NoMemory, ObjectNo, RuleNo, StepNo};
 use rw_dispatch::past_cell;
 use rw_firing::Look;
 use rw_model::Basin;
 use rw_record::Noted;
+use rw_rules::Rules;
 use rw_run::Write;
 use rw_series::Series;
 
@@ -102,21 +104,23 @@ fn note_seen(
     noted.note_reached(basin, series, asked)
 }
 
-/// Notes at what a rule looked, and what the puts reach that it asked for, where something is kept.
+/// Notes at what a rule looked when it last fired, and what the puts reach that it asked for, where something is kept.
 #[inline(always)]
 pub(crate) fn note_firing(
     noted: &mut Noted,
     basin: &Basin,
     series: &Series,
-    looked: &[Look],
-    asked: &[Write],
+    rules: &Rules,
+    rule: RuleNo,
 ) -> Result<(), NoMemory>
-    requires { AreWrites basin.now asked.now }
-    ensures { NotesAll (held series.now) (cells_looked looked.now
-        ++ cells_reached basin.now asked.now) noted.old noted.new result }
+    requires known { IsListed rules.now.agenda rule.0 }
+    requires can { AreWrites basin.now rules.now.asked }
+    ensures { NotesAll (held series.now) (cells_looked
+        (unwrap_or (looked_by rules.now.agenda rule.0) [])
+        ++ cells_reached basin.now rules.now.asked) noted.old noted.new result }
 {
     if noted.is_kept() {
-        note_seen(noted, basin, series, looked, asked)
+        note_seen(noted, basin, series, rules.looked(rule), rules.asked())
     } else {
         Ok(())
     }

@@ -263,14 +263,12 @@ impl State {
             predefs: setup.predefs,
         };
         let fired = self.rules.fire(&by, &self.run.series, rule, step);
-        let looked = self.rules.looked(rule);
-        let asked = self.rules.asked();
         note_firing(
             &mut self.noted,
             setup.basin,
             &self.run.series,
-            looked,
-            asked,
+            &self.rules,
+            rule,
         )?;
         let writes = self.rules.written();
         note_firing_lines(&mut self.lines, rule, step, &fired, writes)?;

@@ -1,5 +1,5 @@
 use Rattle.rw_engine.proofs.Common.{Cell, HasCount, None, Some, [], ap, held, last_put, lines_of_rule, arith, option_or, refl, subst, sym, true}
-use Rattle.rw_engine.proofs.Common.{written_by, ◌++◌, ◌∙◌, ◌∷◌, ◌≤◌}
+use Rattle.rw_engine.proofs.Common.{written_by, ◌++◌, ◌∙◌, ◌∷◌, ◌≤◌, List, ℕ}
 use Rattle.rw_run.specs.Log.{Firing, fired}
 use Rattle.rw_run.specs.Next.{ended}
 use Rattle.rw_run.specs.Trace.{told}
@@ -8,7 +8,9 @@ use Rattle.rw_dispatch.specs.Writes.{AreWrites}
 use Rattle.rw_run.specs.Frame.{cells_looked}
 use Rattle.rw_run.specs.Step.{cells_reached, reached_by}
 use Rattle.std.specs.Prelude.{Contains, unwrap_or}
-use Rattle.rw_rules.specs.Rules.{policy_in}
+use Rattle.rw_agenda.specs.Agenda.{looked_by}
+use Rattle.rw_firing.specs.declared.look.Look.{Look}
+use Rattle.rw_rules.specs.Rules.{Rules, policy_in}
 use Rattle.rw_engine.proofs.After.{keeps_noted, keeps_done, keeps_ended, on_the_way_rule, rules_on, wanted, stays_fired}
 use Rattle.rw_engine.proofs.Firings.{after_all, fired_on, firing_lines, looks_on, rule_fires}
 use Rattle.rw_engine.proofs.Notings.{ended_lines, ended_noted, firing_asks, firing_reached, notes_same, written_reached}
@@ -16,19 +18,23 @@ use Rattle.rw_engine.proofs.Traces.{told_none}
 use Rattle.rw_engine.proofs.Turns.{counts_ended, counts_firing, few_ended}
 use Rattle.rw_engine.proofs.state.State.fire.Goals as goal
 
+-- at what the rule looked when it last fired
+abbrev looked_now : Rules → ℕ → List Look
+looked_now rules rule = unwrap_or (looked_by rules.agenda rule) []
+
 pub raise-requires-clause-known : goal.raise-requires-clause-known
 raise-requires-clause-known g c =
     let made = c.requires.within.made in
     let turn = c.requires.turn in
     record { first = turn.first; last = subst (λ n. c.args.rule.0 ≤ n) (sym (made.firings ∙ made.engine.rules.many)) turn.last }
 
-pub looked-looked-requires : goal.looked-looked-requires
-looked-looked-requires g c =
+pub note_firing-requires-clause-known : goal.note_firing-requires-clause-known
+note_firing-requires-clause-known g c =
     let turn = c.requires.turn in
     record { first = turn.first; last = subst (λ n. c.args.rule.0 ≤ n) (sym c.fire-fired.ensures.made.many) turn.last }
 
-pub note_firing-requires : goal.note_firing-requires
-note_firing-requires g c = subst (AreWrites c.args.setup.now.basin.now) (sym c.asked-asked.ensures) c.fire-fired.ensures.told.can_ask
+pub note_firing-requires-clause-can : goal.note_firing-requires-clause-can
+note_firing-requires-clause-can g c = c.fire-fired.ensures.told.can_ask
 
 pub returns-in_err-note_firing : goal.returns-in_err-note_firing
 returns-in_err-note_firing g c =
@@ -52,7 +58,7 @@ returns-in_err-note_firing_lines g c =
     (keeps_noted basin policy old _ c.requires.within
     (stays_fired basin policy old _ c.args.rule.0 c.raise.ensures refl c.fire-fired.ensures.made refl refl)
     (c.fire-fired.ensures.keeps.indexed c.requires.within.indexed) refl refl ([], sym (told_none _)) c.note_firing_lines.ensures.grows
-    (cells_looked c.looked-looked.result.now ++ cells_reached basin c.asked-asked.result.now, c.in_ok-note_firing.ensures))
+    (cells_looked (looked_now c.fire-fired.new.self c.args.rule.0) ++ cells_reached basin c.fire-fired.new.self.asked, c.in_ok-note_firing.ensures))
     (record { closed_steps = refl; end = refl }) (sym c.requires.within.made.engine.notes.same ∙ c.in_err-note_firing_lines.ensures.wants)
 
 pub returns-in_err-note_firing_lines-2 : goal.returns-in_err-note_firing_lines-2
@@ -64,7 +70,7 @@ returns-in_err-note_firing_lines-2 g c =
     (keeps_noted basin policy old _ c.requires.within
     (stays_fired basin policy old _ c.args.rule.0 c.raise.ensures refl c.fire-fired.ensures.made refl refl)
     (c.fire-fired.ensures.keeps.indexed c.requires.within.indexed) refl refl c.note_firing_lines-2.ensures.grows c.note_firing_lines.ensures.grows
-    (cells_looked c.looked-looked.result.now ++ cells_reached basin c.asked-asked.result.now, c.in_ok-note_firing.ensures))
+    (cells_looked (looked_now c.fire-fired.new.self c.args.rule.0) ++ cells_reached basin c.fire-fired.new.self.asked, c.in_ok-note_firing.ensures))
     (record { closed_steps = refl; end = refl }) (c.requires.within.made.engine.notes.traced c.in_err-note_firing_lines-2.ensures.wants)
 
 pub returns : goal.returns
@@ -82,12 +88,12 @@ returns g c =
     let event = ended basin cells rule step fire fire.end in
     let known : HasCount old.firings rule =
     record { first = turn.first; last = subst (λ n. rule ≤ n) (sym (within.made.firings ∙ within.made.engine.rules.many)) turn.last } in
-    let asked = c.asked-asked.result.now in
-    let looked = c.looked-looked.result.now in
+    let asked = c.fire-fired.new.self.asked in
+    let looked = looked_now c.fire-fired.new.self rule in
     let reached = cells_looked looked ++ cells_reached basin asked in
     let asks = firing_asks basin cells rule step fire fire.end in
     let reaches = firing_reached basin cells rule step fire fire.end looked asked
-    (c.looked-looked.ensures ∙ ap (λ looks. unwrap_or looks []) tells.looked) (c.asked-asked.ensures ∙ tells.asked) in
+    (ap (λ looks. unwrap_or looks []) tells.looked) tells.asked in
     let on = c.write.ensures.keeps in
     let firing : Firing =
     record { rule = rule; step = step; is_done = true; looked = []; asked = []; written = c.fire-fired.new.self.written; count = 0 } in
