@@ -1,6 +1,7 @@
-ghost use Rattle.std.specs.Prelude.{◌≡◌, ◌≤◌, ◌-◌, ◌^◌, [], IfOk, length, map, min, option_map, unwrap_or};
+ghost use Rattle.std.specs.Prelude.{◌≡◌, ◌≤◌, ◌-◌, ◌^◌, [], IfOk, length, map, min, option_map, true, unwrap_or};
 ghost use Rattle.std.specs.List.{sum};
-ghost use Rattle.rw_model.specs.Draft.{IsSlot};
+ghost use Rattle.rw_base.specs.declared.number.Cell.{Cell};
+ghost use Rattle.rw_model.specs.Draft.{Draft, IsSlot};
 ghost use Rattle.rw_series.specs.Series.{held};
 ghost use Rattle.rw_agenda.specs.Agenda.{AreMarkedFresh, IsIndexed, IsListed, KeepsOtherMarks, MarksThose, after_firing, agenda_of_marks, first_due_in, forgotten, looked_by, look_room, unfired};
 
@@ -68,6 +69,15 @@ impl Agenda {
         self.index.clear();
     }
 
+    /// Whether it is known that no rule looked at a cell, so that what is written marks none.
+    #[inline(always)]
+    pub fn is_idle(&self) -> bool
+        ensures { result ≡ true → (basin : Draft) (cell : Cell)
+            → MarksThose basin cell self.now self.now }
+    {
+        self.index.is_idle()
+    }
+
     /// A put to a cell was written. Each rule is marked that looked at a cell which shares its value with this one, and each
     /// stays marked that was. It takes no memory.
     #[inline(always)]
@@ -80,9 +90,6 @@ impl Agenda {
         if self.index.is_full() {
             self.index
                 .mark_anywhere(&mut self.marks, basin.group(c.slot), c.step);
-            return;
-        }
-        if self.index.is_idle() {
             return;
         }
         self.index

@@ -15,6 +15,9 @@ pub fn mark(basin: &Basin, agenda: &mut Agenda, writes: &[Write])
     ensures rules { agenda.new.rules ≡ agenda.old.rules }
     ensures marked { MarksAll basin.now writes.now agenda.old agenda.new }
 {
+    if agenda.is_idle() {
+        return;
+    }
     for write in writes {
         agenda.changed(basin, write.cell);
     }

@@ -1,7 +1,7 @@
 use Rattle.rw_base.proofs.Common.{arith, refl, rules, subst, take_all, ◌∙◌}
 use Rattle.rw_dispatch.specs.Writes.{CanWrite}
 use Rattle.rw_writes.specs.Writes.{MarksAll}
-use Rattle.rw_writes.proofs.Marking.{marks_more, marks_none}
+use Rattle.rw_writes.proofs.Marking.{marks_more, marks_none, marks_unread}
 use Rattle.rw_writes.proofs.marked.mark.Goals as goal
 
 pub changed-requires : goal.changed-requires
@@ -25,3 +25,7 @@ pub returns-clause-marked : goal.returns-clause-marked
 returns-clause-marked c =
     subst (λ writes. MarksAll c.args.basin.now writes c.args.agenda.now c.loop-write.agenda)
     (take_all c.loop-write.write-index c.args.writes.now (omega (arith, c.loop-write-test.false))) c.loop-write.invariant.marked
+
+pub returns-then-is_idle-clause-marked : goal.returns-then-is_idle-clause-marked
+returns-then-is_idle-clause-marked c =
+    marks_unread c.args.basin.now c.args.agenda.now c.args.writes.now (c.is_idle.ensures c.if-is_idle.true c.args.basin.now)

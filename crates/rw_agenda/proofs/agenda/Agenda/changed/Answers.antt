@@ -1,9 +1,7 @@
-use Rattle.rw_base.proofs.Common.{ap, list_any, refl, slice_index_or, subst, true, ◌-◌, ◌∙◌, ◌||◌}
-use Rattle.rw_model.specs.Links.{group_of}
+use Rattle.rw_base.proofs.Common.{ap, list_any, slice_index_or, true, ◌-◌, ◌∙◌, ◌||◌}
 use Rattle.rw_run.specs.Dispatch.{cell_at}
-use Rattle.rw_agenda.specs.Agenda.{Agenda, MarksThose}
 use Rattle.rw_agenda.specs.CellIndex.{is_watching}
-use Rattle.rw_agenda.proofs.Marking.{marks_those, unwatched}
+use Rattle.rw_agenda.proofs.Marking.{marks_those}
 use Rattle.rw_agenda.proofs.agenda.Agenda.changed.Goals as goal
 
 pub returns-then-is_full-clause-marked : goal.returns-then-is_full-clause-marked
@@ -14,14 +12,6 @@ returns-then-is_full-clause-marked c content rule looks unmarked is =
     ∙ ap (λ group. slice_index_or c.self.inside.marks.flags place true
     || list_any (λ slot. is_watching c.self.inside.index (cell_at slot c.args.c.step.0) place) group) c.group.ensures.group)
     content (rule - 1) looks unmarked is)
-
-pub returns-then-is_idle-clause-marked : goal.returns-then-is_idle-clause-marked
-returns-then-is_idle-clause-marked c =
-    let group = group_of c.args.basin.now.objects c.args.basin.now.links c.args.c.slot.0 in
-    let still = unwatched c.self.inside.index c.args.c.step.0 group c.self.inside.marks (c.is_idle.ensures c.if-is_idle.true) in
-    subst (λ (agenda : Agenda). MarksThose c.args.basin.now c.args.c agenda agenda) c.self.view_is (λ content rule looks unmarked is.
-    marks_those c.args.basin.now c.args.c c.self.inside.index c.self.inside.rules.items c.self.inside.marks.flags
-    c.self.inside.marks.flags c.self.invariant.watching refl still.marked content (rule - 1) looks unmarked is)
 
 pub returns-clause-marked : goal.returns-clause-marked
 returns-clause-marked c content rule looks unmarked is =
