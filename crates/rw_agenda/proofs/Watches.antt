@@ -5,13 +5,12 @@ use Rattle.rw_base.proofs.Common.{get_or-set_other, get_or-set_same, get_or_appe
 use Rattle.rw_base.proofs.Common.{nat_eq_equiv, nat_le, nat_tests, none-some, option_map, refl, set, slice_get-get_or, slice_get_within}
 use Rattle.rw_base.proofs.Common.{slice_index_or, subst, sym, unwrap_or}
 use Rattle.std.proofs.lemmas.List.{get_or_push}
-use Rattle.std.proofs.lemmas.Option.{slice_get_past}
 use Rattle.std.specs.List.{slice_get}
 use Rattle.rw_base.specs.declared.number.Cell.{Cell}
 use Rattle.rw_model.proofs.Numbered.{numbered-found, numbered-known}
 use Rattle.rw_model.specs.Objects.{numbered}
 use Rattle.rw_firing.specs.declared.look.Look.{Look}
-use Rattle.rw_agenda.specs.CellIndex.{CellIndex, before_in, is_met, is_watching, newest_at, index_position}
+use Rattle.rw_agenda.specs.CellIndex.{CellIndex, is_met, is_watching, newest_at, index_position}
 use Rattle.rw_agenda.specs.declared.watch.Watch.{Watch}
 
 -- what is found of a watch, and of what it leads to
@@ -85,20 +84,11 @@ met_newest watches watch rule step =
     met_next (watches ++ watch ∷ []) (length (watches ++ watch ∷ [])) (length watches) (length (watches ++ watch ∷ [])) rule step watch many
     (ap (numbered (watches ++ watch ∷ [])) many ∙ last_watch watches watch)
 
--- a watch that isn't there leads to none
-numbered_past : (watches : List Watch) (number : ℕ) → length watches < number → numbered watches number ≡ None
-numbered_past watches number past =
-    numbered-known watches number (omega (arith, past)) ∙ slice_get_past watches (number - 1) (omega (arith, past))
-
-pub met_past : (watches : List Watch) (times number rule step : ℕ) → length watches < number → is_met watches times number rule step ≡ false
-met_past watches zero number rule step past = refl
-met_past watches (suc times) number rule step past = ap (met_in watches times rule step) (numbered_past watches number past)
-
 -- ---- an index with one watch more
 
 module _ (slots room : ℕ) (newest : List ℕ) (watches : List Watch) (full : Bool) (place rule step : ℕ) where
   abbrev before_it : ℕ
-  before_it = before_in watches (slice_index_or newest place 0)
+  before_it = slice_index_or newest place 0
 
   abbrev whole : List Watch
   whole = watches ++ record { rule = rule; step = step; place = place; before = before_it } ∷ []
@@ -109,23 +99,11 @@ module _ (slots room : ℕ) (newest : List ℕ) (watches : List Watch) (full : B
   abbrev new : CellIndex
   new = record { slots = slots; newest = set newest place (length whole); watches = whole; room = room; is_full = full }
 
-  -- who was met from the cell's newest watch is met from the one before the new one
-  met_before : (earlier time : ℕ) → is_met watches (length watches) (slice_index_or newest place 0) earlier time ≡ true
-      → is_met whole (length watches) before_it earlier time ≡ true
-  met_before earlier time is = by (nat_le (slice_index_or newest place 0) (length watches)) refl
-    where
-      by : (near : Bool) → nat_le (slice_index_or newest place 0) (length watches) ≡ near
-          → is_met whole (length watches) (if near then slice_index_or newest place 0 else 0) earlier time ≡ true
-      by true near = met_more watches _ (length watches) (length watches) (slice_index_or newest place 0) earlier time (omega arith) is
-      by false far =
-          absurd (false≢true (sym (met_past watches (length watches) (slice_index_or newest place 0) earlier time
-          (grind (arith, nat_tests, far))) ∙ is))
-
   met_here : (earlier time : ℕ) → is_met watches (length watches) (slice_index_or newest place 0) earlier time ≡ true
       → is_met whole (length whole) (length whole) earlier time ≡ true
   met_here earlier time is =
       met_newest watches (record { rule = rule; step = step; place = place; before = before_it }) earlier time
-      ∙ or_right (rule == earlier && step == time) _ (met_before earlier time is)
+      ∙ or_right (rule == earlier && step == time) _ (met_more watches _ (length watches) (length watches) before_it earlier time (omega arith) is)
 
   pub kept_watch : place < length newest → (other : Cell) (earlier : ℕ) → is_watching old other earlier ≡ true → is_watching new other earlier ≡ true
   kept_watch near other earlier is =
@@ -164,12 +142,12 @@ module _ (slots room : ℕ) (newest : List ℕ) (watches : List Watch) (full : B
 
   -- the same of what the code has
   module _ (seen count : ℕ) (pushed : List Watch) (saw : seen ≡ slice_index_or newest place 0)
-      (is : pushed ≡ watches ++ record { rule = rule; step = step; place = place; before = before_in watches seen } ∷ []) (many : count ≡ length pushed) where
+      (is : pushed ≡ watches ++ record { rule = rule; step = step; place = place; before = seen } ∷ []) (many : count ≡ length pushed) where
     abbrev made : List Watch → ℕ → CellIndex
     made all number = record { slots = slots; newest = set newest place number; watches = all; room = room; is_full = full }
 
     whole_is : pushed ≡ whole
-    whole_is = is ∙ ap (λ n. watches ++ record { rule = rule; step = step; place = place; before = before_in watches n } ∷ []) saw
+    whole_is = is ∙ ap (λ n. watches ++ record { rule = rule; step = step; place = place; before = n } ∷ []) saw
 
     pub watching_now : place < length newest → (cell : Cell) → cell.step.0 ≡ step → index_position slots cell ≡ place
         → is_watching (made pushed count) cell rule ≡ true

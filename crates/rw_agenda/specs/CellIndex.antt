@@ -1,5 +1,5 @@
 -- Which rules watch a cell, at which they looked: by watches each of which leads to the one before it.
-use Rattle.std.specs.Prelude.{ℕ, zero, suc, ◌*◌, ◌%◌, ◌+◌, ◌<◌, ◌==◌, ◌&&◌, ◌||◌, nat_le, Bool, false, List, length, option_map, unwrap_or, slice_index_or, if◌then◌else◌}
+use Rattle.std.specs.Prelude.{ℕ, zero, suc, ◌*◌, ◌%◌, ◌+◌, ◌<◌, ◌==◌, ◌&&◌, ◌||◌, Bool, false, List, length, option_map, unwrap_or, slice_index_or}
 use Rattle.rw_base.specs.declared.number.Cell.{Cell}
 use Rattle.rw_model.specs.Objects.{numbered}
 use Rattle.rw_agenda.specs.declared.limits.TheConstants.{INDEX_STEPS}
@@ -37,7 +37,3 @@ newest_at index cell = slice_index_or index.newest (index_position index.slots c
 -- the rule in a place watches the cell. Where there was no room for a watch, each rule watches each cell
 abbrev pub is_watching : CellIndex → Cell → ℕ → Bool
 is_watching index cell rule = index.is_full || is_met index.watches (length index.watches) (newest_at index cell) rule cell.step.0
-
--- what a new watch leads to: the newest one of its place, if that is there
-abbrev pub before_in : List Watch → ℕ → ℕ
-before_in watches newest = if nat_le newest (length watches) then newest else 0

@@ -5,7 +5,7 @@ ghost use Rattle.rw_model.specs.Kept.{numbers_of};
 ghost use Rattle.rw_model.specs.Objects.{numbered};
 ghost use Rattle.rw_run.specs.Dispatch.{cell_at};
 ghost use Rattle.rw_firing.specs.declared.look.Look.{Look};
-ghost use Rattle.rw_agenda.specs.CellIndex.{CanWatch, before_in, is_met, is_watching, newest_at, index_position};
+ghost use Rattle.rw_agenda.specs.CellIndex.{CanWatch, is_met, is_watching, newest_at, index_position};
 ghost use Rattle.rw_agenda.specs.Marks.{MarksMore};
 ghost use Rattle.rw_agenda.specs.declared.watch.Watch.{Watch};
 
@@ -356,20 +356,15 @@ fn push_watch(watches: &mut Vec<Watch>, rule: u16, step: u16, place: usize, newe
       rule = rule;
       step = step;
       place = place;
-      before = before_in watches.old.items newest;
+      before = newest;
     } ∷ [] }
     ensures room { watches.new.cap ≡ watches.old.cap }
 {
-    let before = if newest as usize <= watches.len() {
-        newest
-    } else {
-        0
-    };
     watches.push_reserved(Watch {
         rule,
         step,
         place,
-        before,
+        before: newest,
     });
 }
 
