@@ -9,7 +9,6 @@ use Rattle.rpl_code.specs.declared.instruction.Instruction.{Instruction}
 use Rattle.rpl_tree.specs.Budget.{Budget}
 use Rattle.rpl_verify.specs.declared.notes.Note.{Note}
 use Rattle.rpl_verify.specs.declared.notes.Part.TheVariants.{Count, Looks, Puts, Words}
-use Rattle.rpl_verify.specs.declared.verify_kind.VerifyKind.{VerifyKind}
 use Rattle.rpl_verify.specs.declared.verify_kind.VerifyKind.TheVariants.{TooMany}
 use Rattle.rpl_verify.specs.Places.{rest_of, spots}
 use Rattle.rpl_verify.specs.Steps.{scope_in}
@@ -71,14 +70,6 @@ module _ (basin : Draft) (blocks earlier : List Block) (budgets : List Budget) (
           ap (λ b. at_place (length block.lines) (within_limits b) (λ b. Ok b))
           (sym (budget_is here budgets befores_there block.lines) ∙ ap (λ ns. budget_noted ns block.lines) same)
       by (Err other) then_do_is = absurd (cc then_do_is)
-
-  -- a budget that a limit refuses, or that keeps them all
-  pub ruled_by : (notes : List Note) (its_budget : Budget) (result : Result Budget VerifyKind) → count_alike block.head earlier < RULES_MAX
-      → noted_block here budgets block.lines ≡ Ok notes → its_budget ≡ budget_noted notes block.lines → within_limits its_budget ≡ result
-      → block_ruling basin blocks earlier budgets block ≡ at_place (length block.lines) result (λ b. Ok b)
-  ruled_by notes its_budget result below noted_block_is its_budget_is within_limits_is =
-      ruled below notes noted_block_is ∙ ap (λ r. at_place (length block.lines) r (λ b. Ok b)) (ap within_limits (sym its_budget_is)
-      ∙ within_limits_is)
 
 -- one block more is judged
 pub ruling_on : (basin : Draft) (blocks : List Block) (place : ℕ) (block : Block) (budgets new : List Budget) (its_budget : Budget)

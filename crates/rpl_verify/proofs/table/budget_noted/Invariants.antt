@@ -1,4 +1,4 @@
-use Rattle.std.proofs.Common.{◌≡◌, ◌≤◌, ◌+◌, drop, reverse, length}
+use Rattle.std.proofs.Common.{◌≡◌, ◌≤◌, drop, reverse, length}
 use Rattle.rpl_verify.specs.declared.notes.Part.TheVariants.{Count, Looks, Puts, Words}
 use Rattle.rpl_verify.specs.Places.{loop_ends}
 use Rattle.rpl_verify.proofs.Caps.{IsFilled}
