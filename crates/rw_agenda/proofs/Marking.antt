@@ -24,10 +24,10 @@ use Rattle.rw_run.specs.Dispatch.{cell_at}
 use Rattle.rw_run.specs.Index.{is_touched}
 use Rattle.rw_run.specs.Log.{Cells}
 use Rattle.rw_run.specs.Next.{agenda_of, is_changed}
-use Rattle.rw_agenda.specs.Agenda.{AreMarkedFresh, AreWatching, Entry, IsIndexed, KeepsRules, agenda_of_marks, first_due_in, forgotten, is_due_in}
+use Rattle.rw_agenda.specs.Agenda.{AreAllMarked, AreMarkedFresh, AreWatching, Entry, IsIndexed, KeepsRules, agenda_of_marks, first_due_in, forgotten, is_due_in}
 use Rattle.rw_agenda.specs.Agenda.{unfired}
 use Rattle.rw_model.specs.Objects.{numbered}
-use Rattle.rw_agenda.specs.CellIndex.{CellIndex, is_met, is_watching}
+use Rattle.rw_agenda.specs.CellIndex.{CellIndex, has_watch, is_met, is_watching}
 use Rattle.rw_agenda.specs.declared.watch.Watch.{Watch}
 use Rattle.rw_agenda.specs.declared.limits.TheConstants.{RULES_MAX}
 use Rattle.rw_agenda.proofs.Watches.{met_last, met_next, or_right}
@@ -116,6 +116,33 @@ marks_those basin c index rules old new watching many marked content place looks
         (both.0, not_touched basin c index place content looks (watching place looks is) both.1)
     by (inr past) = absurd (false≢true (sym unmarked ∙ get_or_past new place true (omega (arith, many, past))))
 
+-- the same by watches. Where there was no room for one, each rule is marked
+pub marks_known : (basin : Draft) (c : Cell) (index : CellIndex) (rules : List Entry) (old new : List Bool) → AreWatching rules index
+    → (index.is_full ≡ true → AreAllMarked old) → length new ≡ length old
+    → ((place : ℕ) → place < length old → slice_index_or new place true
+    ≡ (slice_index_or old place true
+    || list_any (λ slot. has_watch index (cell_at slot c.step.0) place) (group_of basin.objects basin.links c.slot.0)))
+    → (content : Content) (place : ℕ) (looks : List Look) → slice_index_or new place true ≡ false
+    → (slice_index_or rules place (unfired 0)).looked ≡ Some looks
+    → (slice_index_or old place true ≡ false) × (is_touched basin (record { cell = c; content = content } ∷ []) looks ≡ false)
+marks_known basin c index rules old new watching all many marked content place looks unmarked is = by index.is_full refl
+  where
+    still : AreAllMarked old → (place < length old) ⊎ (length old ≤ place) → slice_index_or new place true ≡ true
+    still each (inl near) =
+        marked place near
+        ∙ ap (λ t. t || list_any (λ slot. has_watch index (cell_at slot c.step.0) place) (group_of basin.objects basin.links c.slot.0)) (each place)
+    still each (inr past) = get_or_past new place true (omega (arith, many, past))
+
+    by : (full : Bool) → index.is_full ≡ full
+        → (slice_index_or old place true ≡ false) × (is_touched basin (record { cell = c; content = content } ∷ []) looks ≡ false)
+    by true full = absurd (false≢true (sym unmarked ∙ still (all full) (cases_lt place (length old))))
+    by false full =
+        marks_those basin c index rules old new watching many
+        (λ other near. marked other near
+        ∙ ap (λ (t : Bool). slice_index_or old other true
+        || list_any (λ slot. t || has_watch index (cell_at slot c.step.0) other) (group_of basin.objects basin.links c.slot.0)) (sym full))
+        content place looks unmarked is
+
 -- ---- which rules are due
 
 rule_at : (order : AgendaOrder) (rules turn : ℕ) → turn < rules → slice_get (agenda_of order rules) turn ≡ Some (agenda_turn order rules turn + 1)
@@ -179,20 +206,22 @@ turns_all order rules few = record {
         ap (λ word. bit_at word (turn % 64) == 1) (get_or-replicate 4 (turn / 64) (2 ^ 64 - 1) 0 (omega (arith, near)))
         ∙ ap (λ bit. bit == 1) (bit_at_ones 64 (turn % 64) (omega arith))
 
-pub fresh_all : (rules : List Entry) (flags : List Bool) → flags ≡ replicate (length flags) true → AreMarkedFresh rules flags
-fresh_all rules flags is place none = by (cases_lt place (length flags))
+pub marked_all : (flags : List Bool) (rules : ℕ) → flags ≡ replicate rules true → AreAllMarked flags
+marked_all flags rules is place = by (cases_lt place rules)
   where
-    by : (place < length flags) ⊎ (length flags ≤ place) → slice_index_or flags place true ≡ true
-    by (inl near) = ap (λ fs. get_or fs place true) is ∙ get_or-replicate (length flags) place true true near
-    by (inr past) = get_or_past flags place true past
+    by : (place < rules) ⊎ (rules ≤ place) → slice_index_or flags place true ≡ true
+    by (inl near) = ap (λ fs. get_or fs place true) is ∙ get_or-replicate rules place true true near
+    by (inr past) =
+        let many = ap (λ (fs : List Bool). length fs) is ∙ length-replicate rules true in get_or_past flags place true (omega (arith, past, many))
 
 pub kept_fresh : (rules : List Entry) (flags : List Bool) (index : CellIndex) → length rules ≤ RULES_MAX → flags ≡ replicate (length rules) true
     → ((place : ℕ) → (slice_index_or rules place (unfired 0)).looked ≡ None) → KeepsRules rules flags index
 kept_fresh rules flags index few all none = record {
   few = few;
   marked = many;
-  fresh = fresh_all rules flags (all ∙ ap (λ n. replicate n true) (sym many));
+  fresh = λ place unlooked. marked_all flags (length rules) all place;
   watching = λ place looks is. absurd (none-some looks (sym (none place) ∙ is));
+  full = λ is. marked_all flags (length rules) all;
 }
   where
     many : length flags ≡ length rules
@@ -298,15 +327,15 @@ marks_none marks rule own time late = record {
     none false true = refl
     none false false = refl
 
--- where no rule watches a cell none is marked
-pub unwatched : (index : CellIndex) (step : ℕ) (group : List ℕ) (marks : Marks) → ((cell : Cell) (rule : ℕ) → is_watching index cell rule ≡ false)
-    → MarksMore (λ rule. list_any (λ slot. is_watching index (cell_at slot step) rule) group) marks marks
+-- where there is no watch none is marked
+pub unwatched : (index : CellIndex) (step : ℕ) (group : List ℕ) (marks : Marks) → ((cell : Cell) (rule : ℕ) → has_watch index cell rule ≡ false)
+    → MarksMore (λ rule. list_any (λ slot. has_watch index (cell_at slot step) rule) group) marks marks
 unwatched index step group marks none = record {
   order = refl;
   many = refl;
   marked = λ rule near.
       sym (ap (λ any. is_flagged marks rule || any)
-      (list_any_none (λ slot. is_watching index (cell_at slot step) rule) group (λ k d there. none (cell_at (get_or group k d) step) rule))
+      (list_any_none (λ slot. has_watch index (cell_at slot step) rule) group (λ k d there. none (cell_at (get_or group k d) step) rule))
       ∙ or-false (is_flagged marks rule));
 }
 

@@ -2,7 +2,7 @@
 use Rattle.rw_base.proofs.Common.{◌≡◌, ◌∙◌, ◌+◌, ◌-◌, ◌<◌, ◌≤◌, ◌==◌, ◌||◌, ◌&&◌, ℕ, zero, suc, Bool, true, false, List, [], ◌∷◌, ◌++◌, Option, None, Some}
 use Rattle.rw_base.proofs.Common.{IfSome, IsSomeAnd, All, All-push, take, take_more, ap, ap₂, arith, if◌then◌else◌, false≢true, get_or}
 use Rattle.rw_base.proofs.Common.{get_or-set_other, get_or-set_same, get_or_append_left, get_or_from_slice_get, length, length-append, nat_eq}
-use Rattle.rw_base.proofs.Common.{nat_eq_equiv, nat_le, nat_tests, none-some, option_map, refl, set, slice_get-get_or, slice_get_within}
+use Rattle.rw_base.proofs.Common.{nat_eq_equiv, nat_tests, none-some, option_map, refl, set, slice_get-get_or, slice_get_within}
 use Rattle.rw_base.proofs.Common.{slice_index_or, subst, sym, unwrap_or}
 use Rattle.std.proofs.lemmas.List.{get_or_push}
 use Rattle.std.specs.List.{slice_get}
@@ -10,7 +10,7 @@ use Rattle.rw_base.specs.declared.number.Cell.{Cell}
 use Rattle.rw_model.proofs.Numbered.{numbered-found, numbered-known}
 use Rattle.rw_model.specs.Objects.{numbered}
 use Rattle.rw_firing.specs.declared.look.Look.{Look}
-use Rattle.rw_agenda.specs.CellIndex.{CellIndex, is_met, is_watching, newest_at, index_position}
+use Rattle.rw_agenda.specs.CellIndex.{CellIndex, has_watch, is_met, is_watching, newest_at, index_position}
 use Rattle.rw_agenda.specs.declared.watch.Watch.{Watch}
 
 -- what is found of a watch, and of what it leads to
@@ -174,9 +174,5 @@ watching_more old new rule looks k look near is kept all watching =
     (λ place d there. kept (get_or (take k looks) place d).cell rule (all place d there)) watching)
 
 -- an index without watches
-pub idle : (slots room : ℕ) (newest : List ℕ) (watches : List Watch) (full : Bool) → full ≡ false → length watches ≡ 0
-    → (cell : Cell) (rule : ℕ)
-    → is_watching (record { slots = slots; newest = newest; watches = watches; room = room; is_full = full }) cell rule ≡ false
-idle slots room newest watches full spare none cell rule =
-    ap₂ (λ f n. f || is_met watches n (newest_at
-    (record { slots = slots; newest = newest; watches = watches; room = room; is_full = full }) cell) rule cell.step.0) spare none
+pub idle : (index : CellIndex) → length index.watches ≡ 0 → (cell : Cell) (rule : ℕ) → has_watch index cell rule ≡ false
+idle index none cell rule = ap (λ n. is_met index.watches n (newest_at index cell) rule cell.step.0) none

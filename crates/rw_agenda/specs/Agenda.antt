@@ -40,12 +40,17 @@ AreWatching rules index =
     (place : ℕ) (looks : List Look) → (slice_index_or rules place (unfired 0)).looked ≡ Some looks
     → All (λ (look : Look). is_watching index look.cell place ≡ true) looks
 
--- there are no more rules than there can be, and a mark for each
+-- each rule is marked
+abbrev pub AreAllMarked : List Bool → Type 0
+AreAllMarked marks = (place : ℕ) → slice_index_or marks place true ≡ true
+
+-- there are no more rules than there can be, and a mark for each; each is marked where there was no room for a watch
 pub record KeepsRules (rules : List Entry) (marks : List Bool) (index : CellIndex) : Type 0 where
   pub few : length rules ≤ RULES_MAX
   pub marked : length marks ≡ length rules
   pub fresh : AreMarkedFresh rules marks
   pub watching : AreWatching rules index
+  pub full : index.is_full ≡ true → AreAllMarked marks
 
 -- a rule in a timestep that begins
 abbrev pub forgotten : Entry → Entry

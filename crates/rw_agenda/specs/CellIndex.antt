@@ -34,6 +34,10 @@ is_met watches (suc times) number rule step =
 abbrev pub newest_at : CellIndex → Cell → ℕ
 newest_at index cell = slice_index_or index.newest (index_position index.slots cell) 0
 
+-- there is a watch of the cell by the rule in a place
+abbrev pub has_watch : CellIndex → Cell → ℕ → Bool
+has_watch index cell rule = is_met index.watches (length index.watches) (newest_at index cell) rule cell.step.0
+
 -- the rule in a place watches the cell. Where there was no room for a watch, each rule watches each cell
 abbrev pub is_watching : CellIndex → Cell → ℕ → Bool
-is_watching index cell rule = index.is_full || is_met index.watches (length index.watches) (newest_at index cell) rule cell.step.0
+is_watching index cell rule = index.is_full || has_watch index cell rule

@@ -87,11 +87,6 @@ impl Agenda {
         ensures rules { self.new.rules ≡ self.old.rules }
         ensures marked { MarksThose basin.now c self.old self.new }
     {
-        if self.index.is_full() {
-            self.index
-                .mark_anywhere(&mut self.marks, basin.group(c.slot), c.step);
-            return;
-        }
         self.index
             .mark(&mut self.marks, basin.group(c.slot), c.step);
     }
@@ -127,6 +122,11 @@ impl Agenda {
         self.index
             .watch_all(place, last.looks(), last.most(), looked);
         self.rules[usize::from(place)].keep(looked);
+        // Whom a put reaches isn't known then, so that each stays marked.
+        if self.index.is_full() {
+            self.marks.set_all();
+            return;
+        }
         self.marks.clear(place);
     }
 }

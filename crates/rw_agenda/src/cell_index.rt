@@ -5,7 +5,7 @@ ghost use Rattle.rw_model.specs.Kept.{numbers_of};
 ghost use Rattle.rw_model.specs.Objects.{numbered};
 ghost use Rattle.rw_run.specs.Dispatch.{cell_at};
 ghost use Rattle.rw_firing.specs.declared.look.Look.{Look};
-ghost use Rattle.rw_agenda.specs.CellIndex.{CanWatch, is_met, is_watching, newest_at, index_position};
+ghost use Rattle.rw_agenda.specs.CellIndex.{CanWatch, has_watch, is_met, is_watching, newest_at, index_position};
 ghost use Rattle.rw_agenda.specs.Marks.{MarksMore};
 ghost use Rattle.rw_agenda.specs.declared.watch.Watch.{Watch};
 
@@ -153,35 +153,11 @@ impl CellIndex {
         self.watch(rule, cell, place < most);
     }
 
-    /// Marks each rule, where there was no room for a watch.
-    #[cold]
-    #[inline(never)]
-    pub(crate) fn mark_anywhere(&self, marks: &mut Marks, group: &[SlotNo], step: StepNo)
-        requires { self.now.is_full ≡ true }
-        ensures { MarksMore
-            (λ rule. list_any (λ slot. is_watching self.now (cell_at slot step.0) rule)
-            (numbers_of group.now)) marks.old marks.new }
-    {
-        for slot in group {
-            self.mark_all(marks, Cell { slot: *slot, step });
-        }
-    }
-
-    // Marks each rule, where each watches each cell.
-    fn mark_all(&self, marks: &mut Marks, _cell: Cell)
-        requires { self.now.is_full ≡ true }
-        ensures { MarksMore (is_watching self.now _cell) marks.old marks.new }
-    {
-        marks.set_all();
-    }
-
-    /// Marks each rule that watches a cell of one of these slots at the timestep, and no other, where there was room for all
-    /// watches.
+    /// Marks each rule of which there is a watch of a cell of one of these slots at the timestep, and no other.
     #[inline(always)]
     pub(crate) fn mark(&self, marks: &mut Marks, group: &[SlotNo], step: StepNo)
-        requires { self.now.is_full ≡ false }
         ensures { MarksMore
-            (λ rule. list_any (λ slot. is_watching self.now (cell_at slot step.0) rule)
+            (λ rule. list_any (λ slot. has_watch self.now (cell_at slot step.0) rule)
             (numbers_of group.now)) marks.old marks.new }
     {
         let slots = self.slots;
@@ -198,25 +174,19 @@ impl CellIndex {
         self.full
     }
 
-    /// Whether it is known that no rule watches a cell.
+    /// Whether there is no watch.
     #[inline(always)]
     pub(crate) fn is_idle(&self) -> bool
-        ensures { result ≡ true → (cell : Cell) (rule : ℕ)
-            → is_watching self.now cell rule ≡ false }
+        ensures { result ≡ true → (cell : Cell) (rule : ℕ) → has_watch self.now cell rule ≡ false }
     {
-        if self.full {
-            false
-        } else {
-            self.watches.is_empty()
-        }
+        self.watches.is_empty()
     }
 
-    // Marks each rule that watches a cell, where there was room for all watches.
+    // Marks each rule of which there is a watch of a cell.
     #[inline(always)]
     fn mark_at(&self, marks: &mut Marks, slots: u16, cell: Cell)
-        requires room { self.now.is_full ≡ false }
-        requires slots { slots ≡ self.now.slots }
-        ensures { MarksMore (is_watching self.now cell) marks.old marks.new }
+        requires { slots ≡ self.now.slots }
+        ensures { MarksMore (has_watch self.now cell) marks.old marks.new }
     {
         mark_from(
             marks,
