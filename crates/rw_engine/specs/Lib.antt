@@ -1,5 +1,6 @@
 pub mod Counts
 pub mod Held
+pub mod Placed
 pub mod Lines
 pub mod Engine
 pub mod Noting

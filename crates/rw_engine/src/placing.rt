@@ -1,18 +1,24 @@
 //! Placing the inputs of a run.
-ghost use Rattle.std.specs.Prelude.{◌≡◌, ◌≤◌, option_map};
+ghost use Rattle.std.specs.Prelude.{◌≡◌, ◌≤◌, ◌<◌, option_map};
 ghost use Rattle.rw_model.specs.Draft.{IsSlot};
-ghost use Rattle.rw_series.specs.Series.{IsCell};
-ghost use Rattle.rw_inputs.specs.Inputs.{IsInputsOf, value_at};
+ghost use Rattle.rw_series.specs.Series.{IsCell, held};
+ghost use Rattle.rw_inputs.specs.Inputs.{IsInputsOf};
 ghost use Rattle.rw_run.specs.Log.{Log, input_content};
 ghost use Rattle.rw_run.specs.Runs.{with_inputs};
 ghost use Rattle.rw_dispatch.specs.Stage.{IsHeldIn};
-ghost use Rattle.rw_inputs.specs.Placings.{if_placed, placings_of, placings};
+ghost use Rattle.rw_inputs.specs.Placings.{placings};
 ghost use Rattle.rw_engine.specs.Held.{HoldsAll};
+ghost use Rattle.rw_engine.specs.Placed.{PlacesAtSteps, if_in_block, placing_at, row_placings};
+ghost use Rattle.rw_model.specs.Objects.{all_slots};
+ghost use Rattle.std.specs.Prelude.{length};
 
 use rw_base::{Cell, Qty, SlotNo, StepNo};
 use rw_inputs::Inputs;
 use rw_model::{Basin, Content, Writer};
 use rw_series::Series;
+
+// How many timesteps are placed together, so that what the slots hold at them stays near.
+const BLOCK: u16 = 8;
 
 /// What a cell holds of which this is given, if anything is.
 pub(crate) fn input(value: Option<Qty>) -> Option<Content>
@@ -34,9 +40,9 @@ fn place_cell(basin: &Basin, inputs: &Inputs, series: &mut Series, cell: Cell)
     requires cell { IsCell basin.now cell }
     requires made { IsHeldIn basin.now series.old }
     ensures made { IsHeldIn basin.now series.new }
-    ensures placed { (log : Log) → HoldsAll basin.now series.old log
-        → HoldsAll basin.now series.new (with_inputs log
-        (if_placed cell.slot.0 cell.step.0 (value_at inputs.now cell.slot.0 cell.step.0))) }
+    ensures placed { PlacesAtSteps basin.now
+        (λ step. placing_at inputs.now cell.slot.0 cell.step.0)
+        (held series.old) (held series.new) }
 {
     if let Some(value) = inputs.value(cell) {
         let content = Content {
@@ -48,27 +54,65 @@ fn place_cell(basin: &Basin, inputs: &Inputs, series: &mut Series, cell: Cell)
     }
 }
 
-// Places what is given to a slot, timestep by timestep.
-fn place_slot(basin: &Basin, inputs: &Inputs, series: &mut Series, slot: SlotNo)
+// Places what is given to a slot, timestep by timestep, behind the first ones of these.
+fn place_slot(
+    basin: &Basin,
+    inputs: &Inputs,
+    series: &mut Series,
+    slot: SlotNo,
+    first: u16,
+    last: u16,
+)
     requires inputs { IsInputsOf basin.now inputs.now }
     requires slot { IsSlot basin.now.objects slot.0 }
+    requires order { first ≤ last }
+    requires steps { last ≤ basin.now.control.stamps.count }
     requires made { IsHeldIn basin.now series.old }
     ensures made { IsHeldIn basin.now series.new }
-    ensures placed { (log : Log) → HoldsAll basin.now series.old log
-        → HoldsAll basin.now series.new
-        (with_inputs log (placings_of inputs.now slot.0 basin.now.control.stamps.count)) }
+    ensures placed { PlacesAtSteps basin.now
+        (λ step. if_in_block first last step (placing_at inputs.now slot.0 step))
+        (held series.old) (held series.new) }
 {
     if !inputs.has_places(slot) {
         return;
     }
-    let steps = basin.control().stamps.count();
-    for before in 0..steps {
+    for before in first..last {
         let step = StepNo(before + 1);
         place_cell(basin, inputs, series, Cell { slot, step });
     }
 }
 
-/// Places all inputs, slot by slot, and for each slot timestep by timestep.
+// Places what is given at the timesteps of a block, slot by slot.
+fn place_block(basin: &Basin, inputs: &Inputs, series: &mut Series, first: u16, last: u16)
+    requires inputs { IsInputsOf basin.now inputs.now }
+    requires order { first ≤ last }
+    requires steps { last ≤ basin.now.control.stamps.count }
+    requires made { IsHeldIn basin.now series.old }
+    ensures made { IsHeldIn basin.now series.new }
+    ensures placed { PlacesAtSteps basin.now
+        (λ step. if_in_block first last step
+        (row_placings inputs.now (length (all_slots basin.now.objects)) step))
+        (held series.old) (held series.new) }
+{
+    for before in 0..basin.slot_count() {
+        place_slot(basin, inputs, series, SlotNo(before + 1), first, last);
+    }
+}
+
+// The last timestep of the block that comes behind the first ones.
+fn last_of_steps(first: u16, steps: u16) -> u16
+    requires { first < steps }
+    ensures more { first < result }
+    ensures within { result ≤ steps }
+{
+    if steps - first < BLOCK {
+        steps
+    } else {
+        first + BLOCK
+    }
+}
+
+/// Places all inputs: block by block of timesteps, for each block slot by slot, and for each slot timestep by timestep.
 pub(crate) fn place(basin: &Basin, inputs: &Inputs, series: &mut Series)
     requires inputs { IsInputsOf basin.now inputs.now }
     requires made { IsHeldIn basin.now series.old }
@@ -76,7 +120,11 @@ pub(crate) fn place(basin: &Basin, inputs: &Inputs, series: &mut Series)
     ensures placed { (log : Log) → HoldsAll basin.now series.old log
         → HoldsAll basin.now series.new (with_inputs log (placings basin.now inputs.now)) }
 {
-    for before in 0..basin.slot_count() {
-        place_slot(basin, inputs, series, SlotNo(before + 1));
+    let steps = basin.control().stamps.count();
+    let mut first = 0;
+    while first < steps {
+        let last = last_of_steps(first, steps);
+        place_block(basin, inputs, series, first, last);
+        first = last;
     }
 }

@@ -11,9 +11,9 @@ returns-in-Some-clause-made c = record {
 }
 
 pub returns-in-Some-clause-placed : goal.returns-in-Some-clause-placed
-returns-in-Some-clause-placed c log holds cell =
+returns-in-Some-clause-placed c log cell holds =
     put-set c.args.basin.now (record { cell = c.args.cell; content = input_content c.in-Some.value }) c.args.series.now c.restore.new.self
     c.restore.ensures.cells cell
-    ∙ ap (option_or (last_put c.args.basin.now (record { cell = c.args.cell; content = input_content c.in-Some.value } ∷ []) cell)) (holds cell)
+    ∙ ap (option_or (last_put c.args.basin.now (record { cell = c.args.cell; content = input_content c.in-Some.value } ∷ []) cell)) holds
     ∙ ap (λ given. cells_of c.args.basin.now (with_inputs log (if_placed c.args.cell.slot.0 c.args.cell.step.0 given)) cell)
     (sym (sym c.value.ensures ∙ c.in-Some.is))
