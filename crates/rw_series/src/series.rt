@@ -95,7 +95,8 @@ impl Series {
 
     /// Its cells at one timestep, counted from 1. There are none where it has no such timestep.
     pub fn at_step(&self, step: StepNo) -> StepCells<'_>
-        ensures cells { (slot : Slot) → held result (record { slot = slot; step = record { 0 = 1 } })
+        ensures cells { (slot : Slot)
+            → held result (record { slot = slot; step = record { 0 = 1 } })
             ≡ held self.now (record { slot = slot; step = step }) }
         ensures columns { 1 ≤ step.0 → step.0 ≤ self.now.steps
             → result.columns ≡ self.now.columns }
