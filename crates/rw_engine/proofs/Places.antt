@@ -111,7 +111,7 @@ at_step basin inputs slot before next new log cell is holds false here =
     holds ∙ elsewhere basin slot next (value_at inputs slot next) log cell apart
 
 -- what is placed in a cell is placed at its timestep alone
-pub one_step : (basin : Draft) (inputs : Inputs) (slot before next : ℕ) (old new : Cells) → next ≡ before + 1
+one_step : (basin : Draft) (inputs : Inputs) (slot before next : ℕ) (old new : Cells) → next ≡ before + 1
     → PlacesAtSteps basin (λ step. placing_at inputs slot next) old new
     → PlacesAtSteps basin (λ step. if_in_block before next step (placing_at inputs slot step)) old new
 one_step basin inputs slot before next old new is places log cell holds =

@@ -1,6 +1,7 @@
 //! Placing the inputs of a run.
-ghost use Rattle.std.specs.Prelude.{◌≡◌, ◌≤◌, ◌<◌, option_map};
+ghost use Rattle.std.specs.Prelude.{◌≡◌, ◌≤◌, ◌<◌, length, option_map};
 ghost use Rattle.rw_model.specs.Draft.{IsSlot};
+ghost use Rattle.rw_model.specs.Objects.{all_slots};
 ghost use Rattle.rw_series.specs.Series.{IsCell, held};
 ghost use Rattle.rw_inputs.specs.Inputs.{IsInputsOf};
 ghost use Rattle.rw_run.specs.Log.{Log, input_content};
@@ -9,16 +10,11 @@ ghost use Rattle.rw_dispatch.specs.Stage.{IsHeldIn};
 ghost use Rattle.rw_inputs.specs.Placings.{placings};
 ghost use Rattle.rw_engine.specs.Held.{HoldsAll};
 ghost use Rattle.rw_engine.specs.Placed.{PlacesAtSteps, if_in_block, placing_at, row_placings};
-ghost use Rattle.rw_model.specs.Objects.{all_slots};
-ghost use Rattle.std.specs.Prelude.{length};
 
 use rw_base::{Cell, Qty, SlotNo, StepNo};
 use rw_inputs::Inputs;
 use rw_model::{Basin, Content, Writer};
 use rw_series::Series;
-
-// How many timesteps are placed together, so that what the slots hold at them stays near.
-const BLOCK: u16 = 8;
 
 /// What a cell holds of which this is given, if anything is.
 pub(crate) fn input(value: Option<Qty>) -> Option<Content>
@@ -99,16 +95,24 @@ fn place_block(basin: &Basin, inputs: &Inputs, series: &mut Series, first: u16, 
     }
 }
 
+// How many timesteps are placed together: few, so that their cells stay near, but the more, the more slots each block goes over.
+fn block_for(slots: u16) -> u16
+    ensures { 1 ≤ result }
+{
+    8 + slots / 16
+}
+
 // The last timestep of the block that comes behind the first ones.
-fn last_of_steps(first: u16, steps: u16) -> u16
-    requires { first < steps }
+fn last_of_steps(first: u16, steps: u16, block: u16) -> u16
+    requires order { first < steps }
+    requires some { 1 ≤ block }
     ensures more { first < result }
     ensures within { result ≤ steps }
 {
-    if steps - first < BLOCK {
+    if steps - first < block {
         steps
     } else {
-        first + BLOCK
+        first + block
     }
 }
 
@@ -121,9 +125,10 @@ pub(crate) fn place(basin: &Basin, inputs: &Inputs, series: &mut Series)
         → HoldsAll basin.now series.new (with_inputs log (placings basin.now inputs.now)) }
 {
     let steps = basin.control().stamps.count();
+    let block = block_for(basin.slot_count());
     let mut first = 0;
     while first < steps {
-        let last = last_of_steps(first, steps);
+        let last = last_of_steps(first, steps, block);
         place_block(basin, inputs, series, first, last);
         first = last;
     }
