@@ -19,6 +19,7 @@ pub mod Going
 pub mod Firing
 -- ---- for the code: lists with the last word first, how words are moved, what instructions count, look and put
 mod Backwards
+mod Innermost
 mod Moved
 mod Ranges
 mod Plain
