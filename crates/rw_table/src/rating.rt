@@ -1,7 +1,8 @@
-ghost use Rattle.std.specs.Prelude.{◌≡◌, ◌≤◌, length, OnOk, IsOk, IfOk, IsErrOf, is_some};
+ghost use Rattle.std.specs.Prelude.{◌≡◌, ◌≤◌, ◌≤ℤ◌, ◌<ℤ◌, length, OnOk, IsOk, IfOk, IsErrOf, is_some};
+ghost use Rattle.std.specs.List.Sorted.{IsPartitionPoint};
 ghost use Rattle.std.specs.Option.{ForSome};
 ghost use Rattle.rw_base.specs.Answers.{Answers};
-ghost use Rattle.rw_table.specs.Table.{IsTable, rows_refusal_of, table_of};
+ghost use Rattle.rw_table.specs.Table.{IsTable, Row, rows_refusal_of, table_of};
 ghost use Rattle.rw_table.specs.Curve.{vol_of, elev_of, first_row, IsElevationInside};
 
 use crate::fault::{TableFault, judge};
@@ -76,7 +77,9 @@ impl Rating {
 
     /// How many rows have at most a volume of s m3: where `elev_near` and `vol_near` look first.
     pub fn rows_up_to(&self, s: i64) -> usize
-        ensures { result ≤ length self.now }
+        ensures bound { result ≤ length self.now }
+        ensures place { IsPartitionPoint
+            (λ (row : Row). row.1 ≤ℤ s) (λ (row : Row). s <ℤ row.1) self.now result }
     {
         rows_up_to_volume(&self.rows, s)
     }
