@@ -10,7 +10,7 @@ pub returns-in-Ok : goal.returns-in-Ok
 returns-in-Ok g c = λ before text way.
     let words = λ (slot : ℕ). codes "," ++ value_words (values_in (held c.args.series.now) slot c.args.step.0) in
     let all : words_at (held c.at_step.result) ≡ words =
-    words_at_step (held c.at_step.result) (held c.args.series.now) c.args.step.0 (λ slot. c.at_step.ensures (record { 0 = slot })) in
+    words_at_step (held c.at_step.result) (held c.args.series.now) c.args.step.0 (λ slot. c.at_step.ensures.cells (record { 0 = slot })) in
     let same : for_each (words_at (held c.at_step.result)) c.slot_count.result ≡ for_slots c.args.basin.now words =
     ap (λ w. for_each w c.slot_count.result) all ∙ ap (for_each words) c.slot_count.ensures.count in
     on_after before _ _ text (for_slots c.args.basin.now words) (10 ∷ []) c.put.result
@@ -21,7 +21,7 @@ pub returns-in-Err : goal.returns-in-Err
 returns-in-Err g c = λ before text way.
     let words = λ (slot : ℕ). codes "," ++ value_words (values_in (held c.args.series.now) slot c.args.step.0) in
     let all : words_at (held c.at_step.result) ≡ words =
-    words_at_step (held c.at_step.result) (held c.args.series.now) c.args.step.0 (λ slot. c.at_step.ensures (record { 0 = slot })) in
+    words_at_step (held c.at_step.result) (held c.args.series.now) c.args.step.0 (λ slot. c.at_step.ensures.cells (record { 0 = slot })) in
     let same : for_each (words_at (held c.at_step.result)) c.slot_count.result ≡ for_slots c.args.basin.now words =
     ap (λ w. for_each w c.slot_count.result) all ∙ ap (for_each words) c.slot_count.ensures.count in
     broke_within before _ text (for_slots c.args.basin.now words) (10 ∷ [])

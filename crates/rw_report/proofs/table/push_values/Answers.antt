@@ -10,7 +10,7 @@ returns c =
     let words = λ (slot : ℕ). codes "," ++ value_words (values_in (held c.args.series.now) slot c.args.step.0) in
     let same : (slot : ℕ) → words_at (held c.at_step.result) slot ≡ words slot =
     λ slot. ap (λ content. codes "," ++ value_words (option_map (λ (content : Content). content.value) content))
-    (c.at_step.ensures (record { 0 = slot })) in
+    (c.at_step.ensures.cells (record { 0 = slot })) in
     let all : words_at (held c.at_step.result) ≡ words = λ i slot. (same slot) i in
     subst (λ text. OnOk c.push_cells.result (string_bytes c.push_cells.new.text ≡ string_bytes c.args.text.now ++ text))
     (ap (λ ws. for_each ws c.slot_count.result) all ∙ ap (for_each words) c.slot_count.ensures.count) c.push_cells.ensures
