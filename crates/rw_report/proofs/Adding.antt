@@ -4,15 +4,16 @@ use Rattle.rw_base.proofs.Common.{ap, append_assoc, arith, codes, drop, FitsSign
 use Rattle.std.proofs.Common.{option_and_then, Result, Ok, Err, OnOk}
 use Rattle.rw_base.proofs.Common.{refl, rules, same_Some, slice_get, slice_get_within, string_bytes, sym, w64}
 use Rattle.std.specs.declared.alloc.Global.{Global}
+use Rattle.rw_base.specs.declared.number.ObjectNo.{ObjectNo}
 use Rattle.rw_base.specs.Quantity.{IsQuantity}
 use Rattle.rw_base.proofs.Lists.{got_last}
 use Rattle.rw_model.specs.Draft.{Draft}
 use Rattle.rw_run.specs.declared.trace.TraceEvent.{TraceEvent}
 use Rattle.rw_run.specs.declared.trace.TraceEvent.TheVariants.{Opened, Idle, Solve, Fire, Written, Closed, Fault}
 use Rattle.rw_run.specs.declared.write.Write.{Write}
-use Rattle.rw_run.specs.Trace.{write_of}
+use Rattle.rw_run.specs.Trace.{dispatch_told, write_of}
 use Rattle.rw_report.specs.Lines.{line_words, lines_words}
-use Rattle.rw_report.specs.Pieces.{AreTexts}
+use Rattle.rw_report.specs.Pieces.{AreTexts, dispatch_line}
 use Rattle.rw_report.proofs.Growing.{here}
 use Rattle.rw_report.proofs.Keeping.{pushed_before}
 
@@ -44,6 +45,20 @@ put_at (Some (Solve object)) write is = absurd (none-some write is)
 put_at (Some (Fire rule done count)) write is = absurd (none-some write is)
 put_at (Some (Closed step)) write is = absurd (none-some write is)
 put_at (Some (Fault fault)) write is = absurd (none-some write is)
+
+-- a line that tells of this dispatch is its line
+pub dispatch_at : (line : Option TraceEvent) (object : ObjectNo) (put : Bool) → option_and_then dispatch_told line ≡ Some (object, put)
+    → line ≡ Some (dispatch_line object put)
+dispatch_at None object put is = absurd (none-some (object, put) is)
+dispatch_at (Some (Idle told)) object put is =
+    ap (λ (pair : ObjectNo × Bool). Some (dispatch_line pair.0 pair.1)) (same_Some (told, false) (object, put) is)
+dispatch_at (Some (Solve told)) object put is =
+    ap (λ (pair : ObjectNo × Bool). Some (dispatch_line pair.0 pair.1)) (same_Some (told, true) (object, put) is)
+dispatch_at (Some (Opened step)) object put is = absurd (none-some (object, put) is)
+dispatch_at (Some (Fire rule done count)) object put is = absurd (none-some (object, put) is)
+dispatch_at (Some (Written slot step content)) object put is = absurd (none-some (object, put) is)
+dispatch_at (Some (Closed step)) object put is = absurd (none-some (object, put) is)
+dispatch_at (Some (Fault fault)) object put is = absurd (none-some (object, put) is)
 
 -- what follows where a call came to its end
 pub where_done : {A E P Q : Type 0} (result : Result A E) → (P → Q) → OnOk result P → OnOk result Q

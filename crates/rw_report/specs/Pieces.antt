@@ -1,7 +1,10 @@
 -- Within the crate: the values at one timestep, which are written in pieces, and texts that are kept for lines.
-use Rattle.std.specs.Prelude.{◌≡◌, ◌+◌, ℕ, List, ◌++◌, Some, String, codes, slice_get, string_bytes}
+use Rattle.std.specs.Prelude.{◌≡◌, ◌+◌, ℕ, Bool, if◌then◌else◌, List, ◌++◌, Some, String, codes, slice_get, string_bytes}
 use Rattle.std.specs.declared.alloc.Global.{Global}
+use Rattle.rw_base.specs.declared.number.ObjectNo.{ObjectNo}
 use Rattle.rw_model.specs.Draft.{Draft}
+use Rattle.rw_run.specs.declared.trace.TraceEvent.{TraceEvent}
+use Rattle.rw_run.specs.declared.trace.TraceEvent.TheVariants.{Idle, Solve}
 use Rattle.rw_run.specs.Dispatch.{cell_at}
 use Rattle.rw_run.specs.Log.{Cells}
 use Rattle.rw_report.specs.declared.told.LineTexts.{LineTexts}
@@ -25,6 +28,10 @@ AreTexts words texts = (place : ℕ) (text : String Global) → slice_get texts 
 -- a line that ends in the name of an object
 abbrev pub object_line : Draft → (word : List ℕ) → ℕ → List ℕ
 object_line basin word object = (word ++ object_words basin object) ++ codes "\n"
+
+-- the line of a dispatch, of one that put something or of another
+abbrev pub dispatch_line : ObjectNo → (put : Bool) → TraceEvent
+dispatch_line object put = if put then Solve object else Idle object
 
 -- a slot behind some text, and a space behind it
 abbrev pub slot_behind : Draft → (front : List ℕ) → ℕ → List ℕ

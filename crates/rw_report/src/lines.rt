@@ -5,7 +5,7 @@ ghost use Rattle.rw_run.specs.Trace.{lines_in};
 ghost use Rattle.rw_report.specs.Section.{object_words, slot_words};
 ghost use Rattle.rw_report.specs.Flags.{content_words};
 ghost use Rattle.rw_report.specs.Lines.{ending_words, line_words, lines_words, trace_words, written_words};
-ghost use Rattle.rw_report.specs.Pieces.{AreLineTexts, AreTexts, object_line, slot_behind, slot_front};
+ghost use Rattle.rw_report.specs.Pieces.{AreLineTexts, AreTexts, dispatch_line, object_line, slot_behind, slot_front};
 
 use crate::flags::{push_content, write_content};
 use crate::heading::push_fault;
@@ -227,6 +227,26 @@ fn push_firing_line(text: &mut String, rule: RuleNo, done: bool, count: u64) -> 
     Ok(())
 }
 
+// Appends the line of a dispatch, of one that put something or of another, by its text where there is one.
+#[inline(always)]
+fn push_dispatch(
+    text: &mut String,
+    basin: &Basin,
+    texts: &LineTexts,
+    object: ObjectNo,
+    put: bool,
+) -> Result<(), NoMemory>
+    requires { AreLineTexts basin.now texts.now }
+    ensures { OnOk result (string_bytes text.new ≡ string_bytes text.old
+        ++ (line_words basin.now (dispatch_line object put) ++ codes "\n")) }
+{
+    if put {
+        push_listed(text, basin, texts.solve.as_slice(), "solve ", object)
+    } else {
+        push_listed(text, basin, texts.idle.as_slice(), "idle ", object)
+    }
+}
+
 /// Appends a line of a trace, by its text where there is one.
 #[inline(always)]
 pub(crate) fn push_told(
@@ -240,18 +260,31 @@ pub(crate) fn push_told(
         ≡ string_bytes text.old ++ (line_words basin.now line ++ codes "\n")) }
 {
     match line {
-        TraceEvent::Idle(object) => push_listed(
-            text,
-            basin,
-            texts.idle.as_slice(),
-            "idle ",
-            object,
-        ),
-        TraceEvent::Solve(object) => {
-            push_listed(text, basin, texts.solve.as_slice(), "solve ", object)
-        }
+        TraceEvent::Idle(object) => push_dispatch(text, basin, texts, object, false),
+        TraceEvent::Solve(object) => push_dispatch(text, basin, texts, object, true),
         TraceEvent::Fire { rule, done, count } => push_firing_line(text, rule, done, count),
         _ => push_ended(text, basin, line),
+    }
+}
+
+// Appends the line in a place, which isn't that of a put. Of the line of a dispatch no more is read than whose it is.
+#[inline(always)]
+fn push_unwritten(
+    text: &mut String,
+    basin: &Basin,
+    texts: &LineTexts,
+    trace: &Trace,
+    place: usize,
+) -> Result<(), NoMemory>
+    requires within { place < length (lines_in trace.now) }
+    requires texts { AreLineTexts basin.now texts.now }
+    ensures { OnOk result (string_bytes text.new
+        ++ lines_words basin.now (drop (place + 1) (lines_in trace.now))
+        ≡ string_bytes text.old ++ lines_words basin.now (drop place (lines_in trace.now))) }
+{
+    match trace.dispatched(place) {
+        Some((object, put)) => push_dispatch(text, basin, texts, object, put),
+        None => push_told(text, basin, texts, line_at(trace, place)),
     }
 }
 
@@ -273,7 +306,7 @@ fn push_at(
 {
     match trace.written(place) {
         Some(write) => push_write(text, buffer, basin, texts.written.as_slice(), write),
-        None => push_told(text, basin, texts, line_at(trace, place)),
+        None => push_unwritten(text, basin, texts, trace, place),
     }
 }
 

@@ -1,7 +1,7 @@
 ghost use Rattle.std.specs.Prelude.{◌≡◌, IfOk};
 ghost use Rattle.rw_run.specs.Line.{line_event};
 ghost use Rattle.rw_run.specs.RunOf.{line_of};
-ghost use Rattle.rw_run.specs.Trace.{write_of};
+ghost use Rattle.rw_run.specs.Trace.{dispatch_told, write_of};
 
 use crate::{RunFault, TraceEvent, Write};
 use rw_base::{Cell, NoMemory, ObjectNo, Qty, RuleNo, SlotNo, StepNo};
@@ -157,6 +157,18 @@ pub(crate) fn write_of(line: &Line) -> Option<Write>
                 writer: *writer,
             },
         }),
+        _ => None,
+    }
+}
+
+/// Whose dispatch a line tells, and whether it put something, if it tells one.
+#[inline(always)]
+pub(crate) fn dispatch_of(line: &Line) -> Option<(ObjectNo, bool)>
+    ensures { result ≡ dispatch_told (line_event line.now) }
+{
+    match line {
+        Line::Idle(object) => Some((*object, false)),
+        Line::Solve(object) => Some((*object, true)),
         _ => None,
     }
 }

@@ -1,9 +1,9 @@
 ghost use Rattle.std.specs.Prelude.{◌≡◌, [], ◌∷◌, ◌++◌, length, map, take, drop, slice_get, option_and_then, option_map, is_some, Some, None, IsSome, IfOk, IfErr};
 ghost use Rattle.rw_run.specs.Line.{line_event};
 ghost use Rattle.rw_run.specs.RunOf.{line_of};
-ghost use Rattle.rw_run.specs.Trace.{lines_in, told, write_of};
+ghost use Rattle.rw_run.specs.Trace.{dispatch_told, lines_in, told, write_of};
 
-use crate::line::{Line, copy_of, event_of, line_of, line_of_write, write_of};
+use crate::line::{Line, copy_of, dispatch_of, event_of, line_of, line_of_write, write_of};
 use crate::{RunFault, Write};
 use rw_base::{NoMemory, ObjectNo, RuleNo, SlotNo, StepNo};
 use rw_model::Content;
@@ -169,6 +169,19 @@ impl Trace {
         }
     }
 
+    /// Whose dispatch the line in a place tells, and whether it put something. `None` where there is no such line, and where it
+    /// tells something else.
+    #[inline(always)]
+    pub fn dispatched(&self, place: usize) -> Option<(ObjectNo, bool)>
+        ensures { result ≡ option_and_then dispatch_told (slice_get (lines_in self.now) place) }
+    {
+        if self.kept {
+            dispatch_at(&self.lines, place)
+        } else {
+            None
+        }
+    }
+
     /// How many lines there are.
     pub fn len(&self) -> usize
         ensures { result ≡ length (lines_in self.now) }
@@ -263,6 +276,17 @@ fn write_at(lines: &[Line], place: usize) -> Option<Write>
 {
     match lines.get(place) {
         Some(line) => write_of(line),
+        None => None,
+    }
+}
+
+// Whose dispatch the line in a place tells.
+#[inline(always)]
+fn dispatch_at(lines: &[Line], place: usize) -> Option<(ObjectNo, bool)>
+    ensures { result ≡ option_and_then dispatch_told (slice_get (map line_event lines.now) place) }
+{
+    match lines.get(place) {
+        Some(line) => dispatch_of(line),
         None => None,
     }
 }

@@ -13,10 +13,3 @@ returns-in-Some c =
     (string_bytes c.push_write.new.text)
     (put_at (slice_get lines c.args.place) write (sym c.written.ensures ∙ c.in-Some.is)))
     c.push_write.ensures
-
-pub returns-in-None : goal.returns-in-None
-returns-in-None c =
-    where_done c.push_told.result
-    (line_told c.args.basin.now (lines_in c.args.trace.now) c.args.place c.line_at.result (string_bytes c.args.text.now)
-    (string_bytes c.push_told.new.text) c.line_at.ensures)
-    c.push_told.ensures
