@@ -1,5 +1,5 @@
 -- What is put once a balance is solved.
-use Rattle.std.specs.Prelude.{ℕ, min, ◌==◌, if◌then◌else◌, ℤ, pos, ◌-ℤ◌, Bool, true, false, not, ◌&&◌, Contains, List, [], ◌∷◌, ◌++◌, Option, None, Some, unwrap_or, ◌+ℤ◌}
+use Rattle.std.specs.Prelude.{ℕ, min, ◌==◌, if◌then◌else◌, ℤ, pos, ◌-ℤ◌, Bool, true, false, not, ◌&&◌, Contains, List, [], ◌∷◌, ◌++◌, Option, None, Some, unwrap_or, ◌+ℤ◌, Result, Ok, Err}
 use Rattle.std.specs.Int.{int_min}
 use Rattle.rw_table.specs.Table.{Row}
 use Rattle.rw_model.specs.declared.content.Content.{Content}
@@ -11,6 +11,8 @@ use Rattle.rw_method.specs.declared.basis.Basis.TheVariants.{Nothing, Storage, E
 use Rattle.rw_method.specs.declared.given.Given.{Given}
 use Rattle.rw_method.specs.declared.places.TheConstants.{DEPLETION, DIVERSION, ENERGY, EVAPORATION, INFLOW, OUTFLOW, POOL_ELEVATION, POWER_RELEASE, POWER_SPILL, RELEASE, RETURN_FLOW, SEEPAGE, SPILL, STORAGE, CONTENT}
 use Rattle.rw_method.specs.declared.put.Put.{Put}
+use Rattle.rw_method.specs.declared.solved.Solved.{Solved}
+use Rattle.rw_method.specs.declared.solved.Solved.TheVariants.{Puts}
 use Rattle.rw_method.specs.declared.balanced.Balanced.{Balanced}
 use Rattle.rw_method.specs.declared.balanced.Balanced.TheVariants.{Holds, Solves}
 use Rattle.rw_method.specs.declared.term.Term.{Term}
@@ -38,6 +40,11 @@ held_by (Some content) = record { value = content.value; number = content.number
 abbrev pub solved_put : Balanced → List Put
 solved_put (Solves place value number) = put place value number ∷ []
 solved_put balanced = []
+
+-- what is answered of puts that were asked for: all of them, or what is answered in their place
+abbrev pub puts_or_answer : {X : Type 0} → List Put → Result X Solved → Solved
+puts_or_answer puts (Ok asked) = Puts puts
+puts_or_answer puts (Err answer) = answer
 
 -- what a place holds after these puts: what one of them puts there, or what is known
 abbrev pub held_after_puts : View → List Put → ℕ → Given
@@ -87,6 +94,15 @@ abbrev pub release_puts : Option ℤ → Given → List Put
 release_puts None outflow = []
 release_puts (Some most) outflow = released_puts RELEASE SPILL most outflow
 
+-- what a reservoir puts of its contents: what was solved, and the other of storage and elevation
+abbrev pub contents_puts : Option (List Row) → View → Balanced → List Put
+contents_puts table view balanced = solved_put balanced ++ level_puts table (given view STORAGE) (given view POOL_ELEVATION) balanced
+
+-- all that a reservoir puts, of what evaporates and of its greatest release
+abbrev pub reservoir_puts : Option (List Row) → Bool → Option ℤ → Option ℤ → View → Balanced → List Put
+reservoir_puts table evaporation amount max_release view balanced =
+    contents_puts table view balanced ++ evaporation_put evaporation amount ++ release_puts max_release (known_after view balanced OUTFLOW)
+
 -- of a diversion what is used up, and what flows back
 abbrev pub user_puts : ℕ → Given → List Put
 user_puts depletion diversion =
@@ -94,9 +110,17 @@ user_puts depletion diversion =
     put RETURN_FLOW (diversion.value -ℤ per_mille diversion.value depletion) diversion.number ∷
     []
 
+-- all that a water user puts
+abbrev pub water_user_puts : ℕ → View → Balanced → List Put
+water_user_puts depletion view balanced = solved_put balanced ++ user_puts depletion (known_after view balanced DIVERSION)
+
 -- what seeps away between inflow and outflow
 abbrev pub seepage_put : Given → Given → List Put
 seepage_put inflow outflow = put SEEPAGE (inflow.value -ℤ outflow.value) inflow.number ∷ []
+
+-- all that a canal puts
+abbrev pub canal_puts : View → Balanced → List Put
+canal_puts view balanced = solved_put balanced ++ seepage_put (known_after view balanced INFLOW) (known_after view balanced OUTFLOW)
 
 -- the number with which the outflow is put that a request asks for: the request's, but where the balance is true anyway no greater one than
 -- the other terms have
@@ -143,11 +167,9 @@ content_put content inflow outflow = put CONTENT (content +ℤ inflow.value -ℤ
 -- all that the object puts, in order of place: what was solved, and what is derived from it
 abbrev pub puts_of : Kind → View → Balanced → List Put
 puts_of (Reservoir initial_storage table local_inflow diversion return_flow evaporation max_release) view balanced =
-    solved_put balanced ++ level_puts table (given view STORAGE) (given view POOL_ELEVATION) balanced
-    ++ evaporation_put evaporation (evaporation_of evaporation table view) ++ release_puts max_release (known_after view balanced OUTFLOW)
-puts_of (WaterUser depletion supply) view balanced = solved_put balanced ++ user_puts depletion (known_after view balanced DIVERSION)
-puts_of (Canal seepage) view balanced =
-    solved_put balanced ++ seepage_put (known_after view balanced INFLOW) (known_after view balanced OUTFLOW)
+    reservoir_puts table evaporation (evaporation_of evaporation table view) max_release view balanced
+puts_of (WaterUser depletion supply) view balanced = water_user_puts depletion view balanced
+puts_of (Canal seepage) view balanced = canal_puts view balanced
 puts_of (PowerReservoir initial_storage table max_release tailwater power) view balanced =
     power_puts (plant table max_release tailwater power) view balanced
 puts_of (RoutedReach initial_content release) view balanced =

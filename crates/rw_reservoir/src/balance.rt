@@ -45,7 +45,7 @@ fn steady(past: Option<Qty>, side: Option<i128>, evaporation: Option<i128>) -> O
     }
 }
 
-// Whether neither the storage nor the elevation is given.
+// Whether neither the storage nor the elevation is given. Its clause is of `true` alone, as that of `is_short`.
 fn is_empty(view: &View) -> bool
     ensures { result ≡ true → (table : Option (List Row))
         → contents_by table (basis_of (given view.entry.now STORAGE)
@@ -54,7 +54,7 @@ fn is_empty(view: &View) -> bool
     view.given(STORAGE).is_none() && view.given(POOL_ELEVATION).is_none()
 }
 
-// Whether two of the terms aren't given.
+// Whether two of the terms aren't given. Its clause is of `true` alone, as that of `is_short`.
 #[inline(always)]
 fn are_two_missing(view: &View) -> bool
     ensures { result ≡ true → (table : Option (List Row)) → nat_le 2 (missing
@@ -69,7 +69,8 @@ fn are_two_missing(view: &View) -> bool
     }
 }
 
-/// Whether too little is known, whatever flows by the side and evaporates.
+/// Whether too little is known, whatever flows by the side and evaporates. It only spares time, since the balance comes to the
+/// same: so its clause is of `true` alone, and a body that always says `false` would be proved, too.
 #[inline(always)]
 pub(crate) fn is_short(view: &View) -> bool
     ensures { result ≡ true → (table : Option (List Row)) (steady : Option ℤ)

@@ -1,8 +1,5 @@
-ghost use Rattle.std.specs.Prelude.{◌≡◌, option_map, ◌<◌, ◌+◌, ◌≤◌, ◌++◌, [], length, OnOk, IfOk, IfErr};
-ghost use Rattle.rw_method.specs.declared.solved.Solved.TheVariants as Solved;
-ghost use Rattle.rw_method.specs.declared.places.TheConstants.{OUTFLOW, POOL_ELEVATION, STORAGE};
-ghost use Rattle.rw_method.specs.View.{given};
-ghost use Rattle.rw_method.specs.Puts.{solved_put, level_puts, evaporation_put, release_puts, known_after, is_bounded};
+ghost use Rattle.std.specs.Prelude.{◌≡◌, option_map, ◌<◌, ◌+◌, ◌≤◌, ◌++◌, [], length, OnOk, IfErr};
+ghost use Rattle.rw_method.specs.Puts.{solved_put, contents_puts, evaporation_put, release_puts, reservoir_puts, puts_or_answer, is_bounded};
 ghost use Rattle.rw_method.specs.Solve.{AllFit, answer_of_puts};
 ghost use Rattle.rw_method.specs.Asking.{Asks, can_get};
 
@@ -21,9 +18,7 @@ fn ask_contents(
 ) -> Result<(), Solved>
     requires { length puts.old < 7 }
     ensures asks { Asks (can_get (option_map (λ rating. rating.now) table.entry) view.entry.now)
-        (solved_put balanced
-        ++ level_puts (option_map (λ rating. rating.now) table.entry) (given view.entry.now STORAGE)
-        (given view.entry.now POOL_ELEVATION) balanced)
+        (contents_puts (option_map (λ rating. rating.now) table.entry) view.entry.now balanced)
         puts.old puts.new result }
     ensures bounded { OnOk result (AllFit (is_bounded view.entry.now) (solved_put balanced)) }
     ensures room { OnOk result (length puts.new ≤ length puts.old + 2) }
@@ -75,20 +70,10 @@ fn ask_all(
     balanced: Balanced,
 ) -> Result<(), Solved>
     requires { puts.old ≡ [] }
-    ensures ok { IfOk result (λ _. Solved.Puts puts.new
+    ensures { puts_or_answer puts.new result
         ≡ answer_of_puts (can_get (option_map (λ rating. rating.now) table.entry) view.entry.now)
-        (solved_put balanced
-        ++ level_puts (option_map (λ rating. rating.now) table.entry) (given view.entry.now STORAGE)
-        (given view.entry.now POOL_ELEVATION) balanced
-        ++ evaporation_put evaporation evaporated ++ release_puts max_release
-        (known_after view.entry.now balanced OUTFLOW))) }
-    ensures err { IfErr result (λ answer. answer
-        ≡ answer_of_puts (can_get (option_map (λ rating. rating.now) table.entry) view.entry.now)
-        (solved_put balanced
-        ++ level_puts (option_map (λ rating. rating.now) table.entry) (given view.entry.now STORAGE)
-        (given view.entry.now POOL_ELEVATION) balanced
-        ++ evaporation_put evaporation evaporated ++ release_puts max_release
-        (known_after view.entry.now balanced OUTFLOW))) }
+        (reservoir_puts (option_map (λ rating. rating.now) table.entry)
+        evaporation evaporated max_release view.entry.now balanced) }
 {
     match ask_contents(view, table, puts, balanced) {
         Ok(()) => ask_derived(
@@ -117,11 +102,8 @@ pub(crate) fn puts_or_misfit(
 ) -> Solved
     ensures { result
         ≡ answer_of_puts (can_get (option_map (λ rating. rating.now) table.entry) view.entry.now)
-        (solved_put balanced
-        ++ level_puts (option_map (λ rating. rating.now) table.entry) (given view.entry.now STORAGE)
-        (given view.entry.now POOL_ELEVATION) balanced
-        ++ evaporation_put evaporation evaporated ++ release_puts max_release
-        (known_after view.entry.now balanced OUTFLOW)) }
+        (reservoir_puts (option_map (λ rating. rating.now) table.entry)
+        evaporation evaporated max_release view.entry.now balanced) }
 {
     let mut puts = PutList::none();
     match ask_all(
@@ -152,11 +134,8 @@ pub(crate) fn put_all(
 )
     ensures { solved.new
         ≡ answer_of_puts (can_get (option_map (λ rating. rating.now) table.entry) view.entry.now)
-        (solved_put balanced
-        ++ level_puts (option_map (λ rating. rating.now) table.entry) (given view.entry.now STORAGE)
-        (given view.entry.now POOL_ELEVATION) balanced
-        ++ evaporation_put evaporation evaporated ++ release_puts max_release
-        (known_after view.entry.now balanced OUTFLOW)) }
+        (reservoir_puts (option_map (λ rating. rating.now) table.entry)
+        evaporation evaporated max_release view.entry.now balanced) }
 {
     solved.clear();
     let asked = match solved {

@@ -1,12 +1,11 @@
-ghost use Rattle.std.specs.Prelude.{◌≡◌, option_map, ◌++◌, ℤ, Bool, List, None, Some, true};
+ghost use Rattle.std.specs.Prelude.{◌≡◌, option_map, ℤ, Bool, List, None, Some, true};
 ghost use Rattle.std.specs.Option.{ForSome};
 ghost use Rattle.rw_model.specs.declared.kind.Kind.TheVariants as Kind;
-ghost use Rattle.rw_method.specs.declared.places.TheConstants.{OUTFLOW, POOL_ELEVATION, RESERVOIR_SIDE, STORAGE};
+ghost use Rattle.rw_method.specs.declared.places.TheConstants.{RESERVOIR_SIDE};
 ghost use Rattle.rw_method.specs.declared.put.Put.{Put};
-ghost use Rattle.rw_method.specs.View.{given};
 ghost use Rattle.rw_method.specs.Term.{IsWithin};
 ghost use Rattle.rw_method.specs.Balance.{side_flows};
-ghost use Rattle.rw_method.specs.Puts.{solved_put, level_puts, evaporation_put, release_puts, known_after};
+ghost use Rattle.rw_method.specs.Puts.{reservoir_puts};
 ghost use Rattle.rw_method.specs.Solve.{answer, fault_of_level, fault_of_past, or_else, solve_of};
 ghost use Rattle.rw_method.specs.Asking.{can_get};
 
@@ -48,11 +47,8 @@ fn answer_by_faults(
 ) -> Solved
     ensures { result
         ≡ answer (can_get (option_map (λ rating. rating.now) table.entry) view.entry.now)
-        (solved_put balanced
-        ++ level_puts (option_map (λ rating. rating.now) table.entry) (given view.entry.now STORAGE)
-        (given view.entry.now POOL_ELEVATION) balanced
-        ++ evaporation_put evaporation evaporated ++ release_puts max_release
-        (known_after view.entry.now balanced OUTFLOW))
+        (reservoir_puts (option_map (λ rating. rating.now) table.entry)
+        evaporation evaporated max_release view.entry.now balanced)
         balanced
         (or_else
         (fault_of_past evaporation (option_map (λ rating. rating.now) table.entry)
@@ -71,7 +67,7 @@ fn answer_by_faults(
     }
 }
 
-// Whether nothing is wrong with the storage before.
+// Whether nothing is wrong with the storage before. Its clause is of `true` alone, as that of `is_faultless`.
 fn is_past_faultless(evaporation: bool, table: Option<&Rating>, past: Option<Qty>) -> bool
     ensures { result ≡ true
         → fault_of_past evaporation (option_map (λ rating. rating.now) table.entry) past ≡ None }
@@ -82,7 +78,8 @@ fn is_past_faultless(evaporation: bool, table: Option<&Rating>, past: Option<Qty
     }
 }
 
-// Whether nothing is wrong with the storage before, and no contents are given.
+// Whether nothing is wrong with the storage before, and no contents are given. It only spares time, since `answer_by_faults` answers
+// the same: so its clause is of `true` alone, and a body that always says `false` would be proved, too.
 fn is_faultless(view: &View, table: Option<&Rating>, evaporation: bool) -> bool
     ensures { result ≡ true → or_else
         (fault_of_past evaporation (option_map (λ rating. rating.now) table.entry)
@@ -106,11 +103,8 @@ fn answer_by(
 )
     ensures { solved.new
         ≡ answer (can_get (option_map (λ rating. rating.now) table.entry) view.entry.now)
-        (solved_put balanced
-        ++ level_puts (option_map (λ rating. rating.now) table.entry) (given view.entry.now STORAGE)
-        (given view.entry.now POOL_ELEVATION) balanced
-        ++ evaporation_put evaporation evaporated ++ release_puts max_release
-        (known_after view.entry.now balanced OUTFLOW))
+        (reservoir_puts (option_map (λ rating. rating.now) table.entry)
+        evaporation evaporated max_release view.entry.now balanced)
         balanced
         (or_else
         (fault_of_past evaporation (option_map (λ rating. rating.now) table.entry)

@@ -1,9 +1,8 @@
-ghost use Rattle.std.specs.Prelude.{◌≡◌, ◌≤◌, ◌-ℤ◌, ◌++◌, [], None, OnOk, IfErr};
+ghost use Rattle.std.specs.Prelude.{◌≡◌, ◌≤◌, ◌-ℤ◌, [], None};
 ghost use Rattle.rw_model.specs.declared.limits.TheConstants.{SEEPAGE_MAX};
 ghost use Rattle.rw_model.specs.declared.kind.Kind.TheVariants as Kind;
-ghost use Rattle.rw_method.specs.declared.solved.Solved.TheVariants as Solved;
 ghost use Rattle.rw_method.specs.declared.places.TheConstants.{INFLOW, OUTFLOW};
-ghost use Rattle.rw_method.specs.Puts.{is_bounded, solved_put, seepage_put, known_after};
+ghost use Rattle.rw_method.specs.Puts.{is_bounded, canal_puts, puts_or_answer};
 ghost use Rattle.rw_method.specs.Solve.{answer, solve_of};
 
 use rw_method::places::{INFLOW, OUTFLOW, SEEPAGE};
@@ -27,12 +26,8 @@ fn seeping(inflow: Given, outflow: Given) -> i128
 #[inline(always)]
 fn ask_seepage(view: &View, puts: &mut PutList, balanced: Balanced) -> Result<(), Solved>
     requires { puts.old ≡ [] }
-    ensures ok { OnOk result (Solved.Puts puts.new ≡ answer (is_bounded view.entry.now)
-        (solved_put balanced ++ seepage_put (known_after view.entry.now balanced INFLOW)
-        (known_after view.entry.now balanced OUTFLOW)) balanced None) }
-    ensures err { IfErr result (λ ended. ended ≡ answer (is_bounded view.entry.now)
-        (solved_put balanced ++ seepage_put (known_after view.entry.now balanced INFLOW)
-        (known_after view.entry.now balanced OUTFLOW)) balanced None) }
+    ensures { puts_or_answer puts.new result
+        ≡ answer (is_bounded view.entry.now) (canal_puts view.entry.now balanced) balanced None }
 {
     if let Err(answer) = begin_asking(view, puts, balanced) {
         return Err(answer);
@@ -49,9 +44,8 @@ fn ask_seepage(view: &View, puts: &mut PutList, balanced: Balanced) -> Result<()
 // Answers what puts its solved flow, if one is solved, and what seeps away.
 #[inline(always)]
 fn put_seepage(view: &View, balanced: Balanced, solved: &mut Solved)
-    ensures { solved.new ≡ answer (is_bounded view.entry.now)
-        (solved_put balanced ++ seepage_put (known_after view.entry.now balanced INFLOW)
-        (known_after view.entry.now balanced OUTFLOW)) balanced None }
+    ensures { solved.new
+        ≡ answer (is_bounded view.entry.now) (canal_puts view.entry.now balanced) balanced None }
 {
     solved.clear();
     let asked = match solved {

@@ -1,11 +1,10 @@
-ghost use Rattle.std.specs.Prelude.{◌≡◌, ℕ, ◌-ℤ◌, ◌++◌, [], None, OnOk, IfErr};
+ghost use Rattle.std.specs.Prelude.{◌≡◌, ℕ, ◌-ℤ◌, [], None};
 ghost use Rattle.std.specs.Option.{ForSome};
-ghost use Rattle.rw_method.specs.declared.solved.Solved.TheVariants as Solved;
 ghost use Rattle.rw_method.specs.declared.places.TheConstants.{DIVERSION};
 ghost use Rattle.rw_method.specs.Term.{IsWithin, per_mille};
 ghost use Rattle.rw_method.specs.View.{known_value};
 ghost use Rattle.rw_model.specs.declared.kind.Kind.TheVariants as Kind;
-ghost use Rattle.rw_method.specs.Puts.{is_bounded, solved_put, user_puts, known_after};
+ghost use Rattle.rw_method.specs.Puts.{is_bounded, water_user_puts, puts_or_answer};
 ghost use Rattle.rw_method.specs.Solve.{answer, balanced_of, solve_of};
 
 use rw_method::places::{DEPLETION, DIVERSION, DIVERSION_REQUEST, RETURN_FLOW};
@@ -67,12 +66,8 @@ fn ask_uses(
     balanced: Balanced,
 ) -> Result<(), Solved>
     requires { puts.old ≡ [] }
-    ensures ok { OnOk result (Solved.Puts puts.new ≡ answer (is_bounded view.entry.now)
-        (solved_put balanced
-        ++ user_puts depletion (known_after view.entry.now balanced DIVERSION)) balanced None) }
-    ensures err { IfErr result (λ ended. ended ≡ answer (is_bounded view.entry.now)
-        (solved_put balanced
-        ++ user_puts depletion (known_after view.entry.now balanced DIVERSION)) balanced None) }
+    ensures { puts_or_answer puts.new result ≡ answer (is_bounded view.entry.now)
+        (water_user_puts depletion view.entry.now balanced) balanced None }
 {
     if let Err(answer) = begin_asking(view, puts, balanced) {
         return Err(answer);
@@ -93,8 +88,7 @@ fn ask_uses(
 #[inline(always)]
 fn put_uses(view: &View, depletion: u16, balanced: Balanced, solved: &mut Solved)
     ensures { solved.new ≡ answer (is_bounded view.entry.now)
-        (solved_put balanced
-        ++ user_puts depletion (known_after view.entry.now balanced DIVERSION)) balanced None }
+        (water_user_puts depletion view.entry.now balanced) balanced None }
 {
     solved.clear();
     let asked = match solved {

@@ -3,8 +3,8 @@ use Rattle.rw_method.specs.Puts.{put, is_bounded}
 use Rattle.rw_method.proofs.PutFacts.{misfit_judged}
 use Rattle.rw_users.proofs.canal.ask_seepage.Goals as goal
 
-pub returns-in-Err-add_put-clause-err : goal.returns-in-Err-add_put-clause-err
-returns-in-Err-add_put-clause-err c =
+pub returns-in-Err-add_put : goal.returns-in-Err-add_put
+returns-in-Err-add_put c =
     let fits : FitsSigned w128 c.seeping-seeping.result = search rules in
     let ended = simp (to_z-of_z w128 _ fits) at c.in-Err-add_put.ensures.err in
     let accepted = simp (to_z-of_z w128 _ fits) at c.in-Err-add_put.ensures.fits in

@@ -3,8 +3,8 @@ use Rattle.rw_method.specs.Puts.{put, is_bounded}
 use Rattle.rw_method.proofs.PutFacts.{misfit_judged, second_misfit_judged}
 use Rattle.rw_users.proofs.water_user.ask_uses.Goals as goal
 
-pub returns-in-Err-add_put-clause-err : goal.returns-in-Err-add_put-clause-err
-returns-in-Err-add_put-clause-err c =
+pub returns-in-Err-add_put : goal.returns-in-Err-add_put
+returns-in-Err-add_put c =
     let fits : FitsSigned w128 c.used_up-used.result = search rules in
     let ended = simp (to_z-of_z w128 _ fits) at c.in-Err-add_put.ensures.err in
     let accepted = simp (to_z-of_z w128 _ fits) at c.in-Err-add_put.ensures.fits in
@@ -13,8 +13,8 @@ returns-in-Err-add_put-clause-err c =
     rw (← c.known_after-diversion.ensures, ← c.used_up-used.ensures.amount)
     (ended ∙ misfit_judged (is_bounded c.args.view.now) _ _ _ (c.in_default.ensures.fits refl) misfit)
 
-pub returns-in-Err-add_put-2-clause-err : goal.returns-in-Err-add_put-2-clause-err
-returns-in-Err-add_put-2-clause-err c =
+pub returns-in-Err-add_put-2 : goal.returns-in-Err-add_put-2
+returns-in-Err-add_put-2 c =
     let used_fits : FitsSigned w128 c.used_up-used.result = search rules in
     let back_fits : FitsSigned w128 c.flowing_back-back.result = search rules in
     let first = simp (to_z-of_z w128 _ used_fits) at c.in_default-add_put.ensures.fits in
