@@ -5,9 +5,8 @@ ghost use Rattle.rw_method.specs.declared.places.TheConstants.{RESERVOIR_SIDE};
 ghost use Rattle.rw_method.specs.declared.put.Put.{Put};
 ghost use Rattle.rw_method.specs.Term.{IsWithin};
 ghost use Rattle.rw_method.specs.Balance.{side_flows};
-ghost use Rattle.rw_method.specs.Puts.{reservoir_puts};
-ghost use Rattle.rw_method.specs.Solve.{answer, fault_of_level, fault_of_past, or_else, solve_of};
-ghost use Rattle.rw_method.specs.Asking.{can_get};
+ghost use Rattle.rw_method.specs.Solve.{answer, fault_of_past, solve_of};
+ghost use Rattle.rw_reservoir.specs.Answering.{fault_of_held, reservoir_answer};
 
 use crate::balance::{balance, is_short};
 use crate::evaporation::evaporation_of;
@@ -46,14 +45,8 @@ fn answer_by_faults(
     balanced: Balanced,
 ) -> Solved
     ensures { result
-        ≡ answer (can_get (option_map (λ rating. rating.now) table.entry) view.entry.now)
-        (reservoir_puts (option_map (λ rating. rating.now) table.entry)
-        evaporation evaporated max_release view.entry.now balanced)
-        balanced
-        (or_else
-        (fault_of_past evaporation (option_map (λ rating. rating.now) table.entry)
-        view.entry.now.past)
-        (fault_of_level (option_map (λ rating. rating.now) table.entry) view.entry.now)) }
+        ≡ reservoir_answer (option_map (λ rating. rating.now) table.entry)
+        evaporation evaporated max_release view.entry.now balanced }
 {
     if let Some(fault) = fault_of_past(evaporation, table, view.past) {
         return faulty(balanced, fault);
@@ -81,10 +74,9 @@ fn is_past_faultless(evaporation: bool, table: Option<&Rating>, past: Option<Qty
 // Whether nothing is wrong with the storage before, and no contents are given. It only spares time, since `answer_by_faults` answers
 // the same: so its clause is of `true` alone, and a body that always says `false` would be proved, too.
 fn is_faultless(view: &View, table: Option<&Rating>, evaporation: bool) -> bool
-    ensures { result ≡ true → or_else
-        (fault_of_past evaporation (option_map (λ rating. rating.now) table.entry)
-        view.entry.now.past)
-        (fault_of_level (option_map (λ rating. rating.now) table.entry) view.entry.now) ≡ None }
+    ensures { result ≡ true
+        → fault_of_held (option_map (λ rating. rating.now) table.entry) evaporation view.entry.now
+        ≡ None }
 {
     view.given(STORAGE).is_none()
         && view.given(POOL_ELEVATION).is_none()
@@ -102,14 +94,8 @@ fn answer_by(
     solved: &mut Solved,
 )
     ensures { solved.new
-        ≡ answer (can_get (option_map (λ rating. rating.now) table.entry) view.entry.now)
-        (reservoir_puts (option_map (λ rating. rating.now) table.entry)
-        evaporation evaporated max_release view.entry.now balanced)
-        balanced
-        (or_else
-        (fault_of_past evaporation (option_map (λ rating. rating.now) table.entry)
-        view.entry.now.past)
-        (fault_of_level (option_map (λ rating. rating.now) table.entry) view.entry.now)) }
+        ≡ reservoir_answer (option_map (λ rating. rating.now) table.entry)
+        evaporation evaporated max_release view.entry.now balanced }
 {
     match balanced {
         Balanced::Solves { .. } if is_faultless(view, table, evaporation) => put_all(
