@@ -3,9 +3,9 @@ use Rattle.rw_engine.proofs.Common.{AreBounded, AreBounded-put, Asked, Bool, Cel
 use Rattle.rw_engine.proofs.Common.{Series, Sets, Some, [], add-one, ap, ap₂, append-nil, arith, cells_of, false, held, if_placed, if◌then◌else◌}
 use Rattle.rw_engine.proofs.Common.{input_content, is_shared, last_put, nat_tests, option_or, placings_of, placings_to, refl, subst, suc, sym, true}
 use Rattle.rw_engine.proofs.Common.{value_at, with_inputs, zero, ℕ, ℤ, ◌++◌, ◌+◌, ◌==◌, ◌∙◌, ◌∷◌, ◌≡◌, ◌≤◌}
-use Rattle.rw_base.proofs.Common.{◌&&◌}
+use Rattle.rw_base.proofs.Common.{IfSome, inl, inr, length, ◌&&◌}
 use Rattle.rw_inputs.specs.Column.{Column, value_in_column}
-use Rattle.rw_inputs.specs.Inputs.{slot_column}
+use Rattle.rw_inputs.specs.Inputs.{IsKeptValue, slot_column}
 use Rattle.rw_model.specs.Links.{group_of, is_among}
 use Rattle.rw_engine.specs.Placed.{PlacesAtSteps, if_in_block, is_in_block, placing_at, row_placings}
 
@@ -14,14 +14,18 @@ pub placed-append : (log : Log) (xs ys : List (Cell × ℤ)) → with_inputs log
 placed-append log [] ys = refl
 placed-append log (x ∷ xs) ys = placed-append (with_inputs log (x ∷ [])) xs ys
 
--- a given value is one that its slot can have
-pub given-bounded : (basin : Draft) (inputs : Inputs) (cell : Cell) (value : ℤ) (old new : Series) → IsInputsOf basin inputs
-    → value_at inputs cell.slot.0 cell.step.0 ≡ Some value → AreBounded basin (held old) → Sets basin cell (Some (input_content value)) old new
-    → AreBounded basin (held new)
-given-bounded basin inputs cell value old new made is bounded sets =
-    let within = (made.sound cell.slot.0 cell.step.0 value is).within in
-    AreBounded-put basin (record { cell = cell; content = input_content value }) old new (record { low = within.low; high = within.high })
-    bounded sets
+-- what is given to a slot is what it can have
+pub given-kept : (basin : Draft) (inputs : Inputs) (slot step : ℕ) (value : Option ℤ) → IsInputsOf basin inputs → value_at inputs slot step ≡ value
+    → IfSome value (IsKeptValue basin slot)
+given-kept basin inputs slot step None made is = tt
+given-kept basin inputs slot step (Some value) made is = made.sound slot step value is
+
+-- so it stays within its bounds
+pub given-bounded : (basin : Draft) (cell : Cell) (value : ℤ) (old new : Series) → IsKeptValue basin cell.slot.0 value → AreBounded basin (held old)
+    → Sets basin cell (Some (input_content value)) old new → AreBounded basin (held new)
+given-bounded basin cell value old new kept bounded sets =
+    AreBounded-put basin (record { cell = cell; content = input_content value }) old new
+    (record { low = kept.within.low; high = kept.within.high }) bounded sets
 
 -- ---- blocks of timesteps
 
@@ -128,10 +132,16 @@ step-more basin inputs slot first before next old now new order is front places 
     behind basin (placing_at inputs slot) first before next old now new order (omega (arith, is)) front
     (one_step basin inputs slot before next now new is places)
 
--- a slot without places for values is given nothing
-pub none-given : (basin : Draft) (inputs : Inputs) (slot first last : ℕ) (cells : Cells) → slot_column inputs.columns slot ≡ []
+-- a slot whose column ends before the last of these is given nothing at any
+pub none-given : (basin : Draft) (inputs : Inputs) (slot first last : ℕ) (cells : Cells) → IsInputsOf basin inputs
+    → length (slot_column inputs.columns slot) ≤ last → last ≤ basin.control.stamps.count
     → PlacesAtSteps basin (λ step. if_in_block first last step (placing_at inputs slot step)) cells cells
-none-given basin inputs slot first last cells empty =
+none-given basin inputs slot first last cells made short within =
+    let empty : slot_column inputs.columns slot ≡ [] =
+    elim (made.steps slot) [
+      | inl none ↦ none
+      | inr whole ↦ absurd (omega (arith, whole, short, within))
+    ] in
     nothing basin (λ step. if_in_block first last step (placing_at inputs slot step)) cells
     (λ step. emptied (placing_at inputs slot step) (ap (λ (column : Column). if_placed slot step (value_in_column column step)) empty)
     (is_in_block first last step))

@@ -1,18 +1,18 @@
 //! Placing the inputs of a run.
-ghost use Rattle.std.specs.Prelude.{◌≡◌, ◌≤◌, ◌<◌, length, option_map};
+ghost use Rattle.std.specs.Prelude.{◌≡◌, ◌≤◌, ◌<◌, IfSome, length, option_map};
 ghost use Rattle.rw_model.specs.Draft.{IsSlot};
 ghost use Rattle.rw_model.specs.Objects.{all_slots};
 ghost use Rattle.rw_series.specs.Series.{IsCell, held};
-ghost use Rattle.rw_inputs.specs.Inputs.{IsInputsOf};
+ghost use Rattle.rw_inputs.specs.Inputs.{IsInputsOf, IsKeptValue};
 ghost use Rattle.rw_run.specs.Log.{Log, input_content};
 ghost use Rattle.rw_run.specs.Runs.{with_inputs};
 ghost use Rattle.rw_dispatch.specs.Stage.{IsHeldIn};
-ghost use Rattle.rw_inputs.specs.Placings.{placings};
+ghost use Rattle.rw_inputs.specs.Placings.{if_placed, placings};
 ghost use Rattle.rw_engine.specs.Held.{HoldsAll};
 ghost use Rattle.rw_engine.specs.Placed.{PlacesAtSteps, if_in_block, placing_at, row_placings};
 
 use rw_base::{Cell, Qty, SlotNo, StepNo};
-use rw_inputs::Inputs;
+use rw_inputs::{Inputs, value_in};
 use rw_model::{Basin, Content, Writer};
 use rw_series::Series;
 
@@ -31,16 +31,15 @@ pub(crate) fn input(value: Option<Qty>) -> Option<Content>
 }
 
 // Places what is given to a cell, if something is.
-fn place_cell(basin: &Basin, inputs: &Inputs, series: &mut Series, cell: Cell)
-    requires inputs { IsInputsOf basin.now inputs.now }
+fn place_cell(basin: &Basin, series: &mut Series, cell: Cell, value: Option<Qty>)
+    requires value { IfSome value (IsKeptValue basin.now cell.slot.0) }
     requires cell { IsCell basin.now cell }
     requires made { IsHeldIn basin.now series.old }
     ensures made { IsHeldIn basin.now series.new }
-    ensures placed { PlacesAtSteps basin.now
-        (λ step. placing_at inputs.now cell.slot.0 cell.step.0)
+    ensures placed { PlacesAtSteps basin.now (λ step. if_placed cell.slot.0 cell.step.0 value)
         (held series.old) (held series.new) }
 {
-    if let Some(value) = inputs.value(cell) {
+    if let Some(value) = value {
         let content = Content {
             value,
             number: 0,
@@ -69,12 +68,16 @@ fn place_slot(
         (λ step. if_in_block first last step (placing_at inputs.now slot.0 step))
         (held series.old) (held series.new) }
 {
-    if !inputs.has_places(slot) {
+    let column = inputs.column(slot);
+    if column.len() <= usize::from(last) {
         return;
     }
     for before in first..last {
-        let step = StepNo(before + 1);
-        place_cell(basin, inputs, series, Cell { slot, step });
+        let cell = Cell {
+            slot,
+            step: StepNo(before + 1),
+        };
+        place_cell(basin, series, cell, value_in(column, before + 1));
     }
 }
 

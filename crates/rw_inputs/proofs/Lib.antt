@@ -1,6 +1,6 @@
 pub mod Left
 pub mod Same
-pub mod Pairs
+pub mod Places
 pub mod Columns
 pub mod Keeping
 pub mod Digits

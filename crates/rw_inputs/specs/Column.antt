@@ -1,24 +1,14 @@
 -- What is kept of a slot: a value or none for each timestep.
-use Rattle.std.specs.Prelude.{◌≡◌, ◌≢◌, ◌⊎◌, ℕ, ◌+◌, ◌≤◌, nat_le, ℤ, Bool, ◌&&◌, if◌then◌else◌, List, [], ◌∷◌, length, Option, Some, None, slice_index_or}
+use Rattle.std.specs.Prelude.{◌≡◌, ◌≢◌, ◌⊎◌, ℕ, ◌+◌, ◌≤◌, nat_le, ℤ, pos, ◌-ℤ◌, int_le, ◌&&◌, if◌then◌else◌, List, [], length, Option, Some, None, slice_index_or}
+use Rattle.rw_base.specs.Quantity.{quantity_max}
 
 -- a place for each timestep. These count from 1, so nothing stands in the first place
 abbrev pub Column : Type 0
 Column = List (Option ℤ)
 
--- values, of which those are kept that are given
-abbrev pub given_values : List Bool → List ℤ → Column
-given_values [] values = []
-given_values (given ∷ more) [] = []
-given_values (given ∷ more) (value ∷ values) = (if given then Some value else None) ∷ given_values more values
-
--- each place says whether its value is given, or there are no places yet
-abbrev pub IsPaired : List Bool → List ℤ → Type 0
-IsPaired given values = (given ≡ []) ⊎ (length given ≡ length values)
-
--- there is a place for each of so many timesteps
-pub record HasPlaces (steps : ℕ) (given : List Bool) (values : List ℤ) : Type 0 where
-  pub each_given : length given ≡ steps + 1
-  pub each_value : length values ≡ steps + 1
+-- a quantity is kept as it is, and nothing as any number that is none
+abbrev pub quantity_kept : ℤ → Option ℤ
+quantity_kept number = if int_le (pos 0 -ℤ quantity_max) number && int_le number quantity_max then Some number else None
 
 -- what is kept at a timestep
 abbrev pub value_in_column : Column → ℕ → Option ℤ
@@ -27,11 +17,6 @@ value_in_column column step = slice_index_or column step None
 -- a column of a run of so many timesteps: it has a place for each, or none at all
 abbrev pub IsColumn : ℕ → Column → Type 0
 IsColumn steps column = (column ≡ []) ⊎ (length column ≡ steps + 1)
-
--- values, and which of them are given, that make a column of so many timesteps
-pub record IsKeptColumn (steps : ℕ) (given : List Bool) (values : List ℤ) : Type 0 where
-  pub paired : IsPaired given values
-  pub column : IsColumn steps (given_values given values)
 
 -- timesteps from one to another, of so many in all
 pub record IsSpanIn (steps from to : ℕ) : Type 0 where

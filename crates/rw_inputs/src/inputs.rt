@@ -1,4 +1,4 @@
-ghost use Rattle.std.specs.Prelude.{◌≡◌, ◌≢◌, ◌⊎◌, [], ℕ, true, false, Ok, MatchBool, IfOk, OnErr, OnOk, length};
+ghost use Rattle.std.specs.Prelude.{◌≡◌, ◌⊎◌, [], ℕ, true, false, Ok, IfOk, OnErr, OnOk, length};
 ghost use Rattle.rw_inputs.specs.Inputs.{slot_column, value_at, kept_slot, IsInputsOf, Keeps};
 ghost use Rattle.rw_model.specs.Draft.{IsSlot};
 ghost use Rattle.rw_inputs.specs.Sound.{IsRowValue};
@@ -7,6 +7,7 @@ ghost use Rattle.rw_inputs.specs.Taking.{TakesRowValue, IsTwice};
 
 use crate::column::Column;
 use crate::edit::Edit;
+use crate::kept::{KeptQty, value_in};
 use crate::row_value::RowValue;
 use rw_base::{Cell, NoMemory, Qty, SlotNo};
 use rw_model::Basin;
@@ -85,20 +86,16 @@ impl Inputs {
     pub fn value(&self, c: Cell) -> Option<Qty>
         ensures { result ≡ value_at self.now c.slot.0 c.step.0 }
     {
-        match self.columns.get(usize::from(c.slot.0)) {
-            Some(column) => column.value(c.step.0),
-            None => None,
-        }
+        value_in(self.column(c.slot), c.step.0)
     }
 
-    /// Whether the slot has places for values. Where it hasn't, nothing is kept of it at any timestep.
-    pub fn has_places(&self, slot: SlotNo) -> bool
-        ensures { MatchBool result (slot_column self.now.columns slot.0 ≢ [])
-            (slot_column self.now.columns slot.0 ≡ []) }
+    /// What is kept of a slot, at each timestep, as `value_in` reads it. It is empty where no value was ever kept.
+    pub fn column(&self, slot: SlotNo) -> &[KeptQty]
+        ensures { result.now ≡ slot_column self.now.columns slot.0 }
     {
         match self.columns.get(usize::from(slot.0)) {
-            Some(column) => column.has_places(),
-            None => false,
+            Some(column) => column.values(),
+            None => &[],
         }
     }
 
