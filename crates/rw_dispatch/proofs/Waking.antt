@@ -1,44 +1,15 @@
 -- Whom a dispatch wakes, by what it writes.
-use Rattle.rw_dispatch.proofs.Common.{ArePuts, Cell, List, Option, Some, [], ap, append-nil, arith, held, length, option_or, Put, refl, subst, sym, ℕ}
+use Rattle.rw_dispatch.proofs.Common.{Cell, List, Option, Some, [], ap, append-nil, arith, held, length, option_or, refl, subst, sym, ℕ}
 use Rattle.rw_dispatch.proofs.Common.{◌++◌, ◌∙◌, ◌≡◌}
 use Rattle.rw_model.specs.Draft.{Draft}
 use Rattle.rw_firing.specs.declared.look.Look.{Look}
-use Rattle.rw_run.specs.Dispatch.{asked_for}
 use Rattle.rw_run.specs.Log.{Asked, Event, last_put, written_by}
 use Rattle.rw_run.specs.Waiting.{is_woken, queued_after, slots_at, woken}
-use Rattle.rw_dispatch.specs.Answer.{Tells, answer_of, event_of, written_in}
-use Rattle.rw_dispatch.specs.declared.dispatch_end.DispatchEnd.{DispatchEnd}
+use Rattle.rw_dispatch.specs.Answer.{event_of}
 use Rattle.rw_dispatch.specs.declared.dispatched.Dispatched.{Dispatched}
 use Rattle.rw_dispatch.specs.declared.dispatched.Dispatched.TheVariants.{Solved}
 use Rattle.rw_dispatch.specs.Stage.{Leaves, RunStage}
-use Rattle.rw_dispatch.specs.Writes.{AreWrites}
-use Rattle.rw_model.specs.Turn.{IsTurn}
-use Rattle.rw_dispatch.proofs.Makes.{all_write}
 use Rattle.rw_dispatch.proofs.Queues.{none_left, woken-unowned}
-
--- what the event of an answer writes
-of_answer : (basin : Draft) (looked : List Look) (object step : ℕ) (answer : Dispatched)
-    → asked_for basin object step (written_in answer) ≡ written_by (event_of basin looked object step answer)
-of_answer basin looked object step (Solved asked written) = refl
-of_answer basin looked object step answer = refl
-
-written_of : (basin : Draft) (looked : List Look) (object step : ℕ) (event : Event) (answer : Dispatched)
-    → Tells basin looked object step event answer
-    → asked_for basin object step (written_in answer) ≡ written_by event
-written_of basin looked object step event answer tells = of_answer basin looked object step answer ∙ ap written_by (sym tells.is)
-
--- what a dispatch that ended so writes, by its puts that are written
-module _ (basin : Draft) (looked : List Look) (object step : ℕ) (event : Event) (end : DispatchEnd) (asked written : List Put) (writes : List Asked)
-    (tells : Tells basin looked object step event (answer_of end asked written)) (left : written_in (answer_of end asked written) ≡ written)
-    (is : writes ≡ asked_for basin object step written) where
-  pub writes_of : writes ≡ written_by event
-  writes_of =
-      is ∙ ap (asked_for basin object step) (sym left) ∙ written_of basin looked object step event (answer_of end asked written) tells
-
-  pub can_all : IsTurn basin object step → AreWrites basin writes
-  can_all turn =
-      let puts = subst (ArePuts basin object) left tells.puts in
-      subst (AreWrites basin) (sym is) (all_write basin object step written turn puts.can)
 
 -- where nothing is written, nobody is woken
 none_woken : (basin : Draft) (but : Option ℕ) (queue : List ℕ) → queue ≡ queue ++ woken basin but queue []

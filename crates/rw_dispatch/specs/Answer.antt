@@ -6,13 +6,13 @@ use Rattle.rw_method.specs.declared.solved.Solved.{Solved as Solution}
 use Rattle.rw_method.specs.declared.solved.Solved.TheVariants.{Puts}
 use Rattle.rw_firing.specs.declared.look.Look.{Look}
 use Rattle.rw_run.specs.declared.fault.RunFault.TheVariants.{Conflict as FaultConflict, ObjectOutOfRange}
-use Rattle.rw_run.specs.Log.{Event, idle, solved, fault}
+use Rattle.rw_run.specs.Log.{Asked, Cells, Event, fault, idle, solved, written_by}
 use Rattle.rw_run.specs.Dispatch.{asked_for}
 use Rattle.rw_dispatch.specs.declared.dispatched.Dispatched.{Dispatched}
 use Rattle.rw_dispatch.specs.declared.dispatched.Dispatched.TheVariants.{Idle, Solved, Conflict, OutOfRange}
 use Rattle.rw_dispatch.specs.declared.dispatch_end.DispatchEnd.{DispatchEnd}
 use Rattle.rw_dispatch.specs.declared.dispatch_end.DispatchEnd.TheVariants.{Idle as EndsIdle, Solved as EndsSolved, Conflict as EndsInConflict, OutOfRange as EndsOutOfRange}
-use Rattle.rw_dispatch.specs.Putting.{ArePuts}
+use Rattle.rw_dispatch.specs.Putting.{ArePuts, puts_made}
 
 -- the event, where the object had these looks at the timestep
 abbrev pub event_of : Draft → List Look → ℕ → ℕ → Dispatched → Event
@@ -58,3 +58,9 @@ pub record Ends (basin : Draft) (looked : List Look) (object step : ℕ) (event 
   pub asked : List Put
   pub written : List Put
   pub is : event ≡ event_of basin looked object step (answer_of end asked written)
+
+-- the event is that of a dispatch that ended so, with these puts, and this is what it writes
+pub record HasEnded (basin : Draft) (cells : Cells) (looked : List Look) (object step : ℕ) (event : Event) (asked : List Put) (end : DispatchEnd)
+    (written : List Asked) : Type 0 where
+  pub is : event ≡ event_of basin looked object step (answer_of end asked (puts_made basin cells object step asked))
+  pub writes : written ≡ written_by (event_of basin looked object step (answer_of end asked (puts_made basin cells object step asked)))

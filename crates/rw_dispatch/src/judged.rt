@@ -1,14 +1,15 @@
 ghost use Rattle.std.specs.Prelude.{◌≡◌, ℕ, [], IfOk, IfErr};
 ghost use Rattle.rw_model.specs.Put.{end_of_put};
 ghost use Rattle.rw_run.specs.Log.{Cells, Event};
-ghost use Rattle.rw_run.specs.Dispatch.{asked_for, denied_by, judged, or_fault, view_of};
-ghost use Rattle.rw_dispatch.specs.Putting.{ArePassed, ArePuts, IsPassed, conflict};
+ghost use Rattle.rw_run.specs.Dispatch.{asked_for, denied_by, is_written, judged, or_fault, view_of};
+ghost use Rattle.rw_dispatch.specs.Putting.{ArePassed, ArePuts, IsPassed, conflict, puts_made};
+ghost use Rattle.rw_dispatch.specs.Writes.{AreWrites};
 ghost use Rattle.rw_model.specs.Turn.{IsTurn};
 
 use crate::write_list::WriteList;
 use crate::written::asked_by;
 use rw_base::{ObjectNo, SlotNo, StepNo};
-use rw_method::{Put, PutList, View};
+use rw_method::{PutList, View};
 use rw_model::{Basin, Content, PutEnd, put_end};
 use rw_run::Write;
 
@@ -41,20 +42,8 @@ fn judge_one(held: Option<Content>, asked: &Write) -> Result<bool, Clash>
     }
 }
 
-// The same put. Its fields were written one by one just before, and are read so too: one load of all of them would wait.
-#[inline(always)]
-fn same_put(put: &Put) -> Put
-    ensures { result ≡ put.now }
-{
-    Put {
-        value: put.value,
-        number: put.number,
-        place: put.place,
-    }
-}
-
-/// Adds those of the puts that are written, and what they write, by what the object sees: that is what the cells hold before
-/// the first of them. The first that is denied is the answer.
+/// Adds what those of the puts write that are written, by what the object sees: that is what the cells hold before the first
+/// of them. The first that is denied is the answer.
 #[inline(always)]
 pub(crate) fn judge(
     view: &View,
@@ -62,27 +51,63 @@ pub(crate) fn judge(
     object: ObjectNo,
     step: StepNo,
     asked: &PutList,
-    written: &mut PutList,
     writes: &mut WriteList,
 ) -> Result<(), Clash>
     requires turn { IsTurn basin.now object.0 step.0 }
     requires puts { ArePuts basin.now object.0 asked.now }
-    requires none { (written.old ≡ []) × (writes.old ≡ []) }
+    requires none { writes.old ≡ [] }
     ensures passed { IfOk result (λ _. (cells : Cells)
         → view.entry.now ≡ view_of basin.now cells object.0 step.0
-        → ArePassed basin.now cells object.0 step.0 asked.now written.new) }
+        → ArePassed basin.now cells object.0 step.0 asked.now writes.new) }
     ensures clash { IfErr result (λ clash. (cells : Cells) (rest : Event)
         → view.entry.now ≡ view_of basin.now cells object.0 step.0
         → judged cells object.0 (asked_for basin.now object.0 step.0 asked.now) rest
         ≡ conflict object.0 step.0 clash.slot clash.held clash.solved) }
-    ensures writes { writes.new ≡ asked_for basin.now object.0 step.0 written.new }
+    ensures can { AreWrites basin.now writes.new }
 {
+    // Its slots are found once for all puts.
+    let row = basin.row(object);
     for put in asked.as_slice() {
-        let write = asked_by(basin, object, step, put);
+        let write = asked_by(row, object, step, put);
         if judge_one(view.known(put.place), &write)? {
-            written.push(same_put(put));
             writes.push(write);
         }
     }
     Ok(())
+}
+
+// Whether a put is written.
+fn is_written(held: Option<Content>, asked: Content) -> bool
+    ensures { result ≡ is_written (end_of_put held asked) }
+{
+    match put_end(held, asked) {
+        PutEnd::Written => true,
+        PutEnd::Kept => false,
+        PutEnd::Denied(_) => false,
+    }
+}
+
+/// Those of the puts that are written, by what the object sees, where none is denied.
+pub(crate) fn puts_made(
+    view: &View,
+    basin: &Basin,
+    object: ObjectNo,
+    step: StepNo,
+    asked: &PutList,
+) -> PutList
+    requires turn { IsTurn basin.now object.0 step.0 }
+    requires puts { ArePuts basin.now object.0 asked.now }
+    ensures { (cells : Cells)
+        → view.entry.now ≡ view_of basin.now cells object.0 step.0
+        → result ≡ puts_made basin.now cells object.0 step.0 asked.now }
+{
+    let row = basin.row(object);
+    let mut made = PutList::none();
+    for put in asked.as_slice() {
+        let write = asked_by(row, object, step, put);
+        if is_written(view.known(put.place), write.content) {
+            made.push(*put);
+        }
+    }
+    made
 }

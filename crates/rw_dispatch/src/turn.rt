@@ -8,14 +8,15 @@ ghost use Rattle.rw_dispatch.specs.Judged.{HasJudged};
 ghost use Rattle.rw_firing.specs.declared.look.Look.{Look};
 ghost use Rattle.rw_series.specs.Series.{held};
 ghost use Rattle.rw_run.specs.Dispatch.{answered, asked_for, dispatched, looks_of, put_by, view_of};
-ghost use Rattle.rw_dispatch.specs.Answer.{Ends, Tells, answer_of, asked_by_solution, written_in};
-ghost use Rattle.rw_dispatch.specs.Putting.{ArePuts};
+ghost use Rattle.rw_dispatch.specs.Answer.{Ends, HasEnded, Tells, answer_of, asked_by_solution};
+ghost use Rattle.rw_dispatch.specs.Putting.{ArePuts, puts_made};
+ghost use Rattle.rw_dispatch.specs.Writes.{AreWrites};
 ghost use Rattle.rw_dispatch.specs.Stage.{IsHeldIn, IsStageOf, Leaves, stage};
 ghost use Rattle.rw_model.specs.Turn.{IsTurn};
 
 use crate::dispatch_end::DispatchEnd;
 use crate::dispatched::Dispatched;
-use crate::judged::judge;
+use crate::judged::{judge, puts_made};
 use crate::past::past_value;
 use crate::queue::Queue;
 use crate::view::{blank_view, see_slots, slot_or_none};
@@ -54,41 +55,39 @@ fn see<'a>(
 
 // What becomes of the puts that an object asks for.
 #[inline(always)]
+#[tactic(auto, using(crate::proofs::Judgement::ended_clash))]
 fn put_all(
     view: &View,
     basin: &Basin,
     object: ObjectNo,
     step: StepNo,
     asked: &PutList,
-    written: &mut PutList,
     writes: &mut WriteList,
-) -> DispatchEnd
+    end: &mut DispatchEnd,
+)
     requires turn { IsTurn basin.now object.0 step.0 }
     requires puts { ArePuts basin.now object.0 asked.now }
-    requires none { (written.old ≡ []) × (writes.old ≡ []) }
+    requires none { writes.old ≡ [] }
     ensures answer { (cells : Cells) (looked : List Look)
         → view.entry.now ≡ view_of basin.now cells object.0 step.0
-        → Tells basin.now looked object.0 step.0
-        (put_by basin.now cells looked object.0 step.0 asked.now)
-        (answer_of result asked.now written.new) }
-    ensures left { written_in (answer_of result asked.now written.new) ≡ written.new }
-    ensures writes { writes.new ≡ asked_for basin.now object.0 step.0 written.new }
+        → HasEnded basin.now cells looked object.0 step.0
+        (put_by basin.now cells looked object.0 step.0 asked.now) asked.now end.new writes.new }
+    ensures can { AreWrites basin.now writes.new }
 {
-    match judge(view, basin, object, step, asked, written, writes) {
-        Ok(()) => DispatchEnd::Solved,
+    match judge(view, basin, object, step, asked, writes) {
+        Ok(()) => *end = DispatchEnd::Solved,
         Err(clash) => {
-            written.clear();
             writes.clear();
-            DispatchEnd::Conflict {
+            *end = DispatchEnd::Conflict {
                 slot: clash.slot,
                 held: clash.held,
                 solved: clash.solved,
-            }
+            };
         }
     }
 }
 
-// What becomes of what a method answers, with what is to be written.
+// What becomes of what a method answers, with what is to be written. How it ended is written where it stands, arm by arm.
 #[inline(always)]
 fn answer(
     view: &View,
@@ -96,38 +95,39 @@ fn answer(
     object: ObjectNo,
     step: StepNo,
     solved: &Solved,
-    written: &mut PutList,
     writes: &mut WriteList,
-) -> DispatchEnd
+    end: &mut DispatchEnd,
+)
     requires turn { IsTurn basin.now object.0 step.0 }
     requires puts { ArePuts basin.now object.0 (asked_by_solution solved.now) }
     ensures answer { (cells : Cells) (looked : List Look)
         → view.entry.now ≡ view_of basin.now cells object.0 step.0
-        → Tells basin.now looked object.0 step.0
+        → HasEnded basin.now cells looked object.0 step.0
         (answered basin.now cells looked object.0 step.0 solved.now)
-        (answer_of result (asked_by_solution solved.now) written.new) }
-    ensures left { written_in
-        (answer_of result (asked_by_solution solved.now) written.new) ≡ written.new }
-    ensures writes { writes.new ≡ asked_for basin.now object.0 step.0 written.new }
+        (asked_by_solution solved.now) end.new writes.new }
+    ensures can { AreWrites basin.now writes.new }
 {
-    written.clear();
     writes.clear();
     match solved {
-        Solved::Idle => DispatchEnd::Idle,
-        Solved::Puts(asked) => put_all(view, basin, object, step, asked, written, writes),
+        Solved::Idle => *end = DispatchEnd::Idle,
+        Solved::Puts(asked) => put_all(view, basin, object, step, asked, writes, end),
         Solved::Conflict {
             place,
             held,
             solved,
-        } => DispatchEnd::Conflict {
-            slot: slot_or_none(basin, object, *place),
-            held: *held,
-            solved: *solved,
-        },
-        Solved::OutOfRange { place, value } => DispatchEnd::OutOfRange {
-            slot: slot_or_none(basin, object, *place),
-            value: *value,
-        },
+        } => {
+            *end = DispatchEnd::Conflict {
+                slot: slot_or_none(basin, object, *place),
+                held: *held,
+                solved: *solved,
+            };
+        }
+        Solved::OutOfRange { place, value } => {
+            *end = DispatchEnd::OutOfRange {
+                slot: slot_or_none(basin, object, *place),
+                value: *value,
+            };
+        }
     }
 }
 
@@ -138,8 +138,9 @@ fn ask_all(kept: &mut WriteList, basin: &Basin, object: ObjectNo, step: StepNo, 
     ensures { kept.new ≡ asked_for basin.now object.0 step.0 puts.now }
 {
     kept.clear();
+    let row = basin.row(object);
     for put in puts.as_slice() {
-        kept.push(asked_by(basin, object, step, put));
+        kept.push(asked_by(row, object, step, put));
     }
 }
 
@@ -186,6 +187,20 @@ fn asked_in(solved: Solved) -> PutList
     }
 }
 
+// Those of the puts that a method asks for that are written, where none is denied.
+fn made_of(view: &View, basin: &Basin, object: ObjectNo, step: StepNo, solved: &Solved) -> PutList
+    requires turn { IsTurn basin.now object.0 step.0 }
+    requires puts { ArePuts basin.now object.0 (asked_by_solution solved.now) }
+    ensures { (cells : Cells)
+        → view.entry.now ≡ view_of basin.now cells object.0 step.0
+        → result ≡ puts_made basin.now cells object.0 step.0 (asked_by_solution solved.now) }
+{
+    match solved {
+        Solved::Puts(asked) => puts_made(view, basin, object, step, asked),
+        _ => PutList::none(),
+    }
+}
+
 // The answer of a dispatch that ended so.
 fn answer_of(end: DispatchEnd, solved: Solved, written: PutList) -> Dispatched
     ensures { result ≡ answer_of end (asked_by_solution solved) written }
@@ -225,14 +240,14 @@ pub fn judge_dispatch(
     let kind = see(&mut work.view, basin, series, object, step);
     let method = methods.method(kind);
     method.solve(kind, &work.view, &mut work.solved);
-    work.end = answer(
+    answer(
         &work.view,
         basin,
         object,
         step,
         &work.solved,
-        &mut work.written,
         &mut work.writes,
+        &mut work.end,
     );
     keep_asked(
         work.keeps,
@@ -267,21 +282,14 @@ pub fn dispatch(
         (stage series.old queue.old) (stage series.new queue.new) }
 {
     let mut view = blank_view();
-    let mut written = PutList::none();
     let mut writes = WriteList::none();
+    let mut end = DispatchEnd::Idle;
     let kind = see(&mut view, basin, series, object, step);
     let solved = methods.solve(kind, &view);
-    let end = answer(
-        &view,
-        basin,
-        object,
-        step,
-        &solved,
-        &mut written,
-        &mut writes,
-    );
+    answer(&view, basin, object, step, &solved, &mut writes, &mut end);
+    let made = made_of(&view, basin, object, step, &solved);
     let writes = writes.as_slice();
     make(basin, series, writes);
     queue.wake_written(basin, step, writes, Some(object));
-    answer_of(end, solved, written)
+    answer_of(end, solved, made)
 }

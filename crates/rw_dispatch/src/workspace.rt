@@ -3,7 +3,7 @@ ghost use Rattle.std.specs.Prelude.{◌≡◌};
 use crate::dispatch_end::DispatchEnd;
 use crate::view::blank_view;
 use crate::write_list::WriteList;
-use rw_method::{PutList, Solved, View};
+use rw_method::{Solved, View};
 
 /// What dispatches work in, one after another. A dispatch fills all of it in anew, but for whether it keeps what is asked for.
 #[derive(Drop)]
@@ -14,9 +14,7 @@ pub struct Workspace {
     pub solved: Solved,
     /// How it ended.
     pub end: DispatchEnd,
-    /// Its puts that are to be written.
-    pub written: PutList,
-    /// What they write.
+    /// What those of its puts write that are to be written.
     pub writes: WriteList,
     /// Whether it keeps all that is asked for.
     pub keeps: bool,
@@ -33,7 +31,6 @@ impl Workspace {
             view: blank_view(),
             solved: Solved::Idle,
             end: DispatchEnd::Idle,
-            written: PutList::none(),
             writes: WriteList::none(),
             keeps,
             asked: WriteList::none(),

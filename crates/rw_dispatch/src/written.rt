@@ -1,31 +1,45 @@
-ghost use Rattle.std.specs.Prelude.{◌≡◌, ◌∷◌, []};
+ghost use Rattle.std.specs.Prelude.{◌≡◌, ◌<◌, ◌∷◌, [], ℕ, length, map};
 ghost use Rattle.std.specs.Option.{option_or};
 ghost use Rattle.rw_base.specs.declared.number.Cell.{Cell};
 ghost use Rattle.rw_series.specs.Series.{held};
 ghost use Rattle.rw_run.specs.Log.{last_put};
-ghost use Rattle.rw_run.specs.Dispatch.{asked_by};
-ghost use Rattle.rw_dispatch.specs.Putting.{CanPut};
+ghost use Rattle.rw_run.specs.Dispatch.{asked_by, places, slot_or_none};
+ghost use Rattle.rw_model.specs.Draft.{Draft};
+ghost use Rattle.rw_model.specs.Objects.{slot_in_place};
 ghost use Rattle.rw_dispatch.specs.Stage.{IsHeldIn};
-ghost use Rattle.rw_model.specs.Turn.{IsTurn};
 ghost use Rattle.rw_dispatch.specs.Writes.{AreWrites, CanWrite};
 
-use crate::view::slot_or_none;
-use rw_base::{Cell, ObjectNo, StepNo};
+use rw_base::{Cell, ObjectNo, SlotNo, StepNo};
 use rw_method::Put;
 use rw_model::{Basin, Content, Writer};
 use rw_run::Write;
 use rw_series::Series;
 
-/// What a put asks for.
-pub(crate) fn asked_by(basin: &Basin, object: ObjectNo, step: StepNo, put: &Put) -> Write
-    requires turn { IsTurn basin.now object.0 step.0 }
-    requires can { CanPut basin.now object.0 put.now }
-    ensures asked { result ≡ asked_by basin.now object.0 step.0 put.now }
-    ensures can { CanWrite basin.now result }
+// The slot in a place, of an object whose slots these are.
+fn slot_of(row: &[Option<u16>], place: u8) -> SlotNo
+    requires few { place < 12 }
+    requires all { length row.now ≡ 12 }
+    ensures { (basin : Draft) (object : ℕ)
+        → row.now ≡ map (slot_in_place basin.objects object) places
+        → result.0 ≡ slot_or_none basin object place }
+{
+    match row[usize::from(place)] {
+        Some(number) => SlotNo(number),
+        None => SlotNo(0),
+    }
+}
+
+/// What a put asks for, of an object whose slots these are.
+pub(crate) fn asked_by(row: &[Option<u16>], object: ObjectNo, step: StepNo, put: &Put) -> Write
+    requires few { put.now.place < 12 }
+    requires all { length row.now ≡ 12 }
+    ensures { (basin : Draft)
+        → row.now ≡ map (slot_in_place basin.objects object.0) places
+        → result ≡ asked_by basin object.0 step.0 put.now }
 {
     Write {
         cell: Cell {
-            slot: slot_or_none(basin, object, put.place),
+            slot: slot_of(row, put.place),
             step,
         },
         content: Content {

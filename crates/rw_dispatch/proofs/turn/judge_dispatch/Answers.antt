@@ -6,12 +6,12 @@ use Rattle.rw_dispatch.specs.Writes.{AreWrites}
 use Rattle.rw_dispatch.proofs.Asking.{asked_told}
 use Rattle.rw_dispatch.proofs.Makes.{all_write}
 use Rattle.rw_dispatch.specs.Answer.{asked_by_solution}
+use Rattle.rw_dispatch.specs.Putting.{puts_made}
 use Rattle.rw_dispatch.proofs.CanPuts.{puts-seen, solved-seen}
-use Rattle.rw_dispatch.proofs.Waking.{can_all, writes_of}
 use Rattle.rw_dispatch.proofs.turn.judge_dispatch.Goals as goal
 
-pub answer-work-requires-clause-puts : goal.answer-work-requires-clause-puts
-answer-work-requires-clause-puts g c =
+pub answer-requires-clause-puts : goal.answer-requires-clause-puts
+answer-requires-clause-puts g c =
     puts-seen c.args.basin.now (held c.args.series.now) c.args.object.0 c.args.step.0 c.see-kind.result.now c.see-kind.new.view c.solve.new.solved
     c.see-kind.ensures.kind c.see-kind.ensures.seen c.solve.ensures c.requires.turn.known c.see-kind.ensures.sound
 
@@ -26,8 +26,8 @@ returns-clause-ends g c =
     c.see-kind.ensures.kind c.see-kind.ensures.seen c.solve.ensures in
     record {
       asked = asked_by_solution c.solve.new.solved;
-      written = c.answer-work.new.written;
-      is = ap (answered basin cells looked object step) (sym solved) ∙ (c.answer-work.ensures.answer cells looked c.see-kind.ensures.seen).is;
+      written = puts_made basin cells object step (asked_by_solution c.solve.new.solved);
+      is = ap (answered basin cells looked object step) (sym solved) ∙ (c.answer.ensures.answer cells looked c.see-kind.ensures.seen).is;
     }
 
 pub keep_asked-requires-clause-puts : goal.keep_asked-requires-clause-puts
@@ -46,15 +46,12 @@ returns-clause-work g c =
     let solved = solved-seen basin cells object step c.see-kind.result.now c.see-kind.new.view c.solve.new.solved
     c.see-kind.ensures.kind c.see-kind.ensures.seen c.solve.ensures in
     let event = answered basin cells looked object step in
-    let tells = c.answer-work.ensures.answer cells looked c.see-kind.ensures.seen in
+    let ended = c.answer.ensures.answer cells looked c.see-kind.ensures.seen in
     let can = puts-seen basin cells object step c.see-kind.result.now c.see-kind.new.view c.solve.new.solved
     c.see-kind.ensures.kind c.see-kind.ensures.seen c.solve.ensures c.requires.turn.known c.see-kind.ensures.sound in
     record {
-      writes =
-          writes_of basin looked object step (event c.solve.new.solved) c.answer-work.result puts c.answer-work.new.written c.answer-work.new.writes
-          tells c.answer-work.ensures.left c.answer-work.ensures.writes ∙ ap (λ s. written_by (event s)) solved;
-      can = can_all basin looked object step (event c.solve.new.solved) c.answer-work.result puts c.answer-work.new.written c.answer-work.new.writes
-          tells c.answer-work.ensures.left c.answer-work.ensures.writes c.requires.turn;
+      writes = ended.writes ∙ ap written_by (sym ended.is) ∙ ap (λ s. written_by (event s)) solved;
+      can = c.answer.ensures.can;
       keeps = refl;
       asked = λ keeps calm. c.keep_asked.ensures keeps
           ∙ asked_told basin cells looked object step c.solve.new.solved (subst (λ s. ¬ IsFault (event s)) (sym solved) calm)
