@@ -47,9 +47,9 @@ pub(crate) fn pass<'a>(
         } => each(known, names, own, list, first, body),
         Expr::Map { name, list, body } => mapping(known, names, name, list, body),
         Expr::One { word, arg } => one(known, names, *word, arg),
-        Expr::Two { word, left, right } => two(known, names, *word, left, right),
+        Expr::Two { word, parts } => two(known, names, *word, &parts.first, &parts.second),
         Expr::Convert { word, object, arg } => convert(known, names, *word, object, arg),
-        Expr::At { slot, step } => look(known, names, slot, step),
+        Expr::At(parts) => look(known, names, &parts.first, &parts.second),
     }
 }
 

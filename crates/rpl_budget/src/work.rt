@@ -129,7 +129,7 @@ fn known_load(e: &Expr, load: Load) -> Load
     ensures { result ≡ Pass.known_load (tree_of e.now) load }
 {
     match e {
-        Expr::At { .. } => load,
+        Expr::At(_) => load,
         _ => unspent(load),
     }
 }

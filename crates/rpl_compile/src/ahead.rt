@@ -47,13 +47,13 @@ pub(crate) fn ahead<'a>(
         Expr::For { first, .. } => ahead(known, names, first),
         Expr::Map { list, .. } => Ok(numbers_like(ahead(known, names, list)?)),
         Expr::One { word, .. } => Ok(one_kind(*word)),
-        Expr::Two { word, left, right } => {
-            let first = ahead(known, names, left)?;
-            let second = ahead(known, names, right)?;
+        Expr::Two { word, parts } => {
+            let first = ahead(known, names, &parts.first)?;
+            let second = ahead(known, names, &parts.second)?;
             Ok(kind_of_two(*word, first, second))
         }
         Expr::Convert { .. } => Ok(ValueKind::N),
-        Expr::At { .. } => Ok(ValueKind::N),
+        Expr::At(_) => Ok(ValueKind::N),
     }
 }
 

@@ -54,10 +54,10 @@ pub(crate) fn code<'a>(
         } => each(known, w, names, list, first, body),
         Expr::Map { name, list, body } => mapped(known, w, name, list, body),
         Expr::One { word, arg } => one(known, w, *word, arg),
-        Expr::Two { word, left, right } => two(known, w, *word, left, right),
+        Expr::Two { word, parts } => two(known, w, *word, &parts.first, &parts.second),
         Expr::Convert { word, object, arg } => convert(known, w, *word, object, arg),
-        Expr::At { slot, step } => {
-            asked(known, w, slot, step)?;
+        Expr::At(parts) => {
+            asked(known, w, &parts.first, &parts.second)?;
             leaf(w, ValueKind::N, Instruction::Read)
         }
     }
@@ -362,7 +362,7 @@ fn asked_of<'a>(known: &[Known], w: &mut Writing<'a>, e: &'a Expr) -> Result<(),
         (tree_of e.now)) }
 {
     match e {
-        Expr::At { slot, step } => asked(known, w, slot, step),
+        Expr::At(parts) => asked(known, w, &parts.first, &parts.second),
         _ => Ok(()),
     }
 }

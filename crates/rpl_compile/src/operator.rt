@@ -69,7 +69,7 @@ pub(crate) fn number_of(number: i64, unit: &Option<Vec<u8>>) -> i64
 {
     match unit {
         Some(word) => in_units(number, factor_named(word)),
-        None => in_units(number, factor_named(b"")),
+        None => within(number),
     }
 }
 

@@ -9,7 +9,7 @@ use crate::look::copied;
 use crate::made::{boxed, pair, three};
 use crate::stop::Stop;
 use crate::token::Span;
-use rpl_tree::{ConvertWord, Expr, LoopText, OneWord, SlotText, TwoWord};
+use rpl_tree::{ConvertWord, Expr, LoopText, OneWord, Pair, SlotText, TwoWord};
 use std::alloc::Global;
 
 /// The greater of two depths.
@@ -100,8 +100,14 @@ pub(crate) fn two(alloc: Global, word: TwoWord, left: Expr, right: Expr) -> Resu
     ensures ok { IfOk result (λ e. tree_of e ≡ two word (tree_of left) (tree_of right)) }
     ensures err { IfErr result (λ f. f ≡ Stop.NoMemory) }
 {
-    let (left, right) = pair(alloc, left, right)?;
-    Ok(Expr::Two { word, left, right })
+    let parts = boxed(
+        alloc,
+        Pair {
+            first: left,
+            second: right,
+        },
+    )?;
+    Ok(Expr::Two { word, parts })
 }
 
 /// A word before an expression.
@@ -128,8 +134,14 @@ pub(crate) fn at_step(alloc: Global, slot: Expr, step: Expr) -> Result<Expr, Sto
     ensures ok { IfOk result (λ e. tree_of e ≡ at (tree_of slot) (tree_of step)) }
     ensures err { IfErr result (λ f. f ≡ Stop.NoMemory) }
 {
-    let (slot, step) = pair(alloc, slot, step)?;
-    Ok(Expr::At { slot, step })
+    let parts = boxed(
+        alloc,
+        Pair {
+            first: slot,
+            second: step,
+        },
+    )?;
+    Ok(Expr::At(parts))
 }
 
 /// `IF condition THEN yes ELSE no ENDIF`.

@@ -15,6 +15,13 @@ fn is_word(a: &[u8], b: &[u8]) -> bool
 pub(crate) fn reserved(word: &[u8]) -> Option<Mark>
     ensures { result ≡ reserved word.now }
 {
+    if let [letter] = word {
+        return if *letter == 116 {
+            Some(Mark::Now)
+        } else {
+            None
+        };
+    }
     if let Some(mark) = declaration_words(word) {
         return Some(mark);
     }

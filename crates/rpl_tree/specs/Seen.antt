@@ -38,9 +38,9 @@ abbrev mutual
       each names.value.name.items (tree_of l) names.value.total.items (tree_of f) (tree_of b)
   tree_of (Map' x p l q b) = mapped x.items (tree_of l) (tree_of b)
   tree_of (One' word p e) = one word (tree_of e)
-  tree_of (Two' word p l q r) = two word (tree_of l) (tree_of r)
+  tree_of (Two' word p l r) = two word (tree_of l) (tree_of r)
   tree_of (Convert' word o p e) = convert word o.items (tree_of e)
-  tree_of (At' p s q d) = at (tree_of s) (tree_of d)
+  tree_of (At' p s d) = at (tree_of s) (tree_of d)
 
   pub trees_of : {m : _} → Row_of-Expr m → Trees
   trees_of end_of-Expr = no_trees

@@ -1,6 +1,7 @@
 use crate::{ConvertWord, LoopText, OneWord, SlotText, TwoWord};
 
 /// An expression.
+#[cycle(expression)]
 #[derive(Debug, Drop)]
 pub enum Expr {
     /// `12` or `12 "unit"`.
@@ -78,10 +79,8 @@ pub enum Expr {
     Two {
         /// The word.
         word: TwoWord,
-        /// The first expression.
-        left: Box<Expr>,
-        /// The second expression.
-        right: Box<Expr>,
+        /// The two expressions, in one piece of memory.
+        parts: Box<Pair>,
     },
     /// `StorageToElevation(object, x)` or `ElevationToStorage(object, x)`.
     Convert {
@@ -93,10 +92,15 @@ pub enum Expr {
         arg: Box<Expr>,
     },
     /// `slot[step]`: the value of a slot at a date.
-    At {
-        /// The slot.
-        slot: Box<Expr>,
-        /// The date.
-        step: Box<Expr>,
-    },
+    At(Box<Pair>),
+}
+
+/// Two expressions, one behind the other.
+#[cycle(expression)]
+#[derive(Debug, Drop)]
+pub struct Pair {
+    /// The first.
+    pub first: Expr,
+    /// The second.
+    pub second: Expr,
 }

@@ -14,7 +14,7 @@ mod statement;
 mod words;
 pub mod worked;
 
-pub use expression::Expr;
+pub use expression::{Expr, Pair};
 pub use rpl_type::RplType;
 pub use rules::{Declaration, LoopText, Param, ParsedRules, SlotText, TypeText};
 pub use statement::Statement;

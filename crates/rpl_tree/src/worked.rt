@@ -6,7 +6,7 @@ ghost use Rattle.rpl_tree.specs.Seen.{act_of, declared_of, rules_of, tree_of};
 ghost use Rattle.rpl_tree.specs.Worked.{ahead, ahead_now, call_of_ahead, ahead_of_n, at_now, hundredth, n_name, of_unit, s_name, step_pair, sum, sum_ahead, sum_loop, whole, x_put, y_now};
 
 use crate::{
-    Declaration, Expr, LoopText, Param, ParsedRules, SlotText, Statement, TwoWord, TypeText,
+    Declaration, Expr, LoopText, Pair, Param, ParsedRules, SlotText, Statement, TwoWord, TypeText,
 };
 use rw_base::NoMemory;
 use std::alloc::Global;
@@ -26,9 +26,15 @@ fn at_now(alloc: Global, object: &str, slot: &str) -> Result<Expr, NoMemory>
 {
     let object = bytes_of(alloc, object)?;
     let slot = bytes_of(alloc, slot)?;
-    let slot = Box::new(alloc, Expr::Slot(SlotText { object, slot }))?;
-    let step = Box::new(alloc, Expr::Now)?;
-    Ok(Expr::At { slot, step })
+    let first = Expr::Slot(SlotText { object, slot });
+    let parts = Box::new(
+        alloc,
+        Pair {
+            first,
+            second: Expr::Now,
+        },
+    )?;
+    Ok(Expr::At(parts))
 }
 
 // `100 / D.Y[t]`.
@@ -39,12 +45,17 @@ fn hundred_over_y(alloc: Global) -> Result<Expr, NoMemory>
         value: 100,
         unit: None,
     };
-    let left = Box::new(alloc, hundred)?;
-    let right = Box::new(alloc, at_now(alloc, "D", "Y")?)?;
+    let second = at_now(alloc, "D", "Y")?;
+    let parts = Box::new(
+        alloc,
+        Pair {
+            first: hundred,
+            second,
+        },
+    )?;
     Ok(Expr::Two {
         word: TwoWord::Divide,
-        left,
-        right,
+        parts,
     })
 }
 
@@ -95,12 +106,16 @@ fn variable(alloc: Global, called: &str) -> Result<Expr, NoMemory>
 fn plus(alloc: Global, left: Expr, right: Expr) -> Result<Expr, NoMemory>
     ensures { IfOk result (λ e. tree_of e ≡ two TwoWord.Plus (tree_of left) (tree_of right)) }
 {
-    let left = Box::new(alloc, left)?;
-    let right = Box::new(alloc, right)?;
+    let parts = Box::new(
+        alloc,
+        Pair {
+            first: left,
+            second: right,
+        },
+    )?;
     Ok(Expr::Two {
         word: TwoWord::Plus,
-        left,
-        right,
+        parts,
     })
 }
 
@@ -111,9 +126,15 @@ fn inflow_ahead(alloc: Global) -> Result<Expr, NoMemory>
     let object = bytes_of(alloc, "Dam")?;
     let slot = bytes_of(alloc, "Inflow")?;
     let step = plus(alloc, Expr::Now, variable(alloc, "n")?)?;
-    let slot = Box::new(alloc, Expr::Slot(SlotText { object, slot }))?;
-    let step = Box::new(alloc, step)?;
-    Ok(Expr::At { slot, step })
+    let first = Expr::Slot(SlotText { object, slot });
+    let parts = Box::new(
+        alloc,
+        Pair {
+            first,
+            second: step,
+        },
+    )?;
+    Ok(Expr::At(parts))
 }
 
 // `FUNCTION Ahead(NUMERIC "step" n) : NUMERIC "m3/step" IS Dam.Inflow[t + n] ENDFUNCTION`.

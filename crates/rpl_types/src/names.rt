@@ -64,7 +64,7 @@ pub(crate) fn literal_type(number: i64, unit: &Option<Vec<u8>>) -> Result<RplTyp
 {
     match unit {
         Some(word) => in_unit(number, unit_named(word)),
-        None => in_unit(number, unit_named(b"")),
+        None => in_unit(number, Some((plain_number(), 1))),
     }
 }
 

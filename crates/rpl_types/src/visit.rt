@@ -82,9 +82,9 @@ pub(crate) fn visit<'a>(
         } => each(known, progress, names, list, first, body),
         Expr::Map { name, list, body } => mapped(known, progress, name, list, body),
         Expr::One { word, arg } => one(known, progress, *word, arg),
-        Expr::Two { word, left, right } => two(known, progress, *word, left, right),
+        Expr::Two { word, parts } => two(known, progress, *word, &parts.first, &parts.second),
         Expr::Convert { word, object, arg } => convert(known, progress, *word, object, arg),
-        Expr::At { slot, step } => look(known, progress, slot, step),
+        Expr::At(parts) => look(known, progress, &parts.first, &parts.second),
     }
 }
 
@@ -276,7 +276,7 @@ fn is_look(e: &Expr) -> bool
     ensures { result ≡ is_look (tree_of e.now) }
 {
     match e {
-        Expr::At { .. } => true,
+        Expr::At(_) => true,
         _ => false,
     }
 }
