@@ -26,3 +26,4 @@ mod Plain
 mod Price
 mod Stepping
 mod Straight
+mod Held

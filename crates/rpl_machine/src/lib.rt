@@ -9,6 +9,7 @@ mod blocks;
 mod call;
 mod calls;
 mod compute;
+mod direct;
 mod fire;
 mod fired;
 mod locals;
