@@ -8,6 +8,10 @@ use Rattle.rw_model.proofs.Common.{object_at, slot_at, slot_in_place, first_from
 use Rattle.rw_model.proofs.Common.{numbered-known, StandsAt-stored, first_from-all_slots, IsOfOwner-is_in_place, known_in_place, bounds_in-within}
 use Rattle.rw_run.proofs.Common.{Cells, cell_at, content_in, bounds_in_place, past_value, places, view_of}
 use Rattle.rw_model.proofs.Owned.{found_at}
+use Rattle.std.proofs.lemmas.List.{get_or_past}
+use Rattle.rw_model.specs.declared.kind.Kind.TheVariants.{DataObject, PowerReservoir, Reservoir, WaterUser}
+use Rattle.rw_model.specs.declared.kind.Supply.TheVariants.{Request, Rule}
+use Rattle.rw_dispatch.specs.Seeing.{has_late}
 
 -- ---- an object's slot in a place is its kind's
 
@@ -66,6 +70,23 @@ no_slot : (objects : List Object) (owner place : ℕ) (kind : Kind) (found : Opt
 no_slot objects owner place kind None is none found = found
 no_slot objects owner place kind (Some number) is none found = let stands = stands_in objects owner place number kind is found in let slot =
     stands.slot in absurd (cc)
+
+-- most kinds have few places
+few_slots : (kind : Kind) → has_late kind ≡ false → length (slots_of kind) ≤ 5
+few_slots (DataObject slots) few = absurd (cc)
+few_slots (Reservoir initial_storage table local_inflow diversion return_flow evaporation max_release) few = absurd (cc)
+few_slots (PowerReservoir initial_storage table max_release tailwater power) few = absurd (cc)
+few_slots (WaterUser depletion Request) few = omega arith
+few_slots (WaterUser depletion Rule) few = omega arith
+few_slots kind few = omega arith
+
+-- and so have the objects
+pub late_none : (objects : List Object) (owner : ℕ) (kind : Kind) (place : ℕ)
+    → option_map (λ (object : Object). object.kind) (object_at objects owner) ≡ Some kind → has_late kind ≡ false → 5 ≤ place
+    → slot_in_place objects owner place ≡ None
+late_none objects owner kind place is few far =
+    let many = few_slots kind few in
+    no_slot objects owner place kind (slot_in_place objects owner place) is (get_or_past (slots_of kind) place None (omega (arith, many, far))) refl
 
 -- ---- the view
 

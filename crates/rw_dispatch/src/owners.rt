@@ -155,6 +155,7 @@ fn reach_write(
 }
 
 /// The owners are reached that what is written at a timestep reaches.
+#[inline(always)]
 pub(crate) fn reach_writes(
     reached: &mut Reached,
     basin: &Basin,

@@ -19,7 +19,7 @@ use crate::dispatched::Dispatched;
 use crate::judged::{judge, puts_made};
 use crate::past::past_value;
 use crate::queue::Queue;
-use crate::view::{blank_view, see_slots, slot_or_none};
+use crate::view::{blank_view, has_late, see_slots, slot_or_none};
 use crate::workspace::Workspace;
 use crate::write_list::WriteList;
 use crate::written::{asked_by, make};
@@ -47,10 +47,21 @@ fn see<'a>(
     ensures view { IsViewOf result.now view.new }
 {
     let _objects = basin.object_count();
-    view.own = object;
+    // What is read of the kind is read before the view is written to.
+    let kind = basin.kind(object);
+    let late = has_late(kind);
     view.past = past_value(basin, series, object, step);
-    see_slots(&mut view.now, &mut view.bounds, basin, series, object, step);
-    basin.kind(object)
+    view.own = object;
+    see_slots(
+        &mut view.now,
+        &mut view.bounds,
+        basin,
+        series,
+        object,
+        step,
+        late,
+    );
+    kind
 }
 
 // What becomes of the puts that an object asks for.

@@ -1,13 +1,14 @@
-ghost use Rattle.std.specs.Prelude.{◌≡◌, ◌<◌, ◌≤◌, IfSome, length, map, set};
+ghost use Rattle.std.specs.Prelude.{◌≡◌, ◌<◌, ◌≤◌, ℕ, IfSome, None, false, length, map, set, slice_index_or};
 ghost use Rattle.rw_model.specs.Draft.{IsObject, IsSlot};
 ghost use Rattle.rw_series.specs.Series.{IsSeriesOf, held};
 ghost use Rattle.rw_run.specs.Dispatch.{slot_or_none, content_in, bounds_in_place, places};
 ghost use Rattle.rw_model.specs.Turn.{IsTurn};
-ghost use Rattle.rw_dispatch.specs.Seeing.{content_at_slot, bounds_of_slot};
+ghost use Rattle.rw_model.specs.Objects.{slot_in_place};
+ghost use Rattle.rw_dispatch.specs.Seeing.{content_at_slot, bounds_of_slot, has_late};
 
 use rw_base::{ObjectNo, SlotNo, StepNo};
 use rw_method::View;
-use rw_model::{Basin, Content};
+use rw_model::{Basin, Content, Kind};
 use rw_series::{Series, StepCells};
 
 /// The slot that an object has in a place, and number 0 where it has none there.
@@ -62,8 +63,27 @@ fn see_slot(
     }
 }
 
+/// Whether objects of a kind have slots in the places from 5 on.
+pub(crate) fn has_late(kind: &Kind) -> bool
+    ensures { result ≡ has_late kind.now }
+{
+    match kind {
+        Kind::DataObject { .. } | Kind::Reservoir { .. } | Kind::PowerReservoir { .. } => true,
+        _ => false,
+    }
+}
+
+// The number in a place, which is looked up where there may be one.
+fn number_at(numbers: &[Option<u16>], place: usize, may: bool) -> Option<u16>
+    requires { place < length numbers.now }
+    ensures { (may ≡ false → slice_index_or numbers.now place None ≡ None)
+        → result ≡ slice_index_or numbers.now place None }
+{
+    if may { numbers[place] } else { None }
+}
+
 /// Fills in what the object's slots hold and their bounds, by place, whatever stood there. The view is filled where it stands:
-/// it is large.
+/// it is large. Where it is known that the object has no slot from place 5 on, none is looked for there.
 #[inline(always)]
 pub(crate) fn see_slots(
     now: &mut [Option<Content>; 12],
@@ -72,9 +92,12 @@ pub(crate) fn see_slots(
     series: &Series,
     object: ObjectNo,
     step: StepNo,
+    late: bool,
 )
     requires turn { IsTurn basin.now object.0 step.0 }
     requires made { IsSeriesOf basin.now series.now }
+    requires late { late ≡ false → (place : ℕ) → 5 ≤ place
+        → slot_in_place basin.now.objects object.0 place ≡ None }
     ensures contents { now.new
         ≡ map (content_in basin.now (held series.now) object.0 step.0) places }
     ensures bounds { bounds.new ≡ map (bounds_in_place basin.now object.0) places }
@@ -83,10 +106,11 @@ pub(crate) fn see_slots(
     // Where they lie is found once.
     let cells = series.at_step(step);
     // Two loops of so few turns are both unrolled.
-    for place in 0..6 {
+    for place in 0..5 {
         see_slot(now, bounds, basin, &cells, place, numbers[place]);
     }
-    for late in 6..12 {
-        see_slot(now, bounds, basin, &cells, late, numbers[late]);
+    for far in 5..12 {
+        let number = number_at(numbers, far, late);
+        see_slot(now, bounds, basin, &cells, far, number);
     }
 }

@@ -1,5 +1,5 @@
-use Rattle.rw_dispatch.proofs.Common.{IsViewOf, View, held, refl, subst, sym}
-use Rattle.rw_dispatch.proofs.Viewed.{IsViewOf-view, filled-view}
+use Rattle.rw_dispatch.proofs.Common.{IsViewOf, View, held, refl, subst, sym, ◌∙◌}
+use Rattle.rw_dispatch.proofs.Viewed.{IsViewOf-view, filled-view, late_none}
 use Rattle.rw_dispatch.proofs.turn.see.Goals as goal
 
 pub returns-clause-seen : goal.returns-clause-seen
@@ -11,6 +11,10 @@ returns-clause-seen c =
 
 pub returns-clause-view : goal.returns-clause-view
 returns-clause-view c =
-    subst (IsViewOf c.kind.result.now) (sym (returns-clause-seen c))
-    (IsViewOf-view c.args.basin.now (held c.args.series.now) c.args.object.0 c.args.step.0 c.kind.result.now c.object_count-objects.ensures.valid
-    c.requires.turn.known c.kind.ensures.kind c.kind.ensures.sound c.requires.turn.at.first c.requires.turn.at.last c.requires.made.bounded)
+    subst (IsViewOf c.kind-kind.result.now) (sym (returns-clause-seen c))
+    (IsViewOf-view c.args.basin.now (held c.args.series.now) c.args.object.0 c.args.step.0 c.kind-kind.result.now c.object_count-objects.ensures.valid
+    c.requires.turn.known c.kind-kind.ensures.kind c.kind-kind.ensures.sound c.requires.turn.at.first c.requires.turn.at.last c.requires.made.bounded)
+
+pub see_slots-requires-clause-late : goal.see_slots-requires-clause-late
+see_slots-requires-clause-late c = λ none place far.
+    late_none c.args.basin.now.objects c.args.object.0 c.kind-kind.result.now place c.kind-kind.ensures.kind (sym c.has_late-late.ensures ∙ none) far

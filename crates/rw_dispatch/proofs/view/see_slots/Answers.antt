@@ -43,47 +43,52 @@ loop-place-preserved c =
       bounds_all = ap length seen.bounds ∙ length-set c.loop-place.bounds place _ ∙ was.bounds_all;
     }
 
-pub see_slot-requires-in-loop-late-clause-known : goal.see_slot-requires-in-loop-late-clause-known
-see_slot-requires-in-loop-late-clause-known c =
+pub see_slot-requires-in-loop-far-clause-known : goal.see_slot-requires-in-loop-far-clause-known
+see_slot-requires-in-loop-far-clause-known c =
     let objects = c.args.basin.now.objects in
-    number_known objects c.args.object.0 c.loop-late.late (slice_index_or c.row-numbers.result.now c.loop-late.late None)
-    (number_there objects c.args.object.0 c.loop-late.late c.row-numbers.result.now c.row-numbers.ensures c.loop-late-test.true)
+    let far = c.loop-far.far in
+    let there = number_there objects c.args.object.0 far c.row-numbers.result.now c.row-numbers.ensures c.loop-far-test.true in
+    number_known objects c.args.object.0 far c.number_at-number.result
+    (c.number_at-number.ensures (λ none. there ∙ c.requires.late none far c.loop-far.invariant.first) ∙ there)
 
-pub see_slot-requires-in-loop-late-clause-column : goal.see_slot-requires-in-loop-late-clause-column
-see_slot-requires-in-loop-late-clause-column c =
+pub see_slot-requires-in-loop-far-clause-column : goal.see_slot-requires-in-loop-far-clause-column
+see_slot-requires-in-loop-far-clause-column c =
     let basin = c.args.basin.now in
-    number_within basin.objects c.args.object.0 c.loop-late.late (length c.at_step-cells.result.columns)
-    (slice_index_or c.row-numbers.result.now c.loop-late.late None)
-    (number_there basin.objects c.args.object.0 c.loop-late.late c.row-numbers.result.now c.row-numbers.ensures c.loop-late-test.true)
+    let far = c.loop-far.far in
+    let there = number_there basin.objects c.args.object.0 far c.row-numbers.result.now c.row-numbers.ensures c.loop-far-test.true in
+    number_within basin.objects c.args.object.0 far (length c.at_step-cells.result.columns) c.number_at-number.result
+    (c.number_at-number.ensures (λ none. there ∙ c.requires.late none far c.loop-far.invariant.first) ∙ there)
     (enough_columns basin c.args.step.0 c.args.series.now c.at_step-cells.result c.requires.turn.at c.requires.made c.at_step-cells.ensures.columns)
 
-pub loop-late-preserved : goal.loop-late-preserved
-loop-late-preserved c =
+pub loop-far-preserved : goal.loop-far-preserved
+loop-far-preserved c =
     let basin = c.args.basin.now in
-    let late = c.loop-late.late in
-    let was = c.loop-late.invariant in
-    let seen = c.see_slot-in-loop-late.ensures in
-    let number = number_there basin.objects c.args.object.0 late c.row-numbers.result.now c.row-numbers.ensures c.loop-late-test.true in
+    let far = c.loop-far.far in
+    let was = c.loop-far.invariant in
+    let seen = c.see_slot-in-loop-far.ensures in
+    let there = number_there basin.objects c.args.object.0 far c.row-numbers.result.now c.row-numbers.ensures c.loop-far-test.true in
+    let number = c.number_at-number.ensures (λ none. there ∙ c.requires.late none far was.first) ∙ there in
     let same =
-    content_there (held c.at_step-cells.result) (held c.args.series.now) 1 c.args.step.0 (slice_index_or c.row-numbers.result.now late None)
+    content_there (held c.at_step-cells.result) (held c.args.series.now) 1 c.args.step.0 c.number_at-number.result
     c.at_step-cells.ensures.cells in
     record {
+      first = let first = was.first in omega (arith, first);
       contents =
-          seen.content ∙ filled-more (content_in basin (held c.args.series.now) c.args.object.0 c.args.step.0) c.args.now.now late c.loop-late.now _
+          seen.content ∙ filled-more (content_in basin (held c.args.series.now) c.args.object.0 c.args.step.0) c.args.now.now far c.loop-far.now _
           (search rules) was.contents
           (same ∙ ap (content_at_slot (held c.args.series.now) c.args.step.0) number);
-      bounds = seen.bounds ∙ filled-more (bounds_in_place basin c.args.object.0) c.args.bounds.now late c.loop-late.bounds _
+      bounds = seen.bounds ∙ filled-more (bounds_in_place basin c.args.object.0) c.args.bounds.now far c.loop-far.bounds _
           (search rules) was.bounds (ap (bounds_of_slot basin) number);
-      contents_all = ap length seen.content ∙ length-set c.loop-late.now late _ ∙ was.contents_all;
-      bounds_all = ap length seen.bounds ∙ length-set c.loop-late.bounds late _ ∙ was.bounds_all;
+      contents_all = ap length seen.content ∙ length-set c.loop-far.now far _ ∙ was.contents_all;
+      bounds_all = ap length seen.bounds ∙ length-set c.loop-far.bounds far _ ∙ was.bounds_all;
     }
 
 pub returns-clause-contents : goal.returns-clause-contents
 returns-clause-contents c =
-    filled-all (content_in c.args.basin.now (held c.args.series.now) c.args.object.0 c.args.step.0) c.args.now.now c.loop-late.now c.loop-late.late 12
-    (search rules) (search rules) c.loop-late.invariant.contents
+    filled-all (content_in c.args.basin.now (held c.args.series.now) c.args.object.0 c.args.step.0) c.args.now.now c.loop-far.now c.loop-far.far 12
+    (search rules) (search rules) c.loop-far.invariant.contents
 
 pub returns-clause-bounds : goal.returns-clause-bounds
 returns-clause-bounds c =
-    filled-all (bounds_in_place c.args.basin.now c.args.object.0) c.args.bounds.now c.loop-late.bounds c.loop-late.late 12
-    (search rules) (search rules) c.loop-late.invariant.bounds
+    filled-all (bounds_in_place c.args.basin.now c.args.object.0) c.args.bounds.now c.loop-far.bounds c.loop-far.far 12
+    (search rules) (search rules) c.loop-far.invariant.bounds
