@@ -56,11 +56,18 @@ number_within objects object place slots None is many = tt
 number_within objects object place slots (Some number) is many =
     let known = known_in_place objects object place number (sym is) in omega (arith, known.last, many)
 
+-- it has columns for the basin's slots, and the basin's timesteps
+pub column_there : (basin : Draft) (series : Series) (slot : ℕ) → IsSlot basin.objects slot → IsSeriesOf basin series
+    → slot ≤ length series.columns
+column_there basin series slot known made = omega (arith, known.last, made.slots, made.columns.all)
+
+pub step_there : (basin : Draft) (series : Series) (step : ℕ) → IsStep basin step → IsSeriesOf basin series → step ≤ series.steps
+step_there basin series step at made = omega (arith, at.last, made.steps)
+
 pub enough_columns : (basin : Draft) (step : ℕ) (series row : Series) → IsStep basin step → IsSeriesOf basin series
     → (1 ≤ step → step ≤ series.steps → row.columns ≡ series.columns) → length (all_slots basin.objects) ≤ length row.columns
 enough_columns basin step series row at made columns =
-    let last : step ≤ series.steps = omega (arith, at.last, made.steps) in
-    let same = ap length (columns at.first last) in
+    let same = ap length (columns at.first (step_there basin series step at made)) in
     omega (arith, same, made.slots, made.columns.all)
 
 -- what slots hold at a timestep of one series and at one of another, where that is the same

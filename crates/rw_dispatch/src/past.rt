@@ -1,7 +1,8 @@
-ghost use Rattle.std.specs.Prelude.{◌≡◌, ◌≤◌, ℕ, option_map, IfSome};
+ghost use Rattle.std.specs.Prelude.{◌≡◌, ◌≤◌, ℕ, length, option_map, IfSome};
 ghost use Rattle.rw_base.specs.declared.number.SlotNo.{SlotNo};
 ghost use Rattle.rw_model.specs.Draft.{IsObject, IsSlot};
-ghost use Rattle.rw_series.specs.Series.{held, IsCell};
+ghost use Rattle.rw_model.specs.Turn.{IsTurn};
+ghost use Rattle.rw_series.specs.Series.{held, IsCell, IsSeriesOf};
 ghost use Rattle.rw_run.specs.Dispatch.{past_of, past_cell_of, cell_of_past, value_of_past, past_value};
 ghost use Rattle.rw_run.specs.Log.{value_in};
 ghost use Rattle.rw_dispatch.specs.Past.{past_seen};
@@ -46,6 +47,8 @@ pub fn past_cell(basin: &Basin, object: ObjectNo, step: StepNo) -> Option<Cell>
 // The cell of a slot so many timesteps ago, where that isn't before the run.
 fn cell_of_past(step: StepNo, slot: SlotNo, ago: u16) -> Option<Cell>
     ensures cell { result ≡ cell_of_past step.0 (past_seen (slot, ago)) }
+    ensures slot { IfSome result (λ cell. cell.slot.0 ≡ slot.0) }
+    ensures within { IfSome result (λ cell. (1 ≤ cell.step.0) × (cell.step.0 ≤ step.0)) }
 {
     if ago < step.0 {
         Some(Cell {
@@ -57,11 +60,14 @@ fn cell_of_past(step: StepNo, slot: SlotNo, ago: u16) -> Option<Cell>
     }
 }
 
-// The value of a cell.
+// The value of a cell that is known to be there.
 fn value_in(series: &Series, cell: Cell) -> Option<Qty>
+    requires slot { (1 ≤ cell.slot.0) × (cell.slot.0 ≤ length series.now.columns) }
+    requires step { (1 ≤ cell.step.0) × (cell.step.0 ≤ series.now.steps) }
     ensures { result ≡ value_in (held series.now) cell }
 {
-    match series.get(cell) {
+    let cells = series.at_step(cell.step);
+    match cells.content(cell.slot) {
         Some(content) => Some(content.value),
         None => None,
     }
@@ -75,7 +81,9 @@ fn value_of_past(
     slot: SlotNo,
     ago: u16,
 ) -> Option<Qty>
-    requires { IsSlot basin.now.objects slot.0 }
+    requires slot { IsSlot basin.now.objects slot.0 }
+    requires column { slot.0 ≤ length series.now.columns }
+    requires last { step.0 ≤ series.now.steps }
     ensures { result ≡ value_of_past basin.now (held series.now) step.0 (past_seen (slot, ago)) }
 {
     match cell_of_past(step, slot, ago) {
@@ -86,13 +94,15 @@ fn value_of_past(
 
 /// The earlier value at which a dispatch of an object looks. `None` where it looks at none, or where it is unknown.
 #[inline(always)]
+#[tactic(auto, using(crate::proofs::Filling::column_there, crate::proofs::Filling::step_there))]
 pub(crate) fn past_value(
     basin: &Basin,
     series: &Series,
     object: ObjectNo,
     step: StepNo,
 ) -> Option<Qty>
-    requires { IsObject basin.now.objects object.0 }
+    requires turn { IsTurn basin.now object.0 step.0 }
+    requires made { IsSeriesOf basin.now series.now }
     ensures { result ≡ past_value basin.now (held series.now) object.0 step.0 }
 {
     let Some((slot, ago)) = past_of(basin, object) else {
