@@ -175,6 +175,7 @@ impl State {
     }
 
     // Dispatches the object that was taken out of the queue, below its limit.
+    #[inline(always)]
     fn act(&mut self, setup: &RunSetup, object: ObjectNo, step: StepNo) -> Result<bool, NoMemory>
         requires within { IsWithinStep setup.now.basin.now setup.now.policy.now self.old }
         requires order { AreInOrder
@@ -219,6 +220,7 @@ impl State {
     }
 
     // Dispatches the object that was taken out of the queue, unless its limit is reached.
+    #[inline(always)]
     fn ask(&mut self, setup: &RunSetup, object: ObjectNo, step: StepNo) -> Result<bool, NoMemory>
         requires within { IsWithinStep setup.now.basin.now setup.now.policy.now self.old }
         requires order { AreInOrder
