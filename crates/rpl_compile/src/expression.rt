@@ -56,10 +56,7 @@ pub(crate) fn code<'a>(
         Expr::One { word, arg } => one(known, w, *word, arg),
         Expr::Two { word, parts } => two(known, w, *word, &parts.first, &parts.second),
         Expr::Convert { word, object, arg } => convert(known, w, *word, object, arg),
-        Expr::At(parts) => {
-            asked(known, w, &parts.first, &parts.second)?;
-            leaf(w, ValueKind::N, Instruction::Read)
-        }
+        Expr::At(parts) => look(known, w, &parts.first, &parts.second),
     }
 }
 
@@ -353,6 +350,21 @@ fn asked<'a>(
     let _date = code(known, w, step)?;
     drop_operands(w, 1);
     Ok(())
+}
+
+// `slot[step]`.
+#[cycle(code)]
+fn look<'a>(
+    known: &[Known],
+    w: &mut Writing<'a>,
+    slot: &'a Expr,
+    step: &'a Expr,
+) -> Result<ValueKind, NoMemory>
+    ensures { WritesKind w.new result (compiled (callees_of known.now) (written_of w.old)
+        (at (tree_of slot.now) (tree_of step.now))) }
+{
+    asked(known, w, slot, step)?;
+    leaf(w, ValueKind::N, Instruction::Read)
 }
 
 // What KNOWN asks of an expression.

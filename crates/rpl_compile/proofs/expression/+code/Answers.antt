@@ -1,4 +1,4 @@
-use Rattle.rpl_compile.proofs.Common.{Tree, ap, ap₂, call, callees_of, choice, compiled, each, subst, sym, tree_of, tree_of_call, trees_in, two}
+use Rattle.rpl_compile.proofs.Common.{Tree, ap, ap₂, at, call, callees_of, choice, compiled, each, subst, sym, tree_of, tree_of_call, trees_in, two}
 use Rattle.rpl_compile.proofs.Common.{written_of, ◌∙◌}
 use Rattle.rpl_compile.specs.Writes.{WritesKind}
 use Rattle.rpl_compile.proofs.expression.+code.Goals as goal
@@ -32,4 +32,10 @@ pub code-returns-in-Two : goal.code-returns-in-Two
 code-returns-in-Two t c =
     rw c.in-Two.is
     (subst (λ (expression : Tree). WritesKind c.two.new.w c.two.result (compiled (callees_of c.args.known.now) (written_of c.args.w.now) expression))
-    (λ i. two c.in-Two.word (tree_of (c.deref-in-Two.ensures i)) (tree_of (c.deref-in-Two-2.ensures i))) c.two.ensures)
+    (λ i. two c.in-Two.word (tree_of (c.deref-in-Two.ensures i).first) (tree_of (c.deref-in-Two-2.ensures i).second)) c.two.ensures)
+
+pub code-returns-in-At : goal.code-returns-in-At
+code-returns-in-At t c =
+    rw c.in-At.is
+    (subst (λ (expression : Tree). WritesKind c.look.new.w c.look.result (compiled (callees_of c.args.known.now) (written_of c.args.w.now) expression))
+    (λ i. at (tree_of (c.deref-in-At.ensures i).first) (tree_of (c.deref-in-At-2.ensures i).second)) c.look.ensures)

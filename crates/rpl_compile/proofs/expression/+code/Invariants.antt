@@ -51,6 +51,9 @@ decreases-and l = 4 * max (size-Expr l.left.now) (size-Expr l.right.now) + 1
 abbrev pub decreases-asked : goal.decreases-asked
 decreases-asked l = 4 * max (size-Expr l.slot.now) (size-Expr l.step.now) + 1
 
+abbrev pub decreases-look : goal.decreases-look
+decreases-look l = 4 * max (size-Expr l.slot.now) (size-Expr l.step.now) + 2
+
 abbrev pub decreases-bind : goal.decreases-bind
 decreases-bind l = 4 * max (size-Expr l.value.now) (size-Expr l.body.now) + 1
 
