@@ -1,6 +1,6 @@
 -- Rules that are met, going from watch to watch.
 use Rattle.rw_base.proofs.Common.{◌≡◌, ◌∙◌, ◌+◌, ◌-◌, ◌<◌, ◌≤◌, ◌==◌, ◌||◌, ◌&&◌, ℕ, zero, suc, Bool, true, false, List, [], ◌∷◌, ◌++◌, Option, None, Some}
-use Rattle.rw_base.proofs.Common.{IfSome, IsSomeAnd, All, All-push, take, take_more, ap, ap₂, arith, if◌then◌else◌, false≢true, get_or}
+use Rattle.rw_base.proofs.Common.{◌⊎◌, cases_lt, inl, inr, get_or_default, IfSome, IsSomeAnd, ap, ap₂, arith, if◌then◌else◌, false≢true, get_or}
 use Rattle.rw_base.proofs.Common.{get_or-set_other, get_or-set_same, get_or_append_left, get_or_from_slice_get, length, length-append, nat_eq}
 use Rattle.rw_base.proofs.Common.{nat_eq_equiv, nat_tests, none-some, option_map, refl, set, slice_get-get_or, slice_get_within}
 use Rattle.rw_base.proofs.Common.{slice_index_or, subst, sym, unwrap_or}
@@ -163,15 +163,21 @@ module _ (slots room : ℕ) (newest : List ℕ) (watches : List Watch) (full : B
 
 -- ---- cells that are watched one after another
 
-pub watching_more : (old new : CellIndex) (rule : ℕ) (looks : List Look) (k : ℕ) (look : Look) → k < length looks → look ≡ get_or looks k look
-    → ((other : Cell) (earlier : ℕ) → is_watching old other earlier ≡ true → is_watching new other earlier ≡ true)
-    → All (λ (l : Look). is_watching old l.cell rule ≡ true) (take k looks) → is_watching new look.cell rule ≡ true
-    → All (λ (l : Look). is_watching new l.cell rule ≡ true) (take (k + 1) looks)
-watching_more old new rule looks k look near is kept all watching =
-    subst (λ ls. All (λ (l : Look). is_watching new l.cell rule ≡ true) ls)
-    (sym (take_more looks k look near ∙ ap (λ l. take k looks ++ l ∷ []) (sym is)))
-    (All-push (λ (l : Look). is_watching new l.cell rule ≡ true) (take k looks) look
-    (λ place d there. kept (get_or (take k looks) place d).cell rule (all place d there)) watching)
+-- those up to a place are watched, and then the cell of the look there: so are those behind it at the same cell
+pub watching_on : (index more : CellIndex) (rule : ℕ) (looks : List Look) (place next : ℕ) (look : Look) → place < length looks
+    → look ≡ get_or looks place look
+    → ((k : ℕ) (d : Look) → place ≤ k → k < next → (get_or looks k d).cell ≡ (get_or looks place d).cell)
+    → ((other : Cell) (earlier : ℕ) → is_watching index other earlier ≡ true → is_watching more other earlier ≡ true)
+    → ((k : ℕ) (d : Look) → k < place → is_watching index (get_or looks k d).cell rule ≡ true) → is_watching more look.cell rule ≡ true
+    → (k : ℕ) (d : Look) → k < next → is_watching more (get_or looks k d).cell rule ≡ true
+watching_on index more rule looks place next look near is same kept before watching k d behind = by (cases_lt k place)
+  where
+    by : (k < place) ⊎ (place ≤ k) → is_watching more (get_or looks k d).cell rule ≡ true
+    by (inl below) = kept (get_or looks k d).cell rule (before k d below)
+    by (inr above) =
+        ap (λ cell. is_watching more cell rule)
+        (same k d above behind ∙ ap (λ (l : Look). l.cell) (get_or_default looks place d look near ∙ sym is))
+        ∙ watching
 
 -- an index without watches
 pub idle : (index : CellIndex) → length index.watches ≡ 0 → (cell : Cell) (rule : ℕ) → has_watch index cell rule ≡ false

@@ -1,4 +1,4 @@
-ghost use Rattle.std.specs.Prelude.{◌≡◌, ◌≤◌, ◌<◌, ◌+◌, ◌*◌, ◌-◌, ◌==◌, ◌||◌, ◌&&◌, ◌++◌, ◌∷◌, [], ℕ, All, IfOk, IsSomeAnd, Some, None, true, false, length, slice_index_or, take, vec_len};
+ghost use Rattle.std.specs.Prelude.{◌≡◌, ◌≤◌, ◌<◌, ◌+◌, ◌*◌, ◌-◌, ◌==◌, ◌||◌, ◌&&◌, ◌++◌, ◌∷◌, [], ℕ, All, IfOk, IsSomeAnd, Some, None, true, false, length, slice_index_or, vec_len};
 ghost use Rattle.std.specs.List.{list_any, slice_get};
 ghost use Rattle.rw_base.specs.declared.number.Cell.{Cell};
 ghost use Rattle.rw_model.specs.Kept.{numbers_of};
@@ -110,33 +110,11 @@ impl CellIndex {
         ensures kept { (other : Cell) (earlier : ℕ) → is_watching self.old other earlier ≡ true
             → is_watching self.new other earlier ≡ true }
     {
-        for place in 0..looked.len() {
+        let mut place = 0;
+        while place < looked.len() {
             let cell = looked[place].cell;
-            self.watch_behind(rule, before, most, looked, place, cell);
-        }
-    }
-
-    // The rule looked at a cell at this place of its looks, and watches those in front.
-    fn watch_behind(
-        &mut self,
-        rule: u16,
-        before: &[Look],
-        most: usize,
-        looked: &[Look],
-        place: usize,
-        cell: Cell,
-    )
-        requires front { All (λ (look : Look). is_watching self.old look.cell rule ≡ true)
-            (take place looked.now) }
-        requires place { place ≤ length looked.now }
-        requires before { All
-            (λ (look : Look). is_watching self.old look.cell rule ≡ true) before.now }
-        ensures watching { is_watching self.new cell rule ≡ true }
-        ensures kept { (other : Cell) (earlier : ℕ) → is_watching self.old other earlier ≡ true
-            → is_watching self.new other earlier ≡ true }
-    {
-        if !is_repeated(looked, place, cell) {
             self.watch_at(rule, before, most, place, cell);
+            place = next_cell(looked, place);
         }
     }
 
@@ -295,18 +273,39 @@ fn is_known(watches: &[Watch], newest: u32, rule: u16, step: u16, again: bool) -
     }
 }
 
-// Whether the look in front of a place was at this cell, if there was one.
+// The first place behind this one of a look at another cell, and how many looks there are where there is none. A rule often looks
+// at one cell several times in turn.
 #[inline(always)]
-fn is_repeated(looks: &[Look], place: usize, cell: Cell) -> bool
-    requires { place ≤ length looks.now }
-    ensures { result ≡ true → IsSomeAnd (slice_get (take place looks.now) (place - 1))
-        (λ look. look.cell ≡ cell) }
+fn next_cell(looks: &[Look], place: usize) -> usize
+    requires { place < length looks.now }
+    ensures behind { place < result }
+    ensures last { result ≤ length looks.now }
+    ensures same { (k : ℕ) (d : Look) → place ≤ k → k < result
+        → (slice_index_or looks.now k d).cell ≡ (slice_index_or looks.now place d).cell }
 {
-    if place == 0 {
-        false
-    } else {
-        looks[place - 1].cell == cell
+    let cell = looks[place].cell;
+    for next in place + 1..looks.len() {
+        if !is_same(looks[next].cell, cell) {
+            return next;
+        }
     }
+    looks.len()
+}
+
+// Whether two cells are one, by one comparison.
+#[inline(always)]
+fn is_same(cell: Cell, other: Cell) -> bool
+    ensures { result ≡ true → cell ≡ other }
+{
+    cell_number(cell) == cell_number(other)
+}
+
+// A cell as one number.
+#[inline(always)]
+fn cell_number(cell: Cell) -> u32
+    ensures { result ≡ cell.step.0 * 65536 + cell.slot.0 }
+{
+    u32::from(cell.step.0) * 65536 + u32::from(cell.slot.0)
 }
 
 // Whether the look in a place was at this cell.
@@ -314,7 +313,7 @@ fn is_in_place(looks: &[Look], place: usize, cell: Cell) -> bool
     ensures { result ≡ true → IsSomeAnd (slice_get looks.now place) (λ look. look.cell ≡ cell) }
 {
     match looks.get(place) {
-        Some(look) => look.cell == cell,
+        Some(look) => is_same(look.cell, cell),
         None => false,
     }
 }

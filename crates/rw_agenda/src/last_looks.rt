@@ -1,9 +1,10 @@
-ghost use Rattle.std.specs.Prelude.{◌≡◌, ◌≤◌, [], Some, IfOk, length, not, unwrap_or};
+ghost use Rattle.std.specs.Prelude.{◌≡◌, ◌≤◌, ◌+◌, ◌++◌, [], Some, IfOk, length, not, unwrap_or};
 ghost use Rattle.rw_run.specs.Log.{value_in};
 ghost use Rattle.rw_run.specs.Next.{is_changed, is_same_value};
 ghost use Rattle.rw_series.specs.Series.{held};
 ghost use Rattle.rw_agenda.specs.Agenda.{unfired};
 
+use crate::limits::PIECE;
 use rw_base::NoMemory;
 use rw_firing::Look;
 use rw_series::Series;
@@ -100,8 +101,49 @@ fn fill(looks: &mut Vec<Look>, looked: &[Look])
     ensures room { looks.old.cap ≤ looks.new.cap }
 {
     looks.clear();
+    if looked.len() < PIECE {
+        add_each(looks, looked);
+    } else {
+        add_pieces(looks, looked);
+    }
+}
+
+// Adds looks one by one. There is room for them.
+#[inline(always)]
+fn add_each(looks: &mut Vec<Look>, looked: &[Look])
+    requires { length looks.old.items + length looked.now ≤ looks.old.cap }
+    ensures items { looks.new.items ≡ looks.old.items ++ looked.now }
+    ensures room { looks.old.cap ≤ looks.new.cap }
+{
     for look in looked {
         looks.push_reserved(*look);
+    }
+}
+
+// The same, many at once.
+#[inline(never)]
+fn add_pieces(looks: &mut Vec<Look>, looked: &[Look])
+    requires { length looks.old.items + length looked.now ≤ looks.old.cap }
+    ensures items { looks.new.items ≡ looks.old.items ++ looked.now }
+    ensures room { looks.old.cap ≤ looks.new.cap }
+{
+    let mut done = 0;
+    while done + PIECE < looked.len() {
+        add_piece(looks, &looked[done..done + PIECE]);
+        done += PIECE;
+    }
+    add_piece(looks, &looked[done..]);
+}
+
+// The same, all at once.
+fn add_piece(looks: &mut Vec<Look>, piece: &[Look])
+    requires { length looks.old.items + length piece.now ≤ looks.old.cap }
+    ensures items { looks.new.items ≡ looks.old.items ++ piece.now }
+    ensures room { looks.old.cap ≤ looks.new.cap }
+{
+    match looks.extend_from_slice(piece) {
+        Ok(()) => {}
+        Err(_) => unreachable!(),
     }
 }
 

@@ -9,3 +9,6 @@ pub(crate) const INDEX_STEPS: u16 = 16;
 
 /// How many words of 64 bits have a bit for each of them.
 pub(crate) const TURN_WORDS: usize = 4;
+
+/// How many looks are copied at once. Fewer are pushed one by one.
+pub(crate) const PIECE: usize = 64;

@@ -1,5 +1,0 @@
-use Rattle.rw_base.proofs.Common.{take, ◌≡◌, ◌≤◌}
-use Rattle.rw_agenda.proofs.last_looks.fill.Given as goal
-
-abbrev pub invariant-loop-look : goal.invariant-loop-look
-invariant-loop-look l = record { items : l.looks.items ≡ take l.look-index l.looked; room : l.fn.looks.cap ≤ l.looks.cap }
