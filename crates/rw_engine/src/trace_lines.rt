@@ -219,15 +219,15 @@ fn note_fired(
     lines: &mut Trace,
     rule: RuleNo,
     step: StepNo,
-    fired: &RuleFired,
+    fired: RuleFired,
     writes: &[Write],
 ) -> Result<(), NoMemory>
     ensures told { IfOk result (λ _. lines.new ≡ told lines.old
-        (lines_of_rule rule.0 step.0 fired.now.end fired.now.count writes.now)) }
+        (lines_of_rule rule.0 step.0 fired.end fired.count writes.now)) }
     ensures grows { TraceGrows lines.old lines.new }
     ensures wants { IfErr result (λ _. IsSome lines.old) }
 {
-    tell_firing(lines, rule, step, fired, writes)?;
+    tell_firing(lines, rule, step, &fired, writes)?;
     Ok(())
 }
 
@@ -246,7 +246,7 @@ pub(crate) fn note_firing_lines(
     ensures wants { IfErr result (λ _. IsSome lines.old) }
 {
     if lines.is_kept() {
-        note_fired(lines, rule, step, fired, writes)
+        note_fired(lines, rule, step, *fired, writes)
     } else {
         Ok(())
     }
