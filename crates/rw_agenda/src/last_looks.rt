@@ -4,7 +4,7 @@ ghost use Rattle.rw_run.specs.Next.{is_changed, is_same_value};
 ghost use Rattle.rw_series.specs.Series.{held};
 ghost use Rattle.rw_agenda.specs.Agenda.{unfired};
 
-use crate::limits::PIECE;
+use crate::limits::MANY_LOOKS;
 use rw_base::NoMemory;
 use rw_firing::Look;
 use rw_series::Series;
@@ -101,10 +101,10 @@ fn fill(looks: &mut Vec<Look>, looked: &[Look])
     ensures room { looks.old.cap ≤ looks.new.cap }
 {
     looks.clear();
-    if looked.len() < PIECE {
+    if looked.len() < MANY_LOOKS {
         add_each(looks, looked);
     } else {
-        add_pieces(looks, looked);
+        add_all(looks, looked);
     }
 }
 
@@ -120,28 +120,14 @@ fn add_each(looks: &mut Vec<Look>, looked: &[Look])
     }
 }
 
-// The same, many at once.
+// The same, all at once.
 #[inline(never)]
-fn add_pieces(looks: &mut Vec<Look>, looked: &[Look])
+fn add_all(looks: &mut Vec<Look>, looked: &[Look])
     requires { length looks.old.items + length looked.now ≤ looks.old.cap }
     ensures items { looks.new.items ≡ looks.old.items ++ looked.now }
     ensures room { looks.old.cap ≤ looks.new.cap }
 {
-    let mut done = 0;
-    while done + PIECE < looked.len() {
-        add_piece(looks, &looked[done..done + PIECE]);
-        done += PIECE;
-    }
-    add_piece(looks, &looked[done..]);
-}
-
-// The same, all at once.
-fn add_piece(looks: &mut Vec<Look>, piece: &[Look])
-    requires { length looks.old.items + length piece.now ≤ looks.old.cap }
-    ensures items { looks.new.items ≡ looks.old.items ++ piece.now }
-    ensures room { looks.old.cap ≤ looks.new.cap }
-{
-    match looks.extend_from_slice(piece) {
+    match looks.extend_from_slice(looked) {
         Ok(()) => {}
         Err(_) => unreachable!(),
     }

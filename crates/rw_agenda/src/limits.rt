@@ -10,5 +10,5 @@ pub(crate) const INDEX_STEPS: u16 = 16;
 /// How many words of 64 bits have a bit for each of them.
 pub(crate) const TURN_WORDS: usize = 4;
 
-/// How many looks are copied at once. Fewer are pushed one by one.
-pub(crate) const PIECE: usize = 64;
+/// From how many looks on they are copied at once. Fewer are pushed one by one.
+pub(crate) const MANY_LOOKS: usize = 64;
