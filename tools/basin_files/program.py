@@ -14,7 +14,7 @@ from .reasons import LONG, plain
 
 TOP = Path(__file__).resolve().parents[2]
 HOW_BUILT = (
-    "`./basin --build` proves and builds it, which takes some 55 minutes of a quick processor and tells how far it"
+    "`./basin --build` proves and builds it, which takes about an hour of a quick processor and tells how far it"
     " is; BASIN=PATH in front of the tool names another program"
 )
 RELEASED = "program/basin"  # where a release has the program, and the repository nothing
