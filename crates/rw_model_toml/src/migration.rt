@@ -58,7 +58,8 @@ fn judge(alloc: Global, table: &Table) -> Result<(), ModelFault>
 pub fn migrate(alloc: Global, text: &[u8]) -> Result<Vec<u8>, ModelFault>
     ensures text { IfOk result (λ new. IsMigrated text.now new.items) }
     ensures accepted { OnOk result ((basin : Draft) × (model_of text.now ≡ Ok basin)) }
-    ensures refused { IfErr result (IsWhy ModelFault.NoMemory model_refusal_of (model_of text.now)) }
+    ensures refused { IfErr result
+        (IsWhy ModelFault.NoMemory model_refusal_of (model_of text.now)) }
 {
     let mut table = read_table(alloc, text)?;
     judge(alloc, &table)?;
