@@ -26,11 +26,10 @@ use Rattle.rw_run.specs.Log.{Cells}
 use Rattle.rw_run.specs.Next.{agenda_of, is_changed}
 use Rattle.rw_agenda.specs.Agenda.{AreAllMarked, AreMarkedFresh, AreWatching, Entry, IsIndexed, KeepsRules, agenda_of_marks, first_due_in, forgotten, is_due_in}
 use Rattle.rw_agenda.specs.Agenda.{unfired}
-use Rattle.rw_model.specs.Objects.{numbered}
-use Rattle.rw_agenda.specs.CellIndex.{CellIndex, has_watch, is_met, is_watching}
+use Rattle.rw_agenda.specs.CellIndex.{CellIndex, has_watch, is_met, is_watching, watch_numbered}
 use Rattle.rw_agenda.specs.declared.watch.Watch.{Watch}
 use Rattle.rw_agenda.specs.declared.limits.TheConstants.{RULES_MAX}
-use Rattle.rw_agenda.proofs.Watches.{met_last, met_next, or_right}
+use Rattle.rw_agenda.proofs.Watches.{met_last, met_next, numbered_past, or_right}
 use Rattle.rw_agenda.proofs.Order.{high_turn, in_no_turn, low_turn, not_in_turn}
 use Rattle.rw_base.specs.Bit.{has_bit}
 use Rattle.rw_agenda.specs.Marks.{AreTurns, IsFirst, IsFirstMarked, IsFirstOf, Marks, MarksMore, is_flagged, is_marked_in, agenda_turn, with_mark}
@@ -266,18 +265,18 @@ or_none : (x : Bool) → x ≡ (x || false)
 or_none true = refl
 or_none false = refl
 
-pub marks_last : (watches : List Watch) (times left number rule step : ℕ) (mark : Bool) → times ≡ suc left → numbered watches number ≡ None
-    → mark ≡ (mark || is_met watches times number rule step)
-marks_last watches times left number rule step mark more none =
-    or_none mark ∙ ap (λ t. mark || t) (sym (met_last watches times left number rule step more none))
+pub marks_last : (watches : List Watch) (past times left number rule step : ℕ) (mark : Bool) → times ≡ suc left
+    → watch_numbered watches past number ≡ None → mark ≡ (mark || is_met watches past times number rule step)
+marks_last watches past times left number rule step mark more none =
+    or_none mark ∙ ap (λ t. mark || t) (sym (met_last watches past times left number rule step more none))
 
-pub marks_next : (watches : List Watch) (times left number rule step : ℕ) (watch : Watch) (old new : Bool) → times ≡ suc left
-    → numbered watches number ≡ Some watch → new ≡ (old || (watch.rule == rule && watch.step == step))
-    → (new || is_met watches left watch.before rule step) ≡ (old || is_met watches times number rule step)
-marks_next watches times left number rule step watch old new more found is =
-    ap (λ mark. mark || is_met watches left watch.before rule step) is
-    ∙ regroup old (watch.rule == rule && watch.step == step) (is_met watches left watch.before rule step)
-    ∙ ap (λ t. old || t) (sym (met_next watches times left number rule step watch more found))
+pub marks_next : (watches : List Watch) (past times left number rule step : ℕ) (watch : Watch) (old new : Bool) → times ≡ suc left
+    → watch_numbered watches past number ≡ Some watch → new ≡ (old || (watch.rule == rule && watch.step == step))
+    → (new || is_met watches past left watch.before rule step) ≡ (old || is_met watches past times number rule step)
+marks_next watches past times left number rule step watch old new more found is =
+    ap (λ mark. mark || is_met watches past left watch.before rule step) is
+    ∙ regroup old (watch.rule == rule && watch.step == step) (is_met watches past left watch.before rule step)
+    ∙ ap (λ t. old || t) (sym (met_next watches past times left number rule step watch more found))
   where
     regroup : (x y z : Bool) → ((x || y) || z) ≡ (x || (y || z))
     regroup true y z = refl
@@ -340,16 +339,16 @@ unwatched index step group marks none = record {
 }
 
 -- where a cell has no newest watch none is marked
-met_none : (watches : List Watch) (times rule step : ℕ) → is_met watches times 0 rule step ≡ false
-met_none watches zero rule step = refl
-met_none watches (suc times) rule step = refl
+met_none : (watches : List Watch) (past times number rule step : ℕ) → number ≤ past → is_met watches past times number rule step ≡ false
+met_none watches past zero number rule step none = refl
+met_none watches past (suc times) number rule step none =
+    met_last watches past (suc times) times number rule step refl (numbered_past watches past number none)
 
-pub unmet : (watches : List Watch) (times number step : ℕ) (marks : Marks) → number ≡ 0
-    → MarksMore (λ rule. is_met watches times number rule step) marks marks
-unmet watches times number step marks none = record {
+pub unmet : (watches : List Watch) (past times number step : ℕ) (marks : Marks) → number ≤ past
+    → MarksMore (λ rule. is_met watches past times number rule step) marks marks
+unmet watches past times number step marks none = record {
   order = refl;
   many = refl;
   marked = λ rule near.
-      sym (ap (λ met. is_flagged marks rule || met) (ap (λ n. is_met watches times n rule step) none ∙ met_none watches times rule step)
-      ∙ or-false (is_flagged marks rule));
+      sym (ap (λ met. is_flagged marks rule || met) (met_none watches past times number rule step none) ∙ or-false (is_flagged marks rule));
 }

@@ -10,13 +10,14 @@ use Rattle.rw_base.specs.declared.number.Cell.{Cell}
 use Rattle.rw_model.proofs.Numbered.{numbered-found, numbered-known}
 use Rattle.rw_model.specs.Objects.{numbered}
 use Rattle.rw_firing.specs.declared.look.Look.{Look}
-use Rattle.rw_agenda.specs.CellIndex.{CellIndex, has_watch, is_met, is_watching, newest_at, index_position}
+use Rattle.rw_agenda.specs.CellIndex.{CellIndex, has_watch, is_met, is_watching, newest_at, index_position, watch_numbered}
 use Rattle.rw_agenda.specs.declared.watch.Watch.{Watch}
 
 -- what is found of a watch, and of what it leads to
-abbrev met_in : List Watch → ℕ → ℕ → ℕ → Option Watch → Bool
-met_in watches times rule step found =
-    unwrap_or (option_map (λ (watch : Watch). (watch.rule == rule && watch.step == step) || is_met watches times watch.before rule step) found) false
+abbrev met_in : List Watch → ℕ → ℕ → ℕ → ℕ → Option Watch → Bool
+met_in watches past times rule step found =
+    unwrap_or (option_map (λ (watch : Watch). (watch.rule == rule && watch.step == step) || is_met watches past times watch.before rule step) found)
+    false
 
 numbered_first : (watches : List Watch) (number : ℕ) (watch : Watch) → numbered watches number ≡ Some watch → 1 ≤ number
 numbered_first watches zero watch is = absurd (none-some watch is)
@@ -36,34 +37,47 @@ or_either true y z gives is = refl
 or_either false y z gives is = gives is
 
 -- who was met still is, with more watches and more times
-pub met_more : (watches more : List Watch) (times most number rule step : ℕ) → times ≤ most → is_met watches times number rule step ≡ true
-    → is_met (watches ++ more) most number rule step ≡ true
-met_more watches more zero most number rule step few is = absurd (grind (arith, is))
-met_more watches more (suc times) zero number rule step few is = absurd (omega (arith, few))
-met_more watches more (suc times) (suc most) number rule step few is =
-    by (numbered watches number) refl (λ before. met_more watches more times most before rule step (omega (arith, few))) is
+pub met_more : (watches more : List Watch) (past times most number rule step : ℕ) → times ≤ most
+    → is_met watches past times number rule step ≡ true → is_met (watches ++ more) past most number rule step ≡ true
+met_more watches more past zero most number rule step few is = absurd (grind (arith, is))
+met_more watches more past (suc times) zero number rule step few is = absurd (omega (arith, few))
+met_more watches more past (suc times) (suc most) number rule step few is =
+    by (watch_numbered watches past number) refl (λ before. met_more watches more past times most before rule step (omega (arith, few))) is
   where
-    by : (found : Option Watch) → numbered watches number ≡ found
-        → ((before : ℕ) → is_met watches times before rule step ≡ true → is_met (watches ++ more) most before rule step ≡ true)
-        → met_in watches times rule step found ≡ true → met_in (watches ++ more) most rule step (numbered (watches ++ more) number) ≡ true
+    by : (found : Option Watch) → watch_numbered watches past number ≡ found
+        → ((before : ℕ) → is_met watches past times before rule step ≡ true → is_met (watches ++ more) past most before rule step ≡ true)
+        → met_in watches past times rule step found ≡ true
+        → met_in (watches ++ more) past most rule step (watch_numbered (watches ++ more) past number) ≡ true
     by None there later is = absurd (false≢true is)
     by (Some watch) there later is =
-        ap (met_in (watches ++ more) most rule step) (numbered_more watches more number watch there)
-        ∙ or_either (watch.rule == rule && watch.step == step) (is_met watches times watch.before rule step)
-        (is_met (watches ++ more) most watch.before rule step)
+        ap (met_in (watches ++ more) past most rule step) (numbered_more watches more (number - past) watch there)
+        ∙ or_either (watch.rule == rule && watch.step == step) (is_met watches past times watch.before rule step)
+        (is_met (watches ++ more) past most watch.before rule step)
         (later watch.before) is
 
 -- ---- going on from watch to watch
 
-pub met_last : (watches : List Watch) (times left number rule step : ℕ) → times ≡ suc left → numbered watches number ≡ None
-    → is_met watches times number rule step ≡ false
-met_last watches times left number rule step is none =
-    ap (λ k. is_met watches k number rule step) is ∙ ap (met_in watches left rule step) none
+pub met_last : (watches : List Watch) (past times left number rule step : ℕ) → times ≡ suc left → watch_numbered watches past number ≡ None
+    → is_met watches past times number rule step ≡ false
+met_last watches past times left number rule step is none =
+    ap (λ k. is_met watches past k number rule step) is ∙ ap (met_in watches past left rule step) none
 
-pub met_next : (watches : List Watch) (times left number rule step : ℕ) (watch : Watch) → times ≡ suc left → numbered watches number ≡ Some watch
-    → is_met watches times number rule step ≡ ((watch.rule == rule && watch.step == step) || is_met watches left watch.before rule step)
-met_next watches times left number rule step watch is found =
-    ap (λ k. is_met watches k number rule step) is ∙ ap (met_in watches left rule step) found
+pub met_next : (watches : List Watch) (past times left number rule step : ℕ) (watch : Watch) → times ≡ suc left
+    → watch_numbered watches past number ≡ Some watch
+    → is_met watches past times number rule step
+    ≡ ((watch.rule == rule && watch.step == step) || is_met watches past left watch.before rule step)
+met_next watches past times left number rule step watch is found =
+    ap (λ k. is_met watches past k number rule step) is ∙ ap (met_in watches past left rule step) found
+
+-- a number behind those that are past
+pub numbered_behind : (watches : List Watch) (past number : ℕ) → past < number
+    → watch_numbered watches past number ≡ slice_get watches (number - past - 1)
+numbered_behind watches past number behind = numbered-known watches (number - past) (omega (arith, behind))
+
+-- and one of those
+pub numbered_past : (watches : List Watch) (past number : ℕ) → number ≤ past → watch_numbered watches past number ≡ None
+numbered_past watches past number is =
+    let none : number - past ≡ 0 = omega (arith, is) in ap (numbered watches) none
 
 last_watch : (watches : List Watch) (watch : Watch) → numbered (watches ++ watch ∷ []) (suc (length watches)) ≡ Some watch
 last_watch watches watch =
@@ -76,90 +90,102 @@ or_right true y is = refl
 or_right false y is = is
 
 -- the newest watch is met
-pub met_newest : (watches : List Watch) (watch : Watch) (rule step : ℕ)
-    → is_met (watches ++ watch ∷ []) (length (watches ++ watch ∷ [])) (length (watches ++ watch ∷ [])) rule step
-    ≡ ((watch.rule == rule && watch.step == step) || is_met (watches ++ watch ∷ []) (length watches) watch.before rule step)
-met_newest watches watch rule step =
+pub met_newest : (watches : List Watch) (watch : Watch) (past rule step : ℕ)
+    → is_met (watches ++ watch ∷ []) past (length (watches ++ watch ∷ [])) (past + length (watches ++ watch ∷ [])) rule step
+    ≡ ((watch.rule == rule && watch.step == step) || is_met (watches ++ watch ∷ []) past (length watches) watch.before rule step)
+met_newest watches watch past rule step =
     let many : length (watches ++ watch ∷ []) ≡ suc (length watches) = omega (arith, length-append watches (watch ∷ [])) in
-    met_next (watches ++ watch ∷ []) (length (watches ++ watch ∷ [])) (length watches) (length (watches ++ watch ∷ [])) rule step watch many
-    (ap (numbered (watches ++ watch ∷ [])) many ∙ last_watch watches watch)
+    let last : past + length (watches ++ watch ∷ []) - past ≡ suc (length watches) = omega (arith, many) in
+    met_next (watches ++ watch ∷ []) past (length (watches ++ watch ∷ [])) (length watches) (past + length (watches ++ watch ∷ [])) rule step watch
+    many
+    (ap (numbered (watches ++ watch ∷ [])) last ∙ last_watch watches watch)
 
 -- ---- an index with one watch more
 
-module _ (slots room : ℕ) (newest : List ℕ) (watches : List Watch) (full : Bool) (place rule step : ℕ) where
+module _ (slots past room : ℕ) (newest : List ℕ) (watches : List Watch) (full : Bool) (place rule step : ℕ) where
   abbrev before_it : ℕ
   before_it = slice_index_or newest place 0
 
   abbrev whole : List Watch
-  whole = watches ++ record { rule = rule; step = step; place = place; before = before_it } ∷ []
+  whole = watches ++ record { rule = rule; step = step; before = before_it } ∷ []
 
   abbrev old : CellIndex
-  old = record { slots = slots; newest = newest; watches = watches; room = room; is_full = full }
+  old = record { slots = slots; newest = newest; watches = watches; past = past; room = room; is_full = full }
 
   abbrev new : CellIndex
-  new = record { slots = slots; newest = set newest place (length whole); watches = whole; room = room; is_full = full }
+  new = record {
+    slots = slots;
+    newest = set newest place (past + length whole);
+    watches = whole;
+    past = past;
+    room = room;
+    is_full = full;
+  }
 
-  met_here : (earlier time : ℕ) → is_met watches (length watches) (slice_index_or newest place 0) earlier time ≡ true
-      → is_met whole (length whole) (length whole) earlier time ≡ true
+  met_here : (earlier time : ℕ) → is_met watches past (length watches) (slice_index_or newest place 0) earlier time ≡ true
+      → is_met whole past (length whole) (past + length whole) earlier time ≡ true
   met_here earlier time is =
-      met_newest watches (record { rule = rule; step = step; place = place; before = before_it }) earlier time
-      ∙ or_right (rule == earlier && step == time) _ (met_more watches _ (length watches) (length watches) before_it earlier time (omega arith) is)
+      met_newest watches (record { rule = rule; step = step; before = before_it }) past earlier time
+      ∙ or_right (rule == earlier && step == time) _
+      (met_more watches _ past (length watches) (length watches) before_it earlier time (omega arith) is)
 
   pub kept_watch : place < length newest → (other : Cell) (earlier : ℕ) → is_watching old other earlier ≡ true → is_watching new other earlier ≡ true
   kept_watch near other earlier is =
-      or_either full (is_met watches (length watches) (newest_at old other) earlier other.step.0)
-      (is_met whole (length whole) (newest_at new other) earlier other.step.0)
+      or_either full (is_met watches past (length watches) (newest_at old other) earlier other.step.0)
+      (is_met whole past (length whole) (newest_at new other) earlier other.step.0)
       (by (index_position slots other)) is
     where
       time : ℕ
       time = other.step.0
 
-      by : (p : ℕ) → is_met watches (length watches) (slice_index_or newest p 0) earlier time ≡ true
-          → is_met whole (length whole) (slice_index_or (set newest place (length whole)) p 0) earlier time ≡ true
+      by : (p : ℕ) → is_met watches past (length watches) (slice_index_or newest p 0) earlier time ≡ true
+          → is_met whole past (length whole) (slice_index_or (set newest place (past + length whole)) p 0) earlier time ≡ true
       by p met = at (nat_eq p place) refl
         where
           at : (same : Bool) → nat_eq p place ≡ same
-              → is_met whole (length whole) (slice_index_or (set newest place (length whole)) p 0) earlier time ≡ true
+              → is_met whole past (length whole) (slice_index_or (set newest place (past + length whole)) p 0) earlier time ≡ true
           at true same =
               let is_place : p ≡ place = grind (arith, nat_tests, same) in
-              ap (λ n. is_met whole (length whole) n earlier time)
-              (ap (λ k. get_or (set newest place (length whole)) k 0) is_place ∙ get_or-set_same newest place (length whole) 0 near)
-              ∙ met_here earlier time (ap (λ k. is_met watches (length watches) (get_or newest k 0) earlier time) (sym is_place) ∙ met)
+              ap (λ n. is_met whole past (length whole) n earlier time)
+              (ap (λ k. get_or (set newest place (past + length whole)) k 0) is_place
+              ∙ get_or-set_same newest place (past + length whole) 0 near)
+              ∙ met_here earlier time (ap (λ k. is_met watches past (length watches) (get_or newest k 0) earlier time) (sym is_place) ∙ met)
           at false apart =
-              ap (λ n. is_met whole (length whole) n earlier time) (get_or-set_other newest place p (length whole) 0 (grind (arith, nat_tests, apart)))
-              ∙ met_more watches _ (length watches) (length whole) (get_or newest p 0) earlier time
-              (omega (arith, length-append watches (record { rule = rule; step = step; place = place; before = before_it } ∷ []))) met
+              ap (λ n. is_met whole past (length whole) n earlier time)
+              (get_or-set_other newest place p (past + length whole) 0 (grind (arith, nat_tests, apart)))
+              ∙ met_more watches _ past (length watches) (length whole) (get_or newest p 0) earlier time
+              (omega (arith, length-append watches (record { rule = rule; step = step; before = before_it } ∷ []))) met
 
   pub new_watch : place < length newest → (cell : Cell) → cell.step.0 ≡ step → index_position slots cell ≡ place
       → is_watching new cell rule ≡ true
   new_watch near cell same is =
       or_right full _
-      (ap (is_met whole (length whole) (newest_at new cell) rule) same
-      ∙ ap (λ p. is_met whole (length whole) (slice_index_or (set newest place (length whole)) p 0) rule step) is
-      ∙ ap (λ n. is_met whole (length whole) n rule step) (get_or-set_same newest place (length whole) 0 near)
-      ∙ met_newest watches (record { rule = rule; step = step; place = place; before = before_it }) rule step
-      ∙ ap₂ (λ a b. (a && b) || is_met whole (length watches) before_it rule step) (nat_eq_equiv.refl rule) (nat_eq_equiv.refl step))
+      (ap (is_met whole past (length whole) (newest_at new cell) rule) same
+      ∙ ap (λ p. is_met whole past (length whole) (slice_index_or (set newest place (past + length whole)) p 0) rule step) is
+      ∙ ap (λ n. is_met whole past (length whole) n rule step) (get_or-set_same newest place (past + length whole) 0 near)
+      ∙ met_newest watches (record { rule = rule; step = step; before = before_it }) past rule step
+      ∙ ap₂ (λ a b. (a && b) || is_met whole past (length watches) before_it rule step) (nat_eq_equiv.refl rule) (nat_eq_equiv.refl step))
 
   -- the same of what the code has
   module _ (seen count : ℕ) (pushed : List Watch) (saw : seen ≡ slice_index_or newest place 0)
-      (is : pushed ≡ watches ++ record { rule = rule; step = step; place = place; before = seen } ∷ []) (many : count ≡ length pushed) where
+      (is : pushed ≡ watches ++ record { rule = rule; step = step; before = seen } ∷ []) (many : count ≡ past + length pushed) where
     abbrev made : List Watch → ℕ → CellIndex
-    made all number = record { slots = slots; newest = set newest place number; watches = all; room = room; is_full = full }
+    made all number = record { slots = slots; newest = set newest place number; watches = all; past = past; room = room; is_full = full }
 
     whole_is : pushed ≡ whole
-    whole_is = is ∙ ap (λ n. watches ++ record { rule = rule; step = step; place = place; before = n } ∷ []) saw
+    whole_is = is ∙ ap (λ n. watches ++ record { rule = rule; step = step; before = n } ∷ []) saw
 
     pub watching_now : place < length newest → (cell : Cell) → cell.step.0 ≡ step → index_position slots cell ≡ place
         → is_watching (made pushed count) cell rule ≡ true
     watching_now near cell same at =
         subst (λ k. is_watching (made pushed k) cell rule ≡ true) (sym many)
-        (subst (λ all. is_watching (made all (length all)) cell rule ≡ true) (sym whole_is) (new_watch near cell same at))
+        (subst (λ all. is_watching (made all (past + length all)) cell rule ≡ true) (sym whole_is) (new_watch near cell same at))
 
     pub watching_still : place < length newest → (other : Cell) (earlier : ℕ) → is_watching old other earlier ≡ true
         → is_watching (made pushed count) other earlier ≡ true
     watching_still near other earlier watching =
         subst (λ k. is_watching (made pushed k) other earlier ≡ true) (sym many)
-        (subst (λ all. is_watching (made all (length all)) other earlier ≡ true) (sym whole_is) (kept_watch near other earlier watching))
+        (subst (λ all. is_watching (made all (past + length all)) other earlier ≡ true) (sym whole_is) (kept_watch near other earlier watching))
 
 -- ---- cells that are watched one after another
 
@@ -181,4 +207,4 @@ watching_on index more rule looks place next look near is same kept before watch
 
 -- an index without watches
 pub idle : (index : CellIndex) → length index.watches ≡ 0 → (cell : Cell) (rule : ℕ) → has_watch index cell rule ≡ false
-idle index none cell rule = ap (λ n. is_met index.watches n (newest_at index cell) rule cell.step.0) none
+idle index none cell rule = ap (λ n. is_met index.watches index.past n (newest_at index cell) rule cell.step.0) none

@@ -1,11 +1,10 @@
-ghost use Rattle.std.specs.Prelude.{◌≡◌, ◌≤◌, ◌<◌, ◌+◌, ◌*◌, ◌-◌, ◌==◌, ◌||◌, ◌&&◌, ◌++◌, ◌∷◌, [], ℕ, All, IfOk, IsSomeAnd, Some, None, true, false, length, slice_index_or, vec_len};
+ghost use Rattle.std.specs.Prelude.{◌≡◌, ◌≤◌, ◌<◌, ◌+◌, ◌*◌, ◌-◌, ◌^◌, ◌==◌, ◌||◌, ◌&&◌, ◌++◌, ◌∷◌, [], ℕ, All, IfOk, IsSomeAnd, Some, None, true, false, length, slice_index_or};
 ghost use Rattle.std.specs.List.{list_any, slice_get};
 ghost use Rattle.rw_base.specs.declared.number.Cell.{Cell};
 ghost use Rattle.rw_model.specs.Kept.{numbers_of};
-ghost use Rattle.rw_model.specs.Objects.{numbered};
 ghost use Rattle.rw_run.specs.Dispatch.{cell_at};
 ghost use Rattle.rw_firing.specs.declared.look.Look.{Look};
-ghost use Rattle.rw_agenda.specs.CellIndex.{CanWatch, has_watch, is_met, is_watching, newest_at, index_position};
+ghost use Rattle.rw_agenda.specs.CellIndex.{CanWatch, has_watch, is_met, is_watching, newest_at, index_position, watch_numbered};
 ghost use Rattle.rw_agenda.specs.Marks.{MarksMore};
 ghost use Rattle.rw_agenda.specs.declared.watch.Watch.{Watch};
 
@@ -27,12 +26,13 @@ pub(crate) struct CellIndex {
     slots: u16,
     newest: Vec<u32>,
     watches: Vec<Watch>,
+    past: u32,
     room: u32,
     full: bool,
 }
 
 impl Model for CellIndex {
-    ghost use Rattle.std.specs.Prelude.{◌≤◌};
+    ghost use Rattle.std.specs.Prelude.{◌≤◌, ◌<◌, ◌+◌, ◌^◌};
     ghost use Rattle.rw_agenda.specs.CellIndex as specs;
 
     ghost Value = { specs.CellIndex };
@@ -41,11 +41,13 @@ impl Model for CellIndex {
       slots = index.slots;
       newest = index.newest.items;
       watches = index.watches.items;
+      past = index.past;
       room = index.room;
       is_full = index.full;
     } };
 
-    ghost invariant = { λ index. index.room ≤ index.watches.cap };
+    ghost invariant = { λ index.
+        (index.room ≤ index.watches.cap) × (index.past + index.room < 2 ^ 32) };
 }
 
 impl CellIndex {
@@ -61,23 +63,27 @@ impl CellIndex {
             slots,
             newest,
             watches,
+            past: 0,
             room,
             full: false,
         })
     }
 
-    /// No rule watches a cell. This takes as long as there are watches.
+    /// No rule watches a cell. Those that come next have other numbers than all before, so that no cell's newest one is taken out.
     pub(crate) fn clear(&mut self)
         ensures { (cell : Cell) (rule : ℕ) → is_watching self.new cell rule ≡ false }
     {
-        forget_newest(&mut self.newest, self.watches.as_slice());
+        self.past = passed(self.past, self.room);
+        if self.past == 0 {
+            self.newest.fill(0);
+        }
         self.watches.clear();
         self.full = false;
     }
 
-    /// The rule in this place looked at a cell, and watches it. Where it fired before in the timestep, this takes as long as there
-    /// are rules that watch the cell.
-    pub(crate) fn watch(&mut self, rule: u16, cell: Cell, again: bool)
+    /// The rule in this place looked at a cell, and watches it, once more where it does already.
+    #[inline(always)]
+    pub(crate) fn watch(&mut self, rule: u16, cell: Cell)
         ensures watching { is_watching self.new cell rule ≡ true }
         ensures kept { (other : Cell) (earlier : ℕ) → is_watching self.old other earlier ≡ true
             → is_watching self.new other earlier ≡ true }
@@ -89,20 +95,17 @@ impl CellIndex {
             return;
         }
         let newest = self.newest[place];
-        let step = cell.step.0;
-        if is_known(self.watches.as_slice(), newest, rule, step, again) {
-            return;
-        }
         if self.watches.len() >= self.room as usize {
             self.full = true;
             return;
         }
-        push_watch(&mut self.watches, rule, step, place, newest);
-        self.newest[place] = self.watches.len() as u32;
+        push_watch(&mut self.watches, rule, cell.step.0, newest);
+        self.newest[place] = self.past + self.watches.len() as u32;
     }
 
     /// The rule in this place looked at these cells, and watches them. It watches those already at which it looked before. In a
-    /// place from `most` on it didn't look before in the timestep, so that those who watch the cell aren't gone through.
+    /// place from `most` on it didn't look before in the timestep, so that it isn't asked whether it watches the cell.
+    #[inline(never)]
     pub(crate) fn watch_all(&mut self, rule: u16, before: &[Look], most: usize, looked: &[Look])
         requires { All (λ (look : Look). is_watching self.old look.cell rule ≡ true) before.now }
         ensures watching { All
@@ -113,22 +116,47 @@ impl CellIndex {
         let mut place = 0;
         while place < looked.len() {
             let cell = looked[place].cell;
+            let next = next_cell(looked, place);
             self.watch_at(rule, before, most, place, cell);
-            place = next_cell(looked, place);
+            place = next;
         }
     }
 
     // The rule looked at a cell at this place of its looks.
+    #[inline(always)]
     fn watch_at(&mut self, rule: u16, before: &[Look], most: usize, place: usize, cell: Cell)
         requires { All (λ (look : Look). is_watching self.old look.cell rule ≡ true) before.now }
         ensures watching { is_watching self.new cell rule ≡ true }
         ensures kept { (other : Cell) (earlier : ℕ) → is_watching self.old other earlier ≡ true
             → is_watching self.new other earlier ≡ true }
     {
-        if is_in_place(before, place, cell) {
+        if place < most {
+            self.watch_again(rule, before, place, cell);
+        } else {
+            self.watch(rule, cell);
+        }
+    }
+
+    // The same, of a place at which it looked before in the timestep.
+    #[inline(never)]
+    fn watch_again(&mut self, rule: u16, before: &[Look], place: usize, cell: Cell)
+        requires { All (λ (look : Look). is_watching self.old look.cell rule ≡ true) before.now }
+        ensures watching { is_watching self.new cell rule ≡ true }
+        ensures kept { (other : Cell) (earlier : ℕ) → is_watching self.old other earlier ≡ true
+            → is_watching self.new other earlier ≡ true }
+    {
+        if is_in_place(before, place, cell) || self.is_watched(rule, cell) {
             return;
         }
-        self.watch(rule, cell, place < most);
+        self.watch(rule, cell);
+    }
+
+    // Whether the rule is met, going from the newest watch of the cell to the one before, and so on.
+    fn is_watched(&self, rule: u16, cell: Cell) -> bool
+        ensures { result ≡ true → is_watching self.now cell rule ≡ true }
+    {
+        let newest = self.newest_at(self.slots, cell);
+        is_met(self.watches.as_slice(), self.past, newest, rule, cell.step.0)
     }
 
     /// Marks each rule of which there is a watch of a cell of one of these slots at the timestep, and no other.
@@ -169,6 +197,7 @@ impl CellIndex {
         mark_from(
             marks,
             self.watches.as_slice(),
+            self.past,
             self.newest_at(slots, cell),
             cell.step.0,
         );
@@ -223,24 +252,34 @@ fn is_of(watch: Watch, rule: u16, step: u16) -> bool
     watch.rule == rule && watch.step == step
 }
 
-// The watch of a number, counted from 1.
-fn watch_of(watches: &[Watch], number: u32) -> Option<Watch>
-    ensures { result ≡ numbered watches.now number }
+// How many are past next, where so many watches are past and there is room for so many more. Where the numbers would come to their
+// end, they begin anew.
+fn passed(past: u32, room: u32) -> u32
+    requires { past + room < 2 ^ 32 }
+    ensures { result + room < 2 ^ 32 }
 {
-    if number == 0 {
+    let next = past + room;
+    if room <= u32::MAX - next { next } else { 0 }
+}
+
+// The watch of a number, counted from the first one behind those that are past.
+fn watch_of(watches: &[Watch], past: u32, number: u32) -> Option<Watch>
+    ensures { result ≡ watch_numbered watches.now past number }
+{
+    if number <= past {
         None
     } else {
-        watches.get(number as usize - 1).copied()
+        watches.get((number - past) as usize - 1).copied()
     }
 }
 
 // Whether the rule is met at the timestep, going from the watch of this number to the one before, and so on.
-fn is_met(watches: &[Watch], newest: u32, rule: u16, step: u16) -> bool
-    ensures { result ≡ is_met watches.now (length watches.now) newest rule step }
+fn is_met(watches: &[Watch], past: u32, newest: u32, rule: u16, step: u16) -> bool
+    ensures { result ≡ is_met watches.now past (length watches.now) newest rule step }
 {
     let mut number = newest;
     for turn in 0..watches.len() {
-        let Some(watch) = watch_of(watches, number) else {
+        let Some(watch) = watch_of(watches, past, number) else {
             return false;
         };
         if is_of(watch, rule, step) {
@@ -249,28 +288,6 @@ fn is_met(watches: &[Watch], newest: u32, rule: u16, step: u16) -> bool
         number = watch.before;
     }
     false
-}
-
-// Whether the rule is the newest watch's, and the timestep too.
-fn is_newest(watches: &[Watch], newest: u32, rule: u16, step: u16) -> bool
-    ensures { result ≡ true → is_met watches.now (length watches.now) newest rule step ≡ true }
-{
-    match watch_of(watches, newest) {
-        Some(watch) => is_of(watch, rule, step),
-        None => false,
-    }
-}
-
-// Whether the rule is known to be met, going from the newest watch of a cell. Where it didn't fire before in the timestep, its
-// firing made the newest watches of the cells that it watches.
-fn is_known(watches: &[Watch], newest: u32, rule: u16, step: u16, again: bool) -> bool
-    ensures { result ≡ true → is_met watches.now (length watches.now) newest rule step ≡ true }
-{
-    if again {
-        is_met(watches, newest, rule, step)
-    } else {
-        is_newest(watches, newest, rule, step)
-    }
 }
 
 // The first place behind this one of a look at another cell, and how many looks there are where there is none. A rule often looks
@@ -319,12 +336,11 @@ fn is_in_place(looks: &[Look], place: usize, cell: Cell) -> bool
 }
 
 // Adds a watch that leads to the newest one of its place, if there is one.
-fn push_watch(watches: &mut Vec<Watch>, rule: u16, step: u16, place: usize, newest: u32)
+fn push_watch(watches: &mut Vec<Watch>, rule: u16, step: u16, newest: u32)
     requires room { length watches.old.items < watches.old.cap }
     ensures added { watches.new.items ≡ watches.old.items ++ record {
       rule = rule;
       step = step;
-      place = place;
       before = newest;
     } ∷ [] }
     ensures room { watches.new.cap ≡ watches.old.cap }
@@ -332,30 +348,18 @@ fn push_watch(watches: &mut Vec<Watch>, rule: u16, step: u16, place: usize, newe
     watches.push_reserved(Watch {
         rule,
         step,
-        place,
         before: newest,
     });
 }
 
-// No cell that is watched has a newest watch.
-fn forget_newest(newest: &mut Vec<u32>, watches: &[Watch])
-    ensures { vec_len newest.new ≡ vec_len newest.old }
-{
-    for watch in watches {
-        if watch.place < newest.len() {
-            newest[watch.place] = 0;
-        }
-    }
-}
-
 // Marks each rule that is met at the timestep, going from the newest watch of a place, if it has one.
 #[inline(always)]
-fn mark_from(marks: &mut Marks, watches: &[Watch], newest: u32, step: u16)
-    ensures { MarksMore (λ rule. is_met watches.now (length watches.now) newest rule step)
+fn mark_from(marks: &mut Marks, watches: &[Watch], past: u32, newest: u32, step: u16)
+    ensures { MarksMore (λ rule. is_met watches.now past (length watches.now) newest rule step)
         marks.old marks.new }
 {
-    if newest != 0 {
-        mark_met(marks, watches, newest, step);
+    if past < newest {
+        mark_met(marks, watches, past, newest, step);
     }
 }
 
@@ -370,13 +374,13 @@ fn mark_one(marks: &mut Marks, watch: Watch, step: u16)
 
 // Marks each rule that is met at the timestep, going from the watch of this number to the one before, and so on.
 #[inline(never)]
-fn mark_met(marks: &mut Marks, watches: &[Watch], newest: u32, step: u16)
-    ensures { MarksMore (λ rule. is_met watches.now (length watches.now) newest rule step)
+fn mark_met(marks: &mut Marks, watches: &[Watch], past: u32, newest: u32, step: u16)
+    ensures { MarksMore (λ rule. is_met watches.now past (length watches.now) newest rule step)
         marks.old marks.new }
 {
     let mut number = newest;
     for turn in 0..watches.len() {
-        let Some(watch) = watch_of(watches, number) else {
+        let Some(watch) = watch_of(watches, past, number) else {
             return;
         };
         mark_one(marks, watch, step);

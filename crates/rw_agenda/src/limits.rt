@@ -11,4 +11,4 @@ pub(crate) const INDEX_STEPS: u16 = 16;
 pub(crate) const TURN_WORDS: usize = 4;
 
 /// From how many looks on they are copied at once. Fewer are pushed one by one.
-pub(crate) const MANY_LOOKS: usize = 64;
+pub(crate) const MANY_LOOKS: usize = 16;

@@ -10,6 +10,6 @@ loop-turn-preserved c =
     let more : length watches - c.loop-turn.turn ≡ suc left = omega (arith, c.loop-turn-test.true) in
     let other : (c.in-Some.watch.rule == c.args.rule && c.in-Some.watch.step == c.args.step) ≡ false =
     sym c.is_of.ensures ∙ c.if-is_of.false in
-    let next = met_next watches (length watches - c.loop-turn.turn) left c.loop-turn.number c.args.rule c.args.step c.in-Some.watch more
+    let next = met_next watches c.args.past (length watches - c.loop-turn.turn) left c.loop-turn.number c.args.rule c.args.step c.in-Some.watch more
     (sym c.watch_of.ensures ∙ c.in-Some.is) in
-    sym (next ∙ ap (λ t. t || is_met watches left c.in-Some.watch.before c.args.rule c.args.step) other) ∙ c.loop-turn.invariant
+    sym (next ∙ ap (λ t. t || is_met watches c.args.past left c.in-Some.watch.before c.args.rule c.args.step) other) ∙ c.loop-turn.invariant

@@ -11,7 +11,7 @@ returns-in_default c =
       order = c.loop-turn.invariant.order;
       many = c.loop-turn.invariant.many;
       marked = λ rule near.
-          marks_last watches (length watches - c.loop-turn.turn) left c.loop-turn.number rule c.args.step (is_flagged c.loop-turn.marks rule) more
+          marks_last watches c.args.past (length watches - c.loop-turn.turn) left c.loop-turn.number rule c.args.step (is_flagged c.loop-turn.marks rule) more
           (sym c.watch_of.ensures ∙ c.in_default.is)
           ∙ c.loop-turn.invariant.marked rule near;
     }
@@ -24,7 +24,7 @@ loop-turn-preserved c =
       order = c.mark_one.ensures.order ∙ c.loop-turn.invariant.order;
       many = c.mark_one.ensures.many ∙ c.loop-turn.invariant.many;
       marked = λ rule near.
-          marks_next watches (length watches - c.loop-turn.turn) left c.loop-turn.number rule c.args.step c.in-Some.watch
+          marks_next watches c.args.past (length watches - c.loop-turn.turn) left c.loop-turn.number rule c.args.step c.in-Some.watch
           (is_flagged c.loop-turn.marks rule) (is_flagged c.mark_one.new.marks rule) more (sym c.watch_of.ensures ∙ c.in-Some.is)
           (c.mark_one.ensures.marked rule (omega (arith, near, c.loop-turn.invariant.many)))
           ∙ c.loop-turn.invariant.marked rule near;

@@ -8,6 +8,6 @@ invariant-loop-turn l = record {
   order : l.marks.order ≡ l.fn.marks.order;
   many : length l.marks.flags ≡ length l.fn.marks.flags;
   marked : (rule : ℕ) → rule < length l.fn.marks.flags
-      → (is_flagged l.marks rule || is_met l.watches (length l.watches - l.turn) l.number rule l.step)
-      ≡ (is_flagged l.fn.marks rule || is_met l.watches (length l.watches) l.newest rule l.step);
+      → (is_flagged l.marks rule || is_met l.watches l.past (length l.watches - l.turn) l.number rule l.step)
+      ≡ (is_flagged l.fn.marks rule || is_met l.watches l.past (length l.watches) l.newest rule l.step);
 }

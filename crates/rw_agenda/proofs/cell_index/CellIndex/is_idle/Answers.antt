@@ -11,6 +11,7 @@ returns c is cell rule =
       slots = c.self.inside.slots;
       newest = c.self.inside.newest.items;
       watches = c.self.inside.watches.items;
+      past = c.self.inside.past;
       room = c.self.inside.room;
       is_full = c.self.inside.full;
     }) none cell rule)

@@ -12,8 +12,8 @@ loop-place-preserved c =
     let watching : is_watching c.watch_at.new.self c.index-looked-place.result.cell c.args.rule ≡ true =
     ap (λ (look : Look). is_watching c.watch_at.new.self look.cell c.args.rule) c.index-looked-place.is
     ∙ c.watch_at.ensures.watching in record {
-      watching = watching_on c.loop-place.self c.watch_at.new.self c.args.rule c.args.looked.now c.loop-place.place c.next_cell-place.result
-          c.index-looked-place.result (omega (arith, c.loop-place-test.true)) c.index-looked-place.is c.next_cell-place.ensures.same
+      watching = watching_on c.loop-place.self c.watch_at.new.self c.args.rule c.args.looked.now c.loop-place.place c.next_cell-next.result
+          c.index-looked-place.result (omega (arith, c.loop-place-test.true)) c.index-looked-place.is c.next_cell-next.ensures.same
           c.watch_at.ensures.kept c.loop-place.invariant.watching watching;
       kept = λ other earlier watching. c.watch_at.ensures.kept other earlier (c.loop-place.invariant.kept other earlier watching);
     }
