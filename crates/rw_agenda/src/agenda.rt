@@ -119,8 +119,7 @@ impl Agenda {
     {
         let place = rule.0 - 1;
         let last = &self.rules[usize::from(place)];
-        self.index
-            .watch_all(place, last.looks(), last.most(), looked);
+        self.index.watch_all(place, last, looked);
         self.rules[usize::from(place)].keep(looked);
         // Whom a put reaches isn't known then, so that each stays marked.
         if self.index.is_full() {

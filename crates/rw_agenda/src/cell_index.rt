@@ -1,4 +1,4 @@
-ghost use Rattle.std.specs.Prelude.{◌≡◌, ◌≤◌, ◌<◌, ◌+◌, ◌*◌, ◌-◌, ◌^◌, ◌==◌, ◌||◌, ◌&&◌, ◌++◌, ◌∷◌, [], ℕ, All, IfOk, IsSomeAnd, Some, None, true, false, length, slice_index_or};
+ghost use Rattle.std.specs.Prelude.{◌≡◌, ◌≤◌, ◌<◌, ◌+◌, ◌*◌, ◌-◌, ◌^◌, ◌==◌, ◌||◌, ◌&&◌, ◌++◌, ◌∷◌, [], ℕ, All, IfOk, IsSomeAnd, Some, None, true, false, length, unwrap_or, slice_index_or};
 ghost use Rattle.std.specs.List.{list_any, slice_get};
 ghost use Rattle.rw_base.specs.declared.number.Cell.{Cell};
 ghost use Rattle.rw_model.specs.Kept.{numbers_of};
@@ -8,6 +8,7 @@ ghost use Rattle.rw_agenda.specs.CellIndex.{CanWatch, has_watch, is_met, is_watc
 ghost use Rattle.rw_agenda.specs.Marks.{MarksMore};
 ghost use Rattle.rw_agenda.specs.declared.watch.Watch.{Watch};
 
+use crate::last_looks::LastLooks;
 use crate::limits::INDEX_STEPS;
 use crate::marks::Marks;
 use crate::watch::Watch;
@@ -103,35 +104,38 @@ impl CellIndex {
         self.newest[place] = self.past + self.watches.len() as u32;
     }
 
-    /// The rule in this place looked at these cells, and watches them. It watches those already at which it looked before. In a
-    /// place from `most` on it didn't look before in the timestep, so that it isn't asked whether it watches the cell.
+    /// The rule in this place looked at these cells, and watches them. It watches those already at which it looked when it last
+    /// fired. In a place behind all at which it looked in the timestep it isn't asked whether it watches the cell.
     #[inline(never)]
-    pub(crate) fn watch_all(&mut self, rule: u16, before: &[Look], most: usize, looked: &[Look])
-        requires { All (λ (look : Look). is_watching self.old look.cell rule ≡ true) before.now }
+    pub(crate) fn watch_all(&mut self, rule: u16, last: &LastLooks, looked: &[Look])
+        requires { All (λ (look : Look). is_watching self.old look.cell rule ≡ true)
+            (unwrap_or last.now.looked []) }
         ensures watching { All
             (λ (look : Look). is_watching self.new look.cell rule ≡ true) looked.now }
         ensures kept { (other : Cell) (earlier : ℕ) → is_watching self.old other earlier ≡ true
             → is_watching self.new other earlier ≡ true }
     {
+        let most = last.most();
         let mut place = 0;
         while place < looked.len() {
             let cell = looked[place].cell;
             let next = next_cell(looked, place);
-            self.watch_at(rule, before, most, place, cell);
+            self.watch_at(rule, last, most, place, cell);
             place = next;
         }
     }
 
     // The rule looked at a cell at this place of its looks.
     #[inline(always)]
-    fn watch_at(&mut self, rule: u16, before: &[Look], most: usize, place: usize, cell: Cell)
-        requires { All (λ (look : Look). is_watching self.old look.cell rule ≡ true) before.now }
+    fn watch_at(&mut self, rule: u16, last: &LastLooks, most: usize, place: usize, cell: Cell)
+        requires { All (λ (look : Look). is_watching self.old look.cell rule ≡ true)
+            (unwrap_or last.now.looked []) }
         ensures watching { is_watching self.new cell rule ≡ true }
         ensures kept { (other : Cell) (earlier : ℕ) → is_watching self.old other earlier ≡ true
             → is_watching self.new other earlier ≡ true }
     {
         if place < most {
-            self.watch_again(rule, before, place, cell);
+            self.watch_again(rule, last.looks(), place, cell);
         } else {
             self.watch(rule, cell);
         }
