@@ -160,7 +160,8 @@ impl CellIndex {
         ensures { result ≡ true → is_watching self.now cell rule ≡ true }
     {
         let newest = self.newest_at(self.slots, cell);
-        is_met(self.watches.as_slice(), self.past, newest, rule, cell.step.0)
+        let step = cell.step.0;
+        is_met(self.watches.as_slice(), self.past, newest, rule, step)
     }
 
     /// Marks each rule of which there is a watch of a cell of one of these slots at the timestep, and no other.
