@@ -106,7 +106,7 @@ impl CellIndex {
 
     /// The rule in this place looked at these cells, and watches them. It watches those already at which it looked when it last
     /// fired. In a place behind all at which it looked in the timestep it isn't asked whether it watches the cell.
-    #[inline(never)]
+    #[inline(always)]
     pub(crate) fn watch_all(&mut self, rule: u16, last: &LastLooks, looked: &[Look])
         requires { All (λ (look : Look). is_watching self.old look.cell rule ≡ true)
             (unwrap_or last.now.looked []) }
