@@ -9,6 +9,10 @@ use Rattle.std.specs.List.{cons_option, filter_map, list_all}
 use Rattle.std.proofs.lemmas.List.Elements.{filter_map-append}
 use Rattle.rw_model.specs.Objects.{slot_in_place}
 use Rattle.rw_run.specs.Dispatch.{cell_in, places}
+use Rattle.rw_record.proofs.Common.{ap₂, arith, cells_with, group_of, inl, inr, is_among, nat_eq_equiv, nat_tests, or_cases, ◌==◌, ◌||◌, ◌⊎◌}
+use Rattle.rw_model.specs.Draft.{IsSlot}
+use Rattle.rw_model.specs.Links.{is_same_link, link_of}
+use Rattle.rw_series.proofs.Sharing.{among_group, known_number}
 use Rattle.rw_record.specs.Noted.{row_cells}
 
 and_none : (a : Bool) → (a && false) ≡ false
@@ -31,31 +35,56 @@ pub row_known : (kept : Bool) (noted : List Held) (cells : Cells) (more : List C
 row_known true noted cells more all = ap Some (sym (all_noted cells noted more all))
 row_known false noted cells more all = refl
 
--- ---- one slot after the other
+-- ---- one thing after the other
 
-module _ (p : Cell → Bool) (step : ℕ) (numbers : List (Option ℕ)) (at : ℕ) (blank : Option ℕ) (near : at < length numbers) where
-  abbrev one : List (Option ℕ)
-  one = get_or numbers at blank ∷ []
+module _ {A : Type 0} (cells_in : List A → List Cell) (sums : (xs ys : List A) → cells_in (xs ++ ys) ≡ cells_in xs ++ cells_in ys)
+    (p : Cell → Bool) (all : List A) (at : ℕ) (blank : A) (near : at < length all) where
+  abbrev one : List A
+  one = get_or all at blank ∷ []
 
-  with_one : list_all p (row_cells step (take at numbers ++ one)) ≡ (list_all p (row_cells step (take at numbers)) && list_all p (row_cells step one))
-  with_one =
-      ap (list_all p) (row_sum step (take at numbers) one) ∙ list_all-append p (row_cells step (take at numbers)) (row_cells step one)
+  with_one : list_all p (cells_in (take at all ++ one)) ≡ (list_all p (cells_in (take at all)) && list_all p (cells_in one))
+  with_one = ap (list_all p) (sums (take at all) one) ∙ list_all-append p (cells_in (take at all)) (cells_in one)
 
-  pub row_more : list_all p (row_cells step (take at numbers)) ≡ true → list_all p (row_cells step (get_or numbers at blank ∷ [])) ≡ true
-      → list_all p (row_cells step (take (at + 1) numbers)) ≡ true
+  pub row_more : list_all p (cells_in (take at all)) ≡ true → list_all p (cells_in (get_or all at blank ∷ [])) ≡ true
+      → list_all p (cells_in (take (at + 1) all)) ≡ true
   row_more before now =
-      ap (λ these. list_all p (row_cells step these)) (take_more numbers at blank near) ∙ with_one ∙ rw (before, now) refl
+      ap (λ these. list_all p (cells_in these)) (take_more all at blank near) ∙ with_one ∙ rw (before, now) refl
 
-  pub row_ends : list_all p (row_cells step (get_or numbers at blank ∷ [])) ≡ false → list_all p (row_cells step numbers) ≡ false
+  pub row_ends : list_all p (cells_in (get_or all at blank ∷ [])) ≡ false → list_all p (cells_in all) ≡ false
   row_ends now =
-      ap (λ these. list_all p (row_cells step these))
-      (sym (take-append-drop at numbers) ∙ ap (λ rest. take at numbers ++ rest) (drop_more numbers at blank near))
-      ∙ ap (list_all p) (row_sum step (take at numbers) (get_or numbers at blank ∷ drop (at + 1) numbers)
-      ∙ ap (λ rest. row_cells step (take at numbers) ++ rest) (row_sum step one (drop (at + 1) numbers)))
-      ∙ list_all-append p (row_cells step (take at numbers)) (row_cells step one ++ row_cells step (drop (at + 1) numbers))
-      ∙ ap (λ rest. list_all p (row_cells step (take at numbers)) && rest)
-      (list_all-append p (row_cells step one) (row_cells step (drop (at + 1) numbers)) ∙ rw now refl)
-      ∙ and_none (list_all p (row_cells step (take at numbers)))
+      ap (λ these. list_all p (cells_in these))
+      (sym (take-append-drop at all) ∙ ap (λ rest. take at all ++ rest) (drop_more all at blank near))
+      ∙ ap (list_all p) (sums (take at all) (get_or all at blank ∷ drop (at + 1) all)
+      ∙ ap (λ rest. cells_in (take at all) ++ rest) (sums one (drop (at + 1) all)))
+      ∙ list_all-append p (cells_in (take at all)) (cells_in one ++ cells_in (drop (at + 1) all))
+      ∙ ap (λ rest. list_all p (cells_in (take at all)) && rest)
+      (list_all-append p (cells_in one) (cells_in (drop (at + 1) all)) ∙ rw now refl)
+      ∙ and_none (list_all p (cells_in (take at all)))
+
+-- ---- a cell, and those that share its value
+
+all_has : (p : Cell → Bool) (step slot : ℕ) (slots : List ℕ) → is_among slot slots ≡ true
+    → list_all p (map (λ other. cell_at other step) slots) ≡ true → p (cell_at slot step) ≡ true
+all_has p step slot [] has all = absurd (cc)
+all_has p step slot (first ∷ slots) has all = by (all_has p step slot slots) (or_cases (slot == first) (is_among slot slots) has)
+  where
+    by : (is_among slot slots ≡ true → list_all p (map (λ other. cell_at other step) slots) ≡ true → p (cell_at slot step) ≡ true)
+        → ((slot == first) ≡ true) ⊎ (is_among slot slots ≡ true) → p (cell_at slot step) ≡ true
+    by others (inl same) =
+        let at : slot ≡ first = grind (arith, nat_tests, same) in
+        ap (λ one. p (cell_at one step)) at ∙ (and_parts (p (cell_at first step)) (list_all p (map (λ other. cell_at other step) slots)) all).0
+    by others (inr more) = others more (and_parts (p (cell_at first step)) (list_all p (map (λ other. cell_at other step) slots)) all).1
+
+-- it is one of them
+pub with_group : (basin : Draft) (cell : Cell) (p : Cell → Bool) → IsSlot basin.objects cell.slot.0
+    → list_all p (map (λ slot. cell_at slot cell.step.0) (group_of basin.objects basin.links cell.slot.0)) ≡ true
+    → list_all p (cells_with basin cell) ≡ true
+with_group basin cell p known all =
+    let own : is_among cell.slot.0 (group_of basin.objects basin.links cell.slot.0) ≡ true =
+    among_group basin.objects basin.links cell.slot.0 cell.slot.0
+    ∙ ap₂ (λ same there. (same || is_same_link (link_of basin.links cell.slot.0) (link_of basin.links cell.slot.0)) && there)
+    (nat_eq_equiv.refl cell.slot.0) (known_number basin.objects cell.slot.0 known) in
+    rw (all_has p cell.step.0 cell.slot.0 (group_of basin.objects basin.links cell.slot.0) own all) all
 
 -- ---- the cells of an object
 

@@ -1,4 +1,4 @@
-ghost use Rattle.std.specs.Prelude.{◌≡◌, ◌*◌, ◌∷◌, [], All, IfOk, IfErr, IsTrue, Some, None, if◌then◌else◌, is_some, map, option_map, vec_len};
+ghost use Rattle.std.specs.Prelude.{◌≡◌, ◌*◌, ◌++◌, ◌∷◌, [], All, IfOk, IfErr, IsTrue, Some, None, if◌then◌else◌, is_some, map, option_map, vec_len};
 ghost use Rattle.std.specs.List.{list_all};
 ghost use Rattle.rw_base.specs.declared.number.Cell.{Cell};
 ghost use Rattle.rw_model.specs.Draft.{IsSlot};
@@ -136,42 +136,18 @@ impl Noted {
         ensures { AddsNotes (held series.now) (row_cells step.0 numbers.now) self.old self.new
             result }
     {
-        if are_noted(
-            self.marks.as_slice(),
-            self.slots,
-            self.steps,
-            self.items.as_slice(),
-            numbers,
-            step,
-        ) {
-            return Ok(());
-        }
-        for number in numbers {
-            self.note_number(series, *number, step)?;
-        }
-        Ok(())
-    }
-
-    // Notes the cell of a slot at a timestep, if there is a slot.
-    #[inline(always)]
-    fn note_number(
-        &mut self,
-        series: &Series,
-        number: Option<u16>,
-        step: StepNo,
-    ) -> Result<(), NoMemory>
-        ensures { AddsNotes (held series.now) (row_cells step.0 (number ∷ [])) self.old self.new
-            result }
-    {
-        match number {
-            Some(slot) => self.note(
+        if self.kept {
+            add_row(
+                &mut self.marks,
+                self.slots,
+                self.steps,
+                &mut self.items,
                 series,
-                Cell {
-                    slot: SlotNo(slot),
-                    step,
-                },
-            ),
-            None => Ok(()),
+                numbers,
+                step,
+            )
+        } else {
+            Ok(())
         }
     }
 
@@ -197,8 +173,29 @@ impl Noted {
         requires { IsSlot basin.now.objects cell.slot.0 }
         ensures { AddsNotes (held series.now) (cells_with basin.now cell) self.old self.new result }
     {
+        let group = basin.group(cell.slot);
+        if are_slots_noted(
+            self.marks.as_slice(),
+            self.slots,
+            self.steps,
+            self.items.as_slice(),
+            group,
+            cell.step,
+        ) {
+            return Ok(());
+        }
+        self.note_new(series, group, cell)
+    }
+
+    // Notes a cell, and those of these slots at its timestep.
+    #[inline(never)]
+    fn note_new(&mut self, series: &Series, group: &[SlotNo], cell: Cell) -> Result<(), NoMemory>
+        ensures { AddsNotes (held series.now)
+            (cell ∷ map (λ slot. cell_at slot cell.step.0) (numbers_of group.now)) self.old
+            self.new result }
+    {
         self.note(series, cell)?;
-        self.note_slots(series, basin.group(cell.slot), cell.step)
+        self.note_slots(series, group, cell.step)
     }
 
     // Notes the cells of these slots at a timestep.
@@ -299,6 +296,28 @@ fn are_noted(
     true
 }
 
+// Whether the cells of these slots at a timestep are all noted.
+#[inline(always)]
+fn are_slots_noted(
+    marks: &[bool],
+    slots: u16,
+    steps: u16,
+    items: &[Held],
+    numbers: &[SlotNo],
+    step: StepNo,
+) -> bool
+    requires { KeepsMarks slots steps marks.now items.now }
+    ensures { result ≡ list_all (is_noted items.now)
+        (map (λ slot. cell_at slot step.0) (numbers_of numbers.now)) }
+{
+    for slot in numbers {
+        if !is_noted(marks, slots, steps, items, Cell { slot: *slot, step }) {
+            return false;
+        }
+    }
+    true
+}
+
 // Adds a cell with what it holds, unless it is noted. After want of memory all is as it was.
 #[inline(always)]
 fn add(
@@ -318,9 +337,95 @@ fn add(
     if is_noted(marks.as_slice(), slots, steps, items.as_slice(), cell) {
         return Ok(());
     }
-    let content = series.get(cell);
-    items.push(Held { cell, content })?;
+    push_held(items, series, cell)?;
     mark_if(marks, slots, steps, cell, true);
+    Ok(())
+}
+
+// Adds a cell with what it holds. Each case writes its own: what is chosen between the two is copied once more.
+#[inline(always)]
+fn push_held(items: &mut Vec<Held>, series: &Series, cell: Cell) -> Result<(), NoMemory>
+    ensures pushed { IfOk result (λ _. items.new.items ≡ items.old.items
+        ++ record { cell = cell; content = held series.now cell } ∷ []) }
+    ensures unchanged { IfErr result (λ _. items.new.items ≡ items.old.items) }
+{
+    match series.get(cell) {
+        Some(known) => {
+            items.push(Held {
+                cell,
+                content: Some(known),
+            })?;
+        }
+        None => {
+            items.push(Held {
+                cell,
+                content: None,
+            })?;
+        }
+    }
+    Ok(())
+}
+
+// Adds the cell of a slot at a timestep, if there is a slot.
+#[inline(always)]
+fn add_number(
+    marks: &mut Vec<bool>,
+    slots: u16,
+    steps: u16,
+    items: &mut Vec<Held>,
+    series: &Series,
+    number: Option<u16>,
+    step: StepNo,
+) -> Result<(), NoMemory>
+    requires { KeepsMarks slots steps marks.old.items items.old.items }
+    ensures marks { KeepsMarks slots steps marks.new.items items.new.items }
+    ensures added { AddsNotes (held series.now) (row_cells step.0 (number ∷ []))
+        (Some items.old.items) (Some items.new.items) result }
+{
+    match number {
+        Some(slot) => add(
+            marks,
+            slots,
+            steps,
+            items,
+            series,
+            Cell {
+                slot: SlotNo(slot),
+                step,
+            },
+        ),
+        None => Ok(()),
+    }
+}
+
+// Adds the cells that slots have at a timestep. After want of memory some first ones of them are added.
+fn add_row(
+    marks: &mut Vec<bool>,
+    slots: u16,
+    steps: u16,
+    items: &mut Vec<Held>,
+    series: &Series,
+    numbers: &[Option<u16>],
+    step: StepNo,
+) -> Result<(), NoMemory>
+    requires { KeepsMarks slots steps marks.old.items items.old.items }
+    ensures marks { KeepsMarks slots steps marks.new.items items.new.items }
+    ensures added { AddsNotes (held series.now) (row_cells step.0 numbers.now)
+        (Some items.old.items) (Some items.new.items) result }
+{
+    if are_noted(
+        marks.as_slice(),
+        slots,
+        steps,
+        items.as_slice(),
+        numbers,
+        step,
+    ) {
+        return Ok(());
+    }
+    for number in numbers {
+        add_number(marks, slots, steps, items, series, *number, step)?;
+    }
     Ok(())
 }
 

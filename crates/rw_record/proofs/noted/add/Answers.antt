@@ -8,7 +8,7 @@ returns-clause-marks c =
     let items = c.args.items.now.items in
     let cells = held c.args.series.now in
     let fresh : is_noted items c.args.cell ≡ false = search rules in
-    let added : c.push.new.self.items ≡ noted_after cells items (c.args.cell ∷ []) = search rules in
+    let added : c.push_held.new.items.items ≡ noted_after cells items (c.args.cell ∷ []) = search rules in
     let many : length c.mark_if.new.marks.items ≡ c.args.slots * c.args.steps = search rules in
     subst (KeepsMarks c.args.slots c.args.steps c.mark_if.new.marks.items) (sym added)
     (one_added c.args.slots c.args.steps c.args.marks.now.items c.mark_if.new.marks.items cells items c.args.cell c.requires fresh many
