@@ -31,6 +31,7 @@ pub(crate) enum Line {
 }
 
 /// The line of an event.
+#[inline(always)]
 pub(crate) fn line_of(alloc: Global, event: TraceEvent) -> Result<Line, NoMemory>
     ensures { IfOk result (λ line. line_event line ≡ event) }
 {

@@ -1,5 +1,6 @@
 ghost use Rattle.std.specs.Prelude.{◌≡◌, [], ◌∷◌, ◌++◌, length, map, take, drop, slice_get, option_and_then, option_map, is_some, Some, None, IsSome, IfOk, IfErr};
 ghost use Rattle.rw_run.specs.Line.{line_event};
+ghost use Rattle.rw_run.specs.declared.line.Line.{Line as LineKept};
 ghost use Rattle.rw_run.specs.RunOf.{line_of};
 ghost use Rattle.rw_run.specs.Trace.{dispatch_told, lines_in, told, write_of};
 
@@ -198,7 +199,7 @@ impl Trace {
 }
 
 // Adds the line of an event. After want of memory the lines are as they were.
-#[inline(never)]
+#[inline(always)]
 fn push(alloc: Global, lines: &mut Vec<Line>, event: TraceEvent) -> Result<(), NoMemory>
     ensures pushed { IfOk result (λ _. map line_event lines.new.items
         ≡ map line_event lines.old.items ++ event ∷ []) }
@@ -227,7 +228,36 @@ fn push_copies(alloc: Global, lines: &mut Vec<Line>, more: &[Line]) -> Result<()
 {
     lines.reserve(more.len())?;
     for line in more {
-        lines.push(copy_of(alloc, line)?)?;
+        push_copy(alloc, lines, line)?;
+    }
+    Ok(())
+}
+
+// Adds a copy of a line. After want of memory the lines are as they were. What most lines are is written where it is known.
+#[inline(always)]
+fn push_copy(alloc: Global, lines: &mut Vec<Line>, line: &Line) -> Result<(), NoMemory>
+    ensures pushed { IfOk result (λ _. (copy : LineKept)
+        × ((lines.new.items ≡ lines.old.items ++ copy ∷ [])
+        × (line_event copy ≡ line_event line.now))) }
+    ensures unchanged { IfErr result (λ _. lines.new.items ≡ lines.old.items) }
+{
+    match line {
+        Line::Written {
+            slot,
+            step,
+            number,
+            writer,
+            value,
+        } => lines.push(Line::Written {
+            slot: *slot,
+            step: *step,
+            number: *number,
+            writer: *writer,
+            value: *value,
+        })?,
+        Line::Idle(object) => lines.push(Line::Idle(*object))?,
+        Line::Solve(object) => lines.push(Line::Solve(*object))?,
+        _ => lines.push(copy_of(alloc, line)?)?,
     }
     Ok(())
 }
