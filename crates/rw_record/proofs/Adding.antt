@@ -2,7 +2,7 @@
 use Rattle.rw_record.proofs.Common.{AddsNotes, Asked, Cell, Cells, Draft, Held, [], append-nil, cell_at, cells_asked, cells_looked, cells_reached}
 use Rattle.rw_record.proofs.Common.{cells_with, drop, drop_more, flat_map, flat_map-append, length, map, map-append, numbers_of, slice_index_or, take}
 use Rattle.rw_record.proofs.Common.{take-append-drop, take_more, ℕ, ◌+◌, ◌<◌, ◌∷◌, IsSome, List, None, Option, Some, ap, append_assoc, refl, subst}
-use Rattle.rw_record.proofs.Common.{sym, with_noted, ◌++◌, ◌∙◌, ◌≡◌}
+use Rattle.rw_record.proofs.Common.{arith, sym, with_noted, ◌++◌, ◌∙◌, ◌≡◌}
 use Rattle.std.specs.Prelude.{Err, Ok, Result}
 use Rattle.rw_base.specs.declared.number.SlotNo.{SlotNo}
 use Rattle.rw_firing.specs.declared.look.Look.{Look}
@@ -91,3 +91,9 @@ pub reached_sum : (basin : Draft) (xs ys : List Asked) → cells_reached basin (
 reached_sum basin xs ys =
     ap (flat_map (cells_with basin)) (map-append (λ (put : Asked). put.cell) xs ys)
     ∙ flat_map-append (cells_with basin) (cells_asked xs) (cells_asked ys)
+
+-- no put reaches none
+pub none_reached : (basin : Draft) (cells : Cells) (puts : List Asked) (kept : Option (List Held)) → length puts ≡ 0
+    → kept ≡ with_noted cells (cells_reached basin puts) kept
+none_reached basin cells [] kept none = none_yet cells kept
+none_reached basin cells (put ∷ puts) kept none = absurd (omega (arith, none))

@@ -68,6 +68,9 @@ fn put_one(basin: &Basin, series: &mut Series, one: &Held)
     ensures passed { IsFalse (is_cell basin.now one.now.cell) → series.new ≡ series.old }
 {
     if is_cell(basin, one.cell) {
-        series.restore(basin, one.cell, one.content);
+        match &one.content {
+            Some(known) => series.restore(basin, one.cell, Some(*known)),
+            None => series.restore(basin, one.cell, None),
+        }
     }
 }

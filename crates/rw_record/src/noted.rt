@@ -152,7 +152,26 @@ impl Noted {
     }
 
     /// Notes the cells of puts, each with all that share its value. After want of memory some first ones of them are noted.
+    #[inline(always)]
     pub fn note_reached(
+        &mut self,
+        basin: &Basin,
+        series: &Series,
+        writes: &[Write],
+    ) -> Result<(), NoMemory>
+        requires { All (λ (write : Write). IsSlot basin.now.objects write.cell.slot.0) writes.now }
+        ensures { AddsNotes (held series.now) (cells_reached basin.now writes.now) self.old
+            self.new result }
+    {
+        if writes.is_empty() {
+            return Ok(());
+        }
+        self.note_writes(basin, series, writes)
+    }
+
+    // The same, where there are some.
+    #[inline(never)]
+    fn note_writes(
         &mut self,
         basin: &Basin,
         series: &Series,
@@ -321,6 +340,54 @@ fn are_slots_noted(
 // Adds a cell with what it holds, unless it is noted. After want of memory all is as it was.
 #[inline(always)]
 fn add(
+    marks: &mut Vec<bool>,
+    slots: u16,
+    steps: u16,
+    items: &mut Vec<Held>,
+    series: &Series,
+    cell: Cell,
+) -> Result<(), NoMemory>
+    requires { KeepsMarks slots steps marks.old.items items.old.items }
+    ensures marks { KeepsMarks slots steps marks.new.items items.new.items }
+    ensures added { IfOk result (λ _. items.new.items
+        ≡ noted_after (held series.now) items.old.items (cell ∷ [])) }
+    ensures unchanged { IfErr result (λ _. items.new.items ≡ items.old.items) }
+{
+    if has_mark(slots, steps, cell) {
+        add_marked(marks, slots, steps, items, series, cell)
+    } else {
+        add_other(marks, slots, steps, items, series, cell)
+    }
+}
+
+// The same of a cell that has a mark.
+#[inline(always)]
+fn add_marked(
+    marks: &mut Vec<bool>,
+    slots: u16,
+    steps: u16,
+    items: &mut Vec<Held>,
+    series: &Series,
+    cell: Cell,
+) -> Result<(), NoMemory>
+    requires keeps { KeepsMarks slots steps marks.old.items items.old.items }
+    requires there { IsTrue (has_mark slots steps cell) }
+    ensures marks { KeepsMarks slots steps marks.new.items items.new.items }
+    ensures added { IfOk result (λ _. items.new.items
+        ≡ noted_after (held series.now) items.old.items (cell ∷ [])) }
+    ensures unchanged { IfErr result (λ _. items.new.items ≡ items.old.items) }
+{
+    if is_marked(marks.as_slice(), slots, steps, cell) {
+        return Ok(());
+    }
+    push_held(items, series, cell)?;
+    set_mark(marks, slots, steps, cell, true);
+    Ok(())
+}
+
+// The same of any cell.
+#[cold]
+fn add_other(
     marks: &mut Vec<bool>,
     slots: u16,
     steps: u16,

@@ -1,7 +1,7 @@
 use Rattle.rw_record.proofs.Common.{[], false, held, is_noted, length, noted_after, rules, subst, sym, ◌*◌, ◌∷◌, ◌≡◌}
 use Rattle.rw_record.specs.Marks.{KeepsMarks}
 use Rattle.rw_record.proofs.Marking.{one_added}
-use Rattle.rw_record.proofs.noted.add.Goals as goal
+use Rattle.rw_record.proofs.noted.add_other.Goals as goal
 
 pub returns-clause-marks : goal.returns-clause-marks
 returns-clause-marks c =
