@@ -5,7 +5,6 @@ use Rattle.rw_base.proofs.Common.{get_or-set_other, get_or-set_same, get_or_appe
 use Rattle.rw_base.proofs.Common.{nat_eq_equiv, nat_tests, none-some, option_map, refl, set, slice_get-get_or, slice_get_within}
 use Rattle.rw_base.proofs.Common.{slice_index_or, subst, sym, unwrap_or}
 use Rattle.std.proofs.lemmas.List.{get_or_push}
-use Rattle.std.specs.List.{slice_get}
 use Rattle.rw_base.specs.declared.number.Cell.{Cell}
 use Rattle.rw_model.proofs.Numbered.{numbered-found, numbered-known}
 use Rattle.rw_model.specs.Objects.{numbered}
@@ -69,12 +68,7 @@ pub met_next : (watches : List Watch) (past times left number rule step : ℕ) (
 met_next watches past times left number rule step watch is found =
     ap (λ k. is_met watches past k number rule step) is ∙ ap (met_in watches past left rule step) found
 
--- a number behind those that are past
-pub numbered_behind : (watches : List Watch) (past number : ℕ) → past < number
-    → watch_numbered watches past number ≡ slice_get watches (number - past - 1)
-numbered_behind watches past number behind = numbered-known watches (number - past) (omega (arith, behind))
-
--- and one of those
+-- a number of those that are past
 pub numbered_past : (watches : List Watch) (past number : ℕ) → number ≤ past → watch_numbered watches past number ≡ None
 numbered_past watches past number is =
     let none : number - past ≡ 0 = omega (arith, is) in ap (numbered watches) none
