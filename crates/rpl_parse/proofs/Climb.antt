@@ -6,7 +6,7 @@ use Rattle.rpl_parse.specs.Grammar.{mark_of_one}
 use Rattle.rpl_parse.specs.Reading.{Read, Got, StartsAt, behind, chain, climbed, if_found, level, prefix_of, prefixed, rise, turns_of, ◌>>=◌}
 
 -- no word of the level stands first
-abbrev IsBare : ℕ → List Tok → Type 0
+abbrev pub IsBare : ℕ → List Tok → Type 0
 IsBare loose tokens_here = IfSome (prefix_of loose) (λ w. behind (mark_of_one w) tokens_here ≡ None)
 
 module _ (inner : ℕ → List Tok → Read) (deepest : ℕ) where
@@ -25,7 +25,7 @@ module _ (inner : ℕ → List Tok → Read) (deepest : ℕ) where
   by_found (Some its_word) loose tokens_here (Some so_read) bare = rw bare refl
 
   -- a level whose word doesn't stand first goes on from the one below
-  above : (loose : ℕ) (tokens_here : List Tok) → IsBare (suc loose) tokens_here
+  pub above : (loose : ℕ) (tokens_here : List Tok) → IsBare (suc loose) tokens_here
       → level inner deepest (suc loose) tokens_here ≡ (level inner deepest loose tokens_here >>= rise inner deepest (suc loose))
   unfolding level
   above loose tokens_here bare = by_found (prefix_of (suc loose)) (suc loose) tokens_here (level inner deepest loose tokens_here) bare

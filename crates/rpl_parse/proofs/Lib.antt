@@ -3,6 +3,7 @@
 pub mod Marks
 pub mod ScanFacts
 -- ---- trees: one turn of each loop; what is read is in the grammar, and the other way round
+pub mod Stays
 pub mod Turns
 pub mod Climb
 pub mod Faults

@@ -1,10 +1,10 @@
 -- Numbers only grow while they are read; one turn of the scanner.
 use Rattle.rw_base.proofs.Common.{◌≡◌, ◌<◌, ◌≤◌, ◌-◌, ◌+◌, ◌*◌, ◌++◌, ◌∙◌, ℕ, zero, suc, List, [], ◌∷◌, arith, drop, take, length, slice_index_or}
-use Rattle.rw_base.proofs.Common.{refl, sym, ap, subst}
+use Rattle.rw_base.proofs.Common.{refl, sym, ap, subst, true}
 use Rattle.std.proofs.lemmas.List.{append_assoc, append-nil, length-drop}
 use Rattle.rpl_parse.specs.declared.token.Span.{Span}
 use Rattle.rpl_parse.specs.Tokens.{Tok, text, Lined, lined, bytes_in}
-use Rattle.rpl_parse.specs.Scan.{number_of, scan, Scanned, all, bad_at, led_by, gap, token, bad, front, line_behind}
+use Rattle.rpl_parse.specs.Scan.{number_of, scan, Scanned, all, bad_at, led_by, gap, token, bad, front, head_is, line_behind}
 
 pub number_grows : (value_there : ℕ) (bytes : List ℕ) → value_there ≤ number_of value_there bytes
 number_grows value_there [] = omega arith
@@ -71,6 +71,14 @@ module _ (line : ℕ) where
   scan_token (byte ∷ bytes) a_token size_there front_is some_size pos =
       rw front_is (ap (led_by (lined a_token line ∷ [])) (behind_piece size_there line byte bytes some_size))
 
+pub space_front : (bytes : List ℕ) → head_is 32 bytes ≡ true → front bytes ≡ gap 1
+space_front [] is_space = absurd (cc is_space)
+space_front (byte ∷ bytes) is_space = let same_byte : byte ≡ 32 = grind (arith, is_space) in rw same_byte refl
+
+pub space_line : (line : ℕ) (bytes : List ℕ) → head_is 32 bytes ≡ true → line_behind line bytes ≡ line
+space_line line [] is_space = absurd (cc is_space)
+space_line line (byte ∷ bytes) is_space = let same_byte : byte ≡ 32 = grind (arith, is_space) in rw same_byte refl
+
 -- the bytes of a string, behind its quote
 pub quoted_there : (at size_there : ℕ) (source : List ℕ) (span : Span) → span.start ≡ at + 1 → span.end ≡ at + 1 + size_there
     → take size_there (drop 1 (drop at source)) ≡ bytes_in source span
@@ -100,6 +108,11 @@ module _ (source : List ℕ) (whole : Scanned) (lined_tokens : List Lined) (line
       ap (λ source_bytes. led_by lined_tokens (scan 0 (line_behind line (drop at source)) source_bytes)) (sym (drop_more at size_there source))
       ∙ ap (led_by lined_tokens) (sym (scan_gap line (drop at source) size_there front_is pos (left some_left)))
       ∙ same
+
+  pub space_read : head_is 32 (drop at source) ≡ true → at < length source → led_by lined_tokens (scan 0 line (drop (at + 1) source)) ≡ whole
+  space_read is_space some_left =
+      subst (λ line_there. led_by lined_tokens (scan 0 line_there (drop (at + 1) source)) ≡ whole)
+      (space_line line (drop at source) is_space) (gap_read 1 (space_front (drop at source) is_space) (omega arith) some_left)
 
   pub token_read : (a_token : Tok) (size_there : ℕ) → front (drop at source) ≡ token a_token size_there → 0 < size_there → at < length source
       → led_by (lined_tokens ++ lined a_token line ∷ []) (scan 0 line (drop (at + size_there) source)) ≡ whole

@@ -71,6 +71,10 @@ name_after m ts = behind m ts >>= behind_name
 abbrev pub name_before : Mark → List Tok → Option Named
 name_before m ts = behind_name ts >>= (λ x. behind m x.next >>= (λ us. Some (record { called = x.called; next = us })))
 
+-- `t`, and a mark behind it
+abbrev pub now_before : Mark → List Tok → Option (List Tok)
+now_before m ts = behind M.Now ts >>= behind m
+
 abbrev pub closed_by_mark : Mark → Got → Read
 closed_by_mark m g = behind m g.rest >>= (λ ts. Some (got g.tree g.deep ts))
 
@@ -89,6 +93,15 @@ operator M.Minus = Some T.Minus
 operator M.Times = Some T.Times
 operator M.Divide = Some T.Divide
 operator _ = None
+
+abbrev pub is_operator : Option TwoWord → Bool
+is_operator None = false
+is_operator (Some w) = true
+
+-- an operator stands first, of whatever level
+abbrev pub has_operator : List Tok → Bool
+has_operator (mark m ∷ ts) = is_operator (operator m)
+has_operator _ = false
 
 pub record Turn : Type 0 where
   pub op : TwoWord

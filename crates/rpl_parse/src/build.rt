@@ -41,6 +41,7 @@ pub(crate) fn variable(alloc: Global, text: &[u8], named: Span) -> Result<Expr, 
 }
 
 /// `Object.Slot`.
+#[inline(always)]
 pub(crate) fn slot_text(
     alloc: Global,
     text: &[u8],

@@ -10,7 +10,9 @@ use crate::build::{
     LoopNames, at_step, binding, brackets, call_of, choice, conversion, for_each, in_unit, list_of,
     mapping, max_of, one, slot_of, two, variable,
 };
-use crate::look::{behind, behind_name, mark_of_one, name_before, prefix, turn, turns};
+use crate::look::{
+    behind, behind_name, has_operator, mark_of_one, name_before, now_before, prefix, turn, turns,
+};
 use crate::made::pushed;
 use crate::stop::Stop;
 use crate::token::{Mark, Span, Token, TokenAt};
@@ -122,6 +124,9 @@ fn climb<'a>(
         (climbed (read_tree depth) depth start (k - start)
         (Some (got (tree_of first) first_deep (toks text.now tokens.entry.now)))) }
 {
+    if !has_operator(text, tokens) {
+        return Ok((first, first_deep, tokens));
+    }
     let mut left = first;
     let mut deep = first_deep;
     let mut rest = tokens;
@@ -200,6 +205,7 @@ fn number<'a>(
 }
 
 #[cycle(parse)]
+#[inline(never)]
 fn opened<'a>(
     alloc: Global,
     text: &[u8],
@@ -541,6 +547,26 @@ fn more<'a>(
     Ok((items, most, rest))
 }
 
+/// A date, and the bracket behind it. That of most slots is t, which is told by two tokens.
+#[cycle(parse)]
+fn date<'a>(
+    alloc: Global,
+    text: &[u8],
+    tokens: &'a [TokenAt],
+    depth: u8,
+) -> Result<(Expr, u8, &'a [TokenAt]), Stop>
+    requires { depth < DEPTH_MAX }
+    ensures { GivesExpression text.now depth result (up_to (read_tree depth) depth Mark.RightBracket
+        (toks text.now tokens.entry.now)) }
+{
+    if depth > 0 {
+        if let Some(rest) = now_before(text, Mark::RightBracket, tokens) {
+            return Ok((Expr::Now, 1, rest));
+        }
+    }
+    up_to(alloc, text, Mark::RightBracket, tokens, depth)
+}
+
 /// The dates in brackets behind a slot.
 #[cycle(parse)]
 #[tactic(auto, unfolding(crate::specs::Reading::steps))]
@@ -567,7 +593,7 @@ fn steps<'a>(
         if deep > depth {
             return Err(Stop::Bad);
         }
-        let (step, step_deep, after) = up_to(alloc, text, Mark::RightBracket, next, depth)?;
+        let (step, step_deep, after) = date(alloc, text, next, depth)?;
         slot = at_step(alloc, slot, step)?;
         deep = max_of(deep, step_deep) + 1;
         rest = after;
@@ -577,6 +603,7 @@ fn steps<'a>(
 
 /// The other operands of a level.
 #[cycle(parse)]
+#[inline(always)]
 #[tactic(auto, unfolding(crate::specs::Reading::chain))]
 fn chain<'a>(
     alloc: Global,

@@ -1,6 +1,6 @@
 // What stands at the front of some tokens. The text is there for the clauses, which speak of the bytes of its tokens.
 ghost use Rattle.std.specs.Prelude.{◌≡◌, ◌-◌, IfOk, IfErr, option_map, take, drop};
-ghost use Rattle.rpl_parse.specs.Reading.{behind, behind_name, name_before, turn, turns_of, prefix_of, operator};
+ghost use Rattle.rpl_parse.specs.Reading.{behind, behind_name, name_before, now_before, has_operator, turn, turns_of, prefix_of, operator};
 ghost use Rattle.rpl_parse.specs.Grammar.{looseness_of, mark_of_one};
 ghost use Rattle.rpl_parse.specs.Tokens.{same, toks, bytes_in};
 
@@ -61,6 +61,35 @@ pub(crate) fn name_before<'a>(
     Some((name, rest))
 }
 
+/// `t`, and a mark behind it.
+pub(crate) fn now_before<'a>(
+    text: &[u8],
+    mark: Mark,
+    tokens: &'a [TokenAt],
+) -> Option<&'a [TokenAt]>
+    ensures { option_map (λ r. toks text.now r.now) result ≡ now_before mark
+        (toks text.now tokens.entry.now) }
+{
+    let rest = behind(text, Mark::Now, tokens)?;
+    behind(text, mark, rest)
+}
+
+/// Whether an operator stands at the front, of whatever level.
+pub(crate) fn has_operator(_text: &[u8], tokens: &[TokenAt]) -> bool
+    ensures { result ≡ has_operator (toks _text.now tokens.now) }
+{
+    match tokens {
+        [first, ..] => match first.token {
+            Token::Mark(mark) => match operator(mark) {
+                Some(_) => true,
+                None => false,
+            },
+            _ => false,
+        },
+        [] => false,
+    }
+}
+
 /// An operator of a level.
 pub(crate) fn turn<'a>(
     _text: &[u8],
@@ -82,6 +111,7 @@ pub(crate) fn turn<'a>(
     }
 }
 
+#[inline(always)]
 fn operator(mark: Mark) -> Option<TwoWord>
     ensures { result ≡ operator mark }
 {

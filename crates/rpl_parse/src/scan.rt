@@ -1,7 +1,7 @@
 ghost use Rattle.std.specs.Prelude.{◌≡◌, ◌≤◌, ◌<◌, ◌+◌, ◌-◌, ◌^◌, ◌++◌, ◌∷◌, List, [], IfOk, IfErr, OnOk, length, drop, MatchOption};
 ghost use Rattle.rw_base.specs.declared.limits.TheConstants.{TEXT_MAX};
 ghost use Rattle.rpl_parse.specs.Cut.{IsPlaceIn, TakesUp, scanned_at};
-ghost use Rattle.rpl_parse.specs.Scan.{all, bad_at, front, line_behind};
+ghost use Rattle.rpl_parse.specs.Scan.{all, bad_at, front, head_is, line_behind};
 ghost use Rattle.rpl_parse.specs.Pieces.{IsFound};
 ghost use Rattle.rpl_parse.specs.Tokens.{Lined};
 
@@ -75,6 +75,15 @@ fn found_at(text: &[u8], at: usize) -> Found
     }
 }
 
+/// Whether a space is at a place of the text: most of what parts tokens is one.
+#[inline(always)]
+fn is_space(text: &[u8], at: usize) -> bool
+    requires { at < length text.now }
+    ensures { result ≡ head_is 32 (drop at text.now) }
+{
+    head_is(32, behind(at, text))
+}
+
 /// Takes up the tokens of the declaration at a place, each the longest, and answers the place behind them. There are none where
 /// nothing is left.
 pub(crate) fn next_tokens(
@@ -92,19 +101,23 @@ pub(crate) fn next_tokens(
     let mut at = from.at;
     let mut line = from.line;
     while at < text.len() {
-        match found_at(text, at) {
-            Found::Gap(n) => {
-                line = line_behind(line, at, text);
-                at += n;
-            }
-            Found::Token(token, n) => {
-                pushed(tokens, TokenAt { token, line })?;
-                at += n;
-                if is_end(text, token) {
-                    return Ok(Place { at, line });
+        if is_space(text, at) {
+            at += 1;
+        } else {
+            match found_at(text, at) {
+                Found::Gap(n) => {
+                    line = line_behind(line, at, text);
+                    at += n;
                 }
+                Found::Token(token, n) => {
+                    pushed(tokens, TokenAt { token, line })?;
+                    at += n;
+                    if is_end(text, token) {
+                        return Ok(Place { at, line });
+                    }
+                }
+                Found::Bad => return Err(ScanStop::BadToken(line)),
             }
-            Found::Bad => return Err(ScanStop::BadToken(line)),
         }
     }
     Ok(Place { at, line })

@@ -4,6 +4,9 @@ use Rattle.rw_base.proofs.Common.{option_and_then, bytes_eq, refl, sym, ap, ◌�
 use Rattle.rw_model.proofs.Common.{Object, object_at, object_from, object_named, Draft}
 use Rattle.rw_model.specs.declared.kind.Kind.{Kind}
 use Rattle.rpl_tree.specs.World.{table_in, table_named}
+use Rattle.rw_base.proofs.Common.{get_or, length-map, map, slice_get-get_or, slice_get-map}
+use Rattle.rpl_code.specs.declared.instruction.Instruction.{Instruction}
+use Rattle.rpl_verify.specs.Names.{slot_seen}
 
 -- what is left from a place on has the object, if there is one
 abbrev pub IsLeft : List Object → List ℕ → ℕ → Type 0
@@ -57,3 +60,20 @@ pub found_here : (objects : List Object) (name text : List ℕ) (place : ℕ) �
 found_here objects name text place left below option_map_is bytes_eq_is =
     sym left ∙ next objects name text place below option_map_is
     ∙ ap (λ b. if b then Some (place + 1) else object_from (place + 1 + 1) (drop (place + 1) objects) name) bytes_eq_is
+
+-- ---- slots, looked up once
+
+pub slot_there : (basin : Draft) (slots : List (Option ℕ)) (lines : List Instruction) (place : ℕ) (slot : Option ℕ) (instruction : Instruction)
+    → slots ≡ map (slot_seen basin) lines → slice_get slots place ≡ Some slot → place < length lines
+    → instruction ≡ get_or lines place instruction → slot ≡ slot_seen basin instruction
+slot_there basin slots lines place slot instruction slots_is slot_is within line_is =
+    let there : slice_get lines place ≡ Some instruction =
+    slice_get-get_or lines place instruction within ∙ ap (λ i. Some i) (sym line_is) in
+    let same : Some slot ≡ Some (slot_seen basin instruction) =
+    sym slot_is ∙ ap (λ ss. slice_get ss place) slots_is ∙ slice_get-map (slot_seen basin) lines place
+    ∙ ap (option_map (slot_seen basin)) there in
+    cc same
+
+pub length-slots : (basin : Draft) (slots : List (Option ℕ)) (lines : List Instruction) → slots ≡ map (slot_seen basin) lines
+    → length slots ≡ length lines
+length-slots basin slots lines slots_is = ap length slots_is ∙ length-map lines (slot_seen basin)

@@ -24,6 +24,11 @@ pub record Scope : Type 0 where
   pub locals : List ValueKind
   pub spots : List Spot
 
+-- the slot that an instruction names as an operand, if there is one
+abbrev pub slot_seen : Draft → Instruction → Option ℕ
+slot_seen basin (I.Slot object slot) = slot_named basin.objects object slot
+slot_seen basin _ = None
+
 abbrev pub unless_there : {A : Type 0} → Option A → Option VerifyKind
 unless_there None = Some NoSuchName
 unless_there (Some thing) = None

@@ -5,6 +5,7 @@ ghost use Rattle.rw_model.specs.Objects.{numbered};
 ghost use Rattle.rpl_code.specs.declared.block.BlockHead.{BlockHead};
 ghost use Rattle.rpl_tree.specs.Mean.{predefined_functions};
 ghost use Rattle.rpl_verify.specs.Kinds.{are_same_kinds};
+ghost use Rattle.rpl_verify.specs.Names.{slot_seen};
 ghost use Rattle.rpl_verify.specs.Places.{declared_by, mapping, visiting};
 ghost use Rattle.rpl_verify.specs.Table.{call_row, function_named, invoke_row, load_row, store_row};
 ghost use Rattle.rpl_verify.specs.Fits.{behind_instruction, end_kinds, ended_block, heads_of, judged_at};
@@ -252,7 +253,7 @@ fn act_at(
     }
 }
 
-/// Judges a place of a block of this number, head and locals, and goes on to the next.
+/// Judges a place of a block of this number, head and locals, where the instruction names this slot, and goes on to the next.
 pub(crate) fn judge(
     basin: &Basin,
     blocks: &[Block],
@@ -261,16 +262,18 @@ pub(crate) fn judge(
     locals: &[ValueKind],
     walk: &mut Walk,
     place: u32,
+    seen: Option<u16>,
     instruction: &Instruction,
 ) -> Result<(), BlockFault>
     requires last { place < 4294967295 }
     requires here { declares walk.old.spots place ≡ declared_by instruction.now }
+    requires slot { seen ≡ slot_seen basin.now instruction.now }
     ensures { GoesAt place
         (judged_at (scope_in basin.now blocks.now number head.now locals.now walk.old.spots)
         place walk.old.before instruction.now)
         walk.old walk.new result }
 {
-    match name_misfit(basin, blocks, number, head, instruction) {
+    match name_misfit(basin, blocks, number, head, seen, instruction) {
         Some(kind) => Err(BlockFault::Misplaced(kind, place)),
         None => act_at(blocks, locals, walk, place, instruction),
     }

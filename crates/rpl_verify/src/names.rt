@@ -1,5 +1,5 @@
 // Names that instructions use, looked up in the basin, the predefined functions and the blocks.
-ghost use Rattle.std.specs.Prelude.{◌≡◌, ℕ, List, bytes_eq, option_map};
+ghost use Rattle.std.specs.Prelude.{◌≡◌, ◌<◌, ℕ, List, Some, length, map, slice_get, bytes_eq, option_map, IfOk};
 ghost use Rattle.std.specs.Option.{ForSome};
 ghost use Rattle.rw_model.specs.Draft.{IsObject};
 ghost use Rattle.rw_model.specs.Objects.{numbered, object_named, slot_named};
@@ -7,7 +7,7 @@ ghost use Rattle.rpl_code.specs.declared.kind.ValueKind.{ValueKind};
 ghost use Rattle.rpl_tree.specs.Mean.{predefined_functions};
 ghost use Rattle.rpl_tree.specs.World.{table_in, table_named};
 ghost use Rattle.rpl_verify.specs.Fits.{heads_of};
-ghost use Rattle.rpl_verify.specs.Names.{call_misfit, name_misfit, put_misfit, put_step_misfit, unless_there};
+ghost use Rattle.rpl_verify.specs.Names.{call_misfit, name_misfit, put_misfit, put_step_misfit, slot_seen, unless_there};
 ghost use Rattle.rpl_verify.specs.Places.{Spot};
 ghost use Rattle.rpl_verify.specs.Steps.{scope_in, takes_count};
 ghost use Rattle.rpl_verify.specs.Table.{function_named};
@@ -15,8 +15,9 @@ ghost use Rattle.rpl_verify.specs.Resolved.{call_of, object_or_none, slot_or_fir
 
 use crate::{Resolved, VerifyKind};
 use rpl_code::{Block, BlockHead, Instruction};
-use rw_base::ObjectNo;
+use rw_base::{NoMemory, ObjectNo};
 use rw_model::{Basin, Kind, Name};
+use std::alloc::Global;
 
 // Whether a name is this text.
 fn is_called(name: &Name, text: &str) -> bool
@@ -106,14 +107,65 @@ pub(crate) fn object_number(basin: &Basin, name: &Name) -> u16
     }
 }
 
+// The number of the slot of these names, if there is one.
+fn slot_found(basin: &Basin, object: &Name, slot: &Name) -> Option<u16>
+    ensures { result ≡ slot_named basin.now.objects object.now slot.now }
+{
+    match basin.find_slot(object.as_str(), slot.as_str()) {
+        None => None,
+        Some(number) => Some(number.0),
+    }
+}
+
+// The slot that an instruction names as an operand, if there is one.
+fn slot_seen(basin: &Basin, instruction: &Instruction) -> Option<u16>
+    ensures { result ≡ slot_seen basin.now instruction.now }
+{
+    match instruction {
+        Instruction::Slot { object, slot } => slot_found(basin, object, slot),
+        _ => None,
+    }
+}
+
+/// The slot that each of these lines names as an operand, if there is one: looked up once, for judging and for resolving.
+pub(crate) fn slots_seen(
+    alloc: Global,
+    basin: &Basin,
+    lines: &[Instruction],
+) -> Result<Vec<Option<u16>>, NoMemory>
+    ensures { IfOk result (λ slots. slots.items ≡ map (slot_seen basin.now) lines.now) }
+{
+    let mut slots = Vec::with_capacity(alloc, lines.len())?;
+    for place in 0..lines.len() {
+        let line = &lines[place];
+        slots.push(slot_seen(basin, line))?;
+    }
+    Ok(slots)
+}
+
+/// The slot that the line of a place names, of those of all lines.
+pub(crate) fn slot_at(slots: &[Option<u16>], place: usize) -> Option<u16>
+    requires { place < length slots.now }
+    ensures { slice_get slots.now place ≡ Some result }
+{
+    slots[place]
+}
+
+/// The slot that is there, or 1 if there is none.
+pub(crate) fn slot_or_first(slot: Option<u16>) -> u16
+    ensures { result ≡ slot_or_first slot }
+{
+    match slot {
+        None => 1,
+        Some(number) => number,
+    }
+}
+
 /// The number of the slot of these names, or 1 if there is none.
 pub(crate) fn slot_number(basin: &Basin, object: &Name, slot: &Name) -> u16
     ensures { result ≡ slot_or_first (slot_named basin.now.objects object.now slot.now) }
 {
-    match basin.find_slot(object.as_str(), slot.as_str()) {
-        None => 1,
-        Some(number) => number.0,
-    }
+    slot_or_first(slot_found(basin, object, slot))
 }
 
 // A reservoir of this name has to be there, with a table.
@@ -136,11 +188,11 @@ fn unless_tabled(kind: &Kind) -> Option<VerifyKind>
     }
 }
 
-// A slot of these names has to be there.
-fn slot_misfit(basin: &Basin, object: &Name, slot: &Name) -> Option<VerifyKind>
-    ensures { result ≡ unless_there (slot_named basin.now.objects object.now slot.now) }
+// A slot has to be there.
+fn slot_misfit(slot: Option<u16>) -> Option<VerifyKind>
+    ensures { result ≡ unless_there slot }
 {
-    match basin.find_slot(object.as_str(), slot.as_str()) {
+    match slot {
         None => Some(VerifyKind::NoSuchName),
         Some(_) => None,
     }
@@ -215,19 +267,22 @@ fn call_misfit(blocks: &[Block], here: u32, called: u32) -> Option<VerifyKind>
     }
 }
 
-/// What is refused of the names that an instruction uses, in a block of this number and head.
+/// What is refused of the names that an instruction uses, in a block of this number and head, where
+/// this is the slot that it names.
 pub(crate) fn name_misfit(
     basin: &Basin,
     blocks: &[Block],
     number: u32,
     head: &BlockHead,
+    seen: Option<u16>,
     instruction: &Instruction,
 ) -> Option<VerifyKind>
+    requires { seen ≡ slot_seen basin.now instruction.now }
     ensures { (locals : List ValueKind) (spots : List Spot) → result ≡ name_misfit
         (scope_in basin.now blocks.now number head.now locals spots) instruction.now }
 {
     match instruction {
-        Instruction::Slot { object, slot } => slot_misfit(basin, object, slot),
+        Instruction::Slot { .. } => slot_misfit(seen),
         Instruction::ToElevation(object) => table_misfit(basin, object),
         Instruction::ToStorage(object) => table_misfit(basin, object),
         Instruction::Call(name) => predefined_misfit(name),

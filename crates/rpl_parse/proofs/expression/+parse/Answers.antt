@@ -6,6 +6,7 @@ use Rattle.rpl_parse.proofs.Faults.{fails_on, many_fault, tree_fault}
 use Rattle.rpl_parse.proofs.Climb.{climb_fails, climb_goes, fails_from, from_start}
 use Rattle.rpl_parse.specs.Gives.{GivesExpression}
 use Rattle.rpl_parse.proofs.Turns.{items_stops, items_fails, items_goes, steps_goes, chain_goes}
+use Rattle.rpl_parse.proofs.Stays.{climb_stays, now_reads}
 use Rattle.rpl_parse.proofs.expression.+parse.Goals as goal
 
 pub more-returns-in_default : goal.more-returns-in_default
@@ -75,6 +76,20 @@ climb-returns-in_err-whole t c =
     (λ none. sym c.loop-below.invariant.same
     ∙ climb_fails (read_tree c.args.depth) c.args.depth c.loop-below.below c.args.k now c.loop-below-test.true none)
     c.in_err-whole.ensures)
+
+pub climb-returns-then-not-has_operator : goal.climb-returns-then-not-has_operator
+climb-returns-then-not-has_operator t c = (
+  climb_stays (read_tree c.args.depth) c.args.depth (c.args.k - c.args.start) c.args.start
+      (got (tree_of c.args.first) c.args.first_deep (toks c.args.text.now c.args.tokens.now)) (sym c.has_operator.ensures ∙ c.if-not-has_operator.true),
+  c.requires.within,
+)
+
+pub date-returns-in-Some : goal.date-returns-in-Some
+date-returns-in-Some t c =
+    let e = rw c.in-Some.is at c.now_before.ensures in (
+      now_reads c.args.depth (toks c.args.text.now c.args.tokens.now) (toks c.args.text.now c.in-Some.rest.now) c.if-depth-gt0.true (sym e),
+      c.if-depth-gt0.true,
+    )
 
 pub climb-loop-below-preserved : goal.climb-loop-below-preserved
 climb-loop-below-preserved t c = record {

@@ -31,8 +31,11 @@ decreases-more l = 1000 * l.depth + 1
 abbrev pub decreases-items : goal.decreases-items
 decreases-items l = 1000 * l.depth + 2
 
+abbrev pub decreases-date : goal.decreases-date
+decreases-date l = 1000 * l.depth + 2
+
 abbrev pub decreases-steps : goal.decreases-steps
-decreases-steps l = 1000 * l.depth + 2
+decreases-steps l = 1000 * l.depth + 3
 
 abbrev pub decreases-chain : goal.decreases-chain
 decreases-chain l = 1000 * l.depth + 2

@@ -1,7 +1,7 @@
 use Rattle.rw_base.proofs.Common.{rules, arith, ◌≡◌, ◌≤◌, ◌<◌, ◌∙◌, sym, subst, map, map-append, length}
 use Rattle.rpl_parse.specs.Cut.{scanned_at}
 use Rattle.rpl_parse.specs.Tokens.{token_seen, lined_of}
-use Rattle.rpl_parse.proofs.ScanFacts.{bad_read, gap_read, none_read, token_read}
+use Rattle.rpl_parse.proofs.ScanFacts.{bad_read, gap_read, none_read, space_read, token_read}
 use Rattle.rpl_parse.proofs.CutFacts.{Unended, none_led, none_unended, takes_ended, takes_spent, unended_more}
 use Rattle.rpl_parse.proofs.scan.next_tokens.Goals as goal
 
@@ -14,6 +14,20 @@ loop-at-init c =
       inside = c.requires.inside.inside;
       line = c.requires.inside.line;
       on = search (rules, arith);
+    }
+
+pub loop-at-preserved-then-is_space : goal.loop-at-preserved-then-is_space
+loop-at-preserved-then-is_space c =
+    let l = c.loop-at in
+    let source = c.args.text.now in
+    record {
+      same =
+          space_read source (scanned_at source c.args.from) (map (lined_of source) l.tokens.items) l.line l.at l.invariant.same
+          (sym c.is_space.ensures ∙ c.if-is_space.true) c.loop-at-test.true;
+      unended = l.invariant.unended;
+      inside = search (rules, arith);
+      line = omega (arith, l.invariant.line);
+      on = omega (arith, l.invariant.on);
     }
 
 pub loop-at-preserved-in-Gap : goal.loop-at-preserved-in-Gap

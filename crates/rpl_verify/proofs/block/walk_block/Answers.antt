@@ -4,6 +4,7 @@ use Rattle.rpl_verify.specs.Notes.{numbers_seen, note_of}
 use Rattle.rpl_verify.specs.Steps.{scope_in}
 use Rattle.rpl_verify.specs.Walked.{declares}
 use Rattle.rpl_verify.proofs.WalkFacts.{next_is, spots_at}
+use Rattle.rpl_verify.proofs.NameFacts.{length-slots, slot_there}
 use Rattle.rpl_verify.proofs.BlockFacts.{left_on, left_ended, noting}
 use Rattle.rpl_verify.proofs.block.walk_block.Goals as goal
 
@@ -14,6 +15,17 @@ judge-requires-clause-here c =
     let i = c.index-lines-place.result in
     ap (λ ss. declares ss l.place) l.invariant.placed
     ∙ spots_at lines 0 [] l.place i (drop (l.place + 1) lines) (next_is lines l.place i c.loop-place-test.true c.index-lines-place.is)
+
+pub slot_at-requires : goal.slot_at-requires
+slot_at-requires c =
+    let t = c.loop-place-test.true in
+    let long = length-slots c.args.basin.now c.args.slots.now c.args.lines.now c.requires.slots in
+    omega (arith, t, long)
+
+pub judge-requires-clause-slot : goal.judge-requires-clause-slot
+judge-requires-clause-slot c =
+    slot_there c.args.basin.now c.args.slots.now c.args.lines.now c.loop-place.place c.slot_at.result c.index-lines-place.result
+    c.requires.slots c.slot_at.ensures c.loop-place-test.true c.index-lines-place.is
 
 pub loop-place-preserved : goal.loop-place-preserved
 loop-place-preserved c =
