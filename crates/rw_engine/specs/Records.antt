@@ -1,5 +1,5 @@
 -- What an engine has noted of a timestep, and the record that it makes of it.
-use Rattle.std.specs.Prelude.{◌≡◌, ◌⊎◌, ℕ, ◌<◌, List, [], ◌∷◌, All, IfSome, Option, Some, None, length}
+use Rattle.std.specs.Prelude.{◌≡◌, ◌⊎◌, ℕ, ◌<◌, List, [], ◌∷◌, All, IfSome, is_some, Option, Some, None, length}
 use Rattle.std.specs.List.{flat_map}
 use Rattle.rw_model.specs.Draft.{Draft}
 use Rattle.rw_dispatch.specs.Writes.{AreWrites}
@@ -73,6 +73,11 @@ IsTooLarge basin step events = (most_kept < cell_count (flat_map (reached_by bas
 abbrev pub RecordsOrNot : Draft → ℕ → Log → List Event → Option StepRecord → Type 0
 RecordsOrNot basin step old events None = IsTooLarge basin step events
 RecordsOrNot basin step old events (Some kept) = (¬ IsTooLarge basin step events) × RecordsThese basin step old events kept
+
+-- an engine hands the lines of the timestep over that it noted, and all else is as it was
+pub record HandsOver (old new : Engine) : Type 0 where
+  pub rest : new ≡ record old { lines = new.lines }
+  pub lines : is_some new.lines ≡ is_some old.lines
 
 -- an engine has no line of a timestep noted, and so no timestep
 abbrev pub IsUntold : Engine → Type 0

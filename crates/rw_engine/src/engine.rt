@@ -11,7 +11,7 @@ ghost use Rattle.rw_record.specs.Noted.{AreHeld};
 ghost use Rattle.rw_engine.specs.Shows.{CanReplay, IsEngineOf, Shows};
 ghost use Rattle.rw_engine.specs.Passing.{BeginsRun, CanRun, GivesInput, Replays, ReplaysKept, RunsStep, TakesBack, steps_of};
 ghost use Rattle.rw_engine.specs.Picked.{RunsStepBy};
-ghost use Rattle.rw_engine.specs.Records.{CanWriteLines, HasNoted, IsUntold, RecordsOrNot};
+ghost use Rattle.rw_engine.specs.Records.{CanWriteLines, HasNoted, HandsOver, IsUntold, RecordsOrNot};
 
 use crate::setup::RunSetup;
 use crate::state::State;
@@ -193,21 +193,22 @@ impl Engine {
         ensures untold { IsUntold self.now → IfOk result (λ kept. kept ≡ None) }
     {
         let mut order = Vec::new(alloc);
-        let kept = self.last_kept(alloc, &mut order)?;
+        let kept = self.state.copied_kept(alloc, &mut order)?;
         listed(alloc, kept)
     }
 
-    /// The same as it is kept. `order` is that in which the cells of another timestep rose, or any other: where those of this one
-    /// rise so too they need no sorting.
+    /// The same as it is kept, but no timestep is noted behind it. `order` is that in which the cells of another timestep rose, or
+    /// any other: where those of this one rise so too they need no sorting.
     pub fn last_kept(
-        &self,
+        &mut self,
         alloc: Global,
         order: &mut Vec<u16>,
     ) -> Result<Option<KeptStep>, NoMemory>
         ensures noted { (basin : Draft) (step : ℕ) (old : Log) (events : List Event)
-            → HasNoted basin step old events self.now → self.now.closed ≡ step
+            → HasNoted basin step old events self.old → self.old.closed ≡ step
             → IfOk result (RecordsOrNot basin step old events) }
-        ensures untold { IsUntold self.now → IfOk result (λ kept. kept ≡ None) }
+        ensures untold { IsUntold self.old → IfOk result (λ kept. kept ≡ None) }
+        ensures left { HandsOver self.old self.new }
     {
         self.state.last_kept(alloc, order)
     }

@@ -17,7 +17,7 @@ ghost use Rattle.rw_engine.specs.Picked.{PicksAt, RunsStepBy};
 ghost use Rattle.rw_engine.specs.Shows.{CanReplay, IsEngineOf, Shows};
 ghost use Rattle.rw_engine.specs.State.{seen, Begins, DoesEvent, HasPassed, HasReplayed, HoldsBefore, HoldsDue, HoldsWithin, IsCleared, IsOpened, IsSoundState, IsStateOf, IsWithinStep, OnlyTells, ended_by, step_end};
 ghost use Rattle.rw_dispatch.specs.Stage.{IsHeldIn};
-ghost use Rattle.rw_engine.specs.Records.{CanWriteLines, HasNoted, IsUntold, RecordsOrNot};
+ghost use Rattle.rw_engine.specs.Records.{CanWriteLines, HandsOver, HasNoted, IsUntold, RecordsOrNot};
 
 use crate::counts::Counts;
 use crate::noting::{note_dispatch, note_firing};
@@ -396,7 +396,7 @@ impl State {
     }
 
     /// The record of the timestep that was closed last, if its lines are noted and it isn't too large.
-    pub(crate) fn last_kept(
+    pub(crate) fn copied_kept(
         &self,
         alloc: Global,
         order: &mut Vec<u16>,
@@ -416,6 +416,32 @@ impl State {
             &self.noted,
             &self.lines,
             0,
+            order,
+        )
+    }
+
+    /// The same, to which its lines are handed over.
+    pub(crate) fn last_kept(
+        &mut self,
+        alloc: Global,
+        order: &mut Vec<u16>,
+    ) -> Result<Option<KeptStep>, NoMemory>
+        ensures noted { (basin : Draft) (step : ℕ) (old : Log) (events : List Event)
+            → HasNoted basin step old events (seen self.old) → self.old.run.closed ≡ step
+            → IfOk result (RecordsOrNot basin step old events) }
+        ensures untold { IsUntold (seen self.old) → IfOk result (λ kept. kept ≡ None) }
+        ensures sound { IsSoundState self.old → IsSoundState self.new }
+        ensures left { HandsOver (seen self.old) (seen self.new) }
+    {
+        let count = self.lines.len();
+        if count == 0 {
+            return Ok(None);
+        }
+        KeptStep::taking(
+            alloc,
+            StepNo(self.run.closed),
+            &self.noted,
+            &mut self.lines,
             order,
         )
     }

@@ -1,4 +1,4 @@
-ghost use Rattle.std.specs.Prelude.{◌≡◌, ◌||◌, nat_lt, IfOk, MatchOption, Some, drop, length};
+ghost use Rattle.std.specs.Prelude.{◌≡◌, ◌||◌, nat_lt, IfOk, IsSome, MatchOption, Some, drop, is_some, length};
 ghost use Rattle.rw_run.specs.Reuse.{most_kept};
 ghost use Rattle.rw_run.specs.Trace.{lines_in};
 ghost use Rattle.rw_record.specs.Noted.{noted_in};
@@ -59,13 +59,28 @@ impl KeptStep {
         }
         let looked = risen(alloc, noted.as_slice(), order)?;
         let lines = lines_from(alloc, trace, from)?;
-        Ok(Some(KeptStep {
-            step,
-            first: StepNo(least_step(&looked)),
-            last: StepNo(greatest_step(&looked)),
-            looked,
-            lines,
-        }))
+        Ok(Some(kept_of(step, looked, lines)))
+    }
+
+    /// The same, to which all lines are handed over.
+    pub fn taking(
+        alloc: Global,
+        step: StepNo,
+        noted: &Noted,
+        lines: &mut Trace,
+        order: &mut Vec<u16>,
+    ) -> Result<Option<KeptStep>, NoMemory>
+        ensures kept { IfOk result (λ kept. MatchOption kept
+            (IsLarge (noted_in noted.now) (lines_in lines.old))
+            (IsRecordOf step.0 (noted_in noted.now) (lines_in lines.old))) }
+        ensures left { is_some lines.new ≡ is_some lines.old }
+    {
+        if is_large(noted.as_slice().len(), lines, 0) {
+            return Ok(None);
+        }
+        let looked = risen(alloc, noted.as_slice(), order)?;
+        let taken = lines.take()?;
+        Ok(Some(kept_of(step, looked, taken)))
     }
 
     /// Which timestep it is.
@@ -101,6 +116,20 @@ impl KeptStep {
         ensures { result.now ≡ Some self.now.lines }
     {
         &self.lines
+    }
+}
+
+// What is kept of a timestep, with these cells and lines.
+fn kept_of(step: StepNo, looked: HeldList, lines: Trace) -> KeptStep
+    requires { IsSome lines }
+    ensures { result ≡ record { step = step.0; looked = looked; lines = lines_in lines } }
+{
+    KeptStep {
+        step,
+        first: StepNo(least_step(&looked)),
+        last: StepNo(greatest_step(&looked)),
+        looked,
+        lines,
     }
 }
 

@@ -1,6 +1,6 @@
 -- What cells hold once inputs are given to them.
 use Rattle.rw_base.proofs.Common.{◌≡◌, ◌<◌, ◌+◌, ◌∙◌, ℕ, ℤ, if◌then◌else◌, List, [], ◌∷◌, Option, Some, None, IfSome, drop, get_or, length}
-use Rattle.rw_base.proofs.Common.{option_map, sym, ap}
+use Rattle.rw_base.proofs.Common.{option_map, subst, sym, ap}
 use Rattle.std.specs.Prelude.{is_some}
 use Rattle.std.proofs.lemmas.List.{at_drop_more}
 use Rattle.rw_base.specs.declared.number.Cell.{Cell}
@@ -9,9 +9,11 @@ use Rattle.rw_model.specs.Links.{IsBetween, bounds_in}
 use Rattle.rw_model.specs.declared.content.Content.{Content}
 use Rattle.rw_inputs.specs.Inputs.{Inputs, IsInputsOf, value_at}
 use Rattle.rw_series.specs.Series.{Series, Sets, held, is_shared}
-use Rattle.rw_run.specs.Log.{Cells, input_content}
+use Rattle.rw_run.specs.Log.{Cells, Log, input_content}
+use Rattle.rpl_verify.specs.Verified.{Accepted}
 use Rattle.rw_engine.specs.Engine.{Engine}
-use Rattle.rw_engine.specs.Shows.{KeepsOn}
+use Rattle.rw_engine.specs.Records.{HandsOver}
+use Rattle.rw_engine.specs.Shows.{IsEngineOf, KeepsOn, Shows}
 use Rattle.rw_rerun.specs.Spare.{GivesAll, given_all}
 
 pub within_given : (basin : Draft) (inputs : Inputs) → IsInputsOf basin inputs → (slot step : ℕ) (value : Option ℤ)
@@ -47,6 +49,36 @@ gives_on basin inputs cells place blank value old new was cell near is sets same
 pub keeps_same : (old new : Engine) → new ≡ old → KeepsOn old new
 keeps_same old new same =
     record { trace = ap (λ (engine : Engine). is_some engine.trace) same; noted = ap (λ (engine : Engine). is_some engine.noted) same }
+
+-- the lines of its last timestep are no part of what it shows
+module _ (basin : Draft) (ran left : Engine) (hands : HandsOver ran left) where
+  pub made_left : (policy : Accepted) → IsEngineOf basin policy ran → IsEngineOf basin policy left
+  made_left policy made = subst (IsEngineOf basin policy) (sym hands.rest) (record {
+    valid = made.valid;
+    fits = made.fits;
+    objects = made.objects;
+    rules = made.rules;
+    series = made.series;
+    closed_steps = made.closed_steps;
+    notes = record { same = hands.lines ∙ made.notes.same; traced = made.notes.traced };
+  })
+
+  pub shows_left : (log : Log) → Shows basin ran log → Shows basin left log
+  shows_left log shows = subst (λ engine. Shows basin engine log) (sym hands.rest) (record {
+    cells = shows.cells;
+    trace = shows.trace;
+    closed_steps = shows.closed_steps;
+    end = shows.end;
+  })
+
+  pub closed_left : left.closed ≡ ran.closed
+  closed_left = ap (λ (engine : Engine). engine.closed) hands.rest
+
+  pub keeps_left : KeepsOn ran left
+  keeps_left = record {
+    trace = ap (λ (engine : Engine). is_some engine.trace) hands.rest;
+    noted = ap (λ (engine : Engine). is_some engine.noted) hands.rest;
+  }
 
 pub keeps_more : (one other last : Engine) → KeepsOn one other → KeepsOn other last → KeepsOn one last
 keeps_more one other last first next = record { trace = next.trace ∙ first.trace; noted = next.noted ∙ first.noted }

@@ -23,7 +23,7 @@ use Rattle.rw_record.specs.Noted.{AreHeld, AreOnce}
 use Rattle.rw_record.specs.Record.{StepRecord}
 use Rattle.rw_engine.specs.Engine.{Engine}
 use Rattle.rw_engine.specs.Passing.{Passes, PassesAgain, ReplaysKept, RunsStep}
-use Rattle.rw_engine.specs.Records.{HasNoted, RecordsOrNot}
+use Rattle.rw_engine.specs.Records.{HandsOver, HasNoted, RecordsOrNot}
 use Rattle.rw_engine.specs.Shows.{CanShow, IsBefore, IsEngineOf}
 use Rattle.rw_engine.specs.declared.step_end.StepEnd.TheVariants.{Closed as IsClosed, Fault as IsFault}
 use Rattle.rw_engine.proofs.Backs.{can_show}
@@ -34,7 +34,7 @@ use Rattle.rw_rerun.specs.Session.{numbers_of_steps}
 use Rattle.rw_rerun.specs.UnderWay.{IsReplayable, GoesOn, IsPassOf, IsUnlike, stands_at}
 use Rattle.rw_rerun.specs.declared.pass.Pass.{Pass}
 use Rattle.rw_rerun.proofs.Anew.{IsClosedIn, kept_again, kept_anew, record_stands, these_again}
-use Rattle.rw_rerun.proofs.Gives.{keeps_same}
+use Rattle.rw_rerun.proofs.Gives.{closed_left, keeps_left, keeps_more, keeps_same, made_left, shows_left}
 use Rattle.rw_rerun.proofs.Reusing.{is_reused, not_reused, run_again, taken_over}
 use Rattle.rw_rerun.proofs.Ways.{before_next, none_on, none_open, not_kept, numbers_more, one_on, shown_next}
 
@@ -154,20 +154,25 @@ module _ (basin : Draft) (policy : Accepted) (step : ℕ) (old new : Pass) (made
         (ap (λ n. numbers_of_steps old.reran.items ++ n ∷ []) (sym at) ∙ sym (numbers_more old.reran.items number)
         ∙ ap numbers_of_steps (sym reran)) are
 
-    pub run_goes : (found : Option StepRecord) → new.over ≡ false → RunsStep basin policy step old.engine new.engine (Ok IsClosed)
-        → ((basin : Draft) (step : ℕ) (old : Log) (events : List Event) → HasNoted basin step old events new.engine → new.engine.closed ≡ step
+    pub run_goes : (ran : Engine) (found : Option StepRecord) → new.over ≡ false → RunsStep basin policy step old.engine ran (Ok IsClosed)
+        → HandsOver ran new.engine
+        → ((basin : Draft) (step : ℕ) (old : Log) (events : List Event) → HasNoted basin step old events ran → ran.closed ≡ step
         → RecordsOrNot basin step old events found)
         → ((basin : Draft) (cells : Cells) (events : List Event) (noted : List Held) → AreOnce noted → AreLooked basin cells events noted
         → length noted ≡ cell_count (flat_map (reached_by basin) events))
         → new.changes.items ≡ old.changes.items ++ Some found ∷ [] → GoesOn basin policy step (IsUnlike old) old new before after (Ok done)
-    run_goes found still_goes runs records how_many changes = record {
-      made = record { made = runs.made; noted = runs.kept.noted ∙ made.noted };
-      kept = runs.kept;
+    run_goes ran found still_goes runs hands records how_many changes = record {
+      made =
+          record {
+            made = made_left basin ran new.engine hands policy runs.made;
+            noted = (keeps_left basin ran new.engine hands).noted ∙ (runs.kept.noted ∙ made.noted);
+          };
+      kept = keeps_more old.engine ran new.engine runs.kept (keeps_left basin ran new.engine hands);
       goes = λ inputs earlier was last entry framed there fits next_one way.
           let now : Log = way.log in
           let none : (other : ℕ) → step ≤ other → events_of other now ≡ [] =
           none_open basin in_run inputs earlier was old new last step entry (Some found) way next_one there.there changes in
-          let passes : Passes basin in_run now IsClosed new.engine step =
+          let passes : Passes basin in_run now IsClosed ran step =
           runs.passes now way.shows (before_next basin in_run inputs earlier was old new last step entry (Some found) way next_one there.there changes
           goes exists.last) in
           let closes = passes.closes in
@@ -178,7 +183,7 @@ module _ (basin : Draft) (policy : Accepted) (step : ℕ) (old new : Pass) (made
           subst (λ l. IsClosedIn step l now closes.first closes.events) (sym closes.is)
           (record { behind = facts.0; own = facts.1; closing = facts.2 }) in
           one_on basin in_run inputs earlier was old new last step entry (Some found) way next_one there.there changes log passes.events passes.leads
-          passes.shows
+          (shows_left basin ran new.engine hands log passes.shows)
           (ap (λ e. standing (e ∷ passes.before)) passes.ends ∙ sym (ap (λ o. stands_at o step) still_goes)) closed_in.behind
           (listed earlier log
           (run_again basin earlier now log step (numbers_of_steps old.reran.items) closed_in.behind
@@ -186,16 +191,18 @@ module _ (basin : Draft) (policy : Accepted) (step : ℕ) (old new : Pass) (made
           (not_reused basin in_run earlier log now step entry (subst (λ s. IsKeptOrNot basin in_run earlier s entry) (sym next_one) there.kept)
           closed_in.behind.opening
           (unlike_now (held old.engine.series) (cells_of basin now) entry (λ one. way.shows.cells one.cell) fits))))
-          (kept_anew basin in_run step log now closes.first closes.events closed_in closes.timestep new.engine noted
+          (kept_anew basin in_run step log now closes.first closes.events closed_in closes.timestep ran noted
           (how_many basin (cells_of basin now)) found
           (records basin step now (closes.first ∷ closes.events) noted runs.closed_steps))
           (link_anew basin in_run step now log closes.first closes.events found closes.timestep closes.is closed_in.own
           (records basin step now (closes.first ∷ closes.events) noted runs.closed_steps)
-          (kept_anew basin in_run step log now closes.first closes.events closed_in closes.timestep new.engine noted
+          (kept_anew basin in_run step log now closes.first closes.events closed_in closes.timestep ran noted
           (how_many basin (cells_of basin now)) found
           (records basin step now (closes.first ∷ closes.events) noted runs.closed_steps))
           (shown_next basin in_run inputs earlier was old new last step entry (Some found) way next_one there.there changes goes))
-          (λ same. can_show basin new.engine (step + 1) log runs.made.series passes.shows (ap (λ n. n + 1) (sym runs.closed_steps)));
+          (λ same. can_show basin new.engine (step + 1) log (made_left basin ran new.engine hands policy runs.made).series
+          (shows_left basin ran new.engine hands log passes.shows)
+          (ap (λ n. n + 1) (sym (closed_left basin ran new.engine hands ∙ runs.closed_steps))));
       grows = (Some found ∷ [], changes);
       each = one_more;
       rises = omega (arith, counted);

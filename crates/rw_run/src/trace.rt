@@ -129,6 +129,21 @@ impl Trace {
         }
     }
 
+    /// Hands its lines over as a trace of their own, in room of their size, and keeps the room that it has. After want of memory
+    /// the trace is as it was.
+    pub fn take(&mut self) -> Result<Trace, NoMemory>
+        ensures taken { IfOk result (λ lines. lines ≡ Some (lines_in self.old)) }
+        ensures left { IfOk result (λ _. self.new ≡ option_map (λ _. []) self.old) }
+        ensures unchanged { IfErr result (λ _. self.new ≡ self.old) }
+        ensures wants { IfErr result (λ _. IsSome self.old) }
+    {
+        let mut taken = Trace::new(self.alloc);
+        if self.kept {
+            taken.lines.append(&mut self.lines)?;
+        }
+        Ok(taken)
+    }
+
     // The lines from a place on, as they are kept.
     fn kept_from(&self, place: usize) -> &[Line]
         ensures { map line_event result.now ≡ drop place (lines_in self.now) }

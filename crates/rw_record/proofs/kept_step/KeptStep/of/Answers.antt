@@ -1,7 +1,6 @@
-use Rattle.rw_record.proofs.Common.{Contains, ap, drop, length, noted_in, refl, rules, subst, sym, ◌∙◌, ◌≤◌, ◌↔◌}
+use Rattle.rw_record.proofs.Common.{Contains, ap, drop, length, noted_in, rules, subst, sym, ◌≤◌, ◌↔◌}
 use Rattle.rw_run.specs.Trace.{lines_in}
-use Rattle.rw_record.specs.Record.{AreRisingCells}
-use Rattle.rw_record.proofs.Lines.{few as few_of}
+use Rattle.rw_record.proofs.Lines.{few as few_of, record_of}
 use Rattle.rw_record.proofs.kept_step.KeptStep.of.Goals as goal
 
 pub risen-requires-clause-few : goal.risen-requires-clause-few
@@ -14,14 +13,7 @@ pub returns : goal.returns
 returns c =
     let noted = noted_in c.args.noted.now in
     let lines = drop c.args.from (lines_in c.args.trace.now) in
-    let small = few_of noted lines (search rules) in
-    record {
-      step_is = refl;
-      few_cells = small.0;
-      few_lines = small.1;
-      members =
-          λ one. subst (λ all. Contains c.in_ok-looked.looked one ↔ Contains all one) c.as_slice-2.ensures.noted
-          (c.in_ok-looked.ensures.members one);
-      rising = c.in_ok-looked.ensures.rising;
-      lines_are = ap lines_in c.in_ok-lines.ensures;
-    }
+    record_of c.args.step.0 noted c.in_ok-looked.looked lines _ _ c.kept_of.ensures (ap lines_in c.in_ok-lines.ensures) (few_of noted lines (search rules))
+    (λ one. subst (λ all. Contains c.in_ok-looked.looked one ↔ Contains all one) c.as_slice-2.ensures.noted
+    (c.in_ok-looked.ensures.members one))
+    c.in_ok-looked.ensures.rising
