@@ -1,4 +1,4 @@
--- Puts in three parts, of which the first two are asked for together.
+-- Puts of which the first are asked for together, and what is answered of all.
 use Rattle.rw_base.proofs.Common.{Bool, Err, List, None, Ok, OnOk, Option, Result, Some, [], ap, arith, false, if◌then◌else◌, inl, inr, length, refl}
 use Rattle.rw_base.proofs.Common.{sym, true, ℕ, ℤ, ◌++◌, ◌+◌, ◌==◌, ◌∙◌, ◌∷◌, ◌≡◌, ◌≤◌, ◌⊎◌}
 use Rattle.std.proofs.lemmas.List.{length-append}
@@ -9,31 +9,40 @@ use Rattle.rw_method.specs.declared.balanced.Balanced.TheVariants.{Conflicts, Ho
 use Rattle.rw_method.specs.declared.given.Given.{Given}
 use Rattle.rw_method.specs.declared.put.Put.{Put}
 use Rattle.rw_method.specs.declared.solved.Solved.{Solved}
-use Rattle.rw_method.specs.declared.solved.Solved.TheVariants.{Puts}
 use Rattle.rw_method.specs.declared.term.Term.{Term}
 use Rattle.rw_method.specs.Asking.{Asks, IsRefused, can_get}
-use Rattle.rw_method.specs.declared.places.TheConstants.{OUTFLOW, POOL_ELEVATION, STORAGE}
+use Rattle.rw_method.specs.declared.places.TheConstants.{OUTFLOW}
 use Rattle.rw_method.specs.declared.view.View.{View}
 use Rattle.rw_method.specs.Balance.{power_balance}
 use Rattle.rw_method.specs.Power.{Plant, asked_of, head_of, plant}
-use Rattle.rw_method.specs.Puts.{asked_number, asked_put, energy_puts, flow_puts, held_after_puts, level_puts, power_puts, put, solved_put}
-use Rattle.rw_method.specs.Solving.{solved_balance}
+use Rattle.rw_method.specs.Puts.{asked_number, asked_put, energy_puts, flow_puts, held_after_puts, put, puts_or_answer, solved_put}
 use Rattle.rw_method.specs.Solve.{AllFit, answer, answer_of_puts, fault_of_level, fault_of_power, solve_of, unless_faulty}
-use Rattle.rw_method.specs.View.{given}
-use Rattle.rw_method.proofs.Misfits.{all_fit, judged_all, judged_refused, refused_at_once, refused_later}
+use Rattle.rw_method.proofs.Misfits.{all_fit, asks_at_once, judged_all, judged_refused, refused_at_once, refused_later}
 use Rattle.rw_method.proofs.PutFacts.{first_fits}
+use Rattle.rw_power.specs.Answering.{asked_puts, front_puts, power_answer, power_balanced}
 
-pub front_refused : (fit : Put → Bool) (a b c : List Put) (answer : Solved) → IsRefused fit (a ++ b) answer
-    → answer_of_puts fit ((a ++ b) ++ c) ≡ answer
-front_refused fit a b c answer refused = judged_refused fit ((a ++ b) ++ c) answer (refused_at_once fit (a ++ b) c answer refused)
+-- what follows puts of which one is refused isn't asked for
+pub asks_front : {X Y : Type 0} (fit : Put → Bool) (front back old mid new : List Put) (answer : Solved) → Asks {X = X} fit front old mid (Err answer)
+    → Asks {X = Y} fit (front ++ back) old new (Err answer)
+asks_front fit front back old mid new answer asks = asks_at_once fit front back old new answer asks.refused
 
-pub back_refused : (fit : Put → Bool) (a b c : List Put) (answer : Solved) → AllFit fit (a ++ b) → IsRefused fit c answer
-    → answer_of_puts fit ((a ++ b) ++ c) ≡ answer
-back_refused fit a b c answer all refused = judged_refused fit ((a ++ b) ++ c) answer (refused_later fit (a ++ b) c answer all refused)
+-- what is answered where one of the first is refused
+pub front_refused : (plant : Plant) (view : View) (head : ℤ) (asked : Option Given) (terms : List Term) (balanced : Balanced) (answer : Solved)
+    → IsRefused (can_get (Some plant.table) view) (front_puts plant.table view asked terms balanced) answer
+    → answer ≡ answer_of_puts (can_get (Some plant.table) view) (asked_puts plant view head asked terms balanced)
+front_refused plant view head asked terms balanced answer refused =
+    let fit : Put → Bool = can_get (Some plant.table) view in
+    let front : List Put = front_puts plant.table view asked terms balanced in
+    let energies : List Put = energy_puts plant head (held_after_puts view (flow_puts asked terms balanced) OUTFLOW) in
+    sym (judged_refused fit (front ++ energies) answer (refused_at_once fit front energies answer refused))
 
-pub three_fit : (fit : Put → Bool) (a b c puts : List Put) → AllFit fit (a ++ b) → AllFit fit c → puts ≡ (a ++ b) ++ c
-    → answer_of_puts fit ((a ++ b) ++ c) ≡ Puts puts
-three_fit fit a b c puts all others is = rw is (judged_all fit ((a ++ b) ++ c) (all_fit fit (a ++ b) c all others))
+-- what is answered of all, where the first fit and the others were asked for behind them
+pub behind : {X : Type 0} (fit : Put → Bool) (front back old new : List Put) (result : Result X Solved) → AllFit fit front → old ≡ front
+    → Asks fit back old new result → puts_or_answer new result ≡ answer_of_puts fit (front ++ back)
+behind fit front back old new (Ok done) fits is asks =
+    sym (rw (asks.added, is) (judged_all fit (front ++ back) (all_fit fit front back fits asks.fits)))
+behind fit front back old new (Err answer) fits is asks =
+    sym (judged_refused fit (front ++ back) answer (refused_later fit front back answer fits asks.refused))
 
 -- the solved term fits where the flows do
 pub solved_fits : (fit : Put → Bool) (asked : Option Given) (terms : List Term) (balanced : Balanced) → AllFit fit (flow_puts asked terms balanced)
@@ -77,31 +86,16 @@ unsolved asked terms balanced (inr (inr (place, held, solved, is))) = rw is refl
 -- what is answered once the balance is solved, with what was reckoned for it
 pub answered_by : (plant : Plant) (view : View) (head : ℤ) (asked : Option Given) (terms : List Term) (balanced : Balanced) (fault : Option Solved)
     (solved : Solved)
-    → head ≡ head_of plant view → asked ≡ asked_of plant view → terms ≡ (power_balance plant view).terms
-    → balanced ≡ solved_balance view.past (power_balance plant view).terms
+    → head ≡ head_of plant view → asked ≡ asked_of plant view → terms ≡ (power_balance plant view).terms → balanced ≡ power_balanced plant view
     → fault ≡ fault_of_level (Some plant.table) view
-    → solved ≡ answer_of_puts (can_get (Some plant.table) view)
-    (flow_puts asked terms balanced ++ level_puts (Some plant.table) (given view STORAGE) (given view POOL_ELEVATION) balanced
-    ++ energy_puts plant head (held_after_puts view (flow_puts asked terms balanced) OUTFLOW))
+    → solved ≡ answer_of_puts (can_get (Some plant.table) view) (asked_puts plant view head asked terms balanced)
     → ((fit : Put → Bool) (puts : List Put) → answer fit puts balanced fault ≡ answer_of_puts fit puts)
-    → solved ≡ answer (can_get (Some plant.table) view) (power_puts plant view (solved_balance view.past (power_balance plant view).terms))
-    (solved_balance view.past (power_balance plant view).terms)
-    (fault_of_level (Some plant.table) view)
+    → solved ≡ power_answer plant view
 answered_by plant view head asked terms balanced fault solved head_is asked_is terms_are balanced_is fault_is is ends =
-    is ∙ sym (ends (can_get (Some plant.table) view) (puts head asked terms balanced))
-    ∙ ap (λ h. answer (can_get (Some plant.table) view) (puts h asked terms balanced) balanced fault) head_is
-    ∙ ap (λ a. answer (can_get (Some plant.table) view) (puts (head_of plant view) a terms balanced) balanced fault) asked_is
-    ∙ ap (λ ts. answer (can_get (Some plant.table) view) (puts (head_of plant view) (asked_of plant view) ts balanced) balanced fault) terms_are
-    ∙ ap (λ b. answer (can_get (Some plant.table) view) (puts (head_of plant view) (asked_of plant view) (power_balance plant view).terms b) b fault)
-    balanced_is
-    ∙ ap (λ f. answer (can_get (Some plant.table) view)
-    (puts (head_of plant view) (asked_of plant view) (power_balance plant view).terms (solved_balance view.past (power_balance plant view).terms))
-    (solved_balance view.past (power_balance plant view).terms) f) fault_is
-  where
-    puts : ℤ → Option Given → List Term → Balanced → List Put
-    puts head asked terms balanced =
-        flow_puts asked terms balanced ++ level_puts (Some plant.table) (given view STORAGE) (given view POOL_ELEVATION) balanced
-        ++ energy_puts plant head (held_after_puts view (flow_puts asked terms balanced) OUTFLOW)
+    let fit : Put → Bool = can_get (Some plant.table) view in
+    let puts : List Put = asked_puts plant view head asked terms balanced in
+    let answered : solved ≡ answer fit puts balanced fault = is ∙ sym (ends fit puts) in
+    rw (head_is, asked_is, terms_are, balanced_is, fault_is) at answered
 
 pub three_same : (a b c x y z : Term) → a ≡ x → b ≡ y → c ≡ z → (a ∷ b ∷ c ∷ []) ≡ (x ∷ y ∷ z ∷ [])
 three_same a b c x y z first second third =
@@ -110,12 +104,6 @@ three_same a b c x y z first second third =
 -- where nothing is wrong before all else
 pub solved_as : (initial_storage : ℤ) (table : List Row) (max_release tailwater : ℤ) (power : ℕ) (view : View)
     → fault_of_power (plant table max_release tailwater power) view ≡ None
-    → answer (can_get (Some table) view) (power_puts (plant table max_release tailwater power) view
-    (solved_balance view.past (power_balance (plant table max_release tailwater power) view).terms))
-    (solved_balance view.past (power_balance (plant table max_release tailwater power) view).terms) (fault_of_level (Some table) view)
-    ≡ solve_of (PowerReservoir initial_storage table max_release tailwater power) view
+    → power_answer (plant table max_release tailwater power) view ≡ solve_of (PowerReservoir initial_storage table max_release tailwater power) view
 solved_as initial_storage table max_release tailwater power view fine =
-    sym (ap (λ first. unless_faulty first (answer (can_get (Some table) view)
-    (power_puts (plant table max_release tailwater power) view
-    (solved_balance view.past (power_balance (plant table max_release tailwater power) view).terms))
-    (solved_balance view.past (power_balance (plant table max_release tailwater power) view).terms) (fault_of_level (Some table) view))) fine)
+    sym (ap (λ first. unless_faulty first (power_answer (plant table max_release tailwater power) view)) fine)

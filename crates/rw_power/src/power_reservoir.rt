@@ -1,15 +1,13 @@
-ghost use Rattle.std.specs.Prelude.{◌≡◌, ◌≤◌, ◌≤ℤ◌, ℤ, pos, Some};
+ghost use Rattle.std.specs.Prelude.{◌≡◌, ◌≤◌, ◌≤ℤ◌, ℤ, pos};
 ghost use Rattle.rw_model.specs.declared.kind.Kind.TheVariants as Kind;
 ghost use Rattle.rw_method.specs.declared.places.TheConstants.{OUTFLOW};
 ghost use Rattle.rw_method.specs.Power.{plant, head_of, asked_of, outflow_or};
-ghost use Rattle.rw_method.specs.Balance.{lets_out, power_balance};
+ghost use Rattle.rw_method.specs.Balance.{lets_out};
 ghost use Rattle.rw_method.specs.View.{given};
 ghost use Rattle.rw_method.specs.Term.{IsWithin};
 ghost use Rattle.std.specs.Option.{ForSome};
-ghost use Rattle.rw_method.specs.Solving.{solved_balance};
-ghost use Rattle.rw_method.specs.Puts.{power_puts};
-ghost use Rattle.rw_method.specs.Solve.{answer, fault_of_level, solve_of};
-ghost use Rattle.rw_method.specs.Asking.{can_get};
+ghost use Rattle.rw_method.specs.Solve.{solve_of};
+ghost use Rattle.rw_power.specs.Answering.{power_answer};
 ghost use Rattle.rw_power.specs.Bounds.{IsFall};
 
 use crate::energy::head_of;
@@ -64,13 +62,7 @@ fn answer_asked(
     ensures { (tailwater : ℤ)
         → head ≡ head_of (plant rating.now max_release tailwater power) view.entry.now
         → asked ≡ asked_of (plant rating.now max_release tailwater power) view.entry.now
-        → result ≡ answer (can_get (Some rating.now) view.entry.now)
-        (power_puts (plant rating.now max_release tailwater power) view.entry.now
-        (solved_balance view.entry.now.past
-        (power_balance (plant rating.now max_release tailwater power) view.entry.now).terms))
-        (solved_balance view.entry.now.past
-        (power_balance (plant rating.now max_release tailwater power) view.entry.now).terms)
-        (fault_of_level (Some rating.now) view.entry.now) }
+        → result ≡ power_answer (plant rating.now max_release tailwater power) view.entry.now }
 {
     let terms = [
         view.term(Share::Brings, INFLOW),
@@ -82,7 +74,7 @@ fn answer_asked(
         Some(answer) => answer,
         None => put_all(
             view,
-            Some(rating),
+            rating,
             max_release,
             power,
             head,

@@ -12,6 +12,6 @@ returns-in-None c tailwater head asked =
     let terms = three_same _ _ _ _ _ _ c.term.ensures out c.stores.ensures in
     let put =
     rw (to_z-of_z w64 c.args.max_release c.ranges.max_release, to_z-of_z w64 c.args.head c.ranges.head) at
-    (c.put_all.ensures tailwater c.args.rating.now) in
+    (c.put_all.ensures tailwater) in
     answered_by of view c.args.head c.args.asked _ c.solve_balance-balanced.result c.fault_of_level.result c.put_all.result head asked terms
     (c.solve_balance-balanced.ensures ∙ ap₂ solved_balance c.steady.ensures.flow terms) c.fault_of_level.ensures put c.in-None.ensures
