@@ -5,9 +5,10 @@ ghost use Rattle.rw_method.specs.declared.balanced.Balanced.TheVariants as Balan
 ghost use Rattle.rw_method.specs.declared.places.TheConstants.{INFLOW, OUTFLOW, POOL_ELEVATION, STORAGE};
 ghost use Rattle.rw_method.specs.View.{given};
 ghost use Rattle.rw_method.specs.Term.{IsWithin};
-ghost use Rattle.rw_method.specs.Contents.{basis_of, contents_by, difference};
-ghost use Rattle.rw_method.specs.Balance.{known_sum, brings, takes, stores};
+ghost use Rattle.rw_method.specs.Contents.{difference};
+ghost use Rattle.rw_method.specs.Balance.{known_sum, brings, takes};
 ghost use Rattle.rw_method.specs.Solving.{missing, solved_balance};
+ghost use Rattle.rw_reservoir.specs.Answering.{reservoir_terms};
 
 use rw_base::Qty;
 use rw_method::places::{INFLOW, OUTFLOW, POOL_ELEVATION, STORAGE};
@@ -45,11 +46,10 @@ fn steady(past: Option<Qty>, side: Option<i128>, evaporation: Option<i128>) -> O
     }
 }
 
-// Whether neither the storage nor the elevation is given. Its clause is of `true` alone, as that of `is_short`.
-fn is_empty(view: &View) -> bool
-    ensures { result ≡ true → (table : Option (List Row))
-        → contents_by table (basis_of (given view.entry.now STORAGE)
-        (given view.entry.now POOL_ELEVATION)) ≡ None }
+/// Whether neither the storage nor the elevation is given. Its clauses are of `true` alone, as that of `is_short`.
+pub(crate) fn is_empty(view: &View) -> bool
+    ensures storage { result ≡ true → given view.entry.now STORAGE ≡ None }
+    ensures elevation { result ≡ true → given view.entry.now POOL_ELEVATION ≡ None }
 {
     view.given(STORAGE).is_none() && view.given(POOL_ELEVATION).is_none()
 }
@@ -57,10 +57,8 @@ fn is_empty(view: &View) -> bool
 // Whether two of the terms aren't given. Its clause is of `true` alone, as that of `is_short`.
 #[inline(always)]
 fn are_two_missing(view: &View) -> bool
-    ensures { result ≡ true → (table : Option (List Row)) → nat_le 2 (missing
-        (brings view.entry.now INFLOW ∷ takes view.entry.now OUTFLOW
-        ∷ stores (contents_by table (basis_of (given view.entry.now STORAGE)
-        (given view.entry.now POOL_ELEVATION))) ∷ [])) ≡ true }
+    ensures { result ≡ true → (table : Option (List Row))
+        → nat_le 2 (missing (reservoir_terms table view.entry.now)) ≡ true }
 {
     match (view.given(INFLOW), view.given(OUTFLOW)) {
         (None, None) => true,
@@ -74,10 +72,7 @@ fn are_two_missing(view: &View) -> bool
 #[inline(always)]
 pub(crate) fn is_short(view: &View) -> bool
     ensures { result ≡ true → (table : Option (List Row)) (steady : Option ℤ)
-        → solved_balance steady
-        (brings view.entry.now INFLOW ∷ takes view.entry.now OUTFLOW
-        ∷ stores (contents_by table (basis_of (given view.entry.now STORAGE)
-        (given view.entry.now POOL_ELEVATION))) ∷ []) ≡ Balanced.Idle }
+        → solved_balance steady (reservoir_terms table view.entry.now) ≡ Balanced.Idle }
 {
     are_two_missing(view)
 }

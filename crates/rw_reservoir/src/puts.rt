@@ -1,7 +1,8 @@
 ghost use Rattle.std.specs.Prelude.{◌≡◌, option_map, ◌<◌, ◌+◌, ◌≤◌, ◌++◌, [], length, OnOk, IfErr};
-ghost use Rattle.rw_method.specs.Puts.{solved_put, contents_puts, evaporation_put, release_puts, reservoir_puts, puts_or_answer, is_bounded};
-ghost use Rattle.rw_method.specs.Solve.{AllFit, answer_of_puts};
+ghost use Rattle.rw_method.specs.Puts.{solved_put, contents_puts, evaporation_put, release_puts, puts_or_answer, is_bounded};
+ghost use Rattle.rw_method.specs.Solve.{AllFit};
 ghost use Rattle.rw_method.specs.Asking.{Asks, can_get};
+ghost use Rattle.rw_reservoir.specs.Answering.{answer_by_puts};
 
 use crate::release::{ask_evaporation, ask_release};
 use rw_method::places::{OUTFLOW, POOL_ELEVATION, STORAGE};
@@ -71,9 +72,8 @@ fn ask_all(
 ) -> Result<(), Solved>
     requires { puts.old ≡ [] }
     ensures { puts_or_answer puts.new result
-        ≡ answer_of_puts (can_get (option_map (λ rating. rating.now) table.entry) view.entry.now)
-        (reservoir_puts (option_map (λ rating. rating.now) table.entry)
-        evaporation evaporated max_release view.entry.now balanced) }
+        ≡ answer_by_puts (option_map (λ rating. rating.now) table.entry)
+        evaporation evaporated max_release view.entry.now balanced }
 {
     match ask_contents(view, table, puts, balanced) {
         Ok(()) => ask_derived(
@@ -101,9 +101,8 @@ pub(crate) fn puts_or_misfit(
     balanced: Balanced,
 ) -> Solved
     ensures { result
-        ≡ answer_of_puts (can_get (option_map (λ rating. rating.now) table.entry) view.entry.now)
-        (reservoir_puts (option_map (λ rating. rating.now) table.entry)
-        evaporation evaporated max_release view.entry.now balanced) }
+        ≡ answer_by_puts (option_map (λ rating. rating.now) table.entry)
+        evaporation evaporated max_release view.entry.now balanced }
 {
     let mut puts = PutList::none();
     match ask_all(
@@ -133,9 +132,8 @@ pub(crate) fn put_all(
     solved: &mut Solved,
 )
     ensures { solved.new
-        ≡ answer_of_puts (can_get (option_map (λ rating. rating.now) table.entry) view.entry.now)
-        (reservoir_puts (option_map (λ rating. rating.now) table.entry)
-        evaporation evaporated max_release view.entry.now balanced) }
+        ≡ answer_by_puts (option_map (λ rating. rating.now) table.entry)
+        evaporation evaporated max_release view.entry.now balanced }
 {
     solved.clear();
     let asked = match solved {

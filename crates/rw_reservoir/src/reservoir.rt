@@ -8,11 +8,11 @@ ghost use Rattle.rw_method.specs.Balance.{side_flows};
 ghost use Rattle.rw_method.specs.Solve.{answer, fault_of_past, solve_of};
 ghost use Rattle.rw_reservoir.specs.Answering.{fault_of_held, reservoir_answer};
 
-use crate::balance::{balance, is_short};
+use crate::balance::{balance, is_empty, is_short};
 use crate::evaporation::evaporation_of;
 use crate::puts::{put_all, puts_or_misfit};
 use rw_base::Qty;
-use rw_method::places::{POOL_ELEVATION, RESERVOIR_SIDE, STORAGE};
+use rw_method::places::RESERVOIR_SIDE;
 use rw_method::{
     Balanced, Method, Solved, View, ended, fault_of_level, fault_of_past, side_flows, stores,
 };
@@ -78,9 +78,7 @@ fn is_faultless(view: &View, table: Option<&Rating>, evaporation: bool) -> bool
         → fault_of_held (option_map (λ rating. rating.now) table.entry) evaporation view.entry.now
         ≡ None }
 {
-    view.given(STORAGE).is_none()
-        && view.given(POOL_ELEVATION).is_none()
-        && is_past_faultless(evaporation, table, view.past)
+    is_empty(view) && is_past_faultless(evaporation, table, view.past)
 }
 
 // The same in the place of another answer. What is solved, of no contents that are given, is put where it stands.
