@@ -1,4 +1,4 @@
-ghost use Rattle.std.specs.Prelude.{◌≡◌, ◌<◌, ◌+◌, ◌≤◌, ◌++◌, ◌∷◌, ℤ, [], length, OnOk, IfOk, Some};
+ghost use Rattle.std.specs.Prelude.{◌≡◌, ◌<◌, ◌+◌, ◌≤◌, ◌∷◌, ℤ, [], length, OnOk, IfOk, Some};
 ghost use Rattle.std.specs.Int.{int_min};
 ghost use Rattle.rw_method.specs.declared.places.TheConstants.{ENERGY, OUTFLOW};
 ghost use Rattle.rw_method.specs.Power.{energy_of, plant};

@@ -1,9 +1,6 @@
-use Rattle.rw_base.proofs.Common.{Bool, FitsSigned, [], arith, option_map, rules, to_z-of_z, w128, ◌∷◌}
-use Rattle.rw_method.specs.declared.put.Put.{Put}
-use Rattle.rw_method.specs.Asking.{can_get}
-use Rattle.rw_method.specs.Puts.{put}
-use Rattle.rw_method.proofs.Misfits.{asks_then, refused_at_once}
-use Rattle.rw_power.proofs.Parts.{room}
+use Rattle.rw_base.proofs.Common.{FitsSigned, arith, rules, to_z-of_z, w128}
+use Rattle.rw_method.proofs.Misfits.{asks_then}
+use Rattle.rw_power.proofs.Parts.{asks_front, room}
 use Rattle.rw_power.proofs.flows.ask_two.Goals as goal
 
 pub returns-in-Ok-clause-asks : goal.returns-in-Ok-clause-asks
@@ -20,11 +17,4 @@ returns-in-Ok-clause-room c = room _ _ _ _ _ 2 (omega arith) (returns-in-Ok-clau
 pub returns-in-Err-clause-asks : goal.returns-in-Err-clause-asks
 returns-in-Err-clause-asks c =
     let one : FitsSigned w128 c.args.one.value = search rules in
-    let first = rw (to_z-of_z w128 c.args.one.value one) at c.in-Err.ensures.asks in
-    let fit : Put → Bool = can_get (option_map (λ rating. rating.now) c.args.table) c.args.view.now in
-    record {
-      added = tt;
-      fits = tt;
-      refused = refused_at_once fit (put c.args.one.place c.args.one.value c.args.one.number ∷ [])
-          (put c.args.other.place c.args.other.value c.args.other.number ∷ []) c.in-Err.answer first.refused;
-    }
+    asks_front _ _ _ _ _ _ _ (rw (to_z-of_z w128 c.args.one.value one) at c.in-Err.ensures.asks)
