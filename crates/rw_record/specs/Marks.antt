@@ -18,8 +18,3 @@ pub record KeepsMarks (slots steps : ℕ) (marks : List Bool) (noted : List Held
   pub many : length marks ≡ slots * steps
   pub marked : (cell : Cell) → IsTrue (has_mark slots steps cell) → is_cell_marked slots marks cell ≡ is_noted noted cell
   pub once : AreOnce noted
-
--- and nothing is noted where nothing is kept
-pub record KeepsNoted (kept : Bool) (slots steps : ℕ) (marks : List Bool) (noted : List Held) : Type 0 where
-  pub marks_are : KeepsMarks slots steps marks noted
-  pub unkept : kept ≡ false → noted ≡ []

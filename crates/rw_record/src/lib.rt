@@ -6,6 +6,7 @@
 
 mod alike;
 mod back;
+mod cell_notes;
 mod held_list;
 mod kept_step;
 pub mod law;

@@ -46,3 +46,17 @@ pub(crate) fn set_mark(marks: &mut Vec<bool>, slots: u16, steps: u16, cell: Cell
 {
     marks[position(slots, cell)] = mark;
 }
+
+/// Marks a cell, or takes its mark away, if there is a mark for it.
+#[inline(always)]
+pub(crate) fn mark_if(marks: &mut Vec<bool>, slots: u16, steps: u16, cell: Cell, mark: bool)
+    requires { vec_len marks.old ≡ slots * steps }
+    ensures many { vec_len marks.new ≡ slots * steps }
+    ensures set { (other : Cell) → IsTrue (has_mark slots steps other)
+        → is_cell_marked slots marks.new.items other
+        ≡ (if is_same_cell cell other then mark else is_cell_marked slots marks.old.items other) }
+{
+    if has_mark(slots, steps, cell) {
+        set_mark(marks, slots, steps, cell, mark);
+    }
+}

@@ -1,17 +1,14 @@
-ghost use Rattle.std.specs.Prelude.{◌≡◌, ◌*◌, ◌++◌, ◌∷◌, [], All, IfOk, IfErr, IsTrue, Some, None, if◌then◌else◌, is_some, map, option_map, vec_len};
-ghost use Rattle.std.specs.List.{list_all};
-ghost use Rattle.rw_base.specs.declared.number.Cell.{Cell};
+ghost use Rattle.std.specs.Prelude.{◌≡◌, ◌∷◌, [], All, IfOk, IfErr, Some, None, is_some, map, option_map};
 ghost use Rattle.rw_model.specs.Draft.{IsSlot};
 ghost use Rattle.rw_model.specs.Kept.{numbers_of};
 ghost use Rattle.rw_run.specs.Dispatch.{cell_at};
 ghost use Rattle.rw_series.specs.Series.{held};
 ghost use Rattle.rw_run.specs.Frame.{cells_looked};
-ghost use Rattle.rw_run.specs.Step.{cells_reached, cells_with, is_same_cell};
+ghost use Rattle.rw_run.specs.Step.{cells_reached, cells_with};
 ghost use Rattle.rw_run.specs.declared.write.Write.{Write};
-ghost use Rattle.rw_record.specs.Marks.{KeepsMarks, has_mark, is_cell_marked};
-ghost use Rattle.rw_record.specs.Noted.{AddsNotes, AreOnce, is_noted, noted_after, noted_in, row_cells};
+ghost use Rattle.rw_record.specs.Noted.{AddsNotes, AreOnce, noted_in, row_cells};
 
-use crate::marks::{has_mark, is_marked, set_mark};
+use crate::cell_notes::CellNotes;
 use rw_base::{Cell, NoMemory, SlotNo, StepNo};
 use rw_firing::Look;
 use rw_model::Basin;
@@ -25,22 +22,18 @@ use std::marker::Model;
 #[derive(Drop)]
 pub struct Noted {
     kept: bool,
-    slots: u16,
-    steps: u16,
-    marks: Vec<bool>,
-    items: Vec<Held>,
+    notes: CellNotes,
 }
 
 impl Model for Noted {
-    ghost use Rattle.std.specs.Prelude.{List, Option, Some, None, if◌then◌else◌};
+    ghost use Rattle.std.specs.Prelude.{◌≡◌, [], List, Option, Some, None, false, if◌then◌else◌};
     ghost use Rattle.rw_run.specs.declared.held.Held.{Held};
-    ghost use Rattle.rw_record.specs.Marks.{KeepsNoted};
 
     ghost Value = { Option (List Held) };
 
-    ghost view = { λ n. if n.kept then Some n.items.items else None };
+    ghost view = { λ n. if n.kept then Some n.notes else None };
 
-    ghost invariant = { λ n. KeepsNoted n.kept n.slots n.steps n.marks.items n.items.items };
+    ghost invariant = { λ n. n.kept ≡ false → n.notes ≡ [] };
 }
 
 impl Noted {
@@ -48,16 +41,9 @@ impl Noted {
     pub fn for_basin(alloc: Global, basin: &Basin) -> Result<Noted, NoMemory>
         ensures { IfOk result (λ noted. noted ≡ Some []) }
     {
-        let slots = basin.slot_count();
         let steps = basin.control().stamps.count();
-        let marks = Vec::from_elem(alloc, false, usize::from(slots) * usize::from(steps))?;
-        Ok(Noted {
-            kept: true,
-            slots,
-            steps,
-            marks,
-            items: Vec::new(alloc),
-        })
+        let notes = CellNotes::of(alloc, basin.slot_count(), steps)?;
+        Ok(Noted { kept: true, notes })
     }
 
     /// A list that keeps no cell that is noted, and so never takes memory.
@@ -66,10 +52,7 @@ impl Noted {
     {
         Noted {
             kept: false,
-            slots: 0,
-            steps: 0,
-            marks: Vec::new(alloc),
-            items: Vec::new(alloc),
+            notes: CellNotes::unmarked(alloc),
         }
     }
 
@@ -85,14 +68,14 @@ impl Noted {
         ensures noted { result.now ≡ noted_in self.now }
         ensures once { AreOnce result.now }
     {
-        self.items.as_slice()
+        self.notes.as_slice()
     }
 
     /// No cell is noted any more. This takes as long as there are noted ones.
     pub fn begin_step(&mut self)
         ensures { self.new ≡ option_map (λ _. []) self.old }
     {
-        clear(&mut self.marks, self.slots, self.steps, &mut self.items);
+        self.notes.clear();
     }
 
     /// Notes a cell with what it holds, unless it is noted already. After want of memory it isn't noted.
@@ -102,14 +85,7 @@ impl Noted {
         ensures unchanged { IfErr result (λ _. self.new ≡ self.old) }
     {
         if self.kept {
-            add(
-                &mut self.marks,
-                self.slots,
-                self.steps,
-                &mut self.items,
-                series,
-                cell,
-            )
+            self.notes.add(series, cell)
         } else {
             Ok(())
         }
@@ -137,15 +113,7 @@ impl Noted {
             result }
     {
         if self.kept {
-            add_row(
-                &mut self.marks,
-                self.slots,
-                self.steps,
-                &mut self.items,
-                series,
-                numbers,
-                step,
-            )
+            self.notes.add_row(series, numbers, step)
         } else {
             Ok(())
         }
@@ -193,14 +161,7 @@ impl Noted {
         ensures { AddsNotes (held series.now) (cells_with basin.now cell) self.old self.new result }
     {
         let group = basin.group(cell.slot);
-        if are_slots_noted(
-            self.marks.as_slice(),
-            self.slots,
-            self.steps,
-            self.items.as_slice(),
-            group,
-            cell.step,
-        ) {
+        if self.notes.are_slots_noted(group, cell.step) {
             return Ok(());
         }
         self.note_new(series, group, cell)
@@ -231,301 +192,5 @@ impl Noted {
             self.note(series, Cell { slot: *slot, step })?;
         }
         Ok(())
-    }
-}
-
-// Whether it is the same cell.
-fn is_same(cell: Cell, other: Cell) -> bool
-    ensures { result ≡ is_same_cell cell other }
-{
-    other.slot.0 == cell.slot.0 && other.step.0 == cell.step.0
-}
-
-// Whether a cell is one of these.
-#[cold]
-fn is_among(items: &[Held], cell: Cell) -> bool
-    ensures { result ≡ is_noted items.now cell }
-{
-    for one in items {
-        if is_same(cell, one.cell) {
-            return true;
-        }
-    }
-    false
-}
-
-// Whether a cell is noted. A cell of the basin has a mark.
-#[inline(always)]
-fn is_noted(marks: &[bool], slots: u16, steps: u16, items: &[Held], cell: Cell) -> bool
-    requires { KeepsMarks slots steps marks.now items.now }
-    ensures { result ≡ is_noted items.now cell }
-{
-    if has_mark(slots, steps, cell) {
-        is_marked(marks, slots, steps, cell)
-    } else {
-        is_among(items, cell)
-    }
-}
-
-// Whether the cell of a slot at a timestep is noted, if there is a slot.
-#[inline(always)]
-fn is_number_noted(
-    marks: &[bool],
-    slots: u16,
-    steps: u16,
-    items: &[Held],
-    number: Option<u16>,
-    step: StepNo,
-) -> bool
-    requires { KeepsMarks slots steps marks.now items.now }
-    ensures { result ≡ list_all (is_noted items.now) (row_cells step.0 (number ∷ [])) }
-{
-    match number {
-        Some(slot) => is_noted(
-            marks,
-            slots,
-            steps,
-            items,
-            Cell {
-                slot: SlotNo(slot),
-                step,
-            },
-        ),
-        None => true,
-    }
-}
-
-// Whether the cells that slots have at a timestep are all noted.
-fn are_noted(
-    marks: &[bool],
-    slots: u16,
-    steps: u16,
-    items: &[Held],
-    numbers: &[Option<u16>],
-    step: StepNo,
-) -> bool
-    requires { KeepsMarks slots steps marks.now items.now }
-    ensures { result ≡ list_all (is_noted items.now) (row_cells step.0 numbers.now) }
-{
-    for number in numbers {
-        if !is_number_noted(marks, slots, steps, items, *number, step) {
-            return false;
-        }
-    }
-    true
-}
-
-// Whether the cells of these slots at a timestep are all noted.
-#[inline(always)]
-fn are_slots_noted(
-    marks: &[bool],
-    slots: u16,
-    steps: u16,
-    items: &[Held],
-    numbers: &[SlotNo],
-    step: StepNo,
-) -> bool
-    requires { KeepsMarks slots steps marks.now items.now }
-    ensures { result ≡ list_all (is_noted items.now)
-        (map (λ slot. cell_at slot step.0) (numbers_of numbers.now)) }
-{
-    for slot in numbers {
-        if !is_noted(marks, slots, steps, items, Cell { slot: *slot, step }) {
-            return false;
-        }
-    }
-    true
-}
-
-// Adds a cell with what it holds, unless it is noted. After want of memory all is as it was.
-#[inline(always)]
-fn add(
-    marks: &mut Vec<bool>,
-    slots: u16,
-    steps: u16,
-    items: &mut Vec<Held>,
-    series: &Series,
-    cell: Cell,
-) -> Result<(), NoMemory>
-    requires { KeepsMarks slots steps marks.old.items items.old.items }
-    ensures marks { KeepsMarks slots steps marks.new.items items.new.items }
-    ensures added { IfOk result (λ _. items.new.items
-        ≡ noted_after (held series.now) items.old.items (cell ∷ [])) }
-    ensures unchanged { IfErr result (λ _. items.new.items ≡ items.old.items) }
-{
-    if has_mark(slots, steps, cell) {
-        add_marked(marks, slots, steps, items, series, cell)
-    } else {
-        add_other(marks, slots, steps, items, series, cell)
-    }
-}
-
-// The same of a cell that has a mark.
-#[inline(always)]
-fn add_marked(
-    marks: &mut Vec<bool>,
-    slots: u16,
-    steps: u16,
-    items: &mut Vec<Held>,
-    series: &Series,
-    cell: Cell,
-) -> Result<(), NoMemory>
-    requires keeps { KeepsMarks slots steps marks.old.items items.old.items }
-    requires there { IsTrue (has_mark slots steps cell) }
-    ensures marks { KeepsMarks slots steps marks.new.items items.new.items }
-    ensures added { IfOk result (λ _. items.new.items
-        ≡ noted_after (held series.now) items.old.items (cell ∷ [])) }
-    ensures unchanged { IfErr result (λ _. items.new.items ≡ items.old.items) }
-{
-    if is_marked(marks.as_slice(), slots, steps, cell) {
-        return Ok(());
-    }
-    push_held(items, series, cell)?;
-    set_mark(marks, slots, steps, cell, true);
-    Ok(())
-}
-
-// The same of any cell.
-#[cold]
-fn add_other(
-    marks: &mut Vec<bool>,
-    slots: u16,
-    steps: u16,
-    items: &mut Vec<Held>,
-    series: &Series,
-    cell: Cell,
-) -> Result<(), NoMemory>
-    requires { KeepsMarks slots steps marks.old.items items.old.items }
-    ensures marks { KeepsMarks slots steps marks.new.items items.new.items }
-    ensures added { IfOk result (λ _. items.new.items
-        ≡ noted_after (held series.now) items.old.items (cell ∷ [])) }
-    ensures unchanged { IfErr result (λ _. items.new.items ≡ items.old.items) }
-{
-    if is_noted(marks.as_slice(), slots, steps, items.as_slice(), cell) {
-        return Ok(());
-    }
-    push_held(items, series, cell)?;
-    mark_if(marks, slots, steps, cell, true);
-    Ok(())
-}
-
-// Adds a cell with what it holds. Each case writes its own: what is chosen between the two is copied once more.
-#[inline(always)]
-fn push_held(items: &mut Vec<Held>, series: &Series, cell: Cell) -> Result<(), NoMemory>
-    ensures pushed { IfOk result (λ _. items.new.items ≡ items.old.items
-        ++ record { cell = cell; content = held series.now cell } ∷ []) }
-    ensures unchanged { IfErr result (λ _. items.new.items ≡ items.old.items) }
-{
-    match series.get(cell) {
-        Some(known) => {
-            items.push(Held {
-                cell,
-                content: Some(known),
-            })?;
-        }
-        None => {
-            items.push(Held {
-                cell,
-                content: None,
-            })?;
-        }
-    }
-    Ok(())
-}
-
-// Adds the cell of a slot at a timestep, if there is a slot.
-#[inline(always)]
-fn add_number(
-    marks: &mut Vec<bool>,
-    slots: u16,
-    steps: u16,
-    items: &mut Vec<Held>,
-    series: &Series,
-    number: Option<u16>,
-    step: StepNo,
-) -> Result<(), NoMemory>
-    requires { KeepsMarks slots steps marks.old.items items.old.items }
-    ensures marks { KeepsMarks slots steps marks.new.items items.new.items }
-    ensures added { AddsNotes (held series.now) (row_cells step.0 (number ∷ []))
-        (Some items.old.items) (Some items.new.items) result }
-{
-    match number {
-        Some(slot) => add(
-            marks,
-            slots,
-            steps,
-            items,
-            series,
-            Cell {
-                slot: SlotNo(slot),
-                step,
-            },
-        ),
-        None => Ok(()),
-    }
-}
-
-// Adds the cells that slots have at a timestep. After want of memory some first ones of them are added.
-fn add_row(
-    marks: &mut Vec<bool>,
-    slots: u16,
-    steps: u16,
-    items: &mut Vec<Held>,
-    series: &Series,
-    numbers: &[Option<u16>],
-    step: StepNo,
-) -> Result<(), NoMemory>
-    requires { KeepsMarks slots steps marks.old.items items.old.items }
-    ensures marks { KeepsMarks slots steps marks.new.items items.new.items }
-    ensures added { AddsNotes (held series.now) (row_cells step.0 numbers.now)
-        (Some items.old.items) (Some items.new.items) result }
-{
-    if are_noted(
-        marks.as_slice(),
-        slots,
-        steps,
-        items.as_slice(),
-        numbers,
-        step,
-    ) {
-        return Ok(());
-    }
-    for number in numbers {
-        add_number(marks, slots, steps, items, series, *number, step)?;
-    }
-    Ok(())
-}
-
-// Takes the marks of these cells away.
-fn unmark(marks: &mut Vec<bool>, slots: u16, steps: u16, items: &[Held])
-    requires { KeepsMarks slots steps marks.old.items items.now }
-    ensures { KeepsMarks slots steps marks.new.items [] }
-{
-    for one in items {
-        mark_if(marks, slots, steps, one.cell, false);
-    }
-}
-
-// Takes all cells out, with their marks.
-fn clear(marks: &mut Vec<bool>, slots: u16, steps: u16, items: &mut Vec<Held>)
-    requires { KeepsMarks slots steps marks.old.items items.old.items }
-    ensures marks { KeepsMarks slots steps marks.new.items items.new.items }
-    ensures empty { items.new.items ≡ [] }
-{
-    unmark(marks, slots, steps, items.as_slice());
-    items.clear();
-}
-
-// Marks a cell, or takes its mark away, if there is a mark for it.
-#[inline(always)]
-fn mark_if(marks: &mut Vec<bool>, slots: u16, steps: u16, cell: Cell, mark: bool)
-    requires { vec_len marks.old ≡ slots * steps }
-    ensures many { vec_len marks.new ≡ slots * steps }
-    ensures set { (other : Cell) → IsTrue (has_mark slots steps other)
-        → is_cell_marked slots marks.new.items other
-        ≡ (if is_same_cell cell other then mark else is_cell_marked slots marks.old.items other) }
-{
-    if has_mark(slots, steps, cell) {
-        set_mark(marks, slots, steps, cell, mark);
     }
 }

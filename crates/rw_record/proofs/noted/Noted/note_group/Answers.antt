@@ -8,11 +8,10 @@ pub returns-then-are_slots_noted : goal.returns-then-are_slots_noted
 returns-then-are_slots_noted c =
     let basin = c.args.basin.now in
     let cell = c.args.cell in
-    let items = c.self.inside.items.items in
+    let items = c.self.inside.notes in
     let cells = held c.args.series.now in
     let all : list_all (is_noted items) (map (λ slot. cell_at slot cell.step.0) (numbers_of c.group-group.result.now)) ≡ true =
-    ap (λ these. list_all (is_noted these) (map (λ slot. cell_at slot cell.step.0) (numbers_of c.group-group.result.now))) (sym c.as_slice-2.ensures.value)
-    ∙ sym c.are_slots_noted.ensures ∙ c.if-are_slots_noted.true in
+    sym c.are_slots_noted.ensures ∙ c.if-are_slots_noted.true in
     let group : list_all (is_noted items) (map (λ slot. cell_at slot cell.step.0) (group_of basin.objects basin.links cell.slot.0)) ≡ true =
     ap (λ slots. list_all (is_noted items) (map (λ slot. cell_at slot cell.step.0) slots)) (sym c.group-group.ensures.group) ∙ all in
     subst (λ view. view ≡ with_noted cells (cells_with basin cell) view) c.self.view_is

@@ -1,16 +1,16 @@
 use Rattle.rw_record.proofs.Common.{None, is_noted, rules, sym, false, true, ◌∙◌, ◌≡◌}
 use Rattle.rw_record.specs.Noted.{row_cells}
 use Rattle.rw_record.proofs.Rows.{row_ends, row_more, row_sum}
-use Rattle.rw_record.proofs.noted.are_noted.Goals as goal
+use Rattle.rw_record.proofs.cell_notes.CellNotes.are_noted.Goals as goal
 
 pub returns-then-not-is_number_noted : goal.returns-then-not-is_number_noted
 returns-then-not-is_number_noted c =
     let not_it : c.is_number_noted.result ≡ false = search rules in
-    sym (row_ends (row_cells c.args.step.0) (row_sum c.args.step.0) (is_noted c.args.items.now) c.args.numbers.now c.loop-number.number-index None c.loop-number-test.true
+    sym (row_ends (row_cells c.args.step.0) (row_sum c.args.step.0) (is_noted c.args.self.now) c.args.numbers.now c.loop-number.number-index None c.loop-number-test.true
     (sym c.is_number_noted.ensures ∙ not_it))
 
 pub loop-number-preserved : goal.loop-number-preserved
 loop-number-preserved c =
     let it : c.is_number_noted.result ≡ true = search rules in
-    row_more (row_cells c.args.step.0) (row_sum c.args.step.0) (is_noted c.args.items.now) c.args.numbers.now c.loop-number.number-index None c.loop-number-test.true
+    row_more (row_cells c.args.step.0) (row_sum c.args.step.0) (is_noted c.args.self.now) c.args.numbers.now c.loop-number.number-index None c.loop-number-test.true
     c.loop-number.invariant (sym c.is_number_noted.ensures ∙ it)

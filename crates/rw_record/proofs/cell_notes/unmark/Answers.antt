@@ -1,7 +1,7 @@
 use Rattle.rw_record.proofs.Common.{Held, List, ap, drop, drop_more, length, rules, subst, sym, ◌*◌, ◌+◌, ◌∙◌, ◌∷◌, ◌≡◌}
 use Rattle.rw_record.specs.Marks.{KeepsMarks}
 use Rattle.rw_record.proofs.Marking.{first_taken}
-use Rattle.rw_record.proofs.noted.unmark.Goals as goal
+use Rattle.rw_record.proofs.cell_notes.unmark.Goals as goal
 
 pub loop-one-preserved : goal.loop-one-preserved
 loop-one-preserved c =
