@@ -1,15 +1,15 @@
 -- Marks of cells.
 use Rattle.rw_record.proofs.Common.{Bool, Cell, Cells, Held, IsTrue, List, [], ap, arith, cells_noted, false, false≢true, get_or-set_other}
-use Rattle.rw_record.proofs.Common.{get_or-set_same, if◌then◌else◌, is_noted, is_same_cell, length, length-replicate, list_any, list_any-append}
-use Rattle.rw_record.proofs.Common.{map-append, nat_tests, noted_after, refl, replicate, set, slice_index_or, subst, suc, sym, true, zero, ℕ, ◌*◌}
-use Rattle.rw_record.proofs.Common.{◌++◌, ◌<◌, ◌||◌, ◌∙◌, ◌∷◌, ◌≡◌, ◌≢◌}
+use Rattle.rw_record.proofs.Common.{get_or-set_same, if◌then◌else◌, is_noted, is_same_cell, length, length-replicate}
+use Rattle.rw_record.proofs.Common.{nat_tests, noted_after, refl, replicate, set, slice_index_or, subst, suc, sym, true, zero, ℕ, ◌*◌}
+use Rattle.rw_record.proofs.Common.{◌+◌, ◌-◌, ◌<◌, ◌||◌, ◌∙◌, ◌∷◌, ◌≡◌, ◌≢◌, ◌≤◌}
 use Rattle.std.specs.List.{IsDistinct}
 use Rattle.std.proofs.lemmas.List.Elements.{All-from_recursion}
 use Rattle.std.proofs.lemmas.List.Folds.{list_any_none}
-use Rattle.std.proofs.lemmas.List.Sorted.{IsPermutation-to_front}
-use Rattle.std.proofs.lemmas.Map.Keys.{IsDistinct-IsPermutation, IsDistinct-head, IsDistinct-tail}
+use Rattle.std.proofs.lemmas.Map.Keys.{IsDistinct-head, IsDistinct-tail}
 use Rattle.rw_series.specs.Cells.{position_of}
 use Rattle.rw_series.proofs.Places.{Kept-of, same_slot, same_step, within}
+use Rattle.rw_base.proofs.Common.{mul-le-mul_right, mul_comm}
 use Rattle.rw_record.specs.Marks.{KeepsMarks, has_mark, is_cell_marked}
 use Rattle.rw_record.proofs.Cells.{cells_equiv, same_cell}
 use Rattle.rw_record.proofs.Noting.{noted_is, once}
@@ -104,3 +104,14 @@ first_taken slots steps marks new first rest keeps many sets = record {
         → (if same then false else (is_same_cell other first.cell || is_noted rest other)) ≡ is_noted rest other
     by other true same = sym (ap (is_noted rest) (sym (same_cell first.cell other same)) ∙ fresh)
     by other false apart = ap (λ same. same || is_noted rest other) (cells_equiv.symm other first.cell ∙ apart)
+
+-- ---- the marks of one timestep
+
+pub row_fits : (slots steps step all : ℕ) → all ≡ slots * steps → step ≤ steps → step * slots ≤ all
+row_fits slots steps step all whole last =
+    let rows : step * slots ≤ steps * slots = mul-le-mul_right slots last in omega (arith, rows, whole, mul_comm slots steps)
+
+pub row_ends : (slots step : ℕ) → 1 ≤ step → (step - 1) * slots + slots ≡ step * slots
+row_ends slots step first =
+    let next : (step - 1) * slots + slots ≡ ((step - 1) + 1) * slots = omega arith in
+    let at : (step - 1) + 1 ≡ step = omega (arith, first) in next ∙ ap (λ n. n * slots) at

@@ -1,7 +1,8 @@
 -- A mark for each cell of so many slots and timesteps, side by side.
-use Rattle.std.specs.Prelude.{◌≡◌, ℕ, ◌*◌, Bool, false, IsTrue, List, [], length, slice_index_or}
+use Rattle.std.specs.Prelude.{◌≡◌, ℕ, ◌*◌, ◌-◌, ◌≤◌, Bool, false, IsTrue, List, length, slice_index_or}
 use Rattle.rw_base.specs.declared.number.Cell.{Cell}
 use Rattle.rw_series.specs.Cells.{is_kept, position_of}
+use Rattle.rw_run.specs.Dispatch.{cell_at}
 use Rattle.rw_run.specs.declared.held.Held.{Held}
 use Rattle.rw_record.specs.Noted.{AreOnce, is_noted}
 
@@ -18,3 +19,7 @@ pub record KeepsMarks (slots steps : ℕ) (marks : List Bool) (noted : List Held
   pub many : length marks ≡ slots * steps
   pub marked : (cell : Cell) → IsTrue (has_mark slots steps cell) → is_cell_marked slots marks cell ≡ is_noted noted cell
   pub once : AreOnce noted
+
+-- these marks tell of the cells at a timestep whether they are noted, from slot 1 on
+abbrev pub TellNoted : List Held → ℕ → List Bool → Type 0
+TellNoted noted step row = (slot : ℕ) → 1 ≤ slot → slot ≤ length row → slice_index_or row (slot - 1) false ≡ is_noted noted (cell_at slot step)

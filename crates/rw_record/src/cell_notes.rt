@@ -4,10 +4,10 @@ ghost use Rattle.rw_model.specs.Kept.{numbers_of};
 ghost use Rattle.rw_run.specs.Dispatch.{cell_at};
 ghost use Rattle.rw_series.specs.Series.{held};
 ghost use Rattle.rw_run.specs.Step.{is_same_cell};
-ghost use Rattle.rw_record.specs.Marks.{KeepsMarks};
+ghost use Rattle.rw_record.specs.Marks.{KeepsMarks, TellNoted};
 ghost use Rattle.rw_record.specs.Noted.{AddsNotes, AreOnce, is_noted, noted_after, row_cells};
 
-use crate::marks::{has_mark, is_marked, mark_if, set_mark};
+use crate::marks::{has_mark, is_marked, mark_if, row_of, set_mark};
 use rw_base::{Cell, NoMemory, SlotNo, StepNo};
 use rw_run::Held;
 use rw_series::Series;
@@ -84,17 +84,15 @@ impl CellNotes {
         }
     }
 
-    // Whether the cell of a slot at a timestep is noted, if there is a slot.
+    // The marks of the cells at a timestep, by slot. There are none where there is no such timestep.
     #[inline(always)]
-    fn is_number_noted(&self, number: Option<u16>, step: StepNo) -> bool
-        ensures { result ≡ list_all (is_noted self.now) (row_cells step.0 (number ∷ [])) }
+    fn marks_at(&self, step: StepNo) -> &[bool]
+        ensures { TellNoted self.now step.0 result.now }
     {
-        match number {
-            Some(slot) => self.is_noted(Cell {
-                slot: SlotNo(slot),
-                step,
-            }),
-            None => true,
+        if 1 <= step.0 && step.0 <= self.steps {
+            row_of(self.marks.as_slice(), self.slots, step.0)
+        } else {
+            &[]
         }
     }
 
@@ -102,8 +100,10 @@ impl CellNotes {
     fn are_noted(&self, numbers: &[Option<u16>], step: StepNo) -> bool
         ensures { result ≡ list_all (is_noted self.now) (row_cells step.0 numbers.now) }
     {
+        let row = self.marks_at(step);
+        let items = self.as_slice();
         for number in numbers {
-            if !self.is_number_noted(*number, step) {
+            if !is_number_noted(row, items, *number, step) {
                 return false;
             }
         }
@@ -231,6 +231,37 @@ fn is_among(items: &[Held], cell: Cell) -> bool
         }
     }
     false
+}
+
+// Whether the cell of a slot at a timestep is noted, if there is a slot. The row has the marks of that timestep.
+#[inline(always)]
+fn is_number_noted(row: &[bool], items: &[Held], number: Option<u16>, step: StepNo) -> bool
+    requires { TellNoted items.now step.0 row.now }
+    ensures { result ≡ list_all (is_noted items.now) (row_cells step.0 (number ∷ [])) }
+{
+    match number {
+        Some(slot) => is_slot_noted(row, items, slot, step),
+        None => true,
+    }
+}
+
+// Whether the cell of a slot at a timestep is noted.
+#[inline(always)]
+fn is_slot_noted(row: &[bool], items: &[Held], slot: u16, step: StepNo) -> bool
+    requires { TellNoted items.now step.0 row.now }
+    ensures { result ≡ is_noted items.now (cell_at slot step.0) }
+{
+    if 1 <= slot && usize::from(slot) <= row.len() {
+        row[usize::from(slot) - 1]
+    } else {
+        is_among(
+            items,
+            Cell {
+                slot: SlotNo(slot),
+                step,
+            },
+        )
+    }
 }
 
 // Adds a cell with what it holds. Each case writes its own: what is chosen between the two is copied once more.

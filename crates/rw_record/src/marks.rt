@@ -1,4 +1,4 @@
-ghost use Rattle.std.specs.Prelude.{◌≡◌, ◌≤◌, ◌*◌, IsTrue, if◌then◌else◌, length, vec_len};
+ghost use Rattle.std.specs.Prelude.{◌≡◌, ◌≤◌, ◌*◌, ◌-◌, IsTrue, drop, if◌then◌else◌, length, take, vec_len};
 ghost use Rattle.rw_base.specs.declared.number.Cell.{Cell};
 ghost use Rattle.rw_run.specs.Step.{is_same_cell};
 ghost use Rattle.rw_series.specs.Cells.{position_of};
@@ -59,4 +59,15 @@ pub(crate) fn mark_if(marks: &mut Vec<bool>, slots: u16, steps: u16, cell: Cell,
     if has_mark(slots, steps, cell) {
         set_mark(marks, slots, steps, cell, mark);
     }
+}
+
+/// The marks of the cells at a timestep, by slot.
+#[inline(always)]
+pub(crate) fn row_of(marks: &[bool], slots: u16, step: u16) -> &[bool]
+    requires first { 1 ≤ step }
+    requires last { step * slots ≤ length marks.now }
+    ensures { result.now ≡ take slots (drop ((step - 1) * slots) marks.entry.now) }
+{
+    let first = usize::from(step - 1) * usize::from(slots);
+    &marks[first..first + usize::from(slots)]
 }
