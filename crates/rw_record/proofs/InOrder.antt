@@ -59,6 +59,11 @@ pub picked_push : (items : List Held) (order : List ℕ) (place : ℕ)
     → picked_out items (order ++ place ∷ []) ≡ picked_out items order ++ picked_out items (place ∷ [])
 picked_push items order place = filter_map-append (slice_get items) order (place ∷ [])
 
+pub picked_there : (items : List Held) (order : List ℕ) (place : ℕ) (one : Held) → slice_get items place ≡ Some one
+    → picked_out items (order ++ place ∷ []) ≡ picked_out items order ++ one ∷ []
+picked_there items order place one there =
+    picked_push items order place ∙ ap (λ found. picked_out items order ++ cons_option found []) there
+
 one_few : {A : Type 0} (found : Option A) (more : List A) (count : ℕ) → length more ≤ count → length (cons_option found more) ≤ count + 1
 one_few None more count few = omega (arith, few)
 one_few (Some one) more count few = omega (arith, few)
@@ -164,30 +169,25 @@ rises_on (first ∷ rest) one last up under over = (
     below_on a b c (inr (slot, step)) (inl other) = inl (omega (arith, other, slot))
     below_on a b c (inr (slot, step)) (inr (same, later)) = inr (slot ∙ same, omega (arith, step, later))
 
-pub one_above : (items : List Held) (order : List ℕ) (place : ℕ) (last cell : Cell) → RisesTo items order last → RisesAbove items place last cell
-    → RisesTo items (order ++ place ∷ []) cell
-one_above items order place last cell to above = record {
+pub one_above : (items : List Held) (order : List ℕ) (place : ℕ) (last : Cell) (one : Held) → RisesTo items order last
+    → RisesAbove items place last one → RisesTo items (order ++ place ∷ []) one.cell
+one_above items order place last one to above = record {
   so = record {
-    many = ap length next ∙ length-append (picked_out items order) (above.one ∷ [])
+    many = ap length next ∙ length-append (picked_out items order) (one ∷ [])
         ∙ (let before = to.so.many in let after = length-append order (place ∷ []) in omega (arith, before, after));
-    up = subst AreRisingCells (sym next) (rises_on (picked_out items order) above.one last to.so.up to.under over);
+    up = subst AreRisingCells (sym next) (rises_on (picked_out items order) one last to.so.up to.under above.above);
   };
   under = λ it has.
-      by it (Contains-push_cases (picked_out items order) above.one it (subst (λ all. Contains all it) next has));
+      by it (Contains-push_cases (picked_out items order) one it (subst (λ all. Contains all it) next has));
 }
   where
-    next : picked_out items (order ++ place ∷ []) ≡ picked_out items order ++ above.one ∷ []
-    next =
-        filter_map-append (slice_get items) order (place ∷ [])
-        ∙ ap (λ found. picked_out items order ++ cons_option found []) above.there
+    next : picked_out items (order ++ place ∷ []) ≡ picked_out items order ++ one ∷ []
+    next = picked_there items order place one above.there
 
-    over : IsBelow last above.one.cell
-    over = subst (IsBelow last) (sym above.is) above.above
-
-    by : (it : Held) → Contains (picked_out items order) it ⊎ (above.one ≡ it) → IsBelowOrSame it.cell cell
+    by : (it : Held) → Contains (picked_out items order) it ⊎ (one ≡ it) → IsBelowOrSame it.cell one.cell
     by it (inl before) =
-        at_most_both it.cell last cell (to.under it before) (below_at_most last cell above.above)
-    by it (inr same) = subst (λ (other : Cell). IsBelowOrSame other cell) (sym above.is ∙ ap (λ (held : Held). held.cell) same) (itself cell)
+        at_most_both it.cell last one.cell (to.under it before) (below_at_most last one.cell above.above)
+    by it (inr same) = subst (λ (other : Held). IsBelowOrSame other.cell one.cell) same (itself one.cell)
 
 pub none_yet : (items : List Held) (last : Cell) → RisesTo items [] last
 none_yet items last = record { so = record { many = refl; up = tt }; under = λ one has. absurd (omega (arith, has.1)) }

@@ -20,12 +20,10 @@ rank_in items place = rank_of (slice_get items place)
 abbrev pub picked_out : List Held → List ℕ → List Held
 picked_out items order = filter_map (slice_get items) order
 
--- the cell in a place, and it is above another one
-pub record RisesAbove (items : List Held) (place : ℕ) (last cell : Cell) : Type 0 where
-  pub one : Held
+-- it stands in a place, and its cell is above another one
+pub record RisesAbove (items : List Held) (place : ℕ) (last : Cell) (one : Held) : Type 0 where
   pub there : slice_get items place ≡ Some one
-  pub is : one.cell ≡ cell
-  pub above : IsBelow last cell
+  pub above : IsBelow last one.cell
 
 -- there is a cell in each place, and they rise
 pub record RisesSo (items : List Held) (order : List ℕ) : Type 0 where

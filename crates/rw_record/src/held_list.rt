@@ -1,10 +1,11 @@
-ghost use Rattle.std.specs.Prelude.{◌≡◌, ◌<◌, ◌≤◌, ◌++◌, ◌∷◌, [], IfOk, List, Some, length, map, slice_get, vec_len};
+ghost use Rattle.std.specs.Prelude.{◌≡◌, ◌<◌, ◌≤◌, ◌++◌, ◌∷◌, [], IfOk, IfSome, List, Some, length, map, slice_get, true, vec_len};
 ghost use Rattle.rw_run.specs.Reuse.{most_kept};
 ghost use Rattle.rw_run.specs.declared.held.Held.{Held as WasHeld};
 ghost use Rattle.rw_record.specs.HeldList.{AreListed, KeepsContent, held_of};
-ghost use Rattle.rw_record.specs.InOrder.{picked_out};
+ghost use Rattle.rw_record.specs.InOrder.{RisesSo, picked_out};
 
-use rw_base::{Cell, NoMemory};
+use crate::ordered::above;
+use rw_base::{Cell, NoMemory, SlotNo, StepNo};
 use rw_model::Content;
 use rw_run::Held;
 use std::alloc::Global;
@@ -44,6 +45,27 @@ impl HeldList {
         let mut contents = Vec::with_capacity(alloc, count_known(items))?;
         add_all(&mut cells, &mut contents, items, order)?;
         Ok(HeldList { cells, contents })
+    }
+
+    /// The same where the cells rise so, and `None` where they don't.
+    pub(crate) fn rising(
+        alloc: Global,
+        items: &[Held],
+        order: &[u16],
+    ) -> Result<Option<HeldList>, NoMemory>
+        requires { length order.now ≤ most_kept }
+        ensures { IfOk result (λ made. IfSome made
+            (λ list. (list ≡ picked_out items.now order.now) × RisesSo items.now order.now)) }
+    {
+        let mut cells = Vec::with_capacity(alloc, items.len())?;
+        let mut contents = Vec::with_capacity(alloc, count_known(items))?;
+        let rise = add_rising(&mut cells, &mut contents, items, order)?;
+        let list = HeldList { cells, contents };
+        if rise {
+            return Ok(Some(list));
+        }
+        drop(list);
+        Ok(None)
     }
 
     /// How many there are.
@@ -94,6 +116,35 @@ fn add_all(
         add_found(cells, contents, items, *place)?;
     }
     Ok(())
+}
+
+// Adds those that stand in these places to none, as long as they rise. Answers whether all do.
+fn add_rising(
+    cells: &mut Vec<PlacedCell>,
+    contents: &mut Vec<Content>,
+    items: &[Held],
+    order: &[u16],
+) -> Result<bool, NoMemory>
+    requires few { length order.now ≤ most_kept }
+    requires cells { cells.old.items ≡ [] }
+    requires contents { contents.old.items ≡ [] }
+    ensures { IfOk result (λ rise. (rise ≡ true) → RisesSo items.now order.now
+        × AreListed (picked_out items.now order.now) cells.new.items contents.new.items) }
+{
+    let mut last = Cell {
+        slot: SlotNo(0),
+        step: StepNo(0),
+    };
+    for place in order {
+        match above(items, *place, last) {
+            Some(one) => {
+                add(cells, contents, one)?;
+                last = one.cell;
+            }
+            None => return Ok(false),
+        }
+    }
+    Ok(true)
 }
 
 // Adds the one that stands in a place, if one does.

@@ -4,11 +4,11 @@ ghost use Rattle.std.specs.List.{range_with_len};
 ghost use Rattle.rw_run.specs.Reuse.{most_kept};
 ghost use Rattle.rw_run.specs.declared.held.Held.{Held as WasHeld};
 ghost use Rattle.rw_record.specs.Noted.{AreOnce};
-ghost use Rattle.rw_record.specs.InOrder.{RisesAbove, RisesAll, RisesSo, rank_in};
+ghost use Rattle.rw_record.specs.InOrder.{RisesAbove, RisesAll, rank_in};
 ghost use Rattle.rw_record.specs.Record.{AreRisingCells, IsBelow};
 
 use crate::HeldList;
-use rw_base::{Cell, NoMemory, SlotNo, StepNo};
+use rw_base::{Cell, NoMemory};
 use rw_run::Held;
 use std::alloc::Global;
 
@@ -25,55 +25,36 @@ pub(crate) fn risen(
     ensures members { IfOk result (λ list. (one : WasHeld)
         → Contains list one ↔ Contains items.now one) }
 {
-    put_in_order(items, order)?;
+    if order.len() == items.len() {
+        if let Some(list) = HeldList::rising(alloc, items, order.as_slice())? {
+            return Ok(list);
+        }
+    }
+    sorted(alloc, items, order)
+}
+
+// The same, sorted.
+#[inline(never)]
+fn sorted(alloc: Global, items: &[Held], order: &mut Vec<u16>) -> Result<HeldList, NoMemory>
+    requires once { AreOnce items.now }
+    requires few { length items.now ≤ most_kept }
+    ensures rising { IfOk result (λ list. AreRisingCells list) }
+    ensures members { IfOk result (λ list. (one : WasHeld)
+        → Contains list one ↔ Contains items.now one) }
+{
+    sort(items, order)?;
     HeldList::of(alloc, items, order.as_slice())
 }
 
-// Makes the order one by which the cells rise, where it isn't.
-fn put_in_order(items: &[Held], order: &mut Vec<u16>) -> Result<(), NoMemory>
-    requires once { AreOnce items.now }
-    requires few { length items.now ≤ most_kept }
-    ensures { IfOk result (λ _. RisesAll items.now order.new.items) }
-{
-    if does_rise(items, order.as_slice()) {
-        return Ok(());
-    }
-    sort(items, order)
-}
-
-// Whether there are as many places as cells, and the cells in them rise.
-fn does_rise(items: &[Held], order: &[u16]) -> bool
-    ensures { (result ≡ true) → RisesAll items.now order.now }
-{
-    order.len() == items.len() && do_rise(items, order)
-}
-
-// Whether there is a cell in each of the places, and they rise.
-fn do_rise(items: &[Held], order: &[u16]) -> bool
-    ensures { (result ≡ true) → RisesSo items.now order.now }
-{
-    let mut last = Cell {
-        slot: SlotNo(0),
-        step: StepNo(0),
-    };
-    for place in order {
-        match above(items, *place, last) {
-            Some(cell) => last = cell,
-            None => return false,
-        }
-    }
-    true
-}
-
-// The cell in a place, if it is above this one.
+/// What stands in a place, if its cell is above this one.
 #[inline(always)]
-fn above(items: &[Held], place: u16, last: Cell) -> Option<Cell>
-    ensures { IfSome result (RisesAbove items.now place last) }
+pub(crate) fn above(items: &[Held], place: u16, last: Cell) -> Option<&Held>
+    ensures { IfSome result (λ one. RisesAbove items.entry.now place last one.now) }
 {
     match items.get(usize::from(place)) {
         Some(one) => {
             if is_below(last, one.cell) {
-                return Some(one.cell);
+                return Some(one);
             }
             None
         }

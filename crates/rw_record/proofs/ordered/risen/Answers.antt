@@ -1,24 +1,18 @@
-use Rattle.rw_record.proofs.Common.{Contains, Held, List, ap, length, subst, sym, ◌∙◌, ◌↔◌, ◌≡◌, ◌≤◌}
-use Rattle.rw_record.specs.InOrder.{RisesAll, picked_out}
-use Rattle.rw_record.specs.Record.{AreRisingCells}
-use Rattle.rw_record.proofs.InOrder.{for_ok, members}
+use Rattle.rw_record.proofs.Common.{Contains, Held, List, ap, length, rules, subst, sym, ◌∙◌, ◌↔◌, ◌≡◌, ◌≤◌}
+use Rattle.rw_record.specs.InOrder.{RisesSo, picked_out}
+use Rattle.rw_record.proofs.InOrder.{members}
 use Rattle.rw_record.proofs.ordered.risen.Goals as goal
 
-pub of-requires : goal.of-requires
-of-requires c = subst (λ n. n ≤ 6000) (sym (ap length c.as_slice.ensures.value ∙ c.in_ok-put_in_order.ensures.all)) c.requires.few
+pub rising-requires : goal.rising-requires
+rising-requires c =
+    let same : length c.args.order.now.items ≡ length c.args.items.now = search rules in
+    subst (λ n. n ≤ 6000) (sym (ap length c.as_slice.ensures.value ∙ same)) c.requires.few
 
-pub returns-clause-rising : goal.returns-clause-rising
-returns-clause-rising c =
-    let rises = subst (RisesAll c.args.items.now) (sym c.as_slice.ensures.value) c.in_ok-put_in_order.ensures in
-    for_ok (λ (list : List Held). list ≡ picked_out c.args.items.now c.as_slice.result.now) (λ (list : List Held). AreRisingCells list)
-    c.of.result c.of.ensures (λ list is. subst AreRisingCells (sym is) rises.so.up)
-
-pub returns-clause-members : goal.returns-clause-members
-returns-clause-members c =
+pub returns-in-Some-clause-members : goal.returns-in-Some-clause-members
+returns-in-Some-clause-members c =
     let items = c.args.items.now in
     let order = c.as_slice.result.now in
-    let rises = subst (RisesAll items) (sym c.as_slice.ensures.value) c.in_ok-put_in_order.ensures in
-    for_ok (λ (list : List Held). list ≡ picked_out items order) (λ (list : List Held). (one : Held) → Contains list one ↔ Contains items one)
-    c.of.result c.of.ensures
-    (λ list is. subst (λ (list : List Held). (one : Held) → Contains list one ↔ Contains items one) (sym is)
-    (members items order c.requires.once rises))
+    let same : length c.args.order.now.items ≡ length items = search rules in
+    let made : (c.in-Some.list ≡ picked_out items order) × RisesSo items order = search rules in
+    subst (λ (list : List Held). (one : Held) → Contains list one ↔ Contains items one) (sym made.0)
+    (members items order c.requires.once (record { all = ap length c.as_slice.ensures.value ∙ same; so = made.1 }))
