@@ -410,12 +410,13 @@ impl State {
         if count == 0 {
             return Ok(None);
         }
+        let mut lines = Trace::new(alloc);
+        lines.append(&self.lines, 0)?;
         KeptStep::of(
             alloc,
             StepNo(self.run.closed),
             &self.noted,
-            &self.lines,
-            0,
+            &mut lines,
             order,
         )
     }
@@ -437,7 +438,7 @@ impl State {
         if count == 0 {
             return Ok(None);
         }
-        KeptStep::taking(
+        KeptStep::of(
             alloc,
             StepNo(self.run.closed),
             &self.noted,

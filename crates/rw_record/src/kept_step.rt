@@ -1,4 +1,4 @@
-ghost use Rattle.std.specs.Prelude.{◌≡◌, ◌||◌, nat_lt, IfOk, IsSome, MatchOption, Some, drop, is_some, length};
+ghost use Rattle.std.specs.Prelude.{◌≡◌, ◌||◌, nat_lt, IfOk, MatchOption, is_some, length};
 ghost use Rattle.rw_run.specs.Reuse.{most_kept};
 ghost use Rattle.rw_run.specs.Trace.{lines_in};
 ghost use Rattle.rw_record.specs.Noted.{noted_in};
@@ -38,32 +38,11 @@ impl Model for KeptStep {
 }
 
 impl KeptStep {
-    /// The record of a timestep of which this is noted, and whose lines stand in the trace from this place on. `None`
-    /// exactly where it has more than `MOST_KEPT` cells or lines. The one error is want of memory. `docs/DEFINITIONS.md`
-    /// says under "Reuse" what is kept. `order` is that in which the noted cells of another timestep rose, or any other:
-    /// where these rise so too they need no sorting.
+    /// The record of a timestep of which this is noted, to which these lines are handed over. `None` exactly where it has more
+    /// than `MOST_KEPT` cells or lines. The one error is want of memory. `docs/DEFINITIONS.md` says under "Reuse" what is kept.
+    /// `order` is that in which the noted cells of another timestep rose, or any other: where these rise so too they need no
+    /// sorting.
     pub fn of(
-        alloc: Global,
-        step: StepNo,
-        noted: &Noted,
-        trace: &Trace,
-        from: usize,
-        order: &mut Vec<u16>,
-    ) -> Result<Option<KeptStep>, NoMemory>
-        ensures { IfOk result (λ kept. MatchOption kept
-            (IsLarge (noted_in noted.now) (drop from (lines_in trace.now)))
-            (IsRecordOf step.0 (noted_in noted.now) (drop from (lines_in trace.now)))) }
-    {
-        if is_large(noted.as_slice().len(), trace, from) {
-            return Ok(None);
-        }
-        let looked = risen(alloc, noted.as_slice(), order)?;
-        let lines = lines_from(alloc, trace, from)?;
-        Ok(Some(kept_of(step, looked, lines)))
-    }
-
-    /// The same, to which all lines are handed over.
-    pub fn taking(
         alloc: Global,
         step: StepNo,
         noted: &Noted,
@@ -75,12 +54,18 @@ impl KeptStep {
             (IsRecordOf step.0 (noted_in noted.now) (lines_in lines.old))) }
         ensures left { is_some lines.new ≡ is_some lines.old }
     {
-        if is_large(noted.as_slice().len(), lines, 0) {
+        if is_large(noted.as_slice().len(), lines) {
             return Ok(None);
         }
         let looked = risen(alloc, noted.as_slice(), order)?;
         let taken = lines.take()?;
-        Ok(Some(kept_of(step, looked, taken)))
+        Ok(Some(KeptStep {
+            step,
+            first: StepNo(least_step(&looked)),
+            last: StepNo(greatest_step(&looked)),
+            looked,
+            lines: taken,
+        }))
     }
 
     /// Which timestep it is.
@@ -119,26 +104,12 @@ impl KeptStep {
     }
 }
 
-// What is kept of a timestep, with these cells and lines.
-fn kept_of(step: StepNo, looked: HeldList, lines: Trace) -> KeptStep
-    requires { IsSome lines }
-    ensures { result ≡ record { step = step.0; looked = looked; lines = lines_in lines } }
-{
-    KeptStep {
-        step,
-        first: StepNo(least_step(&looked)),
-        last: StepNo(greatest_step(&looked)),
-        looked,
-        lines,
-    }
-}
-
-// Whether so many cells, or the lines of a trace from a place on, are too many to be kept.
-fn is_large(cells: usize, trace: &Trace, from: usize) -> bool
+// Whether so many cells, or these lines, are too many to be kept.
+fn is_large(cells: usize, lines: &Trace) -> bool
     ensures { result
-        ≡ (nat_lt most_kept cells || nat_lt most_kept (length (drop from (lines_in trace.now)))) }
+        ≡ (nat_lt most_kept cells || nat_lt most_kept (length (lines_in lines.now))) }
 {
-    cells > MOST_KEPT || trace.len().saturating_sub(from) > MOST_KEPT
+    cells > MOST_KEPT || lines.len() > MOST_KEPT
 }
 
 // The least timestep at which one of the cells is.
@@ -161,13 +132,4 @@ fn greatest_step(cells: &HeldList) -> u16
         greatest = greatest.max(cells.get(place).cell.step.0);
     }
     greatest
-}
-
-// The lines of a trace from a place on.
-fn lines_from(alloc: Global, trace: &Trace, from: usize) -> Result<Trace, NoMemory>
-    ensures { IfOk result (λ lines. lines ≡ Some (drop from (lines_in trace.now))) }
-{
-    let mut lines = Trace::new(alloc);
-    lines.append(trace, from)?;
-    Ok(lines)
 }

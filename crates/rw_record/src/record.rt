@@ -43,7 +43,8 @@ impl StepRecord {
             (IsRecordOf step.0 (noted_in noted.now) (drop from (lines_in trace.now)))) }
     {
         let mut order = Vec::new(alloc);
-        let kept = KeptStep::of(alloc, step, noted, trace, from, &mut order)?;
+        let mut lines = lines_from(alloc, trace, from)?;
+        let kept = KeptStep::of(alloc, step, noted, &mut lines, &mut order)?;
         listed(alloc, kept)
     }
 
@@ -116,4 +117,13 @@ fn spread(alloc: Global, list: &HeldList) -> Result<Vec<Held>, NoMemory>
         })?;
     }
     Ok(items)
+}
+
+// The lines of a trace from a place on.
+fn lines_from(alloc: Global, trace: &Trace, from: usize) -> Result<Trace, NoMemory>
+    ensures { IfOk result (λ lines. lines ≡ Some (drop from (lines_in trace.now))) }
+{
+    let mut lines = Trace::new(alloc);
+    lines.append(trace, from)?;
+    Ok(lines)
 }

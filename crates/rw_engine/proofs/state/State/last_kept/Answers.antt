@@ -8,7 +8,7 @@ returns-then-count-eq0-clause-noted c = λ basin step old events has is.
 
 pub returns-clause-noted : goal.returns-clause-noted
 returns-clause-noted c = λ basin step old events has is.
-    if_ok c.taking.result (λ kept. record_or_not basin step old events (seen c.args.self.now) kept has is) c.taking.ensures.kept
+    if_ok c.of.result (λ kept. record_or_not basin step old events (seen c.args.self.now) kept has is) c.of.ensures.kept
 
 pub returns-clause-untold : goal.returns-clause-untold
 returns-clause-untold c = λ none. absurd (c.if-count-eq0.false (c.len-count.ensures ∙ untold_none c.args.self.now.lines none))
