@@ -6,6 +6,7 @@
 mod exchange;
 pub mod law;
 mod next;
+mod orders;
 mod pass;
 mod passing;
 mod reach;

@@ -8,6 +8,7 @@ ghost use Rattle.rw_rerun.specs.Next.{BeginsReady, IsSpareReady, PassesBehind};
 ghost use Rattle.rw_rerun.specs.Spare.{AreKeptFirst, AreKeptFrom, IsSpare, IsSpareBy};
 ghost use Rattle.rw_rerun.specs.UnderWay.{CanGoBy};
 
+use crate::orders::Orders;
 use crate::pass::Pass;
 use crate::passing::passed;
 use crate::spare::{Spare, bring, give_all, unchanged};
@@ -50,6 +51,7 @@ fn make_ready(
 fn pass_from(
     alloc: Global,
     mut spare: Spare,
+    orders: Orders,
     basin: &Basin,
     kept: &[Option<KeptStep>],
     inputs: &Inputs,
@@ -70,10 +72,11 @@ fn pass_from(
             reran: Vec::new(alloc),
             changes,
             over: false,
-            order: Vec::new(alloc),
+            orders,
         }),
         Err(NoMemory) => {
             drop(spare);
+            drop(orders);
             Err(NoMemory)
         }
     }
@@ -86,6 +89,7 @@ pub(crate) fn pass_behind<L: Ledger>(
     setup: &RunSetup<'_>,
     kept: &[Option<KeptStep>],
     spare: Spare,
+    orders: Orders,
     inputs: &Inputs,
     cells: &[Cell],
     behind: u16,
@@ -104,6 +108,15 @@ pub(crate) fn pass_behind<L: Ledger>(
 {
     answered_code_is_safe();
     code_keeps_promises();
-    let pass = pass_from(alloc, spare, setup.basin, kept, inputs, cells, behind)?;
+    let pass = pass_from(
+        alloc,
+        spare,
+        orders,
+        setup.basin,
+        kept,
+        inputs,
+        cells,
+        behind,
+    )?;
     passed(alloc, pass, setup, kept, behind, steps)
 }

@@ -8,6 +8,7 @@ ghost use Rattle.rw_record.specs.Noted.{AreHeld};
 ghost use Rattle.rw_series.specs.Series.{held};
 ghost use Rattle.rw_rerun.specs.UnderWay.{CanGoBy, IsReplayable, GoesOn, HandsOn, IsPassOf, IsUnlike, PassesAll, PassesRest};
 
+use crate::orders::Orders;
 use crate::pass::Pass;
 use rpl_policy::law::code_keeps_promises;
 use rpl_verify::law::answered_code_is_safe;
@@ -49,11 +50,12 @@ fn take_over(
     Ok(())
 }
 
-// Runs a timestep, and keeps it anew.
+// Runs a timestep, and keeps it anew. Most have as many cells as they had in the run before, and these rise as others so many did.
 fn run_anew<L: Ledger>(
     alloc: Global,
     pass: &mut Pass,
     setup: &RunSetup<'_>,
+    entry: &Option<KeptStep>,
     step: StepNo,
     steps: &mut Steps<L>,
 ) -> Result<(), NoMemory>
@@ -70,7 +72,8 @@ fn run_anew<L: Ledger>(
     pass.reran.push(step)?;
     match end {
         StepEnd::Closed => {
-            let kept = pass.engine.last_kept(alloc, &mut pass.order)?;
+            pass.orders.choose(alloc, entry)?;
+            let kept = pass.engine.last_kept(alloc, &mut pass.orders.last)?;
             pass.changes.push(Some(kept))?;
             Ok(())
         }
@@ -103,12 +106,12 @@ fn pass_step<L: Ledger>(
         return skip(pass, setup, step);
     }
     match entry {
-        None => run_anew(alloc, pass, setup, step, steps),
+        None => run_anew(alloc, pass, setup, entry, step, steps),
         Some(kept) => {
             if pass.engine.is_kept_alike(kept) {
                 return take_over(pass, setup, kept, step);
             }
-            run_anew(alloc, pass, setup, step, steps)
+            run_anew(alloc, pass, setup, entry, step, steps)
         }
     }
 }
@@ -191,7 +194,7 @@ pub(crate) fn pass_all<L: Ledger>(
         reran: Vec::new(alloc),
         changes: Vec::new(alloc),
         over: false,
-        order: Vec::new(alloc),
+        orders: Orders::new(alloc),
     };
     passed(alloc, pass, setup, kept, 0, steps)
 }

@@ -14,6 +14,7 @@ ghost use Rattle.rw_rerun.specs.Session.{Applies, CountsRuns, HoldAsBefore, IsSe
 
 use crate::exchange::{exchange, exchange_for, nothing_kept};
 use crate::next::pass_behind;
+use crate::orders::Orders;
 use crate::pass::Pass;
 use crate::passing::pass_all;
 use crate::spare::{Spare, found_or_fresh, spare_of};
@@ -31,7 +32,7 @@ use std::mem::replace;
 
 /// How far a session has come: its inputs, the engine of their run, what is kept of each timestep, which timesteps were run last, and
 /// before which one all cells hold what they held in the run before. Beside that it has an engine from which its next run begins,
-/// unless none is made yet.
+/// unless none is made yet, and the orders in which the cells of timesteps rose.
 #[derive(Drop)]
 pub struct State<'a> {
     pub(crate) basin: &'a Basin,
@@ -42,6 +43,7 @@ pub struct State<'a> {
     pub(crate) reran: Vec<StepNo>,
     pub(crate) same: u16,
     pub(crate) spare: Option<Spare>,
+    pub(crate) orders: Orders,
 }
 
 impl<'a> Model for State<'a> {
@@ -96,7 +98,7 @@ impl<'a> State<'a> {
             reran,
             changes,
             over: _,
-            order: _,
+            orders,
         } = pass;
         exchange(&mut kept, changes);
         Ok(State {
@@ -108,10 +110,12 @@ impl<'a> State<'a> {
             reran,
             same: 0,
             spare: None,
+            orders,
         })
     }
 
-    // Passes the timesteps of the run after a batch, which leaves so many first ones. After that there is no spare engine.
+    // Passes the timesteps of the run after a batch, which leaves so many first ones. After that there is no spare engine, and the
+    // pass has the orders.
     fn pass_next<L: Ledger>(
         &mut self,
         alloc: Global,
@@ -142,8 +146,9 @@ impl<'a> State<'a> {
             &self.inputs,
             traced,
         )?;
+        let orders = replace(&mut self.orders, Orders::new(alloc));
         pass_behind(
-            alloc, setup, &self.kept, spare, inputs, cells, behind, steps,
+            alloc, setup, &self.kept, spare, orders, inputs, cells, behind, steps,
         )
     }
 
@@ -176,13 +181,14 @@ impl<'a> State<'a> {
             reran,
             changes,
             over: _,
-            order: _,
+            orders,
         } = pass;
         let was = replace(&mut self.engine, engine);
         self.spare = spare_of(was, setup.basin, &self.kept, &inputs, cells, behind);
         self.same = exchange_for(&mut self.kept, changes, cells, behind);
         self.inputs = inputs;
         self.reran = reran;
+        self.orders = orders;
     }
 
     // The run of the inputs after a batch, by what is kept of the run before.
