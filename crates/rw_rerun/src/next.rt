@@ -43,7 +43,7 @@ fn make_ready(
 {
     bring(spare, basin, kept, behind)?;
     give_all(&mut spare.engine, basin, inputs, cells);
-    let changes = unchanged(alloc, spare.behind)?;
+    let changes = unchanged(alloc, spare.behind, kept.len())?;
     Ok(changes)
 }
 

@@ -246,14 +246,15 @@ pub(crate) fn spare_of(
     }
 }
 
-/// So many timesteps change nothing of what is kept.
+/// So many timesteps change nothing of what is kept. The list has room for so many changes in all, so that it need not grow.
 pub(crate) fn unchanged(
     alloc: Global,
     behind: u16,
+    room: usize,
 ) -> Result<Vec<Option<Option<KeptStep>>>, NoMemory>
     ensures { IfOk result (λ changes. changes.items ≡ replicate behind None) }
 {
-    let mut changes = Vec::new(alloc);
+    let mut changes = Vec::with_capacity(alloc, room)?;
     for _step in 0..behind {
         changes.push(None)?;
     }
