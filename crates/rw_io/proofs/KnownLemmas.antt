@@ -1,5 +1,5 @@
 -- What a sink tells grows part by part.
-use Rattle.rw_base.proofs.Common.{◌≡◌, ℕ, ◌+◌, List, ◌++◌, length, take, drop, min, sym, ◌∙◌, subst, arith, append_assoc, None, Some, Option}
+use Rattle.rw_base.proofs.Common.{◌≡◌, ℕ, ◌+◌, List, ◌++◌, length, take, drop, min, sym, ◌∙◌, subst, arith, append_assoc, None, Some, Option, Result, Ok, Err, OnErr}
 use Rattle.rw_base.proofs.Common.{take-append-le, take_min, take-add, take-append-add}
 use Rattle.rw_io.specs.Known.{GrowsBy, PrefixGrew}
 
@@ -29,3 +29,9 @@ pub PrefixGrew-right : (a b c : Option (List ℕ)) (xs ys : List ℕ) → GrowsB
 PrefixGrew-right a b c xs ys h k =
     let P : List ℕ → Type 0 = λ t. GrowsBy a c t in
     (length xs + k.0, subst P (sym (take-append-add xs ys k.0)) (GrowsBy-trans a b c xs (take k.0 ys) h k.1))
+
+-- two texts, one behind the other, where the second one may break off
+pub PrefixGrew-both : {T E : Type 0} (result : Result T E) (a b c : Option (List ℕ)) (xs ys : List ℕ) → GrowsBy a b xs
+    → OnErr result (PrefixGrew b c ys) → OnErr result (PrefixGrew a c (xs ++ ys))
+PrefixGrew-both (Ok x) a b c xs ys h k = tt
+PrefixGrew-both (Err e) a b c xs ys h k = PrefixGrew-right a b c xs ys h k
