@@ -48,3 +48,7 @@ pub piece : (words : ℕ → List ℕ) (first last : ℕ) (front text tail new :
     → new ≡ front ++ for_each words last
 piece words first last front text tail new whole is added =
     both front text new (for_each words first) tail is added ∙ ap (λ t. front ++ t) whole
+
+-- a part more, with a front before what is there
+pub behind : (front text new part : List ℕ) → new ≡ text ++ part → front ++ new ≡ (front ++ text) ++ part
+behind front text new part is = ap (λ t. front ++ t) is ∙ sym (append_assoc front text part)

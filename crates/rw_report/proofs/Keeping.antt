@@ -1,7 +1,7 @@
 -- Lines that are kept, and tell of the first timesteps.
 use Rattle.rw_base.proofs.Common.{◌≡◌, ◌≤◌, ◌<◌, ◌+◌, ◌∙◌, ℕ, zero, suc, ℤ, Bool, true, false, List, [], ◌∷◌, ◌++◌, All, All-contains, Option, Some}
 use Rattle.rw_base.proofs.Common.{ap, ap₂, arith, get_or_from_slice_get, length, length-set, map, nat_lt, nat_tests, none-some, option_map, refl}
-use Rattle.rw_base.proofs.Common.{same_Some, set, slice_get, slice_get_within, string_bytes, subst, sym, take}
+use Rattle.rw_base.proofs.Common.{same_Some, set, slice_get, slice_get_within, string_bytes, subst, suc-eq-add-one, sym, take}
 use Rattle.rw_base.specs.declared.number.Cell.{Cell}
 use Rattle.rw_base.proofs.Lists.{got_set}
 use Rattle.rw_model.specs.Draft.{Draft}
@@ -9,8 +9,8 @@ use Rattle.rw_model.specs.Objects.{all_slots}
 use Rattle.rw_model.specs.declared.content.Content.{Content}
 use Rattle.rw_run.specs.Dispatch.{cell_at}
 use Rattle.rw_run.specs.Log.{Cells}
-use Rattle.rw_report.specs.Kept.{AreInPlace, IsTold, TellFirst, TellsKeptLine}
-use Rattle.rw_report.specs.Section.{row, values_in}
+use Rattle.rw_report.specs.Kept.{AreInPlace, IsTold, TellFirst, TellsKeptLine, first_texts, text_in}
+use Rattle.rw_report.specs.Section.{row, rows, values_in}
 use Rattle.rw_report.specs.Sheet.{AreToldBefore, AreToldOf, sheet_line, values_listed, values_of}
 use Rattle.rw_report.specs.declared.kept.KeptLine.{KeptLine}
 use Rattle.rw_report.proofs.Listing.{row_told}
@@ -49,6 +49,19 @@ tells_more basin cells lines place step one next near tells first at line before
         (subst (TellsKeptLine basin cells step)
         (same_Some one line (sym (got_set lines place one near) ∙ ap (slice_get (set lines place one)) (sym same) ∙ there)) tells)
 
+-- and so does one that tells of it already
+pub tells_one_more : (basin : Draft) (cells : Cells) (lines : List KeptLine) (count : ℕ) (one : KeptLine) → slice_get lines count ≡ Some one
+    → TellsKeptLine basin cells (count + 1) one → TellFirst basin cells count lines → TellFirst basin cells (count + 1) lines
+tells_one_more basin cells lines count one here tells first at line before there = by (nat_lt at count) refl
+  where
+    by : (less : Bool) → nat_lt at count ≡ less → TellsKeptLine basin cells (at + 1) line
+    by true is = let less : at < count = grind (arith, nat_tests, is) in first at line less there
+    by false is =
+        let far : count ≤ at = grind (arith, nat_tests, is) in
+        let same : at ≡ count = omega (arith, far, before) in
+        subst (λ n. TellsKeptLine basin cells (n + 1) line) (sym same)
+        (subst (TellsKeptLine basin cells (count + 1)) (same_Some one line (sym here ∙ ap (slice_get lines) (sym same) ∙ there)) tells)
+
 -- and one that is put behind them changes none of them
 pub tells_still : (basin : Draft) (cells : Cells) (lines : List KeptLine) (count : ℕ) (one : KeptLine) → count ≤ length lines
     → TellFirst basin cells count lines → TellFirst basin cells count (lines ++ one ∷ [])
@@ -72,6 +85,30 @@ row_there basin cells count place lines line near there all first =
 
 pub in_place : (basin : Draft) (cells : Cells) (count : ℕ) (lines : List KeptLine) → TellFirst basin cells count lines → AreInPlace count lines
 in_place basin cells count lines first place line near there = (first place line near there).step_is
+
+-- ---- their texts
+
+line_there : (lines : List KeptLine) (place : ℕ) → place < length lines → (line : KeptLine) × (slice_get lines place ≡ Some line)
+line_there [] place near = absurd (omega (arith, near))
+line_there (line ∷ lines) zero near = (line, refl)
+line_there (line ∷ lines) (suc place) near = line_there lines place (omega (arith, near))
+
+-- the first lines are the rows of the cells of which they tell
+pub texts_are_rows : (basin : Draft) (cells : Cells) (count : ℕ) (lines : List KeptLine) → All (IsTold basin) lines → count ≤ length lines
+    → TellFirst basin cells count lines → first_texts count lines ≡ rows basin (values_in cells) count
+texts_are_rows basin cells zero lines all few first = refl
+texts_are_rows basin cells (suc before) lines all few first =
+    let found = line_there lines before (omega (arith, few)) in
+    let front = texts_are_rows basin cells before lines all (omega (arith, few)) (λ place line near there. first place line (omega (arith, near)) there) in
+    let last = row_there basin cells (suc before) before lines found.0 (omega arith) found.1 all first in
+    ap₂ (λ t u. t ++ u) front
+    (ap text_in found.1 ∙ last ∙ ap (row basin (values_in cells)) (sym (suc-eq-add-one before)))
+
+-- the last one is that of the line in its place
+pub texts_more : (lines : List KeptLine) (before next : ℕ) (line : KeptLine) → next ≡ before + 1 → slice_get lines before ≡ Some line
+    → first_texts next lines ≡ first_texts before lines ++ string_bytes line.text
+texts_more lines before next line is there =
+    ap (λ n. first_texts n lines) (is ∙ sym (suc-eq-add-one before)) ∙ ap (λ found. first_texts before lines ++ text_in found) there
 
 -- ---- their values
 

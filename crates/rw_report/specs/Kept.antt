@@ -1,5 +1,5 @@
 -- Lines of a table that are kept beside the values from which they were told.
-use Rattle.std.specs.Prelude.{◌≡◌, ◌≢◌, ◌<◌, ◌≤◌, ◌+◌, ℕ, List, Some, length, slice_get, string_bytes}
+use Rattle.std.specs.Prelude.{◌≡◌, ◌≢◌, ◌<◌, ◌≤◌, ◌+◌, ◌++◌, [], ℕ, zero, suc, List, Option, None, Some, length, slice_get, string_bytes}
 use Rattle.std.specs.List.{All}
 use Rattle.rw_model.specs.Draft.{Draft}
 use Rattle.rw_run.specs.Log.{Cells}
@@ -29,3 +29,14 @@ pub record AreKeptLines (basin : Draft) (cells : Cells) (count : ℕ) (lines : L
   pub told : All (IsTold basin) lines
   pub there : count ≤ length lines
   pub same : TellFirst basin cells count lines
+
+-- ---- their texts
+
+abbrev pub text_in : Option KeptLine → List ℕ
+text_in None = []
+text_in (Some line) = string_bytes line.text
+
+-- the texts of the first lines, so many of them, one after another
+abbrev pub first_texts : ℕ → List KeptLine → List ℕ
+first_texts zero lines = []
+first_texts (suc before) lines = first_texts before lines ++ text_in (slice_get lines before)

@@ -11,8 +11,8 @@ ghost use Rattle.rw_report.specs.Section.{columns, for_each, for_slots, row, row
 ghost use Rattle.rw_report.specs.Whole.{section_tail, section_top, whole_of};
 
 use crate::pieces::ROOM;
-use crate::table::{last_of_block, push_columns, push_stamp, write_block};
-use crate::whole::{Telling, push_flags_if, push_top, push_trace_if};
+use crate::table::{last_of_block, push_stamp, write_block};
+use crate::whole::{Telling, push_flags_if, push_head, push_trace_if};
 use rw_base::{NoMemory, StepNo};
 use rw_io::{Gathered, Sink, WriteFault};
 use rw_model::Basin;
@@ -188,8 +188,7 @@ fn prepare(
         (section_tail basin.now (outcome_of run.now) telling.now.flags telling.now.trace)) }
 {
     let mut head = String::new(alloc);
-    push_top(&mut head, basin, run, telling)?;
-    push_columns(&mut head, basin)?;
+    push_head(&mut head, basin, run, telling)?;
     let fronts = fronts_of(alloc, basin, run.closed)?;
     let mut tail = String::new(alloc);
     push_flags_if(&mut tail, basin, run, telling.flags)?;

@@ -1,11 +1,10 @@
 // The lines of a table, each kept beside the values from which it was told.
-ghost use Rattle.std.specs.Prelude.{◌≡◌, ◌≤◌, ◌<◌, ◌+◌, ◌-◌, ◌++◌, OnOk, string_bytes, length, true, vec_len};
+ghost use Rattle.std.specs.Prelude.{◌≡◌, ◌≤◌, ◌<◌, ◌+◌, ◌-◌, ◌++◌, ℕ, List, OnOk, string_bytes, length, true, vec_len};
 ghost use Rattle.std.specs.List.{All};
-ghost use Rattle.rw_model.specs.Draft.{Draft};
 ghost use Rattle.rw_model.specs.Objects.{all_slots};
 ghost use Rattle.rw_run.specs.Log.{Cells};
 ghost use Rattle.rw_series.specs.Series.{held};
-ghost use Rattle.rw_report.specs.Kept.{AreKeptLines, IsTold, TellFirst, TellsKeptLine};
+ghost use Rattle.rw_report.specs.Kept.{AreKeptLines, IsTold, TellFirst, TellsKeptLine, first_texts};
 ghost use Rattle.rw_report.specs.Section.{row, rows, values_in};
 ghost use Rattle.rw_report.specs.Sheet.{values_listed};
 
@@ -170,7 +169,7 @@ fn make_room(
 // Appends the line of a timestep.
 fn push_line(
     alloc: Global,
-    text: &mut String,
+    text: &mut Vec<u8>,
     lines: &mut Vec<KeptLine>,
     basin: &Basin,
     series: &Series,
@@ -182,44 +181,69 @@ fn push_line(
     requires last { step ≤ basin.now.control.stamps.count }
     ensures told { All (IsTold basin.now) lines.new.items }
     ensures room { vec_len lines.new ≡ vec_len lines.old }
-    ensures row { OnOk result (string_bytes text.new
-        ≡ string_bytes text.old ++ row basin.now (values_in (held series.now)) step) }
+    ensures row { OnOk result (text.new.items
+        ≡ text.old.items ++ row basin.now (values_in (held series.now)) step) }
     ensures tells { OnOk result (TellFirst basin.now (held series.now) (step - 1) lines.old.items
         → TellFirst basin.now (held series.now) step lines.new.items) }
 {
     let place = usize::from(step - 1);
     tell_line(alloc, &mut lines[place], basin, series, step)?;
-    text.push_str(lines[place].text.as_str())?;
+    text.extend_from_slice(lines[place].text.as_bytes())?;
     Ok(())
 }
 
-// Appends a line as it is.
-fn push_text(text: &mut String, line: &KeptLine) -> Result<(), NoMemory>
-    ensures { OnOk result
-        (string_bytes text.new ≡ string_bytes text.old ++ string_bytes line.now.text) }
+/// How many of the first lines tell what is held, of so many at most, where the first ones are known to.
+pub(crate) fn count_current(
+    lines: &[KeptLine],
+    basin: &Basin,
+    series: &Series,
+    first: u16,
+    most: u16,
+) -> u16
+    requires told { All (IsTold basin.now) lines.now }
+    requires there { most ≤ length lines.now }
+    requires first { first ≤ most }
+    requires same { TellFirst basin.now (held series.now) first lines.now }
+    ensures most { result ≤ most }
+    ensures same { TellFirst basin.now (held series.now) result lines.now }
 {
-    text.push_str(line.text.as_str())?;
-    Ok(())
-}
-
-// Appends the first lines, so many of them, as they are.
-fn push_first(text: &mut String, lines: &[KeptLine], first: u16) -> Result<(), NoMemory>
-    requires { first ≤ length lines.now }
-    ensures { (basin : Draft) (cells : Cells) → All (IsTold basin) lines.now
-        → TellFirst basin cells first lines.now → OnOk result (string_bytes text.new
-        ≡ string_bytes text.old ++ rows basin (values_in cells) first) }
-{
-    for before in 0..first {
-        push_text(text, &lines[usize::from(before)])?;
+    for before in first..most {
+        if !is_current(&lines[usize::from(before)], basin, series, before + 1) {
+            return before;
+        }
     }
-    Ok(())
+    most
 }
 
-/// Appends the lines of the first timesteps, so many of them, and keeps them. Those alone are told anew of which a value isn't as
-/// it was, and the first ones that tell what they told are not looked at.
+// Leaves out the text of the last line.
+fn cut_last(text: &mut Vec<u8>, line: &KeptLine)
+    requires { length (string_bytes line.now.text) ≤ length text.old.items }
+    ensures { (front : List ℕ) → text.old.items ≡ front ++ string_bytes line.now.text
+        → text.new.items ≡ front }
+{
+    let rest = text.len() - line.text.as_bytes().len();
+    text.truncate(rest);
+}
+
+/// Leaves of the texts of lines those of the first ones.
+pub(crate) fn cut(text: &mut Vec<u8>, lines: &[KeptLine], first: u16, told: u16)
+    requires told { told ≤ length lines.now }
+    requires text { text.old.items ≡ first_texts told lines.now }
+    requires first { first ≤ told }
+    ensures { text.new.items ≡ first_texts first lines.now }
+{
+    let mut left = told;
+    while first < left {
+        left -= 1;
+        cut_last(text, &lines[usize::from(left)]);
+    }
+}
+
+/// Appends the lines behind the first ones, of so many timesteps, and keeps them. Those alone are told anew of which a value isn't
+/// as it was.
 pub(crate) fn push_kept(
     alloc: Global,
-    text: &mut String,
+    text: &mut Vec<u8>,
     lines: &mut Vec<KeptLine>,
     basin: &Basin,
     series: &Series,
@@ -227,14 +251,14 @@ pub(crate) fn push_kept(
 ) -> Result<(), NoMemory>
     requires kept { extent.kept ≤ basin.now.control.stamps.count }
     requires lines { AreKeptLines basin.now (held series.now) extent.first lines.old.items }
+    requires text { text.old.items ≡ first_texts extent.first lines.old.items }
     requires first { extent.first ≤ extent.kept }
     ensures told { All (IsTold basin.now) lines.new.items }
     ensures lines { OnOk result
         (AreKeptLines basin.now (held series.now) extent.kept lines.new.items) }
-    ensures rows { OnOk result (string_bytes text.new
-        ≡ string_bytes text.old ++ rows basin.now (values_in (held series.now)) extent.kept) }
+    ensures rows { OnOk result (text.new.items
+        ≡ rows basin.now (values_in (held series.now)) extent.kept) }
 {
-    push_first(text, lines.as_slice(), extent.first)?;
     for before in extent.first..extent.kept {
         make_room(alloc, basin, lines, before)?;
         push_line(alloc, text, lines, basin, series, before + 1)?;

@@ -1,12 +1,15 @@
-ghost use Rattle.std.specs.Prelude.{◌≡◌, ◌≤◌, ◌<◌, ◌+◌, ℕ, IfErr, IfOk, option_map, string_bytes, []};
+ghost use Rattle.std.specs.Prelude.{◌≡◌, ◌≤◌, ◌<◌, ◌+◌, ◌++◌, ℕ, IfErr, IfOk, OnOk, option_map, string_bytes, []};
+ghost use Rattle.std.specs.List.{All};
 ghost use Rattle.rw_series.specs.Series.{held};
+ghost use Rattle.rw_report.specs.Kept.{AreKeptLines, IsTold, first_texts};
 ghost use Rattle.rw_report.specs.Outcome.{outcome_of};
 ghost use Rattle.rw_report.specs.Sheet.{AreToldBefore, AreToldOf};
 ghost use Rattle.rw_report.specs.Whole.{whole_of};
 
-use crate::kept::{Extent, KeptLine};
-use crate::whole::{Telling, push_section};
+use crate::kept::{Extent, KeptLine, count_current, cut, push_kept};
+use crate::whole::{Telling, push_head, push_rest};
 use rw_base::NoMemory;
+use rw_io::Pieces;
 use rw_model::Basin;
 use rw_run::Run;
 use std::alloc::Global;
@@ -21,13 +24,16 @@ pub struct Sheet<'a> {
     keeps: bool,
     lines: Vec<KeptLine>,
     told: u16,
-    text: String,
+    // What stands before the lines that are kept, these, and what stands behind them.
+    head: String,
+    rows: Vec<u8>,
+    rest: String,
 }
 
 impl<'a> Model for Sheet<'a> {
-    ghost use Rattle.std.specs.Prelude.{◌≤◌, map, string_bytes, take, vec_len};
+    ghost use Rattle.std.specs.Prelude.{◌≡◌, ◌≤◌, ◌++◌, map, string_bytes, take, vec_len};
     ghost use Rattle.std.specs.List.{All};
-    ghost use Rattle.rw_report.specs.Kept.{AreInPlace, IsTold};
+    ghost use Rattle.rw_report.specs.Kept.{AreInPlace, IsTold, first_texts};
     ghost use Rattle.rw_report.specs.Sheet as specs;
     ghost use Rattle.rw_report.specs.declared.kept.KeptLine.{KeptLine};
 
@@ -35,12 +41,13 @@ impl<'a> Model for Sheet<'a> {
 
     ghost view = { λ s. record {
       basin = s.basin.now;
-      text = string_bytes s.text;
+      text = string_bytes s.head ++ (s.rows.items ++ string_bytes s.rest);
       values = map (λ (line : KeptLine). line.values.items) (take s.told s.lines.items);
     } };
 
     ghost invariant = { λ s. All (IsTold s.basin.now) s.lines.items
-        × (s.told ≤ vec_len s.lines × AreInPlace s.told s.lines.items) };
+        × ((s.told ≤ vec_len s.lines × AreInPlace s.told s.lines.items)
+        × s.rows.items ≡ first_texts s.told s.lines.items) };
 }
 
 // The lesser of two numbers.
@@ -68,6 +75,41 @@ fn count_kept(keeps: bool, closed: u16) -> u16
     if keeps { closed } else { 0 }
 }
 
+// Tells a section in three pieces, of which the second one is the lines that are kept. It is made last: its lines take the room
+// that the third one left as it grew.
+fn push_pieces(
+    alloc: Global,
+    head: &mut String,
+    rows: &mut Vec<u8>,
+    rest: &mut String,
+    lines: &mut Vec<KeptLine>,
+    basin: &Basin,
+    run: &Run,
+    telling: &Telling<'_>,
+    extent: Extent,
+) -> Result<(), NoMemory>
+    requires head { string_bytes head.old ≡ [] }
+    requires rest { string_bytes rest.old ≡ [] }
+    requires closed { run.now.closed ≤ basin.now.control.stamps.count }
+    requires kept { extent.kept ≤ run.now.closed }
+    requires lines { AreKeptLines basin.now (held run.now.series) extent.first lines.old.items }
+    requires rows { rows.old.items ≡ first_texts extent.first lines.old.items }
+    requires first { extent.first ≤ extent.kept }
+    ensures told { All (IsTold basin.now) lines.new.items }
+    ensures lines { OnOk result
+        (AreKeptLines basin.now (held run.now.series) extent.kept lines.new.items) }
+    ensures rows { OnOk result (rows.new.items ≡ first_texts extent.kept lines.new.items) }
+    ensures section { OnOk result
+        (string_bytes head.new ++ (rows.new.items ++ string_bytes rest.new)
+        ≡ whole_of basin.now telling.now.batch (outcome_of run.now)
+        (option_map (λ steps. steps.now) telling.now.reran) telling.now.flags telling.now.trace) }
+{
+    push_head(head, basin, run, telling)?;
+    push_rest(alloc, rest, basin, run, telling, extent.kept)?;
+    push_kept(alloc, rows, lines, basin, &run.series, extent)?;
+    Ok(())
+}
+
 impl<'a> Sheet<'a> {
     /// A sheet on which nothing is told of the basin's runs. Whether it keeps lines goes by `keeps`: for a sheet that tells one
     /// section they are of no use. It takes no memory.
@@ -80,7 +122,9 @@ impl<'a> Sheet<'a> {
             keeps,
             lines: Vec::new(alloc),
             told: 0,
-            text: String::new(alloc),
+            head: String::new(alloc),
+            rows: Vec::new(alloc),
+            rest: String::new(alloc),
         }
     }
 
@@ -99,12 +143,19 @@ impl<'a> Sheet<'a> {
         ensures basin { self.new.basin ≡ self.old.basin }
     {
         let kept = count_kept(self.keeps, run.closed);
-        let first = lesser(count_before(same, self.told), kept);
+        let most = lesser(self.told, kept);
+        let before = count_before(same, most);
+        let lines = self.lines.as_slice();
+        let first = count_current(lines, self.basin, &run.series, before, most);
+        cut(&mut self.rows, lines, first, self.told);
         self.told = 0;
-        self.text.clear();
-        match push_section(
+        self.head.clear();
+        self.rest.clear();
+        match push_pieces(
             self.alloc,
-            &mut self.text,
+            &mut self.head,
+            &mut self.rows,
+            &mut self.rest,
             &mut self.lines,
             self.basin,
             run,
@@ -116,23 +167,22 @@ impl<'a> Sheet<'a> {
                 Ok(())
             }
             Err(NoMemory) => {
-                self.text.clear();
+                self.head.clear();
+                self.rows.clear();
+                self.rest.clear();
                 Err(NoMemory)
             }
         }
     }
 
-    /// What was told last: the bytes of that section. It takes no memory.
-    pub fn text(&self) -> &[u8]
-        ensures { result.now ≡ self.now.text }
+    /// What was told last: the bytes of that section, as they lie. It takes no memory.
+    pub fn text(&self) -> Pieces<'_>
+        ensures { result ≡ self.now.text }
     {
-        self.text.as_bytes()
-    }
-
-    /// What was told last, and no sheet any more. It takes no memory.
-    pub(crate) fn into_text(self) -> String
-        ensures { string_bytes result ≡ self.entry.text }
-    {
-        self.text
+        Pieces::of(
+            self.head.as_bytes(),
+            self.rows.as_slice(),
+            self.rest.as_bytes(),
+        )
     }
 }

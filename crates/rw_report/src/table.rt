@@ -229,10 +229,10 @@ pub(crate) fn push_rows(
 ) -> Result<(), NoMemory>
     requires first { first ≤ closed }
     requires closed { closed ≤ basin.now.control.stamps.count }
-    ensures { (front : List ℕ)
-        → string_bytes text.old ≡ front ++ rows basin.now (values_in (held series.now)) first
-        → OnOk result (string_bytes text.new
-        ≡ front ++ rows basin.now (values_in (held series.now)) closed) }
+    ensures { (front back : List ℕ) → front ++ string_bytes text.old
+        ≡ back ++ rows basin.now (values_in (held series.now)) first
+        → OnOk result (front ++ string_bytes text.new
+        ≡ back ++ rows basin.now (values_in (held series.now)) closed) }
 {
     for before in first..closed {
         push_row(alloc, text, basin, series, before + 1)?;

@@ -3,9 +3,7 @@ ghost use Rattle.rw_report.specs.Outcome.{outcome_of};
 ghost use Rattle.rw_report.specs.Whole.{trace_of_run, whole_of};
 
 use crate::heading::push_headed;
-use crate::kept::Extent;
-use crate::sheet::Sheet;
-use crate::whole::{Telling, push_table};
+use crate::whole::{Telling, push_section, push_table};
 use rw_base::{NoMemory, StepNo};
 use rw_model::Basin;
 use rw_run::Run;
@@ -54,9 +52,9 @@ pub fn section_text(
         ≡ whole_of basin.now telling.now.batch (outcome_of run.now)
         (option_map (λ steps. steps.now) telling.now.reran) telling.now.flags telling.now.trace) }
 {
-    let mut sheet = Sheet::new(alloc, basin, false);
-    sheet.tell(run, telling, 0)?;
-    Ok(sheet.into_text())
+    let mut text = String::new(alloc);
+    push_section(alloc, &mut text, basin, run, telling)?;
+    Ok(text)
 }
 
 /// The text of the section of the trace of this number: a line on how its run ended, and the table, as `section` writes them.
@@ -72,9 +70,7 @@ pub fn trace_section(
         (λ text. text.items ≡ trace_of_run basin.now trace (outcome_of run.now)) }
 {
     let mut text = String::new(alloc);
-    let mut lines = Vec::new(alloc);
     push_headed(&mut text, basin, "# trace ", trace, &run.end)?;
-    let none = Extent { first: 0, kept: 0 };
-    push_table(alloc, &mut text, &mut lines, basin, run, none)?;
+    push_table(alloc, &mut text, basin, run)?;
     Ok(text.into_bytes())
 }

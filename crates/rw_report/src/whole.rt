@@ -1,18 +1,15 @@
-ghost use Rattle.std.specs.Prelude.{◌≡◌, ◌≤◌, ◌++◌, OnOk, option_map, string_bytes, codes};
-ghost use Rattle.std.specs.List.{All};
+ghost use Rattle.std.specs.Prelude.{◌≡◌, ◌≤◌, ◌++◌, ℕ, List, OnOk, option_map, string_bytes, codes};
 ghost use Rattle.std.specs.Fmt.{decimal};
 ghost use Rattle.rw_series.specs.Series.{held};
 ghost use Rattle.rw_run.specs.Trace.{lines_in};
-ghost use Rattle.rw_report.specs.Section.{heading};
+ghost use Rattle.rw_report.specs.Section.{columns, heading, rows, values_in};
 ghost use Rattle.rw_report.specs.Flags.{flag_table};
-ghost use Rattle.rw_report.specs.Kept.{AreKeptLines, IsTold};
 ghost use Rattle.rw_report.specs.Lines.{trace_words};
 ghost use Rattle.rw_report.specs.Outcome.{outcome_of};
-ghost use Rattle.rw_report.specs.Whole.{if_asked, reran_words, run_table, some_words, steps_words, whole_of};
+ghost use Rattle.rw_report.specs.Whole.{if_asked, reran_words, run_table, section_tail, section_top, some_words, steps_words, whole_of};
 
 use crate::flags::push_flags;
 use crate::heading::push_heading;
-use crate::kept::{Extent, KeptLine, push_kept};
 use crate::lines::push_trace;
 use crate::numbers::push_count;
 use crate::table::{push_columns, push_rows};
@@ -85,7 +82,7 @@ fn push_reran(text: &mut String, reran: Option<&[StepNo]>) -> Result<(), NoMemor
 }
 
 // Appends the first line, and which timesteps were run again.
-pub(crate) fn push_top(
+fn push_top(
     text: &mut String,
     basin: &Basin,
     run: &Run,
@@ -132,53 +129,74 @@ pub(crate) fn push_trace_if(
     }
 }
 
-/// Appends the table of a run, and keeps lines of it.
-pub(crate) fn push_table(
-    alloc: Global,
+/// Appends what stands before the first line of the table.
+pub(crate) fn push_head(
     text: &mut String,
-    lines: &mut Vec<KeptLine>,
-    basin: &Basin,
-    run: &Run,
-    extent: Extent,
-) -> Result<(), NoMemory>
-    requires closed { run.now.closed ≤ basin.now.control.stamps.count }
-    requires kept { extent.kept ≤ run.now.closed }
-    requires lines { AreKeptLines basin.now (held run.now.series) extent.first lines.old.items }
-    requires first { extent.first ≤ extent.kept }
-    ensures told { All (IsTold basin.now) lines.new.items }
-    ensures lines { OnOk result
-        (AreKeptLines basin.now (held run.now.series) extent.kept lines.new.items) }
-    ensures table { OnOk result (string_bytes text.new
-        ≡ string_bytes text.old ++ run_table basin.now (outcome_of run.now)) }
-{
-    push_columns(text, basin)?;
-    push_kept(alloc, text, lines, basin, &run.series, extent)?;
-    push_rows(alloc, text, basin, &run.series, extent.kept, run.closed)
-}
-
-/// Appends the text of a section, and keeps lines of its table.
-pub(crate) fn push_section(
-    alloc: Global,
-    text: &mut String,
-    lines: &mut Vec<KeptLine>,
     basin: &Basin,
     run: &Run,
     telling: &Telling<'_>,
-    extent: Extent,
+) -> Result<(), NoMemory>
+    ensures { OnOk result (string_bytes text.new ≡ string_bytes text.old
+        ++ (section_top basin.now telling.now.batch (outcome_of run.now)
+        (option_map (λ steps. steps.now) telling.now.reran) ++ columns basin.now)) }
+{
+    push_top(text, basin, run, telling)?;
+    push_columns(text, basin)
+}
+
+/// Appends the lines of the table behind the first ones, so many of them, and what stands behind the last one.
+pub(crate) fn push_rest(
+    alloc: Global,
+    text: &mut String,
+    basin: &Basin,
+    run: &Run,
+    telling: &Telling<'_>,
+    first: u16,
 ) -> Result<(), NoMemory>
     requires closed { run.now.closed ≤ basin.now.control.stamps.count }
-    requires kept { extent.kept ≤ run.now.closed }
-    requires lines { AreKeptLines basin.now (held run.now.series) extent.first lines.old.items }
-    requires first { extent.first ≤ extent.kept }
-    ensures told { All (IsTold basin.now) lines.new.items }
-    ensures lines { OnOk result
-        (AreKeptLines basin.now (held run.now.series) extent.kept lines.new.items) }
-    ensures section { OnOk result (string_bytes text.new ≡ string_bytes text.old
+    requires first { first ≤ run.now.closed }
+    ensures { (front back : List ℕ) → front ++ string_bytes text.old
+        ≡ back ++ rows basin.now (values_in (held run.now.series)) first
+        → OnOk result (front ++ string_bytes text.new
+        ≡ (back ++ rows basin.now (values_in (held run.now.series)) run.now.closed)
+        ++ section_tail basin.now (outcome_of run.now) telling.now.flags telling.now.trace) }
+{
+    push_rows(alloc, text, basin, &run.series, first, run.closed)?;
+    push_flags_if(text, basin, run, telling.flags)?;
+    push_trace_if(alloc, text, basin, run, telling.trace)?;
+    Ok(())
+}
+
+/// Appends the text of a section.
+pub(crate) fn push_section(
+    alloc: Global,
+    text: &mut String,
+    basin: &Basin,
+    run: &Run,
+    telling: &Telling<'_>,
+) -> Result<(), NoMemory>
+    requires closed { run.now.closed ≤ basin.now.control.stamps.count }
+    ensures { OnOk result (string_bytes text.new ≡ string_bytes text.old
         ++ whole_of basin.now telling.now.batch (outcome_of run.now)
         (option_map (λ steps. steps.now) telling.now.reran) telling.now.flags telling.now.trace) }
 {
-    push_top(text, basin, run, telling)?;
-    push_table(alloc, text, lines, basin, run, extent)?;
-    push_flags_if(text, basin, run, telling.flags)?;
-    push_trace_if(alloc, text, basin, run, telling.trace)
+    push_head(text, basin, run, telling)?;
+    push_rest(alloc, text, basin, run, telling, 0)?;
+    Ok(())
+}
+
+/// Appends the table of a run.
+pub(crate) fn push_table(
+    alloc: Global,
+    text: &mut String,
+    basin: &Basin,
+    run: &Run,
+) -> Result<(), NoMemory>
+    requires closed { run.now.closed ≤ basin.now.control.stamps.count }
+    ensures { OnOk result (string_bytes text.new
+        ≡ string_bytes text.old ++ run_table basin.now (outcome_of run.now)) }
+{
+    push_columns(text, basin)?;
+    push_rows(alloc, text, basin, &run.series, 0, run.closed)?;
+    Ok(())
 }

@@ -20,7 +20,7 @@ use crate::sections::first_of;
 use rw_base::{Ledger, NoMemory, StepNo, Steps};
 use rw_engine::{RunEnd, RunSetup};
 use rw_inputs::{Batch, Inputs};
-use rw_io::{Sink, WriteFault, write_all};
+use rw_io::{Sink, WriteFault, write_pieces};
 use rw_report::law::texts_of_runs;
 use rw_report::{Sheet, Telling};
 use rw_rerun::Session;
@@ -97,7 +97,7 @@ fn write_run<K: Sink>(
         Ok(end) => end,
         Err(NoMemory) => return Err(Refusal::NoMemory),
     };
-    match write_all(out, sheet.text()) {
+    match write_pieces(out, &sheet.text()) {
         Ok(()) => Ok(end),
         Err(WriteFault) => Err(Refusal::CannotWrite),
     }

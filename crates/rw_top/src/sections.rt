@@ -18,7 +18,7 @@ use crate::run::tell_by_code;
 use rw_base::{Ledger, NoMemory, Steps};
 use rw_engine::{RunEnd, RunSetup};
 use rw_inputs::{Batch, Inputs, apply};
-use rw_io::{Sink, WriteFault, write_all};
+use rw_io::{Sink, WriteFault, write_all, write_pieces};
 use rw_model::Basin;
 use rw_report::Sheet;
 use std::alloc::Global;
@@ -91,7 +91,7 @@ fn write_told<K: Sink, L: Ledger>(
         Ok(end) => end,
         Err(NoMemory) => return Err(Refusal::NoMemory),
     };
-    match write_all(out, sheet.text()) {
+    match write_pieces(out, &sheet.text()) {
         Ok(()) => Ok(end),
         Err(WriteFault) => Err(Refusal::CannotWrite),
     }

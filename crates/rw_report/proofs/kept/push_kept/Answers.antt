@@ -1,21 +1,19 @@
-use Rattle.std.proofs.Common.{All, ap, arith, length, string_bytes, subst, sym, ◌+◌, ◌++◌, ◌-◌, ◌≡◌, ◌∙◌}
+use Rattle.std.proofs.Common.{ap, arith, subst, sym, ◌+◌, ◌-◌, ◌≡◌, ◌∙◌, []}
 use Rattle.rw_series.specs.Series.{held}
-use Rattle.rw_report.specs.Kept.{IsTold, TellFirst}
+use Rattle.rw_report.specs.Kept.{TellFirst}
 use Rattle.rw_report.specs.Section.{for_each, row, values_in}
 use Rattle.rw_report.proofs.Growing.{next}
+use Rattle.rw_report.proofs.Keeping.{texts_are_rows}
 use Rattle.rw_report.proofs.kept.push_kept.Goals as goal
-
-pub push_first-requires : goal.push_first-requires
-push_first-requires c = let same = ap length c.as_slice.ensures.value in let there = c.requires.lines.there in omega (arith, same, there)
 
 pub loop-before-init : goal.loop-before-init
 loop-before-init c =
-    let lent = sym c.as_slice.ensures.value in
-    let there = c.requires.lines.there in
+    let lines = c.requires.lines in
+    let there = lines.there in
     let many = c.args.lines.now.ok.0 in (
-      c.in_ok-push_first.ensures c.args.basin.now (held c.args.series.now) (subst (All (IsTold c.args.basin.now)) lent c.requires.lines.told)
-          (subst (TellFirst c.args.basin.now (held c.args.series.now) c.args.extent.first) lent c.requires.lines.same),
-      (c.requires.lines.told, (omega (arith, many, there), (c.requires.first, c.requires.lines.same))),
+      c.requires.text
+          ∙ texts_are_rows c.args.basin.now (held c.args.series.now) c.args.extent.first c.args.lines.now.items lines.told there lines.same,
+      (lines.told, (omega (arith, many, there), (c.requires.first, lines.same))),
     )
 
 pub loop-before-preserved : goal.loop-before-preserved
@@ -26,7 +24,7 @@ loop-before-preserved c =
     let near = c.loop-before-test.true in
     let before : (c.loop-before.before + 1) - 1 ≡ c.loop-before.before = omega arith in (
       next (row c.args.basin.now (values_in (held c.args.series.now))) c.loop-before.before
-          (string_bytes c.args.text.now) (string_bytes c.loop-before.text) (string_bytes c.push_line.new.text) c.loop-before.invariant.0
+          [] c.loop-before.text.items c.push_line.new.text.items c.loop-before.invariant.0
           c.in_ok-push_line.ensures.row,
       (
         c.in_ok-push_line.ensures.told,
@@ -47,8 +45,7 @@ returns-clause-rows c =
     let done = c.loop-before-test.false in
     let few = c.loop-before.invariant.1.1.1.0 in
     let same : c.loop-before.before ≡ c.args.extent.kept = omega (arith, done, few) in
-    c.loop-before.invariant.0
-    ∙ ap (λ n. string_bytes c.args.text.now ++ for_each (row c.args.basin.now (values_in (held c.args.series.now))) n) same
+    c.loop-before.invariant.0 ∙ ap (for_each (row c.args.basin.now (values_in (held c.args.series.now)))) same
 
 pub returns-clause-lines : goal.returns-clause-lines
 returns-clause-lines c =

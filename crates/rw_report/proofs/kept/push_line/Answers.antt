@@ -9,8 +9,8 @@ pub returns-in_err-tell_line-clause-told : goal.returns-in_err-tell_line-clause-
 returns-in_err-tell_line-clause-told c =
     All-set (IsTold c.args.basin.now) c.args.lines.now.items c.from-place.result c.tell_line.new.line c.tell_line.ensures.told c.requires.lines
 
-pub returns-in_err-push_str-clause-told : goal.returns-in_err-push_str-clause-told
-returns-in_err-push_str-clause-told c =
+pub returns-in_err-extend_from_slice-clause-told : goal.returns-in_err-extend_from_slice-clause-told
+returns-in_err-extend_from_slice-clause-told c =
     All-set (IsTold c.args.basin.now) c.args.lines.now.items c.from-place.result c.tell_line.new.line c.tell_line.ensures.told c.requires.lines
 
 pub returns-clause-told : goal.returns-clause-told

@@ -1,18 +1,18 @@
 use Rattle.rw_top.proofs.reused.write_run.Goals as goal
 
-pub returns-in-Ok-write_all-clause-out : goal.returns-in-Ok-write_all-clause-out
-returns-in-Ok-write_all-clause-out g c = λ policy given means next. record {
+pub returns-in-Ok-write_pieces-clause-out : goal.returns-in-Ok-write_pieces-clause-out
+returns-in-Ok-write_pieces-clause-out g c = λ policy given means next. record {
   text = c.tell_run.new.sheet.text;
   is = c.in-Ok.ensures.text policy given means next;
-  grew = rw c.text.ensures at c.in-Ok-write_all.ensures.whole;
-  later = c.in-Ok-write_all.ensures.later;
+  grew = rw c.text.ensures at c.in-Ok-write_pieces.ensures.whole;
+  later = c.in-Ok-write_pieces.ensures.later;
 }
 
-pub returns-in-Err-write_all-clause-out : goal.returns-in-Err-write_all-clause-out
-returns-in-Err-write_all-clause-out g c = λ policy given means next. (
+pub returns-in-Err-write_pieces-clause-out : goal.returns-in-Err-write_pieces-clause-out
+returns-in-Err-write_pieces-clause-out g c = λ policy given means next. (
   c.in-Ok.end,
   c.tell_run.new.sheet.text,
   c.in-Ok.ensures.text policy given means next,
-  rw c.text.ensures at c.in-Err-write_all.ensures.prefix,
-  c.in-Err-write_all.ensures.cause,
+  rw c.text.ensures at c.in-Err-write_pieces.ensures.prefix,
+  c.in-Err-write_pieces.ensures.cause,
 )
