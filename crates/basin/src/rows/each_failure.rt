@@ -21,7 +21,8 @@ const TRACES: &[u8] = b"trace,slot,step,value\n1,Dam.Inflow,1,50\n2,Dam.Inflow,2
 
 const EDITS: &[u8] = b"batch,slot,step,value\n1,Dam.Inflow,2,130\n";
 
-/// A command, how many calls of the shelf it makes, three for each file, and how many of the output, one for each section.
+/// A command, how many calls of the shelf it makes, three for each file, and how many of the output, one for each section, or, with
+/// edits, one for each piece of a section: what stands before the lines, and these.
 #[derive(Clone, Copy)]
 struct Row {
     words: &'static [&'static str],
@@ -35,7 +36,7 @@ const ROWS: &[Row] = &[
             "run", "m.toml", "p.rpl", "i.csv", "--edits", "e.csv", "--reuse",
         ],
         reads: 12,
-        writes: 2,
+        writes: 4,
     },
     Row {
         words: &["simulate", "m.toml", "i.csv"],
@@ -185,7 +186,7 @@ fn is_right(alloc: Global, methods: &Catalogue, row: Row, err: u64) -> Result<bo
         err: 0,
     };
     let (status, whole) = answer(alloc, methods, row, none)?;
-    for before in 0..4 {
+    for before in 0..5 {
         if before <= row.writes
             && !is_cut(alloc, methods, row, before + 1, err, whole.out.held())?
         {

@@ -70,7 +70,7 @@ const ONE_DAY: Simulation<'static> = Simulation {
     err: Whole(b""),
 };
 
-// The second write fails, behind the first section.
+// The third write fails, behind the two pieces of the first section.
 const ONE_SECTION: Simulation<'static> = Simulation {
     model: DAM_OF_THREE,
     inputs: FLOWS,
@@ -113,7 +113,7 @@ const RUNS: &[(Failing, &[u8], &[u8], Simulation<'static>)] = &[
         ONE_DAY,
     ),
     (
-        Failing::Out(2),
+        Failing::Out(3),
         PASS,
         b"batch,slot,step,value\n1,Dam.Inflow,2,130\n",
         ONE_SECTION,
