@@ -197,8 +197,8 @@ impl Engine {
         listed(alloc, kept)
     }
 
-    /// The same as it is kept, but no timestep is noted behind it. `order` is that in which the cells of another timestep rose, or
-    /// any other: where those of this one rise so too they need no sorting.
+    /// The same as it is kept, to which the lines of the timestep are handed over: it is asked for once. `order` is that in which the
+    /// cells of another timestep rose, or any other: where those of this one rise so too they need no sorting.
     pub fn last_kept(
         &mut self,
         alloc: Global,
