@@ -6,10 +6,12 @@ Nothing is reckoned here that the program answers: each call runs the program an
 from . import beside  # noqa: F401, I001: the others find their modules by it
 from .answers import Answer, Book, Cell, Effects, Traces
 from .calls import balance, check, effects, mrm, run, simulate, why
-from .errors import Error, Fault, NoProgram, Refused, Stale
+from .errors import Error, Fault, FaultedTraces, NoProgram, Refused, Stale
 from .files import Model, Policy
 from .inputs import Inputs
 from .process import find_program
+from .requirements import Judged, Judgement, Requirements, WrongRequirements, over_ensemble, requirements
+from .units import in_base_units, in_units
 
 __all__ = [
     "Answer",
@@ -18,18 +20,27 @@ __all__ = [
     "Effects",
     "Error",
     "Fault",
+    "FaultedTraces",
     "Inputs",
+    "Judged",
+    "Judgement",
     "Model",
     "NoProgram",
     "Policy",
     "Refused",
+    "Requirements",
     "Stale",
     "Traces",
+    "WrongRequirements",
     "balance",
     "check",
     "effects",
     "find_program",
+    "in_base_units",
+    "in_units",
     "mrm",
+    "over_ensemble",
+    "requirements",
     "run",
     "simulate",
     "why",

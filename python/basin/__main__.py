@@ -3,13 +3,15 @@
 from __future__ import annotations
 
 import argparse
+import signal
 import sys
 
 from . import ensemble
-from .errors import Error
+from .errors import Error, some_of
 from .parts import Done, failure, outcomes
 from .plans import Plan
 
+TERMINATED = 128 + signal.SIGTERM
 EXAMPLE = "example: python3 -m basin run FOLDER --workers 4 && python3 -m basin merge FOLDER 5 50 95"
 
 
@@ -36,8 +38,9 @@ def execute(words: argparse.Namespace) -> None:
 def merge(words: argparse.Namespace) -> None:
     """Writes the statistics, and says how many traces they leave out."""
     print(ensemble.merge(words.plan, words.percentiles or (10, 50, 90)))
-    faults, refused = len(ensemble.faults(words.plan)), len(ensemble.refusals(words.plan))
-    print(f"{words.plan.traces} traces, {faults} ended in a fault, {refused} are refused")
+    faults, refused = list(ensemble.faults(words.plan).index), len(ensemble.refusals(words.plan))
+    named = f" ({some_of(faults)})" if faults else ""
+    print(f"{words.plan.traces} traces, {len(faults)} ended in a fault{named}, {refused} are refused")
 
 
 def plan_of(folder: str) -> Plan:
@@ -70,9 +73,11 @@ def words_of() -> argparse.Namespace:
 def main() -> int:
     """Does what the words say; what can't be done is one line, with status 2."""
     words = words_of()
+    # When `timeout` or Slurm asks this process to end, it ends the program that it runs, and leaves no file.
+    signal.signal(signal.SIGTERM, lambda *_: sys.exit(TERMINATED))
     try:
         words.does(words)
-    except (Error, ValueError) as error:
+    except (Error, ValueError, OSError) as error:
         print(f"basin: {error}", file=sys.stderr)
         return 2
     return 0

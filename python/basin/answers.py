@@ -2,6 +2,7 @@
 
 from __future__ import annotations
 
+import html
 from dataclasses import dataclass, field
 from typing import Literal, Sequence
 
@@ -18,7 +19,7 @@ Numbers = Literal["float", "Int64"]
 LABEL = "begin of the timestep; what is stored or high is as at its end"
 
 
-@dataclass
+@dataclass(eq=False, repr=False)
 class Answer:
     """A run: its table by the begin of each timestep, and the fault that ended it, or `None`.
 
@@ -40,6 +41,15 @@ class Answer:
     def units(self) -> dict[str, str]:
         """The base unit of each slot."""
         return dict(self.table.attrs["units"])
+
+    def __repr__(self) -> str:
+        name = f" {self.name}" if self.name else ""
+        over = f"{len(self.table)} timesteps of {self.table.shape[1]} slots"
+        return f"<Answer {self.number}{name}: {self.fault or 'settled'}, {over}>"
+
+    def _repr_html_(self) -> str:
+        table: str = self.table._repr_html_()
+        return f"<p>{html.escape(repr(self))}</p>{table}"
 
 
 @dataclass
@@ -75,6 +85,11 @@ class Traces:
 
     answers: list[Answer]
     summary: pd.DataFrame
+
+    @property
+    def faulted(self) -> list[str]:
+        """The names of the traces that ended in a fault, of which the summary counts nothing."""
+        return [answer.name for answer in self.answers if answer.fault]
 
 
 def frame_of(model: Model, columns: list[str], values: Whole, form: Numbers) -> pd.DataFrame:

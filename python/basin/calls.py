@@ -4,6 +4,7 @@ from __future__ import annotations
 
 import os
 import tempfile
+import warnings
 from pathlib import Path
 from typing import Any, Literal, Union, overload
 
@@ -19,7 +20,7 @@ from basin_rules.policy import read_policy
 from . import process
 from .answers import Answer, Book, Cell, Effects, Numbers, Traces
 from .answers import answer_of, asked_of, book_of, cell_of, rule_name, whole_array
-from .errors import Error, Refused
+from .errors import Error, Refused, left_out
 from .files import Model, Policy
 from .inputs import Inputs, inputs_of
 from .process import PathLike
@@ -46,8 +47,16 @@ class Files:
     def __enter__(self) -> Files:
         return self
 
-    def __exit__(self, *_: object) -> None:
+    def __exit__(self, _: object, error: object, __: object) -> None:
+        if isinstance(error, Refused) and error.row is not None:
+            error.row_text = self.row_text(error.file, error.row)
         self.made.cleanup()
+
+    def row_text(self, file: str, row: int) -> str:
+        """Returns a row of a file that was made from a frame, or "" for a file that the caller gave."""
+        made = self.folder / {"inputs": "inputs.csv", "edits": "batch.csv", "traces": "trace.csv"}.get(file, "")
+        rows = made.read_text().splitlines() if made.is_file() else []
+        return rows[row - 1] if row <= len(rows) else ""
 
     @property
     def folder(self) -> Path:
@@ -273,7 +282,8 @@ def mrm(
     numbers: Numbers = "float",
     program: PathLike | None = None,
 ) -> Traces:
-    """Up to 64 traces, each over the inputs as they are, and their summary. A trace that faults is kept.
+    """Up to 64 traces, each over the inputs as they are, and their summary. A trace that ends in a fault is kept, and
+    warned of by name, since the summary does not count it.
 
     `traces` is a path, a frame (trace, slot, step or time, value), or frames with slots by columns.
     """
@@ -287,6 +297,8 @@ def mrm(
                     found.answers.append(answer_of(files.model, files.policy, section, numbers, name))
                 else:
                     found.summary = _summary(files.model, found.answers[0].table.columns, chapter)
+    if found.faulted:
+        warnings.warn(left_out(found.faulted, len(found.answers)), stacklevel=2)
     return found
 
 

@@ -22,21 +22,21 @@ from basin_files.reasons import plain
 
 from .answers import fault_of
 from .calls import InputsGiven, ModelGiven, PolicyGiven
-from .errors import Error
+from .errors import Error, FaultedTraces, left_out
 from .files import Policy
-from .netcdf import opened
+from .netcdf import host, opened
 from .parts import Done, Outcome, failure, outcomes, run_part
 from .plans import Plan, each_part, plan
 from .process import PathLike
 from .slurm import slurm
-from .statistics import STATISTICS, Percent, merge, rank_of
+from .statistics import STATISTICS, Percent, merge, rank_of, texts_of
 from .tables import UNKNOWN
 
 if TYPE_CHECKING:
     import xarray
     from distributed import Client
 
-__all__ = ["Done", "Plan", "execute", "faults", "merge", "nearest", "plan", "refusals", "run", "slurm"]
+__all__ = ["Done", "FaultedTraces", "Plan", "execute", "faults", "merge", "nearest", "plan", "refusals", "run", "slurm"]
 __all__ += ["statistics", "values"]
 
 Progress = Callable[[int, int, Done], None]
@@ -95,7 +95,7 @@ def execute(
     """Runs the parts that are missing: by the client, by as many local processes, or here with `workers=0`.
 
     A part of a worker that died runs again, as often as `retries` says, and no part stops another. `Error`
-    at the end where parts failed. Traces that are refused are warned of.
+    at the end where parts failed. Traces that are refused or end in a fault are warned of.
     """
     _clear(told)
     missing = told.missing()
@@ -115,6 +115,9 @@ def execute(
         raise failure(failed, len(missing)) from failed[0][1]
     if count := sum(part.refused for part in done):
         warnings.warn(RefusedTraces(f"{count} traces are refused: basin.ensemble.refusals(..)"), stacklevel=2)
+    if count := sum(part.faults for part in done):
+        words = f"{count} traces ended in a fault, and no statistic counts them: basin.ensemble.faults(..)"
+        warnings.warn(FaultedTraces(words), stacklevel=2)
     return done
 
 
@@ -136,13 +139,17 @@ def _by_workers(
 
 @contextlib.contextmanager
 def _client(client: Client | None, workers: int | None) -> Iterator[Client]:
-    """The client that is given, or one of local processes, each with one thread: netCDF4 isn't safe with more."""
+    """The client that is given, or one of local processes, each with one thread: netCDF4 isn't safe with more.
+
+    They speak TLS, with keys made for this call: over plain TCP any user of the machine could run code in them.
+    """
     if client is not None:
         yield client
         return
     import dask
     from distributed import Client as NewClient
     from distributed import LocalCluster
+    from distributed.security import Security
 
     # Without these workers take a quarter more of a processor: they look after themselves 160 times a second, and
     # hand back memory as soon as it is free, to ask for it again.
@@ -160,6 +167,8 @@ def _client(client: Client | None, workers: int | None) -> Iterator[Client]:
             n_workers=workers or os.cpu_count(),
             threads_per_worker=1,
             dashboard_address="127.0.0.1:0",
+            protocol="tls://",
+            security=Security.temporary(),
             local_directory=scratch,
         )
         opened_here.enter_context(cluster)
@@ -190,7 +199,7 @@ def _clear(told: Plan) -> None:
 def _is_left(path: Path) -> bool:
     """Whether nobody writes a file any more: its process has ended, or on another machine it is an hour old."""
     before, _, process = path.name.rpartition(".")
-    if before.endswith(f".{os.uname().nodename}"):
+    if before.endswith(f".{host()}"):
         return not Path(f"/proc/{process}").exists()
     return clock.time() - path.stat().st_mtime > AN_HOUR
 
@@ -199,7 +208,7 @@ def faults(told: Plan) -> pd.DataFrame:
     """The traces that ended in a fault, by name: kind, object, slot, rule, timestep, value, and the words."""
     model, rows = told.model, []
     names = Policy(told.files[1]).rule_names(model)
-    for name, words in _texts(told, "fault"):
+    for name, words in texts_of(told, "fault"):
         fault = fault_of(model, names, words)
         rows.append((name, *(getattr(fault, column) for column in FAULT_COLUMNS)))
     frame = pd.DataFrame(rows, columns=["trace", *FAULT_COLUMNS]).set_index("trace")
@@ -208,17 +217,8 @@ def faults(told: Plan) -> pd.DataFrame:
 
 def refusals(told: Plan) -> pd.DataFrame:
     """The traces that the program refused, by name: why, and the row."""
-    rows = [(name, *words.split(": ", 1)) for name, words in _texts(told, "refused")]
+    rows = [(name, *words.split(": ", 1)) for name, words in texts_of(told, "refused")]
     return pd.DataFrame(rows, columns=["trace", "reason", "row"]).set_index("trace")
-
-
-def _texts(told: Plan, variable: str) -> Iterator[tuple[str, str]]:
-    """The traces that have a text, and the text."""
-    for _, path in each_part(told):
-        with opened(path) as part:
-            yield from (
-                (str(name), str(text)) for name, text in zip(part["trace"][:], part[variable][:]) if text
-            )
 
 
 def values(told: Plan, numbers: Kept = "float") -> xarray.Dataset:
@@ -246,7 +246,8 @@ def values(told: Plan, numbers: Kept = "float") -> xarray.Dataset:
 def statistics(told: Plan, numbers: Kept = "float") -> xarray.Dataset:
     """What `merge` wrote, by time: SLOT.known, SLOT.min, SLOT.max, SLOT.mean, SLOT.percentile.
 
-    `numbers` as of `values`. `Error` where nothing is merged yet.
+    `numbers` as of `values`. `Error` where nothing is merged yet. Traces that ended in a fault are warned of, by name:
+    no statistic counts them. `faulted` and `refused` hold all their names where there are some.
     """
     import xarray
 
@@ -254,7 +255,10 @@ def statistics(told: Plan, numbers: Kept = "float") -> xarray.Dataset:
     if not (told.folder / STATISTICS).exists():
         raise Error("there are no statistics yet: basin.ensemble.merge(..) writes them")
     with xarray.open_dataset(told.folder / STATISTICS, mask_and_scale=numbers == "float") as data:
-        return _exact(data, numbers).load()
+        found = _exact(data, numbers).load()
+    if "faulted" in found:
+        warnings.warn(left_out([str(name) for name in found["faulted"].values], told.traces), stacklevel=2)
+    return found
 
 
 def _judge(numbers: str) -> None:

@@ -12,6 +12,7 @@ if TYPE_CHECKING:
 
     from .answers import Answer
 
+MOST_NAMED = 5  # traces in a warning
 # What the error line of a refusal says, by its form; the first that fits counts.
 FORMS = tuple(
     re.compile(form, re.DOTALL)
@@ -34,6 +35,10 @@ FORMS = tuple(
 
 class Error(Exception):
     """Whatever goes wrong in this package."""
+
+
+class FaultedTraces(UserWarning):
+    """Traces that ended in a fault: no statistic counts them, and often they are the driest or the wettest."""
 
 
 class NoProgram(Error):
@@ -62,9 +67,11 @@ class Refused(Error):
         self.line, self.declaration = _number(found, "line"), _number(found, "declaration")
         self.node = _number(found, "node")
         self.block, self.place = _number(found, "block"), _number(found, "place")
+        self.row_text = ""  # the row, if its file was made from a frame: the caller does not have that file
 
     def __str__(self) -> str:
-        return plain(self.said, LONG) or f"the program ended with status {self.status}"
+        said = plain(self.said, LONG) or f"the program ended with status {self.status}"
+        return f"{said} (that is {plain(self.row_text, LONG)})" if self.row_text else said
 
 
 class Fault(Error):
@@ -89,6 +96,17 @@ class Fault(Error):
         when = f" ({self.time:%Y-%m-%d %H:%M})" if self.time is not None else ""
         whose = f', rule "{plain(self.rule_name)}"' if self.rule_name else ""
         return f"{self.words}{when}{whose}"
+
+
+def some_of(names: list[str]) -> str:
+    """Returns the first names, and how many more there are."""
+    first = ", ".join(plain(name) for name in names[:MOST_NAMED])
+    return first + (f" and {len(names) - MOST_NAMED:,} more" if len(names) > MOST_NAMED else "")
+
+
+def left_out(faulted: list[str], traces: int) -> FaultedTraces:
+    """Returns the warning that names the traces which no statistic counts."""
+    return FaultedTraces(f"{len(faulted)} of {traces} traces ended in a fault, and no statistic counts them: {some_of(faulted)}")
 
 
 def _number(found: dict[str, str | None], name: str) -> int | None:

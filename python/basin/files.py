@@ -39,6 +39,9 @@ class File:
         self.path = None if path is None else Path(path)
         self._text = text.encode() if isinstance(text, str) else text
 
+    def __repr__(self) -> str:
+        return f"<{type(self).__name__} {self.path or 'of a text'}>"
+
     @classmethod
     def of(cls: type[Given], given: Given | PathLike) -> Given:
         """What is given, or the file at that path."""

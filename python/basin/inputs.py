@@ -6,7 +6,7 @@ from typing import Any, Iterable
 
 import pandas as pd
 
-from basin_files.inputs import records_of, steps_of
+from basin_files.inputs import records_of, steps_named
 
 from .files import File, Model
 from .process import PathLike
@@ -40,7 +40,7 @@ class LaidOver:
         records = records_of(inputs.content)
         next(records)
         for _, (slot, steps, value) in records:
-            first, last = steps_of(steps)
+            first, last = steps_named(steps)
             self.rows.setdefault(self.groups[slot], []).append(Row(slot, first, last, int(value)))
         self.made: dict[str, dict[int, str]] = {}
         self.texts = {group: "".join(f"{row.text}\n" for row in rows) for group, rows in self.rows.items()}

@@ -7,6 +7,8 @@ from __future__ import annotations
 
 import contextlib
 import os
+import secrets
+import shutil
 from dataclasses import dataclass
 from functools import lru_cache
 from pathlib import Path
@@ -16,10 +18,14 @@ import netCDF4
 import numpy as np
 import pandas as pd
 
+from basin_files.reasons import LONG, plain
+
+from .errors import Error
 from .files import Model
 from .tables import UNKNOWN, Whole
 
 CONVENTIONS = "CF-1.10"
+LITTLE = 65_536  # a disk with fewer free bytes counts as full
 # Base units in the words of UDUNITS, which has no timestep: what comes in one is a sum over it.
 UNITS = {"m3/step": "m3", "mm/step": "mm", "m3/mm": "m3 mm-1", "kWh": "kW h", "step": "1", "": "1"}
 SUMS = ("m3/step", "mm/step", "kWh")
@@ -27,15 +33,29 @@ STATES = ("m3", "mm")
 AT_THE_END = "time: point (comment: at the end of the timestep)"
 
 
+def host() -> str:
+    """Returns where a number names one process: the machine, and which of its spaces of numbers, since containers that
+    share a folder may have one name."""
+    try:
+        return f"{os.uname().nodename}-{os.stat('/proc/self/ns/pid').st_ino}"
+    except OSError:
+        return os.uname().nodename
+
+
 @contextlib.contextmanager
 def appearing(path: Path) -> Iterator[Any]:
     """A new file that is there whole, or not at all."""
-    new = path.with_name(f".{path.name}.{os.uname().nodename}.{os.getpid()}")
+    new = path.with_name(f".{path.name}.{secrets.token_hex(4)}.{host()}.{os.getpid()}")
     try:
+        new.touch()  # on a full disk the system says so; the NetCDF library says `Permission denied` or `HDF error`
         with netCDF4.Dataset(new, "w") as out:
             out.Conventions, out.source = CONVENTIONS, "basin"
             yield out
         os.replace(new, path)
+    except (OSError, RuntimeError) as error:
+        if shutil.disk_usage(path.parent).free >= LITTLE:
+            raise
+        raise Error(f"cannot write {plain(str(path), LONG)}: the disk is full") from error
     finally:
         new.unlink(missing_ok=True)
 
@@ -102,7 +122,7 @@ def describe(cells: Any, model: Model, slot: str) -> None:
     """Units and methods of a slot's values. What a slot of a data object tells of time isn't known."""
     unit = model.unit(slot)
     cells.long_name, cells.basin_unit, cells.units = slot, unit, UNITS.get(unit, unit)
-    if model.read.object_named(slot.split(".")[0]).kind != "data":
+    if model.read.the_object(slot.split(".")[0]).kind != "data":
         if unit in SUMS:
             cells.cell_methods = "time: sum"
         elif unit in STATES:

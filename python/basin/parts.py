@@ -132,7 +132,7 @@ def at_once(plan: Plan, model: Model, rows: list[list[Row]]) -> Values:
         file.write(batches_text(rows, "trace"))
         file.flush()
         words = ["mrm", *map(str, plan.files), file.name]
-        with process.at_work(words, plan.program) as running:
+        with process.at_work(words, plan.trusted_program()) as running:
             for chapter in chapters(running, last=b"%d," % model.steps):
                 if section := section_of(chapter):
                     values.take(section.number - 1, section)
@@ -168,7 +168,7 @@ def one_by_one(plan: Plan, model: Model, rows: list[list[Row]]) -> Values:
             text = inputs.under(laid)
             path.write_text(text)
             try:
-                with process.at_work(words, plan.program) as running:
+                with process.at_work(words, plan.trusted_program()) as running:
                     for section in sections(chapters(running)):
                         values.take(trace, section)
             except Refused as refused:

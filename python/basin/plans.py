@@ -25,7 +25,7 @@ Way = Literal["mrm", "run"]
 NAMES = ("model.toml", "policy.rpl", "inputs.csv")
 
 
-@dataclass(frozen=True)
+@dataclass(frozen=True, repr=False)
 class Plan:
     """What a folder is to hold: the traces of each part, the slots that are kept, and how parts are run."""
 
@@ -45,6 +45,10 @@ class Plan:
         except (OSError, ValueError, TypeError):
             raise Error(f"{plain(str(place), LONG)} holds no plan") from None
 
+    def __repr__(self) -> str:
+        left = len(self.missing())
+        return f"<Plan {self.folder}: {self.traces} traces, {len(self.slots)} slots, {left} of {self.parts} parts missing>"
+
     @property
     def parts(self) -> int:
         """How many parts there are."""
@@ -59,6 +63,15 @@ class Plan:
     def files(self) -> list[Path]:
         """The model, the policy and the inputs."""
         return [self.folder / name for name in NAMES]
+
+    def trusted_program(self) -> str:
+        """Returns the program that the plan names; if the folder is another user's, the one that BASIN names."""
+        if (self.folder / "plan.json").stat().st_uid == os.geteuid():
+            return self.program
+        if named := os.environ.get("BASIN"):
+            return process.find_program(named)
+        where = plain(str(self.folder), LONG)
+        raise Error(f"{where} is another user's, and its plan names a program to run: name the program by BASIN in the environment")
 
     @property
     def model(self) -> Model:
@@ -178,10 +191,17 @@ def settle(new: Plan, folder: Path) -> None:
     told = asdict(new)
     del told["folder"]
     (folder / "plan.json").write_text(json.dumps(told))
+    folder.chmod(0o777 & ~umask())  # the folder of mkdtemp is for its owner only
     try:
         os.rename(folder, new.folder)  # an empty folder may be there
     except OSError as error:
         raise Error(f"cannot make {where}: {error.strerror}") from None
+
+
+def umask() -> int:
+    """Returns the mask of rights of new files, which can be read only by setting it."""
+    os.umask(mask := os.umask(0))
+    return mask
 
 
 def each_part(told: Plan) -> Iterator[tuple[int, Path]]:

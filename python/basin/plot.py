@@ -71,6 +71,34 @@ def trace(table: pd.DataFrame, slot: str, ax: Axes | None = None, **line: Any) -
     return drawn
 
 
+def front(points: pd.DataFrame, across: str, up: str, colour: str | None = None, ax: Axes | None = None, **marks: Any) -> Axes:
+    """Points of a study by two of their columns, coloured by a third one where it is told."""
+    drawn = _axes(ax)
+    if colour is None:
+        drawn.plot(points[across], points[up], "o", **marks)
+    else:
+        shown = drawn.scatter(points[across], points[up], c=points[colour], **marks)
+        drawn.figure.colorbar(shown, ax=drawn, label=colour)
+    drawn.set_xlabel(across)
+    drawn.set_ylabel(up)
+    return drawn
+
+
+def indices(found: pd.DataFrame, ax: Axes | None = None) -> Axes:
+    """Sobol indices by knob, first and total order beside one another, with their intervals."""
+    drawn = _axes(ax)
+    places = np.arange(len(found))
+    for place, (name, side) in enumerate((("first", -0.2), ("total", 0.2))):
+        value = found[name].to_numpy()
+        spread = [value - found[f"{name} 5 %"], found[f"{name} 95 %"] - value]
+        drawn.barh(places + side, value, 0.4, xerr=np.maximum(spread, 0), color=f"C{place}", label=name)
+    drawn.set_yticks(places, found.index)
+    drawn.invert_yaxis()
+    drawn.set_xlabel("share of the variance")
+    drawn.legend()
+    return drawn
+
+
 def _axes(ax: Axes | None) -> Axes:
     """The axes that are given, or those at which is drawn."""
     import matplotlib.pyplot as plt

@@ -8,6 +8,8 @@ import os
 import shutil
 import subprocess
 import tempfile
+import time as clock
+from functools import lru_cache
 from typing import IO, Iterator, Sequence, Union
 
 from basin_files.program import Unable, built
@@ -20,6 +22,7 @@ PIPE = 1 << 20  # so that the program and its reader work side by side
 TRIM = "MALLOC_TRIM_THRESHOLD_"  # dask's workers have it; the program would take a seventh more time by it
 ENDED = (0, 1)  # the statuses with which the program has answered
 NO_SUCH_WORDS = 2
+A_WHILE = 10  # seconds for which the sources count as unchanged
 HOW = (
     "name it by program=.., by BASIN in the environment, or put it on the PATH; in a checkout of the repository"
     " `./basin --build` proves and builds it"
@@ -33,6 +36,12 @@ def find_program(path: PathLike | None = None) -> str:
         if os.path.isdir(named) or not os.access(named, os.X_OK):
             raise NoProgram(f"there is no program at {plain(os.fspath(named))}: {HOW}")
         return os.path.abspath(named)
+    return _found(int(clock.monotonic() / A_WHILE))
+
+
+@lru_cache(maxsize=1)
+def _found(_now: int) -> str:
+    """Returns the program of the checkout or of the PATH. A checkout has 2,600 source files, and a search calls often."""
     try:
         return str(built())
     except Unable:

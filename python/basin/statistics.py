@@ -58,7 +58,8 @@ def percentile(ordered: Whole, known: npt.NDArray[np.int64], percent: Percent) -
 
 def merge(plan: Plan, percentiles: Sequence[Percent] = (10, 50, 90), *, room: int = ROOM) -> Path:
     """Writes for each slot and timestep how many settled traces know it, and of these the least, the mean, the
-    greatest and the percentiles. Of a trace that ended in a fault, or is refused, nothing counts."""
+    greatest and the percentiles. Of a trace that ended in a fault, or is refused, nothing counts: the file has how many
+    there are (attributes `faulted`, `refused`) and their names (variables of the same names)."""
     for percent in percentiles:
         share_of(percent)
     model, settled = plan.model, settled_traces(plan)
@@ -66,6 +67,7 @@ def merge(plan: Plan, percentiles: Sequence[Percent] = (10, 50, 90), *, room: in
     with appearing(plan.folder / STATISTICS) as out:
         out.digest, out.traces, out.settled, out.exact_as_float64 = plan.digest, plan.traces, count, 1
         add_time(out, model)
+        add_left_out(out, plan)
         out.createDimension("percentile", len(percentiles))
         shares = out.createVariable("percentile", "f8", ("percentile",))
         shares.units, shares[:] = "percent", [float(Fraction(str(percent))) for percent in percentiles]
@@ -90,6 +92,24 @@ def settled_traces(plan: Plan) -> list[npt.NDArray[np.bool_]]:
             texts = zip(part["fault"][:], part["refused"][:])
             found.append(np.array([not fault and not refused for fault, refused in texts], bool))
     return found
+
+
+def texts_of(plan: Plan, variable: str) -> Iterator[tuple[str, str]]:
+    """Yields the name and the text of each trace that has one in this variable of its part."""
+    for _, path in each_part(plan):
+        with opened(path) as part:
+            yield from ((str(name), str(text)) for name, text in zip(part["trace"][:], part[variable][:]) if text)
+
+
+def add_left_out(out: Any, plan: Plan) -> None:
+    """Writes how many traces ended in a fault and how many are refused, and their names where there are some."""
+    for word, variable, why in (("faulted", "fault", "ended in a fault"), ("refused", "refused", "are refused")):
+        names = [name for name, _ in texts_of(plan, variable)]
+        out.setncattr(word, len(names))
+        if names:
+            out.createDimension(word, len(names))
+            held = out.createVariable(word, str, (word,))
+            held[:], held.long_name = np.array(names, dtype=object), f"traces that {why}, which no statistic counts"
 
 
 def blocks(slots: list[str], steps: int, traces: int, room: int) -> Iterator[Block]:

@@ -16,7 +16,7 @@ import numpy as np
 import numpy.typing as npt
 import pandas as pd
 
-from basin_files.inputs import records_of, steps_of
+from basin_files.inputs import records_of, steps_named
 from basin_files.reasons import plain
 
 from .files import Model
@@ -158,7 +158,7 @@ def stored_rows(folder: Path, number: int, first: int, count: int) -> list[list[
     records = records_of(rows_path(folder, number).read_bytes())
     next(records)
     for _, (trace, slot, steps, value) in records:
-        low, high = steps_of(steps)
+        low, high = steps_named(steps)
         found[int(trace) - 1].append(Row(slot, low, high, int(value) if value else None))
     return found
 

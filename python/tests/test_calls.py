@@ -250,7 +250,9 @@ def test_mrm_with_a_fault() -> None:
     given = inputs(f"{NOTHING}Dam.Outflow,1,0\n")
     frames = {f"{k}": pd.DataFrame({"Dam.Inflow": [k]}, index=[1]) for k in (10, 30, 20)}
     frames["dry"] = pd.DataFrame({"Dam.Inflow": [20], "Dam.Outflow": [1100]}, index=[1])
-    many = basin.mrm(one_day, policy(""), given, frames)
+    with pytest.warns(basin.FaultedTraces, match="^1 of 4 traces ended in a fault, and no statistic counts them: dry$"):
+        many = basin.mrm(one_day, policy(""), given, frames)
+    assert many.faulted == ["dry"]
     assert [answer.name for answer in many.answers] == ["10", "30", "20", "dry"]
     fault = many.answers[3].fault
     assert [answer.fault is None for answer in many.answers[:3]] == [True] * 3
@@ -313,3 +315,13 @@ def script(path: Path, line: str) -> str:
     path.write_text(f"#!/bin/sh\n{line}\n")
     path.chmod(0o755)
     return str(path)
+
+
+def test_the_program_of_a_checkout_is_looked_for_once(monkeypatch: pytest.MonkeyPatch) -> None:
+    path, looks = basin.find_program(), []
+    monkeypatch.delenv("BASIN", raising=False)
+    monkeypatch.setattr("basin.process.built", lambda: looks.append(1) or path)
+    monkeypatch.setattr("basin.process.clock.monotonic", lambda: 1e9)
+    assert [basin.find_program() for _ in range(3)] == [path] * 3 and len(looks) == 1
+    monkeypatch.setattr("basin.process.clock.monotonic", lambda: 2e9)
+    assert basin.find_program() == path and len(looks) == 2

@@ -3,8 +3,11 @@
 from __future__ import annotations
 
 import os
+import shlex
+import signal
 import subprocess
 import sys
+import time
 from fractions import Fraction
 from pathlib import Path
 
@@ -15,7 +18,7 @@ import pytest
 import xarray
 
 import basin
-from basin import ensemble
+from basin import ensemble, netcdf
 from basin.plans import shares
 from basin.statistics import blocks, percentile
 from basin.tables import UNKNOWN
@@ -35,7 +38,7 @@ from small import (
     rows,
     series,
 )
-from small import storage, wants
+from small import TOP, storage, wants
 
 WAYS = ("run", "mrm")
 
@@ -181,6 +184,58 @@ def test_more_rows_than_a_file_of_traces_has(tmp_path: Path) -> None:
     assert (cells_of(told, "Dam.Storage") == storage(inflow)).all()
 
 
+def test_a_folder_of_another_user_names_no_program(tmp_path: Path, monkeypatch: pytest.MonkeyPatch) -> None:
+    told = planned(tmp_path / "a", inflows(2))
+    program = basin.find_program()
+    monkeypatch.setattr("os.geteuid", lambda: (tmp_path / "a").stat().st_uid + 1)
+    monkeypatch.delenv("BASIN", raising=False)
+    with pytest.raises(basin.Error, match="is another user's, and its plan names a program to run"):
+        ensemble.execute(told, workers=0)
+    assert told.missing() == [0]
+    monkeypatch.setenv("BASIN", program)
+    ensemble.execute(told, workers=0)
+    assert not told.missing()
+
+
+def test_a_full_disk_is_told(tmp_path: Path, monkeypatch: pytest.MonkeyPatch) -> None:
+    told = planned(tmp_path / "a", inflows(2))
+
+    real = netCDF4.Dataset
+
+    def full(path: Path, *mode: str) -> netCDF4.Dataset:
+        if mode == ("w",):
+            raise RuntimeError("NetCDF: HDF error")
+        return real(path, *mode)
+
+    with monkeypatch.context() as patched:
+        patched.setattr("basin.netcdf.LITTLE", 1 << 62)
+        patched.setattr("netCDF4.Dataset", full)
+        with pytest.raises(basin.Error, match="00000.nc: the disk is full"):
+            ensemble.execute(told, workers=0)
+    assert not list((told.folder / "parts").iterdir())
+    ensemble.execute(told, workers=0)
+
+
+def test_what_is_asked_to_end_ends_the_program(tmp_path: Path) -> None:
+    begun, program, rooms = tmp_path / "begun", tmp_path / "basin", tmp_path / "rooms"
+    rooms.mkdir()
+    real = shlex.quote(basin.find_program())
+    hangs = f"test -s \"$5\" && echo $$ > {begun}.new && mv {begun}.new {begun} && exec sleep 300"
+    program.write_text(f'#!/bin/sh\n[ "$1" != mrm ] || {{ {hangs}; }}\nexec {real} "$@"\n')
+    program.chmod(0o755)
+    told = planned(tmp_path / "a", inflows(2), way="mrm", program=str(program))
+    path = os.pathsep.join(str(TOP / name) for name in ("python", "tools"))
+    environment = {**os.environ, "PYTHONPATH": path, "TMPDIR": str(rooms)}
+    words = [sys.executable, "-m", "basin", "run", str(told.folder), "--workers", "0"]
+    with subprocess.Popen(words, env=environment) as running:
+        while not begun.exists() and running.poll() is None:
+            time.sleep(0.05)
+        running.terminate()
+    assert running.returncode == 128 + signal.SIGTERM and not list(rooms.iterdir())
+    with pytest.raises(ProcessLookupError):
+        os.kill(int(begun.read_text()), 0)
+
+
 @pytest.mark.parametrize("form", ["frames", "rows", "dataset", "file"])
 def test_traces_in_each_form(tmp_path: Path, form: str) -> None:
     inflow = inflows(3)
@@ -270,8 +325,11 @@ def test_faults_and_refusals_by_name(tmp_path: Path, way: str) -> None:
         ("usual", "Dam.Inflow", 1, 20),
     )
     told = ensemble.plan(tmp_path / "a", model(), policy(), inputs(), traces, slots=SLOTS, way=in_way(way))
-    with pytest.warns(ensemble.RefusedTraces, match="4 traces"):
+    with pytest.warns(UserWarning) as warned:
         done = ensemble.execute(told, workers=0)
+    assert [(one.category, str(one.message)[:8]) for one in warned] == [
+        (ensemble.RefusedTraces, "4 traces"), (ensemble.FaultedTraces, "1 traces")
+    ]
     assert [(one.settled, one.faults, one.refused) for one in done] == [(2, 1, 4)] and not told.missing()
     faults = ensemble.faults(told)
     assert list(faults.index) == ["dry"] and faults.loc["dry", "kind"] == "out of range"
@@ -283,8 +341,14 @@ def test_faults_and_refusals_by_name(tmp_path: Path, way: str) -> None:
         "twice": {"reason": "twice", "row": "Below.GageInflow,3,1"},
     }
     ensemble.merge(told, [50])
-    found = ensemble.statistics(told)
-    assert (found.attrs["traces"], found.attrs["settled"]) == (8 - 1, 2)
+    with pytest.warns(ensemble.FaultedTraces, match="^1 of 7 traces ended in a fault, and no statistic counts them: dry$"):
+        found = ensemble.statistics(told)
+    assert [found.attrs[word] for word in ("traces", "settled", "faulted", "refused")] == [8 - 1, 2, 1, 4]
+    assert list(found["faulted"].values) == ["dry"] and sorted(found["refused"].values) == ["below", "late", "other", "twice"]
+    words = [sys.executable, "-m", "basin", "merge", str(told.folder)]
+    path = os.pathsep.join(str(TOP / name) for name in ("python", "tools"))
+    merged = subprocess.run(words, env={**os.environ, "PYTHONPATH": path}, check=True, capture_output=True, text=True).stdout
+    assert merged.splitlines()[1] == "7 traces, 1 ended in a fault (dry), 4 are refused"
     assert list(found["Dam.Storage.known"].values) == [2] * STEPS
     assert float(found["Dam.Outflow.min"][0]) == 15 and float(found["Dam.Outflow.max"][0]) == 45
 
@@ -443,11 +507,12 @@ def test_slurm_tasks_one_by_one(tmp_path: Path) -> None:
     told = planned(tmp_path / "a", inflow, size=5)
     array, last = ensemble.slurm(told, tasks=2)
     assert "#SBATCH --array=1-2\n" in array.read_text()
+    bare = {"PATH": os.defpath}  # a task has neither the variables nor the folder of the process that planned it
     for task in ("1", "2"):
         subprocess.run(
-            ["bash", array], check=True, env={**os.environ, "SLURM_ARRAY_TASK_ID": task}, capture_output=True
+            ["bash", array], check=True, cwd="/", env={**bare, "SLURM_ARRAY_TASK_ID": task}, capture_output=True
         )
-    merged = subprocess.run(["bash", last], check=True, capture_output=True, text=True).stdout
+    merged = subprocess.run(["bash", last], check=True, cwd="/", env=bare, capture_output=True, text=True).stdout
     assert merged.splitlines()[1] == "20 traces, 0 ended in a fault, 0 are refused"
     assert (cells_of(told, "Dam.Storage") == storage(inflow)).all()
     with netCDF4.Dataset(told.folder / "ensemble.nc") as out:
@@ -472,3 +537,21 @@ def test_words_of_the_module(tmp_path: Path) -> None:
         [sys.executable, "-m", "basin", "run", tmp_path], capture_output=True, text=True, check=False
     )
     assert done.returncode == 2 and "holds no plan" in done.stderr
+
+
+def test_what_another_container_writes_is_not_taken_for_left(tmp_path: Path, monkeypatch: pytest.MonkeyPatch) -> None:
+    told = planned(tmp_path / "a", inflows(1))
+    nobody = 2**22 + 1  # no process has such a number
+    names = {}
+    for where in ("4026531836", "4026532999"):
+        monkeypatch.setattr("basin.netcdf.host", lambda where=where: f"node-{where}")
+        monkeypatch.setattr("basin.netcdf.os.getpid", lambda: nobody)
+        with netcdf.appearing(told.part(0)):
+            (names[where],) = (path.name for path in (told.folder / "parts").glob(".*"))
+        told.part(0).unlink()
+    assert len(set(names.values())) == 2
+    for name in names.values():
+        (told.folder / "parts" / name).touch()
+    monkeypatch.setattr("basin.ensemble.host", lambda: "node-4026531836")
+    ensemble._clear(told)
+    assert [path.name for path in (told.folder / "parts").glob(".*")] == [names["4026532999"]]

@@ -11,6 +11,7 @@ from pathlib import Path
 
 import pytest
 from distributed import Client, LocalCluster
+from distributed.security import Security
 
 import basin
 from basin import ensemble
@@ -52,6 +53,15 @@ def test_local_workers_keep_their_memory() -> None:
     with ensemble._client(None, 1) as client:
         found = client.submit(os.environ.get, "MALLOC_TRIM_THRESHOLD_").result()
     assert found == os.environ.get("MALLOC_TRIM_THRESHOLD_")
+
+
+def test_nobody_else_reaches_local_workers() -> None:
+    with ensemble._client(None, 1) as client:
+        address = client.scheduler.address
+        assert address.startswith("tls://")
+        for security in (None, Security.temporary()):
+            with pytest.raises((OSError, TypeError)):
+                Client(address if security else address.replace("tls", "tcp"), timeout=5, security=security)
 
 
 def test_a_script_without_a_guard_starts_no_workers_without_end(tmp_path: Path) -> None:

@@ -289,4 +289,5 @@ def of_limits(draw: Draw, text: Text) -> bytes:
     if text.sort == "policy":
         code = text.code or draw.random() < 0.4
         return draw.choice(CODES if code else RULES)(draw, slot).encode()
-    return {"edits": many_edits, "traces": many_traces}.get(text.sort, many_inputs)(draw, slot).encode()
+    makers: dict[str, Callable[[Draw, str], str]] = {"edits": many_edits, "traces": many_traces}
+    return makers.get(text.sort, many_inputs)(draw, slot).encode()

@@ -8,12 +8,18 @@ from dataclasses import dataclass
 from pathlib import Path
 
 HERE = Path(__file__).resolve().parent
+sys.path.insert(0, str(HERE.parent))
+
+from packages import lacking  # noqa: E402
+
 TOP = HERE.parents[1]
 BUILT = TOP / "crates" / "basin" / "out" / "basin"
 CASES = (
     "flags-and-trace/storage-cap",  # a run with flags and trace
     "reuse/flags-and-trace",  # edits and reuse
     "reuse/linked-slots",
+    "reuse/a-fault-goes",
+    "reuse/a-year-of-nine-objects",
     "simulate/routed-reaches-in-a-row",  # networks
     "simulate/linked-objects-conflict",
     "order/canal-newest-first",
@@ -60,7 +66,8 @@ class Answer:
 def library(name: str, folder: Path) -> Path | None:
     """The library of a C file here, built into a folder; `None`, which is told, where there is no compiler."""
     if not shutil.which("cc"):
-        print(f"{name}: there is no cc, so nothing is tried")
+        if lacking(name, "gcc"):
+            sys.exit(1)
         return None
     built = folder / f"{name}.so"
     words = ["cc", "-O1", "-Wall", "-Werror", "-shared", "-fPIC", "-o", str(built), str(HERE / f"{name}.c")]

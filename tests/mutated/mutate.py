@@ -10,7 +10,9 @@ any word or byte. Its first line stays: where that isn't `CODE 1`, a text is a r
 import random
 import re
 import sys
+from collections.abc import Iterator, Sequence
 from pathlib import Path
+from typing import TypeVar
 
 HERE = Path(__file__).resolve().parent
 TABLE = HERE.parent / "tables" / "code-files.txt"
@@ -45,13 +47,13 @@ PIECES = [
 # ---- seeds
 
 
-def repeated(text):
+def repeated(text: str) -> str:
     """A text with its ends of lines and its repetitions written out."""
     text = text.replace(" | ", "\n")
     return re.sub("«([0-9]+) ([^»]*)»", lambda found: int(found[1]) * found[2], text) + "\n"
 
 
-def table_cases():
+def table_cases() -> Iterator[tuple[str, str]]:
     """The texts of the table of code files, each with what has to be said of it."""
     model, cases = TABLE.read_text().split("--- code\n")
     for case in cases.splitlines():
@@ -59,7 +61,7 @@ def table_cases():
         yield repeated(text.removesuffix(" ")), said.replace(" | ", "\n")
 
 
-def seeds():
+def seeds() -> tuple[list[str], list[str]]:
     """The seeds: all of them, and those that are accepted or nearly so, with the longer ones four times."""
     cases = list(table_cases())
     longer = [repeated(line) for line in (HERE / "seeds.txt").read_text().splitlines()]
@@ -70,14 +72,17 @@ def seeds():
 # ---- draws
 
 
+Thing = TypeVar("Thing")
+
+
 class Draw(random.Random):
     """Draws by `random` alone, whose sequence is the same in each version of Python."""
 
-    def below(self, limit):
+    def below(self, limit: int) -> int:
         """A number from 0 to below a limit."""
         return int(self.random() * limit)
 
-    def one(self, things):
+    def one(self, things: Sequence[Thing]) -> Thing:
         """One of some things."""
         return things[self.below(len(things))]
 
@@ -85,18 +90,18 @@ class Draw(random.Random):
 # ---- places in the lines behind the first one
 
 
-def block_start(lines, at):
+def block_start(lines: list[str], at: int) -> int:
     """Where the first instruction of the block stands in which a line is."""
     return max([k for k in range(at) if lines[k].startswith("LOCALS")], default=0) + 1
 
 
-def inside(draw, lines, with_end):
+def inside(draw: Draw, lines: list[str], with_end: bool) -> int:
     """A line of an instruction or, for what is put before it, of an end."""
     found = [k for k, line in enumerate(lines) if line[:1].islower() or (with_end and line == "END")]
     return draw.one(found) if found else 0
 
 
-def places_shifted(lines, at, by):
+def places_shifted(lines: list[str], at: int, by: int) -> None:
     """Moves the places from a line on by so much in the jumps of its block."""
     first = block_start(lines, at)
     last = next((k for k in range(at, len(lines)) if lines[k] == "END"), len(lines))
@@ -106,7 +111,7 @@ def places_shifted(lines, at, by):
             lines[k] = f"{found[1]} {int(found[2]) + by}"
 
 
-def put_before(draw, lines, at, piece):
+def put_before(draw: Draw, lines: list[str], at: int, piece: list[str]) -> None:
     """Lines more before a line, mostly with the places of jumps moved along."""
     if draw.below(6):
         places_shifted(lines, at, len(piece))
@@ -114,7 +119,7 @@ def put_before(draw, lines, at, piece):
     lines[at:at] = [re.sub("[+]([0-9]+)", lambda found: str(place + int(found[1])), line) for line in piece]
 
 
-def local_of_its_own(lines, at):
+def local_of_its_own(lines: list[str], at: int) -> int:
     """The number of a local more, for a number, of the block in which a line is."""
     k = block_start(lines, at) - 1
     head, locals_ = lines[k - 1].split(" "), lines[k].removeprefix("LOCALS ")
@@ -125,7 +130,7 @@ def local_of_its_own(lines, at):
 # ---- changes that keep lines what they are
 
 
-def drop_line(draw, lines):
+def drop_line(draw: Draw, lines: list[str]) -> None:
     """One instruction less."""
     at = inside(draw, lines, False)
     if draw.below(2):
@@ -133,36 +138,36 @@ def drop_line(draw, lines):
     del lines[at]
 
 
-def double_line(draw, lines):
+def double_line(draw: Draw, lines: list[str]) -> None:
     """One instruction twice."""
     at = inside(draw, lines, False)
     put_before(draw, lines, at, [lines[at]])
 
 
-def swap_lines(draw, lines):
+def swap_lines(draw: Draw, lines: list[str]) -> None:
     """Two instructions exchanged, mostly neighbours."""
     a = inside(draw, lines, False)
     b = inside(draw, lines, False) if draw.below(3) == 0 else min(a + 1, len(lines) - 1)
     lines[a], lines[b] = lines[b], lines[a]
 
 
-def instruction(draw):
+def instruction(draw: Draw) -> str:
     """An instruction of a seed."""
     lines = draw.one(ALL).splitlines()
     return lines[inside(draw, lines, False)]
 
 
-def other_line(draw, lines):
+def other_line(draw: Draw, lines: list[str]) -> None:
     """An instruction of a seed in the place of another."""
     lines[inside(draw, lines, False)] = instruction(draw)
 
 
-def more_line(draw, lines):
+def more_line(draw: Draw, lines: list[str]) -> None:
     """An instruction of a seed more."""
     put_before(draw, lines, inside(draw, lines, True), [instruction(draw)])
 
 
-def more_piece(draw, lines):
+def more_piece(draw: Draw, lines: list[str]) -> None:
     """A piece more that leaves the operands as they are."""
     piece, at = draw.one(PIECES), inside(draw, lines, True)
     if "@" in "".join(piece):
@@ -171,7 +176,7 @@ def more_piece(draw, lines):
     put_before(draw, lines, at, piece)
 
 
-def more_blocks(draw, lines):
+def more_blocks(draw: Draw, lines: list[str]) -> None:
     """The blocks of another seed before these, mostly with their calls moved along."""
     blocks = draw.one(ACCEPTED).splitlines()[1:]
     count = blocks.count("END") if draw.below(4) else 0
@@ -181,7 +186,7 @@ def more_blocks(draw, lines):
     lines[:0] = blocks
 
 
-def in_loop(draw, lines):
+def in_loop(draw: Draw, lines: list[str]) -> None:
     """A loop around some instructions of a block."""
     start = inside(draw, lines, True)
     end = start
@@ -194,7 +199,7 @@ def in_loop(draw, lines):
     put_before(draw, lines, start, ["num 1", "list 1", f"widen {1 + draw.below(40)}", f"{loop} {number}"])
 
 
-def matching(draw, lines, pattern):
+def matching(draw: Draw, lines: list[str], pattern: str) -> tuple[int, re.Match[str] | None]:
     """A line in which a pattern is found, and one place where it is; nothing where none is."""
     found = [at for at, line in enumerate(lines) if re.search(pattern, line)]
     if not found:
@@ -203,12 +208,12 @@ def matching(draw, lines, pattern):
     return at, draw.one(list(re.finditer(pattern, lines[at])))
 
 
-def replaced(lines, at, found, text):
+def replaced(lines: list[str], at: int, found: re.Match[str], text: str) -> None:
     """Puts a text where a pattern was found."""
     lines[at] = lines[at][: found.start()] + text + lines[at][found.end() :]
 
 
-def number_by_one(draw, lines):
+def number_by_one(draw: Draw, lines: list[str]) -> None:
     """A number that is one more or less, or seldom another."""
     at, found = matching(draw, lines, "[0-9]+")
     if found:
@@ -216,21 +221,21 @@ def number_by_one(draw, lines):
         replaced(lines, at, found, str(near if draw.below(12) else draw.one(ODD_NUMBERS)))
 
 
-def other_kind(draw, lines):
+def other_kind(draw: Draw, lines: list[str]) -> None:
     """Another kind in a line of kinds."""
     at, found = matching(draw, lines, "(?<=[ ,])[NBDS]([*][0-9]+)?(?=,|$| )")
     if found:
         replaced(lines, at, found, draw.one(KINDS if draw.below(12) else ODD_KINDS))
 
 
-def more_kind(draw, lines):
+def more_kind(draw: Draw, lines: list[str]) -> None:
     """A kind more in a line of kinds, at the end."""
     at, found = matching(draw, lines, "(?<=^LOCALS ).*|(?<=^target ).*|(?<=^FUNCTION N ).*")
     if found:
         replaced(lines, at, found, ",".join([found[0]] * (found[0] != "-") + [draw.one(KINDS)]))
 
 
-def other_name(draw, lines):
+def other_name(draw: Draw, lines: list[str]) -> None:
     """Another slot, object or predefined function."""
     names = "(?<= )[A-Z][a-z]+[.][A-Za-z]+|(?<=^call ).*|(?<=^toelevation ).*|(?<=^tostorage ).*"
     at, found = matching(draw, lines, names)
@@ -238,7 +243,7 @@ def other_name(draw, lines):
         replaced(lines, at, found, draw.one(SLOTS if "." in found[0] else NAMES))
 
 
-def other_place(draw, lines):
+def other_place(draw: Draw, lines: list[str]) -> None:
     """Another place to jump to: that of a target, or any."""
     at, found = matching(draw, lines, "(?<=^jump )[0-9]+|(?<=^branch )[0-9]+")
     if found:
@@ -251,7 +256,7 @@ def other_place(draw, lines):
 # ---- changes that may spoil lines
 
 
-def any_line(draw, lines):
+def any_line(draw: Draw, lines: list[str]) -> None:
     """A line dropped, doubled, or exchanged with another or with one of a seed."""
     at, how = draw.below(len(lines)), draw.below(4)
     if how == 0:
@@ -265,7 +270,7 @@ def any_line(draw, lines):
         lines[at] = draw.one(draw.one(ALL).splitlines())
 
 
-def any_word(draw, lines):
+def any_word(draw: Draw, lines: list[str]) -> None:
     """A word of a line dropped, doubled, exchanged with another, or another one."""
     at = draw.below(len(lines))
     words = lines[at].split(" ")
@@ -281,7 +286,7 @@ def any_word(draw, lines):
     lines[at] = " ".join(words)
 
 
-def any_byte(draw, text):
+def any_byte(draw: Draw, text: str) -> str:
     """A byte dropped, doubled or exchanged, or the text cut off there."""
     at, how = draw.below(len(text)), draw.below(4)
     behind = text[at + 1 :]
@@ -300,7 +305,7 @@ SPOILING = [any_line, any_word]
 ALL, ACCEPTED = seeds()
 
 
-def text_of(number):
+def text_of(number: int) -> str:
     """The mutated text of a number."""
     draw = Draw(number)
     first, *lines = draw.one(ACCEPTED if draw.below(4) else ALL).splitlines()
@@ -315,9 +320,10 @@ def text_of(number):
     return first + "\n" + text
 
 
-def texts(count):
+def texts(count: int) -> dict[str, int]:
     """The first so many texts that aren't the same, each with its number."""
-    numbers, number = {}, 0
+    numbers: dict[str, int] = {}
+    number = 0
     while len(numbers) < count:
         number += 1
         numbers.setdefault(text_of(number), number)

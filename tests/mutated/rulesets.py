@@ -9,7 +9,9 @@ a name, and seldom of any byte.
 import random
 import re
 import sys
+from collections.abc import Iterator, Sequence
 from pathlib import Path
+from typing import TypeVar
 
 HERE = Path(__file__).resolve().parent
 TABLES = sorted((HERE.parent / "tables").glob("rules-*.txt"))
@@ -30,14 +32,17 @@ WORDS = (
 ).split()
 
 
+Thing = TypeVar("Thing")
+
+
 class Draw(random.Random):
     """Draws by `random` alone, whose sequence is the same in each version of Python."""
 
-    def below(self, limit):
+    def below(self, limit: int) -> int:
         """A number from 0 to below a limit."""
         return int(self.random() * limit)
 
-    def one(self, things):
+    def one(self, things: Sequence[Thing]) -> Thing:
         """One of some things."""
         return things[self.below(len(things))]
 
@@ -45,12 +50,12 @@ class Draw(random.Random):
 # ---- seeds
 
 
-def bytes_of(text):
+def bytes_of(text: str) -> bytes:
     """The bytes of a text."""
     return text.encode("utf-8", "surrogateescape")
 
 
-def table_cases():
+def table_cases() -> Iterator[tuple[str, str]]:
     """The rulesets of the tables, each with what has to be said of it."""
     for table in TABLES:
         _, cases = table.read_bytes().decode("utf-8", "surrogateescape").split("--- rules\n")
@@ -60,12 +65,12 @@ def table_cases():
             yield re.sub("«([0-9]+) ([^»]*)»", lambda found: int(found[1]) * found[2], text) + "\n", said
 
 
-def model_text():
+def model_text() -> bytes:
     """The model of the tables."""
     return TABLES[0].read_bytes().split(b"--- rules\n")[0]
 
 
-def seeds():
+def seeds() -> list[str]:
     """The seeds, those that are accepted four times."""
     cases = [(text, said) for text, said in table_cases() if len(text) <= LONGEST]
     accepted = [text for text, said in cases if said.startswith("ok")]
@@ -77,20 +82,20 @@ SEEDS = seeds()
 # ---- changes of a list of tokens
 
 
-def place(draw, tokens, pattern):
+def place(draw: Draw, tokens: list[str], pattern: str) -> int | None:
     """The place of a token that a pattern matches, or `None`."""
     found = [at for at, token in enumerate(tokens) if re.fullmatch(pattern, token)]
     return draw.one(found) if found else None
 
 
-def exchange(draw, tokens, pattern, others):
+def exchange(draw: Draw, tokens: list[str], pattern: str, others: list[str]) -> None:
     """A token that a pattern matches becomes another one."""
     at = place(draw, tokens, pattern)
     if at is not None:
         tokens[at] = draw.one(others)
 
 
-def other_number(draw, tokens):
+def other_number(draw: Draw, tokens: list[str]) -> None:
     """Another number: one more or less, or an odd one."""
     at = place(draw, tokens, "[0-9]+")
     if at is not None:
@@ -98,7 +103,7 @@ def other_number(draw, tokens):
         tokens[at] = str(near) if draw.below(3) else draw.one(NUMBERS)
 
 
-def other_unit(draw, tokens):
+def other_unit(draw: Draw, tokens: list[str]) -> None:
     """Another unit, one more, or one less."""
     at = place(draw, tokens, '"[^"]*"' if draw.below(3) else "[0-9]+")
     if at is None:
@@ -109,51 +114,51 @@ def other_unit(draw, tokens):
         tokens[at] = " "
 
 
-def other_slot(draw, tokens):
+def other_slot(draw: Draw, tokens: list[str]) -> None:
     """Another slot."""
     at = place(draw, tokens, "[.]")
     if at is not None and 0 < at < len(tokens) - 1:
         tokens[at - 1 : at + 2] = [draw.one(SLOTS)]
 
 
-def other_name(draw, tokens):
+def other_name(draw: Draw, tokens: list[str]) -> None:
     """Another name."""
     exchange(draw, tokens, "[A-Za-z_][A-Za-z0-9_]*", NAMES)
 
 
-def other_word(draw, tokens):
+def other_word(draw: Draw, tokens: list[str]) -> None:
     """Another word or sign."""
     exchange(draw, tokens, r"[A-Z]+|[^\sA-Za-z0-9]+", WORDS)
 
 
-def operator(draw, tokens):
+def operator(draw: Draw, tokens: list[str]) -> None:
     """Another operator."""
     exchange(draw, tokens, r"[-+*/=<>]+|AND|OR", "+ - * / = <> < <= > >= AND OR".split())
 
 
-def drop(draw, tokens):
+def drop(draw: Draw, tokens: list[str]) -> None:
     """A token less."""
     del tokens[draw.below(len(tokens))]
 
 
-def double(draw, tokens):
+def double(draw: Draw, tokens: list[str]) -> None:
     """A token twice."""
     at = draw.below(len(tokens))
     tokens.insert(at, f"{tokens[at]} ")
 
 
-def swap(draw, tokens):
+def swap(draw: Draw, tokens: list[str]) -> None:
     """Two tokens exchanged."""
     a, b = draw.below(len(tokens)), draw.below(len(tokens))
     tokens[a], tokens[b] = tokens[b], tokens[a]
 
 
-def more(draw, tokens):
+def more(draw: Draw, tokens: list[str]) -> None:
     """A word, a sign or a name more."""
     tokens.insert(draw.below(len(tokens) + 1), f" {draw.one(draw.one([WORDS, NAMES, SLOTS, NUMBERS]))} ")
 
 
-def wrapped(draw, tokens):
+def wrapped(draw: Draw, tokens: list[str]) -> None:
     """A form around a number or a name."""
     at = place(draw, tokens, "[0-9]+|[a-z_]+")
     if at is not None:
@@ -169,14 +174,14 @@ CHANGES += 8 * [wrapped] + 3 * [other_number, operator]
 # ---- texts
 
 
-def any_byte(draw, text):
+def any_byte(draw: Draw, text: str) -> str:
     """A byte dropped, doubled or exchanged, or the text cut off there."""
     at, how = draw.below(len(text)), draw.below(4)
     behind = text[at + 1 :]
     return text[:at] + [behind, 2 * text[at] + behind, draw.one('\n"#@;\t\xff\r\0') + behind, ""][how]
 
 
-def text_of(number):
+def text_of(number: int) -> str:
     """The mutated text of a number."""
     draw = Draw(number)
     text = "".join(draw.one(SEEDS) for _ in range(draw.one([1, 1, 1, 2, 2, 3])))
@@ -188,9 +193,10 @@ def text_of(number):
     return any_byte(draw, text) if text and draw.below(20) == 0 else text
 
 
-def texts(count):
+def texts(count: int) -> dict[str, int]:
     """The first so many texts that aren't the same, each with its number."""
-    numbers, number = {}, 0
+    numbers: dict[str, int] = {}
+    number = 0
     while len(numbers) < count:
         number += 1
         numbers.setdefault(text_of(number), number)

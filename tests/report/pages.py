@@ -368,6 +368,9 @@ def of_denials(folder: Path) -> Iterator[Outcome]:
         yield "denials: why", None if told == wanted else f"{told}"
         note = "no --asked" in browser.text("#why")
         yield "denials: note", None if note != is_asked else "says nothing of --asked, or too much"
+        browser.open(page, "#slot=Lower.Outflow&step=2.5")
+        shown = browser.text("#why h2")
+        yield "denials: a timestep that is no whole number", None if shown == "Why Lower.Outflow is 50 m3/step" else shown
         found = browser.text("#effects")
         yield "denials: effects", None if "so what it put later was denied, in 3 timesteps" in found else found
 
@@ -421,11 +424,21 @@ def long_run(folder: Path, objects: int, days: int) -> list[Path]:
 
 
 def opened(browser: Browser, page: Path, address: str) -> float:
-    """How many seconds a page takes until it can be used; of several the least counts on a machine that does more."""
+    """Returns how many seconds a page takes until it can be used."""
     browser.driver.get("about:blank")
     began = monotonic()
     browser.open(page, address)
     return monotonic() - began
+
+
+def least_opened(browser: Browser, page: Path, tries: int) -> float:
+    """Returns the least of several such times, since other work of the machine adds to each. It ends once one is short enough."""
+    least = opened(browser, page, "#slot=Dam50.Outflow&step=3000")
+    for step in range(3001, 3000 + tries):
+        if least <= QUICK:
+            break
+        least = min(least, opened(browser, page, f"#slot=Dam50.Outflow&step={step}"))
+    return least
 
 
 def of_long(folder: Path, pictures: Path | None) -> Iterator[Outcome]:
@@ -435,7 +448,7 @@ def of_long(folder: Path, pictures: Path | None) -> Iterator[Outcome]:
     size = page.stat().st_size
     yield f"long: {size:,} bytes", None if size <= SMALL else "too large"
     with Browser() as browser:
-        taken = min(opened(browser, page, f"#slot=Dam50.Outflow&step={step}") for step in (3000, 3001, 3002))
+        taken = least_opened(browser, page, 12)
         yield f"long: opens in {taken:.1f} s", None if taken <= QUICK else "too slow"
         told = browser.text("#why")
         yield "long: what is left out is said", None if "Who put what is told here" in told or "set" in told else told

@@ -12,13 +12,15 @@ import re
 import shutil
 import subprocess
 import tempfile
-from collections.abc import Callable, Iterator
+from collections.abc import Iterator
 from dataclasses import dataclass, field
 from html.parser import HTMLParser
 from pathlib import Path
 from xml.etree import ElementTree
 
 from basin_files.reasons import LONG, plain
+from common import Run
+from packages import may_lack
 
 PIECES = (
     "`touch pwned`", "$(touch pwned)", "';touch pwned;'", '";touch pwned;"', "\x1b[31m", "\x07", "\x9b2J", "<script>x",
@@ -48,7 +50,9 @@ FILES = {
     "policy": POLICY,
     "inputs": "slot,step,value\nDam.Inflow,1-3,100\n",
     "edits": "batch,slot,step,value\n1,Dam.Inflow,2,130\n",
+    "traces": "trace,slot,step,value\n1,Dam.Inflow,2,130\n2,Dam.Outflow,2,9000\n3,Dam.Inflow,2,\n",
     "wide": "step,Dam.Inflow,{name}\n1,5,{name}\n2,6,7\n",
+    "required": 'REQUIRE "{name}": Dam.Outflow[t] >= 60 "m3/step";\n',
 }
 # The same files, with which something is wrong.
 BAD = {
@@ -57,18 +61,32 @@ BAD = {
     "policy": 'RULE "{name}": Dam.Outflow[t] := {name}(1) / 0; ENDRULE\n',
     "inputs": "slot,step,value\n{name},1,5\nDam.Inflow,{name},5\nDam.Inflow,1,{name}\n",
     "edits": "batch,slot,step,value\n{name},Dam.Inflow,1,5\n1,{name},1,5\n1,Dam.Inflow,1,{name}\n",
+    "traces": "trace,slot,step,value\n{name},Dam.Inflow,1,5\n1,{name},1,5\n1,Dam.Inflow,1,{name}\n",
     "wide": "{name},Dam.Inflow [{name}],Dam.{name}\n{name},{name},5\n",
+    "required": 'REQUIRE "{name}": Dam.Outflow[t] >= {name} "m3/step";\n',
     "table": "# batch 0 settled\nstep,stamp,{name}\n1,2024-03-31T00:00,1\n2,2024-04-01T00:00,3\n",
 }
 # How each tool is called; words in braces name files, and {name} is the text itself.
 CALLS = {
-    "compare": ["{table} {table}", "{table} --batches 0 1"],
-    "doctor": ["{model}", "{model} {inputs}", "{model} {inputs} --policy {policy} --edits {edits}"],
+    "compare": ["{table} {table}", "{table} --batch 0 1", "{table} --batches 0 1 --csv"],
+    "doctor": [
+        "{model}",
+        "{model} {inputs}",
+        "{model} {inputs} --policy {policy} --edits {edits}",
+        "{model} {inputs} --policy {policy} --traces {traces}",
+        "{model} {inputs} --policy {policy} --traces {traces} --json",
+    ],
     "effect": ["{model} {policy} {inputs}", "{model} {policy} {inputs} --edits {edits} --batch 1 --csv"],
     "inputs": ["{wide} --model {model}", "{table} --model {model} --only {name} --unknown {name}"],
+    "lsp": ["--check {policy}", "--check {model} {policy}"],
     "map": ["{model} --text"],
     "plot": ["{table} --flags --text", "{table} {name} --text --with {table} --from {name}"],
     "report": ["{model} {policy} {inputs}", "{model} {policy} {inputs} --edits {edits}", "{model} {policy} {inputs} --why {name}"],
+    "require": [
+        "{model} {policy} {inputs} {required}",
+        "{model} {policy} {inputs} {required} --edits {edits}",
+        "{model} {policy} {inputs} {required} --show",
+    ],
     "restart": ["{model} {table} --policy {policy}", "{model} {table} --step 1 --inputs {inputs} --edits {edits} --batch 1"],
     "rules": ["{model} {policy}", "{model} {policy} --csv", "{model} {policy} --code"],
     "slots": ["{model} {inputs}", "{model} --csv"],
@@ -76,7 +94,7 @@ CALLS = {
     "why": ["{model} {policy} {inputs} Dam.Outflow 1", "{model} {policy} {inputs} {name} 1"],
 }
 OF_CSV = ("inputs", "table")  # tools that write CSV without --csv
-OF_SOURCES = {"recheck", "release"}  # tools that read nothing but the repository itself
+ELSEWHERE = {"recheck", "release", "unproved", "workbench"}  # tools of the repository itself, and a server, which has its own tests
 
 
 @dataclass
@@ -107,15 +125,18 @@ def within(sort: str, name: str) -> str:
         return re.sub(r"[\x00-\x1f\x7f]", "", name)
     if sort == "table":
         return re.sub("[,\n\r]", " ", name)
+    if sort == "required":  # a name has at most 100 letters, all printable
+        name = "".join(one for one in name.replace('"', "'") if one.isprintable())
+        return '": Dam.Outflow[t] >= 60 "m3/step";\nREQUIRE "'.join(name[at : at + 40] for at in range(0, len(name), 40))
     return re.sub('["\n]', "'", name) if sort == "policy" else '"' + name.replace('"', '""') + '"'
 
 
 class Room:
     """A folder with files of one name, in which tools are run."""
 
-    def __init__(self, folder: Path, name: str, run: Callable, bad: str = ""):
+    def __init__(self, folder: Path, name: str, run: Run, bad: str = ""):
         self.folder, self.name, self.run = folder, name, run
-        self.files = {}
+        self.files: dict[str, str] = {}
         for sort, text in FILES.items():
             self.write(sort, (BAD if bad == sort else FILES)[sort].format(name=within(sort, name)))
         self.write("table", BAD["table"].format(name=within("table", name)) if bad == "table" else self.table())
@@ -137,7 +158,7 @@ class Room:
         """The words of a call."""
         return [word.format(**self.files, name=self.name) for word in call.split()]
 
-    def call(self, tool: str, call: str, *more: str, refused: tuple = ()) -> tuple[str | None, str]:
+    def call(self, tool: str, call: str, *more: str, refused: tuple[int, ...] = ()) -> tuple[str | None, str]:
         """What is wrong with what a tool does, and its output. A status that is no answer here may be named."""
         before = {path.name for path in self.folder.iterdir()}
         status, output, errors = self.run(tool, *self.words(call), *more, folder=self.folder)
@@ -166,10 +187,10 @@ def is_formula(cell: str) -> bool:
     return cell[:1] in tuple("=+-@\t\r") and cell != "-" and not re.fullmatch(r"-?[0-9.]+", cell)
 
 
-def of_hostile_names(run: Callable, tools: Path) -> Iterator[tuple[str, str | None]]:
+def of_hostile_names(run: Run, tools: Path) -> Iterator[tuple[str, str | None]]:
     """All tools on hostile names: good files, bad ones, files that aren't there, and words that are none."""
     there = {path.name for path in tools.iterdir() if path.is_file() and os.access(path, os.X_OK)}
-    yield "hostile names: each tool", None if there - OF_SOURCES == set(CALLS) else f"{there ^ set(CALLS)} are due, or not"
+    yield "hostile names: each tool", None if there - ELSEWHERE == set(CALLS) else f"{(there - ELSEWHERE) ^ set(CALLS)} are due, or not"
     rooms = [(name, "") for name in (WORST, *FORMULAS)] + [(WORST, bad) for bad in BAD]
     for name, bad in rooms:
         yield from of_room(name, bad, run)
@@ -177,7 +198,7 @@ def of_hostile_names(run: Callable, tools: Path) -> Iterator[tuple[str, str | No
     yield "hostile names: a plot's title", of_title(run)
 
 
-def of_room(name: str, bad: str, run: Callable) -> Iterator[tuple[str, str | None]]:
+def of_room(name: str, bad: str, run: Run) -> Iterator[tuple[str, str | None]]:
     """The calls on files of one name: all, or those that read the bad file, or those of which a formula is asked."""
     with tempfile.TemporaryDirectory() as folder:
         room = Room(Path(folder), name, run, bad)
@@ -194,7 +215,7 @@ def of_room(name: str, bad: str, run: Callable) -> Iterator[tuple[str, str | Non
             yield f"{what}: {tool}, no such file", room.call(tool, re.sub(r"\}", "}none", calls[0]))[0]
 
 
-def of_page(run: Callable) -> str | None:
+def of_page(run: Run) -> str | None:
     """The report has the same tags as with plain names, and no text within its script begins one."""
     pages = []
     for name in ("plain", TAGS, WORST):
@@ -209,7 +230,7 @@ def of_page(run: Callable) -> str | None:
     return None if len({str(tags_of(page)) for page in pages}) == 1 else "the page has other tags"
 
 
-def of_title(run: Callable) -> str | None:
+def of_title(run: Run) -> str | None:
     """A title of any letters is drawn as it is."""
     with tempfile.TemporaryDirectory() as folder:
         room = Room(Path(folder), WORST, run)
@@ -218,7 +239,7 @@ def of_title(run: Callable) -> str | None:
         if wrong or f"title '{title.replace(chr(39), chr(39) * 2)}" not in text:
             return wrong or "the title isn't in the text"
         if not shutil.which("gnuplot"):
-            return None
+            return None if may_lack("gnuplot") else "Debian's package gnuplot is missing"
         _, picture, errors = run("plot", room.files["table"], f"--title={WORST}", folder=room.folder)
         if (room.folder / "pwned").exists():
             return "the title is run"

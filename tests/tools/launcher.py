@@ -54,7 +54,7 @@ class Place:
         """The program is there."""
         self.executable(self.program, PROGRAM)
 
-    def begun(self, *words: str, by: Path | None = None, **environment: str) -> subprocess.Popen:
+    def begun(self, *words: str, by: Path | None = None, **environment: str) -> subprocess.Popen[bytes]:
         """A call of `./basin`, by its own path or another one."""
         return subprocess.Popen(
             [by or self.top / "basin", *words], cwd=self.here, stdin=subprocess.DEVNULL, stdout=subprocess.PIPE,

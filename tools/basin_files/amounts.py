@@ -8,10 +8,21 @@ from math import ceil
 from .model import Model
 from .program import Unable
 from .sections import Row
-from .wide import factor_of
+from .wide import Factor, Lasting, factor_of
 
 SUMMED = ("m3/step", "mm/step", "kWh")  # what a timestep brings; all else is what holds at its end
 WANTED = {"Diversion": "DiversionRequest", "Energy": "EnergyRequest"}  # what a slot falls short of
+
+
+def measuring(units: list[str], base: str, timesteps: Lasting | None) -> tuple[str, Factor] | None:
+    """The first of the units that measures what a base unit does, and how many base units one is at a timestep."""
+    for unit in units:
+        try:
+            return unit, factor_of(unit, base, timesteps)
+        except ValueError as error:
+            if "isn't what the slot measures" not in str(error):
+                raise Unable(f"{error}") from None
+    return None
 
 
 @dataclass
@@ -27,16 +38,8 @@ class Column:
 
     def __post_init__(self) -> None:
         self.base = self.unit = self.model.slots[self.slot].unit
-        self.factor = lambda step: 1
-        for unit in self.units:
-            try:
-                self.factor = factor_of(unit, self.base, self.model.timesteps)
-            except ValueError as error:
-                if "isn't what the slot measures" in str(error):
-                    continue
-                raise Unable(f"{error}") from None
-            self.unit = unit
-            break
+        factor: Factor = lambda step: 1
+        self.unit, self.factor = measuring(self.units, self.base, self.model.timesteps) or (self.base, factor)
         self.is_rate = self.unit.partition("/")[2] not in ("", "step")
         self.shown = self.unit.removesuffix("/step") if self.of_periods else self.unit
 
@@ -68,14 +71,17 @@ class Column:
         values = [self.exact(row) for row in rows]
         if self.base not in SUMMED:
             return values[-1]
-        if None in values:
+        known = [value for value in values if value is not None]
+        if len(known) < len(values):
             return None
-        return self.mean(rows) if self.is_rate else sum(values)
+        return self.mean(rows) if self.is_rate else sum(known, Fraction())
 
     def mean(self, rows: list[Row]) -> Fraction:
         """The mean of values that are known: of rates by how long timesteps are, since months differ."""
-        weights = [self.model.timesteps.seconds(row.step) if self.is_rate else 1 for row in rows]
-        return sum(self.exact(row) * weight for row, weight in zip(rows, weights)) / sum(weights)
+        weights = [self.model.run.seconds(row.step) if self.is_rate else 1 for row in rows]
+        values = (self.exact(row) for row in rows)
+        parts = (value * weight for value, weight in zip(values, weights) if value is not None)
+        return sum(parts, Fraction()) / sum(weights)
 
 
 def decimal(exact: Fraction, places: int) -> str:
@@ -103,7 +109,7 @@ class Shortage:
 def wanted_by(model: Model, name: str) -> str | None:
     """The slot that tells what is wanted of a slot: of a user's diversion its request, of a plant's energy too."""
     slot = model.slots[name]
-    thing = model.object_named(slot.owner)
+    thing = model.owner(slot)
     wanted = f"{slot.owner}.{WANTED.get(slot.name, '')}"
     return wanted if thing.kind in ("water_user", "power_reservoir") and wanted in model.slots else None
 
@@ -114,7 +120,7 @@ def shortage(rows: list[Row], name: str, wanted: str | int) -> Shortage:
     for row in rows:
         due = wanted if isinstance(wanted, int) else row.values[wanted]
         value = row.values[name]
-        if None not in (due, value) and value < due:
+        if due is not None and value is not None and value < due:
             found.steps += 1
             found.short += due - value
     return found

@@ -3,12 +3,12 @@
 from dataclasses import dataclass, field
 
 from .formats import MOST_BATCHES, MOST_EDITS
-from .inputs import NUMBER, InputsFinding, records_of, steps_of, wrong_with_slot, wrong_with_steps, wrong_with_value
+from .inputs import NUMBER, InputsFinding, Wrong, records_of, steps_named
+from .inputs import wrong_with_slot, wrong_with_steps, wrong_with_value
 from .model import Model
 from .reasons import plain, shown
 
 FIELDS = ["slot", "step", "value"]  # behind the number of the batch or the trace
-Wrong = tuple[int, str, str]  # a column, a refusal, and why
 
 
 @dataclass
@@ -29,7 +29,7 @@ class Edits:
         wrong = self.wrong_with_batch(number)
         wrong = wrong or moved(wrong_with_slot(name, self.model)) or moved(wrong_with_steps(steps, self.model))
         wrong = wrong or (moved(wrong_with_value(value, name, self.model)) if value else None)
-        return wrong or self.named_twice(name, steps_of(steps), line) or wrong_with_count(row)
+        return wrong or self.named_twice(name, steps_named(steps), line) or self.wrong_with_count(row)
 
     def wrong_with_batch(self, text: str) -> Wrong | None:
         """Why a field names no batch that may come next; else that batch is the last one."""
@@ -40,7 +40,8 @@ class Edits:
             due = f"{there} or {there + 1}, as the row before it has {there}" if there else "1, as the first one"
             return 1, "batch order", f"{self.word} is {number}, and has to be {due}."
         if number > MOST_BATCHES:
-            return 1, "too many", f"{self.word} is {number}, and there are {MOST_BATCHES} at most."
+            more = "; basin.ensemble takes any number (docs/PYTHON.md)" if self.word == "trace" else ""
+            return 1, "too many", f"{self.word} is {number}, and there are {MOST_BATCHES} at most{more}."
         self.batches = number
         return None
 
@@ -56,15 +57,17 @@ class Edits:
         self.named.update(dict.fromkeys(cells, line))
         return None
 
+    def wrong_with_count(self, row: int) -> Wrong | None:
+        """Whether a row is one too many."""
+        if row <= MOST_EDITS + 1:
+            return None
+        more = "; basin.ensemble takes any number of traces (docs/PYTHON.md)" if self.word == "trace" else ""
+        return 0, "too many", f"there are {MOST_EDITS:,} rows at most{more}."
+
 
 def moved(wrong: Wrong | None) -> Wrong | None:
     """What is wrong with a field of inputs, as a column of edits: these have one more in front."""
     return (wrong[0] + 1, *wrong[1:]) if wrong else None
-
-
-def wrong_with_count(row: int) -> Wrong | None:
-    """Whether a row is one too many."""
-    return (0, "too many", f"there are {MOST_EDITS:,} rows at most.") if row > MOST_EDITS + 1 else None
 
 
 def read_edits(content: bytes, model: Model, word: str = "batch") -> Edits:

@@ -1,5 +1,8 @@
 """What a fault of a run means: what was known of the object, and which balance doesn't hold."""
 
+from .inputs import Inputs
+from .model import BasinObject, Model, Slot
+from .sections import Section
 from .dispatch import (
     Timestep,
     asks,
@@ -41,10 +44,10 @@ DERIVED_TEXT = {
 }
 
 
-def fault_words(timestep):
+def fault_words(timestep: Timestep) -> str:
     """The fault of a timestep that was gone through again, in `basin`'s words, or "" where it has none."""
     fault = timestep.fault
-    if not fault:
+    if not fault or not timestep.at:
         return ""
     at = f"object {timestep.at.name} slot {timestep.at.name}.{fault.slot} step {timestep.step}"
     return {
@@ -54,20 +57,21 @@ def fault_words(timestep):
     }[fault.kind]
 
 
-def beyond_plant(thing, past, request):
+def beyond_plant(thing: BasinObject, past: int, request: int) -> str:
     """Why a request for energy can't be met, behind the name of its slot."""
-    most = thing.options["max_release"]
+    most = thing.max_release
     return (
         f"is {request:,} kWh, and at the head of {head(thing, past):,} mm that the storage before gives the"
         f" greatest release, {most:,} m3/step, gives {energy(thing, past, most):,} kWh."
     )
 
 
-def tell_fault(model, inputs, section):
+def tell_fault(model: Model, inputs: Inputs, section: Section) -> list[str]:
     """Lines that tell of the fault of a section."""
     step = section.fault_step
+    assert step  # a section with a fault names its timestep
     timestep = Timestep(model, inputs, step, section.rows).run()
-    begin, end = model.timesteps.begin(step), model.timesteps.end(step)
+    begin, end = model.run.begin(step), model.run.end(step)
     lines = [f"The run ended in timestep {step}, from {stamp_of(begin)} to {stamp_of(end)}."]
     if fault_words(timestep) != section.fault:
         return lines + [
@@ -79,23 +83,26 @@ def tell_fault(model, inputs, section):
 class Telling:
     """Tells of the fault of a timestep."""
 
-    def __init__(self, timestep):
+    def __init__(self, timestep: Timestep) -> None:
+        assert timestep.at and timestep.fault
         self.timestep, self.thing, self.fault = timestep, timestep.at, timestep.fault
         self.model = timestep.model
         self.view = timestep.view(self.thing)
         self.values = dict(self.view.known)
         if not any(slot.role == "fixed" and slot.name not in self.values for slot in self.thing.slots):
             _ = take_evaporation(self.view, self.values) or take_contents(self.view, self.values)
-        if self.is_asked():
-            self.values["Outflow"] = least_release(self.thing, self.view.past, self.values["EnergyRequest"])
+        release = self.asked_release()
+        if release is not None:
+            self.values["Outflow"] = release
 
-    def is_asked(self):
-        """Whether a request for energy counts that can be met."""
+    def asked_release(self) -> int | None:
+        """The release that a request for energy asks for, where one counts that can be met."""
         view = self.view
-        is_seen = asks(view) and elevation(view.thing.options["table"], view.past) is not None
-        return is_seen and least_release(view.thing, view.past, view.known["EnergyRequest"]) is not None
+        if not asks(view) or elevation(view.thing.table, view.before) is None:
+            return None
+        return least_release(view.thing, view.before, view.known["EnergyRequest"])
 
-    def lines(self):
+    def lines(self) -> list[str]:
         """What happened, what was known, and what to do."""
         name = f"{self.thing.name} ({self.thing.kind})"
         if self.fault.kind == "limit":
@@ -108,15 +115,16 @@ class Telling:
 
     # ---- what was known
 
-    def source(self, slot):
+    def source(self, slot: Slot) -> str:
         """Where the value of a slot comes from."""
         cell = self.timestep.cell(slot.full_name)
-        if cell.writer:
+        if cell and cell.writer:
             return "which it solved itself" if cell.writer == self.thing.name else f"from {cell.writer}"
         given = self.timestep.inputs.given(slot.full_name, self.timestep.step)
+        assert given  # what is known and no object wrote
         return f"inputs, line {given.line}" + (f", as {given.slot}" if given.slot != slot.full_name else "")
 
-    def known(self):
+    def known(self) -> list[str]:
         """A line for each slot of the object, and for the value before."""
         lines = []
         if self.view.past is not None:
@@ -132,7 +140,7 @@ class Telling:
                 lines.append(f"    {slot.name} unknown")
         return lines
 
-    def past_label(self):
+    def past_label(self) -> str:
         """The name of the value before."""
         name, ago = past_name(self.thing), past_ago(self.thing)
         if name != "Inflow":
@@ -141,7 +149,7 @@ class Telling:
 
     # ---- the balance
 
-    def balance(self, values, left=None):
+    def balance(self, values: dict[str, int], left: str | None = None) -> tuple[str, int, str, str, int]:
         """The balance: its left slot and value, and its right side in words, in numbers and as a sum."""
         if self.thing.kind == "canal":
             seepage = values["Inflow"] * self.thing.options["seepage"] // 1000
@@ -149,12 +157,12 @@ class Telling:
             sum_words = f"{values['Inflow']:,} - {seepage:,}"
             return "Outflow", values["Outflow"], words, sum_words, values["Inflow"] - seepage
         if self.thing.kind == "routed_reach":
-            before, inflow, release = self.view.past, values["Inflow"], self.thing.options["release"]
+            before, inflow, release = self.view.before, values["Inflow"], self.thing.options["release"]
             words = f"(Content before + Inflow) x {release} / 1000, rounded down"
             sum_words = f"({before:,} + {inflow:,}) x {release} / 1000"
             return "Outflow", values["Outflow"], words, sum_words, (before + inflow) * release // 1000
         left = left or LEFT_SIDE[self.thing.kind]
-        terms = [(1, self.past_label(), self.view.past)] if past_name(self.thing) else []
+        terms = [(1, self.past_label(), self.view.before)] if past_name(self.thing) else []
         terms += [(sign, name, values[name]) for sign, name in signed_terms(self.thing)]
         turn = -next(sign for sign, name, _ in terms if name == left)
         terms = [(sign * turn, name, value) for sign, name, value in terms if name != left]
@@ -164,13 +172,13 @@ class Telling:
         total = sum(sign * value for sign, _, value in terms)
         return left, values[left], words.removeprefix("+ "), numbers.removeprefix("+ "), total
 
-    def conflict(self):
+    def conflict(self) -> list[str]:
         """What a conflict is about."""
         slot, held, value = self.fault.slot, self.fault.held, self.fault.value
         if slot in DERIVED_TEXT and slot not in terms_of(self.thing):
             return [f"{slot} would be {value:,}, that is {DERIVED_TEXT[slot]}, and it holds {held:,}."]
         if slot == "PoolElevation":
-            table, storage = self.thing.options["table"], self.values["Storage"]
+            table, storage = self.thing.table, self.values["Storage"]
             there = volume(table, held)
             other = "none" if there is None else f"{there:,} m3"
             return [
@@ -191,15 +199,15 @@ class Telling:
             lines.append(
                 f"    (the table has {held:,} m3 at PoolElevation {self.view.known['PoolElevation']:,})"
             )
-        if self.is_asked():
+        if self.asked_release() is not None:
             lines.append(f"    (Outflow is the least by which Energy is {self.values['EnergyRequest']:,} kWh)")
         return lines
 
-    def out_of_range(self):
+    def out_of_range(self) -> list[str]:
         """Which value is outside, and of what."""
         slot, value = self.fault.slot, self.fault.value
         if slot == "EnergyRequest":
-            return [f"{slot} {beyond_plant(self.thing, self.view.past, value)}"]
+            return [f"{slot} {beyond_plant(self.thing, self.view.before, value)}"]
         one = next(one for one in self.thing.slots if one.name == slot)
         low, high = self.view.bounds[slot]
         table = self.thing.options.get("table")
@@ -214,7 +222,7 @@ class Telling:
         first = f"{slot} {verb} {value:,} {one.unit}, and {whose} {amount(low)} to {amount(high)}: {by}."
         return [first, *self.how(slot, value)]
 
-    def how(self, slot, value):
+    def how(self, slot: str, value: int) -> list[str]:
         """How the object comes to a value, where its balance says so."""
         if slot in self.view.known or slot not in terms_of(self.thing):
             return []
@@ -224,15 +232,15 @@ class Telling:
         left, left_value, words, numbers, _ = self.balance({**self.values, slot: value}, slot)
         return [f"    {left} = {words}", f"    {left_value:,} = {numbers}"]
 
-    def is_of_before(self):
+    def is_of_before(self) -> bool:
         """Whether what is outside is the storage before, of which the table tells what evaporates, or the head."""
         if self.fault.slot != "Storage" or self.fault.value != self.view.past:
             return False
         if self.thing.kind == "power_reservoir":
-            return elevation(self.thing.options["table"], self.view.past) is None
+            return elevation(self.thing.table, self.view.before) is None
         return bool(self.thing.options.get("evaporation")) and "Evaporation" not in self.values
 
-    def advice(self):
+    def advice(self) -> list[str]:
         """What to do."""
         if self.fault.kind == "conflict" and self.fault.slot == "PoolElevation":
             return ["Give one of the two."]
@@ -240,7 +248,7 @@ class Telling:
             given = [
                 slot.name
                 for slot in self.thing.slots
-                if slot.name in self.view.known and not self.timestep.cell(slot.full_name).writer
+                if (cell := self.timestep.cell(slot.full_name)) and not cell.writer
             ]
             if not given:
                 return ["Nothing of this is an input of its own: look at the objects that it comes from."]
@@ -255,9 +263,8 @@ class Telling:
         if self.fault.slot == "Outflow" and value < low:
             return ["More is wanted in store than there is: want less, or let less be diverted."]
         if self.fault.slot == "Storage" and self.fault.slot not in self.view.known:
-            less = value < low or (
-                self.thing.options.get("table") and value < self.thing.options["table"][0][1]
-            )
+            table = self.thing.options.get("table")
+            less = value < low or (table and value < table[0][1])
             return [
                 "Let out or divert less, or begin with more." if less else "Let out more, or begin with less."
             ]

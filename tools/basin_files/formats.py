@@ -7,6 +7,7 @@ GREATEST_QUANTITY = 10**17  # Q: every quantity lies from -Q to Q
 GREATEST_ELEVATION = 10**7  # of a table, in mm; of PoolElevation in mm and EvaporationRate in mm/step
 GREATEST_VOLUME = 10**13  # of a table, in m3
 GREATEST_FILE = 16_777_216  # in bytes
+MOST_STEPS = 4_096
 MOST_OBJECTS = 500
 MOST_SLOTS = 4_000
 MOST_VALUES = 1_000_000  # of slots over all timesteps
@@ -29,7 +30,7 @@ RESERVED_WORDS = (
 ).split()
 
 
-def amount(number):
+def amount(number: int) -> str:
     """A whole number for people to read: 1,500, or 10^17 for the greatest quantity."""
     if abs(number) == GREATEST_QUANTITY:
         return "10^17" if number > 0 else "-10^17"
@@ -49,11 +50,11 @@ class Key:
     type: str
     low: int = 0
     high: int = 0
-    words: tuple = ()
+    words: tuple[str, ...] = ()
     default: object = REQUIRED
     unit: str = ""
 
-    def allowed(self):
+    def allowed(self) -> str:
         """What the key may hold, in words."""
         if self.words:
             return " or ".join(f'"{word}"' for word in self.words)
@@ -73,7 +74,7 @@ class Key:
         }[self.type]
 
 
-def option(name):
+def option(name: str) -> Key:
     """A key that chooses a slot: true or false, where it isn't there false."""
     return Key(name, "boolean", default=False)
 
@@ -88,7 +89,7 @@ FILE_KEYS = (
 RUN_KEYS = (
     Key("start", "start"),
     Key("step", "text", words=STEP_WORDS),
-    Key("steps", "integer", 1, 4_096, unit="timesteps"),
+    Key("steps", "integer", 1, MOST_STEPS, unit="timesteps"),
     Key("agenda", "text", words=("123", "321"), default="321"),
     Key("object_limit", "integer", 16, 100, default=50, unit="times"),
     Key("rule_limit", "integer", 1, 100, default=20, unit="times"),
@@ -147,12 +148,12 @@ class SlotRow:
     option: str = ""  # the key that chooses it
 
 
-def inflow(name, role, option=""):
+def inflow(name: str, role: str, option: str = "") -> SlotRow:
     """A flow into the object."""
     return SlotRow(name, role, 1, "in", option=option)
 
 
-def outflow(name, role, option=""):
+def outflow(name: str, role: str, option: str = "") -> SlotRow:
     """A flow out of the object; a derived one is part of another flow, and no term of the balance."""
     return SlotRow(name, role, 0 if role == "derived" else -1, "out", option=option)
 
@@ -281,7 +282,7 @@ SPELLINGS = {  # other words of the same amounts, in small letters
 }
 
 
-def widest_bounds(slot_name, kind):
+def widest_bounds(slot_name: str, kind: str) -> tuple[int, int]:
     """The widest bounds of a slot, in its base unit."""
     if kind in STORING and slot_name in ("PoolElevation", "EvaporationRate"):
         return 0, GREATEST_ELEVATION
@@ -290,7 +291,7 @@ def widest_bounds(slot_name, kind):
     return -GREATEST_QUANTITY, GREATEST_QUANTITY
 
 
-def usual_bounds(slot_name, kind):
+def usual_bounds(slot_name: str, kind: str) -> tuple[int, int]:
     """The bounds of a slot for which a model sets none: a flow's begin with 0."""
     low, high = widest_bounds(slot_name, kind)
     return (low if kind == "data" else 0), high

@@ -6,16 +6,19 @@ As with models, what is wrong is judged in the order of docs/FORMATS.md, and `ba
 import csv
 import io
 import re
-from collections.abc import Iterator
+from collections.abc import Iterable, Iterator
 from dataclasses import dataclass
 
 from .formats import GREATEST_FILE, amount
+from .model import Model
 from .reasons import plain, shown, why_unknown
 
 HEADER = ["slot", "step", "value"]
 NUMBER = re.compile(r"[0-9]{1,18}")
 SIGNED = re.compile(r"-?[0-9]{1,18}")
 csv.field_size_limit(GREATEST_FILE)
+
+Wrong = tuple[int, str, str]  # a column, a refusal, and why
 
 
 @dataclass
@@ -41,20 +44,20 @@ class InputsFinding:
 class Inputs:
     """What inputs give: for the first slot of each link (or a slot in none), the values by timestep."""
 
-    model: object
-    cells: dict
-    findings: list
+    model: Model
+    cells: dict[str, dict[int, Given]]
+    findings: list[InputsFinding]
 
-    def given(self, full_name, step):
+    def given(self, full_name: str, step: int) -> Given | None:
         """What a slot is given at a timestep, under its own or a linked slot's name, or `None`."""
         return self.cells.get(self.model.group(full_name)[0].full_name, {}).get(step)
 
-    def all_given(self, full_name):
+    def all_given(self, full_name: str) -> dict[int, Given]:
         """The same for all timesteps at which the slot is given, rising."""
         return dict(sorted(self.cells.get(self.model.group(full_name)[0].full_name, {}).items()))
 
 
-def records_of(content):
+def records_of(content: bytes) -> Iterator[tuple[int, list[str]]]:
     """The records of a text of inputs, each with the line at which it begins. Empty lines are none."""
     text = content.decode("utf-8", "surrogateescape").removeprefix("\ufeff")
     reader = csv.reader(io.StringIO(text, newline=""))
@@ -65,11 +68,12 @@ def records_of(content):
         line = reader.line_num + 1
 
 
-def read_inputs(content, model):
+def read_inputs(content: bytes, model: Model) -> Inputs:
     """The inputs that the bytes spell for a model."""
     inputs = Inputs(model, {}, [])
     records = records_of(content)
-    line, header = next(records, (1, []))
+    nothing: list[str] = []
+    line, header = next(records, (1, nothing))
     if header != HEADER:
         says = wrong_with_header(content, header)
         inputs.findings.append(InputsFinding("row 1 column 0: header", line, says))
@@ -82,7 +86,7 @@ def read_inputs(content, model):
     return inputs
 
 
-def wrong_with_header(content, header):
+def wrong_with_header(content: bytes, header: list[str]) -> str:
     """Why the first row isn't the header."""
     wanted = "the first row has to be slot,step,value"
     if content[:2] in (b"\xff\xfe", b"\xfe\xff"):
@@ -100,7 +104,7 @@ def wrong_with_header(content, header):
     return f"{wanted}; it is {first}."
 
 
-def wrong_with_row(record, inputs, line, row):
+def wrong_with_row(record: list[str], inputs: Inputs, line: int, row: int) -> Wrong | None:
     """The first thing that is wrong with a row: column, refusal, and why. Else its cells are taken."""
     if len(record) != 3:
         return 0, "ragged", f"the row has {len(record)} fields, and has to have 3: {plain(','.join(record))}."
@@ -109,17 +113,17 @@ def wrong_with_row(record, inputs, line, row):
         wrong_with_slot(name, inputs.model)
         or wrong_with_steps(steps, inputs.model)
         or wrong_with_value(value, name, inputs.model)
-        or taken(name, steps_of(steps), Given(name, line, row, int(value)), inputs)
+        or taken(name, steps_named(steps), Given(name, line, row, int(value)), inputs)
     )
 
 
-def wrong_with_slot(name, model):
+def wrong_with_slot(name: str, model: Model) -> Wrong | None:
     """Why inputs can't give a slot of this name."""
     slot = model.slots.get(name)
     if not slot:
         return 1, "unknown slot", why_unknown(model, name)
     if not slot.settable:
-        owner = model.object_named(slot.owner)
+        owner = model.owner(slot)
         terms = [other.name for other in owner.slots if other.role == "solvable" or other.name == "Storage"]
         return (
             1,
@@ -132,17 +136,24 @@ def wrong_with_slot(name, model):
     return None
 
 
-def steps_of(text):
+def steps_of(text: str) -> tuple[int, int] | None:
     """The first and the last timestep that a field spells, or `None`."""
     first, dash, last = text.partition("-")
     parts = (first, last) if dash else (first, first)
-    return tuple(int(part) for part in parts) if all(NUMBER.fullmatch(part) for part in parts) else None
+    return (int(parts[0]), int(parts[1])) if all(NUMBER.fullmatch(part) for part in parts) else None
 
 
-def wrong_with_steps(text, model):
+def steps_named(text: str) -> tuple[int, int]:
+    """The first and the last timestep that a field spells, which has been judged."""
+    steps = steps_of(text)
+    assert steps
+    return steps
+
+
+def wrong_with_steps(text: str, model: Model) -> Wrong | None:
     """Why a field names no timesteps of the run."""
     steps = steps_of(text)
-    count = model.timesteps.count
+    count = model.run.count
     if not steps:
         hint = (
             " tools/inputs turns dates into timesteps."
@@ -164,7 +175,7 @@ def wrong_with_steps(text, model):
     return None
 
 
-def wrong_with_value(text, name, model):
+def wrong_with_value(text: str, name: str, model: Model) -> Wrong | None:
     """Why a slot can't have what a field spells."""
     if not SIGNED.fullmatch(text):
         hint = ""
@@ -190,7 +201,7 @@ def wrong_with_value(text, name, model):
     return None
 
 
-def taken(name, steps, given, inputs):
+def taken(name: str, steps: tuple[int, int], given: Given, inputs: Inputs) -> Wrong | None:
     """Takes the cells of a row, unless one of them was given before: then that is wrong."""
     cells = inputs.cells.setdefault(inputs.model.group(name)[0].full_name, {})
     for step in range(steps[0], steps[1] + 1):
@@ -212,12 +223,12 @@ def taken(name, steps, given, inputs):
     return None
 
 
-def edited(inputs, content, batch):
+def edited(inputs: Inputs, content: bytes, batch: int) -> Inputs:
     """The inputs as the batches of edits up to one leave them; the edits are ones that `basin` took."""
     for row, (line, (number, name, steps, value)) in enumerate(list(records_of(content))[1:], 2):
         if int(number) <= batch:
             cells = inputs.cells.setdefault(inputs.model.group(name)[0].full_name, {})
-            first, last = steps_of(steps)
+            first, last = steps_named(steps)
             for step in range(first, last + 1):
                 cells.pop(step, None)
                 if value:
@@ -227,7 +238,7 @@ def edited(inputs, content, batch):
 
 def rows_of(slot: str, values: dict[int, int]) -> Iterator[str]:
     """The rows of inputs that give a slot these values by timestep: equal values of timesteps in a row are one."""
-    runs = []
+    runs: list[list[int]] = []
     for step, value in sorted(values.items()):
         if runs and runs[-1][1] == step - 1 and runs[-1][2] == value:
             runs[-1][1] = step
@@ -237,9 +248,9 @@ def rows_of(slot: str, values: dict[int, int]) -> Iterator[str]:
         yield f"{slot},{first if first == last else f'{first}-{last}'},{value}"
 
 
-def folded(steps):
+def folded(steps: Iterable[int]) -> str:
     """Rising timesteps in few words: 1-4, 6-12."""
-    parts = []
+    parts: list[list[int]] = []
     for step in steps:
         if parts and parts[-1][1] == step - 1:
             parts[-1][1] = step

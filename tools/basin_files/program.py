@@ -1,12 +1,15 @@
 """The program, and what each tool does on its own: its words, its one line where it can't do something."""
 
 import argparse
+import io
 import os
 import subprocess
 import sys
 from collections.abc import Callable, Iterator
+from dataclasses import dataclass, field
 from pathlib import Path
 from time import monotonic
+from typing import Any, NoReturn
 
 from .judging import read_model
 from .model import Model
@@ -27,17 +30,82 @@ class Unable(Exception):
     """A tool can't do what it was asked, and why, in one line."""
 
 
+class Held(io.TextIOWrapper):
+    """The output of a tool, which goes to a file once the tool has ended well."""
+
+    def __init__(self, path: str) -> None:
+        self.held = io.BytesIO()
+        super().__init__(self.held, encoding=sys.stdout.encoding, errors=sys.stdout.errors)
+        self.path = path
+
+    def write_file(self) -> None:
+        """Writes the file."""
+        self.flush()
+        write_bytes(self.path, self.held.getvalue())
+
+
+class ToFile(argparse.Action):
+    """Has the output of a tool go to a file."""
+
+    def __call__(self, words: argparse.ArgumentParser, found: argparse.Namespace, path: object, option: str | None = None) -> None:
+        if isinstance(sys.stdout, Held):
+            raise Unable(f"{option} stands twice")
+        sys.stdout = Held(str(path))
+
+
+@dataclass(frozen=True)
+class Common:
+    """An option that several tools have: its words, words that it had before and keeps, and how it is read."""
+
+    words: tuple[str, ...]
+    how: dict[str, Any]  # the words of `add_argument`, each of which has its own type
+    kept: tuple[str, ...] = field(default=())
+
+
+COMMON = {
+    "batch": Common(("--batch",), {"type": int, "metavar": "N"}, ("--batches", "--section")),
+    "batches": Common(("--batches",), {"type": int, "nargs": "+", "metavar": "N"}, ("--batch", "--section")),
+    "policy": Common(("--policy",), {"metavar": "FILE"}),
+    "edits": Common(("--edits",), {"metavar": "FILE"}),
+    "unit": Common(("--unit",), {"action": "append", "default": [], "metavar": "UNIT"}),
+    "first": Common(("--from",), {"metavar": "DATE", "help": "timesteps that end after it: 2021-06-01, 2021-06"}),
+    "last": Common(("--to",), {"metavar": "DATE", "help": "timesteps that begin before it"}),
+    "csv": Common(("--csv",), {"action": "store_true", "help": "with commas between the fields, for a spreadsheet"}),
+    "output": Common(("-o", "--output"), {"metavar": "FILE", "help": "what is written goes to this file"}),
+    "held": Common(("-o", "--output"), {"action": ToFile, "metavar": "FILE", "help": "what is written goes to this file"}),
+}
+
+
 class Words(argparse.ArgumentParser):
     """The words of a tool. What is wrong with them is one line, with status 2."""
 
-    def error(self, message: str) -> None:
+    def error(self, message: str) -> NoReturn:
         raise Unable(f"{message} (--help tells the words)")
+
+    def common(self, name: str, **more: Any) -> None:
+        """Adds an option of COMMON, which is read under this name, and its older words, which aren't told."""
+        option = COMMON[name]
+        how: dict[str, Any] = {**option.how, **more, "dest": name}
+        self.add_argument(*option.words, **how)
+        if option.kept:
+            untold: dict[str, Any] = {**how, "help": argparse.SUPPRESS, "default": argparse.SUPPRESS}
+            self.add_argument(*option.kept, **untold)
+
+    def policy(self) -> None:
+        """Adds the policy: behind the model, or by --policy anywhere."""
+        given = sys.argv[1 : sys.argv.index("--")] if "--" in sys.argv else sys.argv[1:]
+        heads = (word.partition("=")[0] for word in given)
+        if any(head.startswith("--p") and "--policy".startswith(head) for head in heads):
+            self.common("policy", required=True, help="the policy")
+        else:
+            self.add_argument("policy", metavar="POLICY")
+            self.common("policy", default=argparse.SUPPRESS, help="the policy, and then none behind MODEL")
 
 
 class Progress:
     """Tells on the error stream how far something long is: first after two seconds, and then each two seconds."""
 
-    def __init__(self, what: str):
+    def __init__(self, what: str) -> None:
         self.what, self.due = what, monotonic() + PATIENCE
 
     def at(self, done: int, whole: int, of: str) -> None:
@@ -56,6 +124,8 @@ def tool(main: Callable[[], int]) -> None:
     name = Path(sys.argv[0]).name
     try:
         status = main()
+        if isinstance(sys.stdout, Held) and status != CANNOT:
+            sys.stdout.write_file()
         sys.stdout.flush()
     except Unable as unable:
         print(f"{name}: {plain(str(unable), LONG)}", file=sys.stderr)
@@ -136,7 +206,7 @@ def basin(*words: str | Path) -> tuple[int, str, str]:
     return running.returncode, output.decode("utf-8", "replace"), errors.decode("utf-8", "replace").removesuffix("\n")
 
 
-def waited_for(running: subprocess.Popen, what: str) -> tuple[bytes, bytes]:
+def waited_for(running: subprocess.Popen[bytes], what: str) -> tuple[bytes, bytes]:
     """What a program writes, up to its end; that it takes long is told."""
     progress, began = Progress(what), monotonic()
     while True:

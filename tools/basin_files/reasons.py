@@ -2,21 +2,23 @@
 
 import difflib
 import re
+from collections.abc import Callable, Iterable
 
 from . import formats
-from .model import slots_of
+from .model import BasinObject, Model, Table, slots_of
 
 LONG = 4096  # letters, where a text isn't to be cut short
+MOST_NEAR = 8  # unknown texts of one model for which a similar name is searched
 NAME = re.compile(r"[A-Za-z_][A-Za-z0-9_]*")
 
 
-def plain(text, most=60):
+def plain(text: str, most: int = 60) -> str:
     """A text on one line, cut to so many letters."""
     text = text if text.isprintable() else text.encode("unicode_escape").decode()
     return text if len(text) <= most else f"{text[:most - 4]} .."
 
 
-def shown(value):
+def shown(value: object) -> str:
     """A value as a model's file has it, cut short."""
     if isinstance(value, bool):
         return "true" if value else "false"
@@ -25,7 +27,7 @@ def shown(value):
     return f'"{plain(value)}"' if isinstance(value, str) else plain(str(value))
 
 
-def wrong_with_name(name):
+def wrong_with_name(name: str) -> str | None:
     """Why a text is no name, or `None`."""
     if name in formats.RESERVED_WORDS:
         return "the language of rules keeps that word for itself"
@@ -37,7 +39,7 @@ def wrong_with_name(name):
     return f"it has {shown(bad)} in it" if bad else ("it begins with a digit" if name else "it is empty")
 
 
-def wrong_with_rows(rows):
+def wrong_with_rows(rows: Table) -> tuple[str, int, str] | None:
     """What is wrong with the rows of a table: the refusal, the first row with it, and why; or `None`."""
     least, most = formats.TABLE_ROWS
     if len(rows) < least:
@@ -75,7 +77,7 @@ def wrong_with_rows(rows):
     return None
 
 
-def wrong_with_object(thing, model):
+def wrong_with_object(thing: BasinObject, model: Model) -> tuple[str, str, str] | None:
     """Why an object whose keys are right can't be added: the refusal, the key where it is seen, and why."""
     earlier = model.object_named(thing.name)
     names = [name for name, _ in thing.options.get("slots", ())]
@@ -99,7 +101,7 @@ def wrong_with_object(thing, model):
     return None
 
 
-def wrong_with_reservoir(thing):
+def wrong_with_reservoir(thing: BasinObject) -> tuple[str, str] | None:
     """Why a reservoir whose keys are in order can't be: the key where it is seen, and why."""
     table, storage = thing.options.get("table"), thing.options["initial_storage"]
     if thing.options.get("evaporation") and table is None:
@@ -116,8 +118,19 @@ def wrong_with_reservoir(thing):
     return None
 
 
-def why_unknown(model, name):
-    """Why a text names no slot, what may be meant, and which option would make the slot exist."""
+def why_unknown(model: Model, name: str) -> str:
+    """Why a text names no slot, what may be meant, and which option would make the slot exist.
+
+    The search for a similar name takes up to a second among many long names, so only the first texts get one.
+    """
+    if name not in model.unknown:
+        near = nearest if len(model.unknown) < MOST_NEAR else lambda _word, _words: None
+        model.unknown[name] = unknown_words(model, name, near)
+    return model.unknown[name]
+
+
+def unknown_words(model: Model, name: str, nearest: Callable[[str, Iterable[str]], str | None]) -> str:
+    """Returns the same, with the function that finds the nearest name."""
     owner_name, dot, slot_name = name.partition(".")
     owner = model.object_named(owner_name)
     if not dot:
@@ -143,7 +156,7 @@ def why_unknown(model, name):
     )
 
 
-def nearest(word, words):
+def nearest(word: str, words: Iterable[str]) -> str | None:
     """The word among others that is nearest to this one, or `None`; upper and lower case are near."""
     folded = {other.lower(): other for other in reversed(list(words))}
     found = difflib.get_close_matches(word.lower(), folded, 1, 0.6)

@@ -3,6 +3,7 @@ runs each has the number of its trace, and the summary behind them is no section
 
 import re
 from dataclasses import dataclass, field
+from datetime import datetime
 
 from .moments import moment_of
 from .program import Progress
@@ -10,6 +11,7 @@ from .program import Progress
 HEADING = re.compile(r"# (?:batch|trace) ([0-9]+) (settled|fault ([A-Za-z0-9_. -]+))")
 SLOT = re.compile(r"[A-Za-z_][A-Za-z0-9_]*\.[A-Za-z_][A-Za-z0-9_]*")
 A_WHILE = 4096  # lines
+LONGEST = 32  # letters of a field: a value has at most 18 digits
 STEP_OF_FAULT = re.compile(r"\bstep ([0-9]+)")
 
 
@@ -18,8 +20,8 @@ class Row:
     """A closed timestep: its number, its stamp as a moment, and what each slot holds; unknown is `None`."""
 
     step: int
-    stamp: object
-    values: dict
+    stamp: datetime
+    values: dict[str, int | None]
 
 
 @dataclass
@@ -31,31 +33,33 @@ class Section:
 
     batch: int = 0
     fault: str = ""
-    slots: list = field(default_factory=list)
-    rows: list = field(default_factory=list)
-    flags: dict = field(default_factory=dict)
-    trace: list = field(default_factory=list)
+    slots: list[str] = field(default_factory=list)
+    rows: list[Row] = field(default_factory=list)
+    flags: dict[int, dict[str, str]] = field(default_factory=dict)
+    trace: list[str] = field(default_factory=list)
 
     @property
-    def ending(self):
+    def ending(self) -> str:
         """How the run ended, in `basin`'s words."""
         return f"fault {self.fault}" if self.fault else "settled"
 
     @property
-    def fault_step(self):
+    def fault_step(self) -> int | None:
         """The timestep in which the run ended by its fault, or `None`."""
         found = STEP_OF_FAULT.search(self.fault)
         return int(found[1]) if found else None
 
 
-def is_table(text):
+def is_table(text: str) -> bool:
     """Whether a text is one that `basin` wrote, or a table of it."""
     return bool(HEADING.match(text)) or text.startswith("step,stamp")
 
 
-def read_sections(text):
+def read_sections(text: str) -> list[Section]:
     """The sections of a text that `basin` wrote. `ValueError` where a line isn't one that it writes."""
-    sections, part, columns = [], "table", []
+    sections: list[Section] = []
+    columns: list[str] = []
+    part = "table"
     lines, progress = text.splitlines(), Progress("the table is read")
     for number, line in enumerate(lines, 1):
         if not number % A_WHILE:
@@ -80,26 +84,26 @@ def read_sections(text):
     return sections
 
 
-def read_line(section, fields, number):
+def read_line(section: Section, fields: list[str], number: int) -> None:
     """A line of a section's table: its columns, or the row of a timestep."""
     if fields[:2] == ["step", "stamp"]:
         section.slots = slots_of(fields[2:], number)
         return
     stamp = moment_of(fields[1]) if len(fields) > 1 else None
-    if not section.slots or len(fields) != len(section.slots) + 2 or not stamp:
+    if not section.slots or len(fields) != len(section.slots) + 2 or not stamp or max(map(len, fields)) > LONGEST:
         raise ValueError(f"line {number} isn't one of a table that basin wrote")
     values = {slot: int(value) if value else None for slot, value in zip(section.slots, fields[2:])}
     section.rows.append(Row(int(fields[0]), stamp, values))
 
 
-def slots_of(fields, number):
+def slots_of(fields: list[str], number: int) -> list[str]:
     """The slots of a line of columns. Whoever draws or prints them relies on it that they are names, and no commands."""
     if not all(map(SLOT.fullmatch, fields)):
         raise ValueError(f"line {number} isn't one of a table that basin wrote: it names a column that is no slot")
     return fields
 
 
-def read_flags(section, fields, columns, number):
+def read_flags(section: Section, fields: list[str], columns: list[str], number: int) -> list[str]:
     """A line of a section's flags: its columns, or a timestep's. The columns that stand then."""
     if fields[0] == "step":
         return slots_of(fields[1:], number)
@@ -109,6 +113,6 @@ def read_flags(section, fields, columns, number):
     return columns
 
 
-def section_of(sections, batch):
+def section_of(sections: list[Section], batch: int) -> Section | None:
     """The section of a batch, or `None`."""
     return next((section for section in sections if section.batch == batch), None)

@@ -6,15 +6,15 @@ from dataclasses import dataclass
 
 from .dispatch import missing, past_ago, past_name, past_value
 from .formats import LEVELS
-from .inputs import folded
-from .model import Model
+from .inputs import Inputs, folded
+from .model import BasinObject, Model, Slot
 from .moments import stamp_of
 from .sections import Row, Section
 
 MOST_TOLD = 20  # objects that wait, and inputs that are missing
 
 
-def tell_empty(model, inputs, section):
+def tell_empty(model: Model, inputs: Inputs, section: Section) -> list[str]:
     """Lines that tell of the empty cells of a settled section; none where there are none."""
     empty = empty_rows(model, section)
     if not empty:
@@ -68,7 +68,7 @@ def how_many_empty(model: Model, section: Section, rows: list[Row]) -> str:
     return f"The run settled, and {count:,} of {whole:,} cells are empty; the first timestep with one is {rows[0].step}."
 
 
-def is_solved(slot, thing):
+def is_solved(slot: Slot, thing: BasinObject) -> bool:
     """Whether a slot is known once its object has solved all that it can."""
     return slot.role != "neither" or (thing.stores and slot.name in LEVELS)
 
@@ -76,31 +76,32 @@ def is_solved(slot, thing):
 class Waiting:
     """The objects that wait at the end of a timestep, as its row tells."""
 
-    def __init__(self, model, inputs, rows, row):
+    def __init__(self, model: Model, inputs: Inputs, rows: list[Row], row: Row) -> None:
         self.model, self.inputs, self.rows, self.step = model, inputs, rows, row.step
         self.first = {name: model.group(name)[0].full_name for name in model.slots}
         self.known = {self.first[name] for name, value in row.values.items() if value is not None}
         self.objects = [thing for thing in model.objects if self.waits(thing)]
-        self.owners = {name: [] for name in self.first.values()}  # of those that wait, by the first of a link
+        # of those that wait, by the first of a link
+        self.owners: dict[str, list[BasinObject]] = {name: [] for name in self.first.values()}
         for thing in self.objects:
             for slot in thing.slots:
                 self.owners[self.first[slot.full_name]].append(thing)
 
-    def waits(self, thing):
+    def waits(self, thing: BasinObject) -> bool:
         """Whether a slot is unknown that the object solves, derives or has to know."""
         return any(name not in self.known for name in self.solves(thing))
 
-    def solves(self, thing):
+    def solves(self, thing: BasinObject) -> list[str]:
         """The slots that are known once an object has solved all that it can."""
         return [self.first[slot.full_name] for slot in thing.slots if is_solved(slot, thing)]
 
-    def lacking(self, thing, known):
+    def lacking(self, thing: BasinObject, known: set[str]) -> tuple[list[str], list[str]]:
         """What the object lacks where these slots are known: what it has to know, and terms but for one."""
         names = [slot.name for slot in thing.slots if self.first[slot.full_name] in known]
         past = not past_name(thing) or past_value(thing, self.step, self.rows) is not None
         return missing(thing, names, past)
 
-    def candidates(self):
+    def candidates(self) -> list[str]:
         """Slots that inputs could give and that objects which wait lack, by the first of their links."""
         names = {self.first[slot.full_name]: None for thing in self.objects for slot in thing.slots}
         return [
@@ -109,7 +110,7 @@ class Waiting:
             if name not in self.known and all(slot.settable for slot in self.model.group(name))
         ]
 
-    def holes(self):
+    def holes(self) -> list[str]:
         """Candidates that the inputs give at other timesteps, that of the nearest timestep first."""
         steps = {name: self.inputs.all_given(name) for name in self.candidates()}
         given = [name for name in steps if steps[name]]
@@ -117,7 +118,7 @@ class Waiting:
             given, key=lambda name: (min(abs(step - self.step) for step in steps[name]), -len(steps[name]))
         )
 
-    def wanted(self):
+    def wanted(self) -> list[str]:
         """Slots that an object has to be given and no other object solves, as a rate of evaporation."""
         names, candidates = [], set(self.candidates())
         for thing in self.objects:
@@ -131,9 +132,9 @@ class Waiting:
 
     # ---- what is told
 
-    def lines(self):
+    def lines(self) -> list[str]:
         """The chain of objects that wait, and what is missing."""
-        begin, end = self.model.timesteps.begin(self.step), self.model.timesteps.end(self.step)
+        begin, end = self.model.run.begin(self.step), self.model.run.end(self.step)
         search = Search(self)
         roots, order = search.roots, list(search.solved.values())
         chain = order + [thing for thing in self.objects if thing.name not in search.solved]
@@ -146,7 +147,7 @@ class Waiting:
             lines.append("With that no object would wait in this timestep.")
         return lines + [line for thing in self.objects for line in self.hints(thing)]
 
-    def wants(self, thing):
+    def wants(self, thing: BasinObject) -> str:
         """What an object waits for."""
         fixed, terms = self.lacking(thing, self.known)
         fixed = [self.linked(thing, name) for name in fixed]
@@ -160,7 +161,7 @@ class Waiting:
             )
         return " ".join(words) or "waits"
 
-    def linked(self, thing, name):
+    def linked(self, thing: BasinObject, name: str) -> str:
         """A slot that is lacking, with the slots with which it is linked."""
         if name.endswith(" before"):
             return f"its {name.removesuffix(' before')} of timestep {self.past_step(thing)}"
@@ -169,18 +170,18 @@ class Waiting:
         ]
         return f"{name} (linked with {', '.join(others)})" if others else name
 
-    def past_step(self, thing):
+    def past_step(self, thing: BasinObject) -> int:
         """The earlier timestep at which an object looks."""
         return self.step - past_ago(thing)
 
-    def missing_input(self, root):
+    def missing_input(self, root: "Root") -> Iterator[str]:
         """Lines that tell of a missing input, and where else the inputs give it."""
         few = {1: "one of ", 2: "two of "}.get(root.count, f"{root.count} of ") if len(root.names) > 1 else ""
         yield f"Missing: {few}{', '.join(root.names)} at timestep {self.step}."
         for name in root.names:
             steps = self.inputs.all_given(name)
             if steps:
-                all_steps = range(1, self.model.timesteps.count + 1)
+                all_steps = range(1, self.model.run.count + 1)
                 lacking = folded(step for step in all_steps if step not in steps)
                 yield f"    The inputs give {name} at {folded(steps)}, and not at {lacking}."
         if not any(self.inputs.all_given(name) for name in root.names):
@@ -190,7 +191,7 @@ class Waiting:
                 else "    The inputs give none of them."
             )
 
-    def hints(self, thing):
+    def hints(self, thing: BasinObject) -> Iterator[str]:
         """What else may be wrong with an object that waits."""
         fixed, _ = self.lacking(thing, self.known)
         if any(name.endswith(" before") for name in fixed):
@@ -214,18 +215,18 @@ class Waiting:
 class Root:
     """Inputs that are missing: so many of these slots, each by the first of its link."""
 
-    names: list
+    names: list[str]
     count: int = 1
 
 
 class Search:
     """Looks for inputs that are missing: first those given at other timesteps, then any that help most."""
 
-    def __init__(self, waiting):
+    def __init__(self, waiting: Waiting) -> None:
         self.waiting = waiting
         self.known = set(waiting.known)  # with the inputs that were found so far, and all that follows
-        self.solved = {}  # the objects that solve then, by name, in their order
-        self.roots = []
+        self.solved: dict[str, BasinObject] = {}  # the objects that solve then, by name, in their order
+        self.roots: list[Root] = []
         holes, candidates = waiting.holes(), waiting.candidates()
         while best := self.best(holes):
             self.take([Root(best[:1])])
@@ -235,13 +236,13 @@ class Search:
         while roots := self.beside(self.best(candidates)) or self.fewest(set(candidates)):
             self.take(roots)
 
-    def take(self, roots):
+    def take(self, roots: list[Root]) -> None:
         """Takes inputs as found."""
         self.roots += roots
         order, _ = self.spread([name for root in roots for name in root.names[: root.count]])
         self.solved.update(order)
 
-    def spread(self, names):
+    def spread(self, names: list[str]) -> tuple[dict[str, BasinObject], list[str]]:
         """Makes slots known, and all that objects solve then: these objects in order, and the new slots."""
         order, added, queue = {}, [], deque(names)
         while queue:
@@ -257,13 +258,13 @@ class Search:
                     queue.extend(self.waiting.solves(thing))
         return order, added
 
-    def gain(self, name):
+    def gain(self, name: str) -> int:
         """How many further objects would solve if a slot were given."""
         order, added = self.spread([name])
         self.known.difference_update(added)
         return len(order)
 
-    def best(self, names):
+    def best(self, names: list[str]) -> list[str]:
         """The slots each of which would let most further objects solve; none where no single one does."""
         if len(self.solved) == len(self.waiting.objects):
             return []
@@ -271,19 +272,19 @@ class Search:
         most = max(gains.values(), default=0)
         return [name for name in gains if gains[name] == most] if most else []
 
-    def beside(self, names):
+    def beside(self, names: list[str]) -> list[Root]:
         """Of slots that would all do, those of the object that has the first, as one missing input."""
         for thing in self.waiting.owners[names[0]] if names else ():
             own = {self.waiting.first[slot.full_name] for slot in thing.slots}
             return [Root([name for name in names if name in own])]
         return []
 
-    def fewest(self, candidates):
+    def fewest(self, candidates: set[str]) -> list[Root]:
         """What the object lacks that lacks least, of those that still wait and that inputs could help."""
-        lists = []
+        lists: list[list[Root]] = []
         for thing in self.waiting.objects:
             fixed, terms = self.waiting.lacking(thing, self.known)
-            names = [self.waiting.first.get(f"{thing.name}.{name}") for name in (*fixed, *terms)]
+            names = [self.waiting.first.get(f"{thing.name}.{name}", "") for name in (*fixed, *terms)]
             if thing.name not in self.solved and all(name in candidates for name in names):
                 lists.append([Root([name]) for name in names[: len(fixed)]])
                 lists[-1] += [Root(names[len(fixed) :], len(terms) - 1)] if terms else []

@@ -3,19 +3,23 @@
 import csv
 import io
 import re
+from collections.abc import Callable
 from dataclasses import dataclass
 from datetime import datetime, timedelta
 from decimal import Decimal
 from fractions import Fraction
+from typing import Protocol
 
 from . import formats
 from .inputs import steps_of
+from .moments import Timesteps, stamp_of
 from .reasons import NAME, plain, shown
-from .moments import stamp_of
 
-HEADING = re.compile(r"\s*(?P<name>[^\[(]*?)\s*(?:[\[(]\s*(?P<unit>[^\])]*?)\s*[\])])?\s*")
+# Both match a text in at most one way, so that matching takes linear time.
+HEADING = re.compile(r"(?P<name>[^\[(]*)(?:[\[(](?P<unit>[^\])]*)[\])])?")
 WHOLE = re.compile(r"-?[0-9]{1,18}")
-DECIMAL = re.compile(r"[-+]?(?:[0-9]+[.,]?[0-9]*|[.,][0-9]+)(?:[eE][-+]?[0-9]{1,2})?")
+DECIMAL = re.compile(r"[-+]?(?:[0-9]+(?:[.,][0-9]*)?|[.,][0-9]+)(?:[eE][-+]?[0-9]{1,2})?")
+MOST_DIGITS = 4300  # of a cell: Python needs time that grows with the square of their number
 MONTHS = ("jan", "feb", "mar", "apr", "may", "jun", "jul", "aug", "sep", "oct", "nov", "dec")
 NAMED_DATE = re.compile(  # 1-Oct-2020, Oct 1, 2020, Oct 2020
     r"(?:(\d{1,2})[- ]?)?([A-Za-z]{3})[a-z]*\.?[- ]?(?:(\d{1,2}), ?)?(\d{4})(?:,? (\d{2}):?(\d{2}))?"
@@ -33,22 +37,46 @@ DATES = (
     "%d.%m.%Y %H:%M",
     "%d.%m.%Y %H:%M:%S",
 )
+LAST_DAY = datetime(9999, 12, 31)  # the last one that Python has
 STEP_WORDS = ("step", "timestep")
+DATE_WORDS = ("date", "datetime", "date_time", "timestamp", "time")  # a column of dates that isn't the first
 END_WORDS = ("stamp", "end", "ends")
 BESIDE_STEPS = ("begin", "begins", *END_WORDS)  # what a column of timesteps makes needless
+RDB_WIDTH = re.compile(r"[0-9]+[snd]")  # the second line of a table of the USGS: how wide each column is
+OTHER_FORMS = {  # by the first bytes of a file
+    b"PK\x03\x04": "an Excel or OpenDocument workbook",
+    b"\xd0\xcf\x11\xe0": "an old Excel workbook",
+    b"CDF": "a NetCDF file",
+    b"\x89HDF": "a NetCDF or HDF5 file",
+    b"PAR1": "a Parquet file",
+    b"SQLite format 3": "an SQLite database",
+    b"<?xml": "XML, such as WaterML",
+    b"ZDSS": "an HEC-DSS file",
+}
+Factor = Callable[[int], Fraction | int]  # of a timestep: how many base units one of a unit is
 BATCH, LONG_FORM = "batch", ("slot", "unit", "value")  # as `tools/table` writes them
+
+
+class Lasting(Protocol):
+    """Timesteps of which it is known how long they are."""
+
+    step: str
+
+    def seconds(self, number: int, /) -> int:
+        """How long one is."""
+        ...
 
 
 @dataclass
 class Sheet:
     """A table of texts: its headings, and its rows with their numbers as a spreadsheet counts them."""
 
-    headings: list
-    rows: list  # pairs of a number and a list of texts
+    headings: list[str]
+    rows: list[tuple[int, list[str]]]  # pairs of a number and a list of texts
     comma: bool  # whether decimals have a comma
 
 
-def decoded(content):
+def decoded(content: bytes) -> str:
     """The text of a file of a spreadsheet: UTF-8, UTF-16 with its mark, or else Windows' Western letters."""
     if content[:2] in (b"\xff\xfe", b"\xfe\xff"):
         return content.decode("utf-16", "replace")
@@ -58,9 +86,20 @@ def decoded(content):
         return content.decode("cp1252", "replace")
 
 
-def read_sheet(text):
-    """The table of a text with commas, semicolons or tabs between its fields. `ValueError` if it is empty."""
-    first = next((line for line in text.splitlines() if line.strip()), "")
+def other_form(content: bytes) -> str:
+    """Returns what a file is that is not a table as text, or ""."""
+    return next((name for mark, name in OTHER_FORMS.items() if content.startswith(mark)), "")
+
+
+def read_sheet(text: str) -> Sheet:
+    """The table of a text with commas, semicolons or tabs between its fields. `ValueError` if it is empty.
+
+    Lines that begin with # are comments, and the line of column widths in a table of the USGS is skipped.
+    """
+    comments = re.match(r"(?:#[^\n]*\n)*", text)
+    front = comments[0] if comments else ""
+    text = "#\n" * front.count("\n") + text[len(front) :]  # so that rows are counted as a spreadsheet counts them
+    first = next((line for line in text.splitlines() if line.strip("# ")), "")
     named = re.fullmatch(r"sep=(.)", first.strip())
     bare = re.sub(r'"[^"]*"', "", first)
     delimiter = named[1] if named else max(";\t,", key=bare.count)
@@ -69,8 +108,11 @@ def read_sheet(text):
         rows = [(number, row) for number, row in enumerate(reader, 1) if any(field.strip() for field in row)]
     except csv.Error as error:
         raise ValueError(f"this is no table: {error}") from None
+    rows = [(number, row) for number, row in rows if row != ["#"]]
     if named:
         rows = rows[1:]
+    if len(rows) > 1 and all(RDB_WIDTH.fullmatch(field.strip()) for field in rows[1][1]):
+        del rows[1]
     if not rows:
         raise ValueError("the table is empty")
     cells = [field.strip() for _, fields in rows[1:] for field in fields[1:]]
@@ -97,7 +139,8 @@ def of_long(sheet: Sheet) -> Sheet:
         return sheet
     slot, unit, value = (sheet.headings.index(word) for word in LONG_FORM)
     time = next((place for place, word in enumerate(sheet.headings) if word in STEP_WORDS), 0)
-    columns, rows = {}, {}
+    columns: dict[str, int] = {}
+    rows: dict[str, tuple[int, dict[int, str]]] = {}
     for number, row in sheet.rows:
         heading = f"{row[slot]} [{row[unit]}]" if row[unit] else row[slot]
         place = columns.setdefault(heading, len(columns) + 1)
@@ -109,17 +152,17 @@ def of_long(sheet: Sheet) -> Sheet:
     return Sheet([sheet.headings[time], *columns], whole, sheet.comma)
 
 
-def slot_and_unit(heading):
+def slot_and_unit(heading: str) -> tuple[str | None, str | None]:
     """The slot and the unit that a heading names, as texts; `None` for what it doesn't name."""
-    found = HEADING.fullmatch(heading)
+    found = HEADING.fullmatch(heading.strip())
     if not found:
         return None, None
-    parts = [part.replace(" ", "") for part in found["name"].split(".")]  # Dam.Pool Elevation, as others write it
+    parts = [part.replace(" ", "") for part in found["name"].strip().split(".")]  # Dam.Pool Elevation, as others write it
     is_slot = len(parts) == 2 and all(NAME.fullmatch(part) for part in parts)
-    return (".".join(parts) if is_slot else None), found["unit"]
+    return (".".join(parts) if is_slot else None), found["unit"] and found["unit"].strip()
 
 
-def factor_of(unit, slot_unit, timesteps):
+def factor_of(unit: str, slot_unit: str | None, timesteps: Lasting | None) -> Factor:
     """How many of the slot's base unit one of a heading's unit is, as a function of the timestep.
 
     Flows and rates are what comes in one timestep, so that m3/s counts by the timestep's length.
@@ -145,10 +188,11 @@ def factor_of(unit, slot_unit, timesteps):
         return lambda step: factor
     if time not in formats.SECONDS:
         raise ValueError(unknown_unit(unit))
-    return lambda step: factor * timesteps.seconds(step) / formats.SECONDS[time]
+    seconds = timesteps.seconds
+    return lambda step: factor * seconds(step) / formats.SECONDS[time]
 
 
-def unknown_unit(unit):
+def unknown_unit(unit: str) -> str:
     """What is told of a unit that isn't known: which ones are."""
     amounts = ", ".join(word for word in formats.AMOUNTS if word)
     times = ", ".join(f"/{time}" for time in (*formats.SECONDS, "step"))
@@ -158,11 +202,13 @@ def unknown_unit(unit):
     )
 
 
-def number_of(text, comma):
+def number_of(text: str, comma: bool) -> Fraction | int:
     """The number that a cell spells, exactly. `ValueError` says why it is none."""
     bare = text.strip().replace("\u2212", "-")
     if WHOLE.fullmatch(bare):
         return int(bare)
+    if len(bare) > MOST_DIGITS:
+        raise ValueError(f"{shown(text)} has more than {MOST_DIGITS:,} letters")
     if not DECIMAL.fullmatch(bare):
         raise ValueError(f"{shown(text)} isn't a number (marks of thousands aren't taken)")
     if "," in bare and not comma:
@@ -174,28 +220,33 @@ def number_of(text, comma):
     return Fraction(Decimal(bare.replace(",", ".")))
 
 
-def rounded(exact):
+def rounded(exact: Fraction | int) -> int:
     """A number rounded to a whole one, a half up."""
     if isinstance(exact, int):
         return exact
     return (exact + Fraction(1, 2)) // 1
 
 
-def moment_in(text):
+def moment_in(text: str) -> datetime | None:
     """The moment that a cell spells, or `None`."""
+    midnight = re.fullmatch(r"(.*[ T])24:?00(?::00)?", text)
+    if not midnight:
+        return moment_without_24(text)
+    day = moment_without_24(midnight[1].rstrip(" T"))
+    return day + timedelta(days=1) if day and day < LAST_DAY else None
+
+
+def moment_without_24(text: str) -> datetime | None:
+    """Returns the same for a cell without the time 24:00."""
     for form in DATES:
         try:
             return datetime.strptime(text, form)
         except ValueError:
             pass
-    midnight = re.fullmatch(r"(.*[ T])24:?00(?::00)?", text)
-    if midnight:
-        day = moment_in(midnight[1].rstrip(" T"))
-        return day + timedelta(days=1) if day else None
     return named_moment(text)
 
 
-def named_moment(text):
+def named_moment(text: str) -> datetime | None:
     """The moment of a date with an English month's name: 01-Oct-2020, Oct 1, 2020, 01Oct2020 06:00."""
     found = NAMED_DATE.fullmatch(text)
     if not found or found[2].lower() not in MONTHS or (found[1] and found[3]):
@@ -207,7 +258,7 @@ def named_moment(text):
         return None
 
 
-def steps_in(text, heading, timesteps):
+def steps_in(text: str, heading: str, timesteps: Timesteps | None) -> tuple[int, int]:
     """The first and last timestep that a cell of the column of timesteps or dates names. `ValueError` says
     why none.
 
@@ -217,7 +268,7 @@ def steps_in(text, heading, timesteps):
     word = heading.lower()
     steps = steps_of(bare) if word in STEP_WORDS or bare.isdigit() else None
     if steps:
-        last = timesteps.count if timesteps else steps[1]
+        last = timesteps.count if timesteps else formats.MOST_STEPS
         if not 1 <= steps[0] <= steps[1] <= last:
             raise ValueError(f"{shown(text)} is no timestep of the run, which has 1 to {last}")
         return steps
@@ -230,13 +281,13 @@ def steps_in(text, heading, timesteps):
     return (step_at(moment, word in END_WORDS, timesteps),) * 2
 
 
-def is_outside(text, timesteps):
+def is_outside(text: str, timesteps: Timesteps | None) -> bool:
     """Whether a cell has a date before the run or behind it."""
     moment = moment_in(text.strip())
-    return bool(moment and timesteps) and not timesteps.begin(1) <= moment < timesteps.end(timesteps.count)
+    return bool(moment and timesteps and not timesteps.begin(1) <= moment < timesteps.end(timesteps.count))
 
 
-def step_at(moment, is_end, timesteps):
+def step_at(moment: datetime, is_end: bool, timesteps: Timesteps) -> int:
     """The timestep that begins, or ends, at a moment. `ValueError` tells the nearest where none does."""
     number = timesteps.beginning_at(moment)
     if is_end:

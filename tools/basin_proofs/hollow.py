@@ -3,6 +3,7 @@ contracts alone, and needs none of their proofs."""
 
 import re
 import shutil
+from collections.abc import Collection, Set
 from dataclasses import dataclass
 from pathlib import Path
 
@@ -37,14 +38,14 @@ class Owner:
     trait: str
 
 
-def owner_of(parameters, head):
+def owner_of(parameters: str | None, head: str) -> Owner:
     """What the head of an `impl` with such parameters says that it is of."""
     trait, _, owner = head.rpartition(" for ")
     free = re.findall(r"\w+", parameters or "")
     return Owner(re.sub(r"<.*", "", owner).strip("& "), "".join(w for w in re.findall(r"\w+", trait) if w not in free))
 
 
-def body_of(lines, at, indent):
+def body_of(lines: list[str], at: int, indent: str) -> Body | None:
     """The body of the function whose head begins at this line; None where it has none, or an empty one.
 
     Behind clauses a body's bracket stands in a line of its own."""
@@ -59,9 +60,11 @@ def body_of(lines, at, indent):
     return None
 
 
-def functions_of(lines):
+def functions_of(lines: list[str]) -> list[tuple[int, Owner | None, str, Body | None]]:
     """The functions of a file but those of traits: the line of each head, what owns it, its name and its body."""
-    owner, in_trait, found = None, False, []
+    owner: Owner | None = None
+    found: list[tuple[int, Owner | None, str, Body | None]] = []
+    in_trait = False
     for at, line in enumerate(lines):
         if head := HEAD_OF_IMPL.match(line):
             owner = owner_of(head[1], head[2])
@@ -74,12 +77,12 @@ def functions_of(lines):
     return found
 
 
-def module_of(crate, file):
+def module_of(crate: Path, file: Path) -> list[str]:
     """The parts of the path of a file's module."""
     return [part for part in file.relative_to(crate / "src").with_suffix("").parts if part not in ("lib", "main")]
 
 
-def homes_of(crate):
+def homes_of(crate: Path) -> dict[str, list[str]]:
     """The module of each type of a crate: proofs name its functions by that, wherever their `impl` stands."""
     return {
         name: module_of(crate, file)
@@ -88,7 +91,7 @@ def homes_of(crate):
     }
 
 
-def write_hole(crate, parts, name):
+def write_hole(crate: Path, parts: list[str], name: str) -> None:
     """Puts a hole in the place of what a function's proof was."""
     folder = crate.joinpath("proofs", *parts)
     shutil.rmtree(folder, ignore_errors=True)
@@ -97,12 +100,12 @@ def write_hole(crate, parts, name):
     (folder / "Proof.antt").write_text(text, encoding="utf-8")
 
 
-def hollow_file(crate, file, homes, kept):
+def hollow_file(crate: Path, file: Path, homes: dict[str, list[str]], kept: Collection[str]) -> None:
     """Takes the bodies out of a file of a copied crate, but for the functions whose names or paths are kept."""
     lines = file.read_text(encoding="utf-8").split("\n")
-    gone = set()
+    gone: set[int] = set()
     for at, owner, name, body in functions_of(lines):
-        module = homes.get(owner.type if owner else None, module_of(crate, file))
+        module = homes.get(owner.type if owner else "", module_of(crate, file))
         parts = [*module, *([owner.type + owner.trait] if owner else []), name]
         if name in kept or "::".join([crate.name, *parts]) in kept:
             continue
@@ -123,12 +126,12 @@ def paths_in(crate: Path) -> list[str]:
     homes, found = homes_of(crate), []
     for file in sorted(crate.glob("src/**/*.rt")):
         for _, owner, name, _ in functions_of(file.read_text(encoding="utf-8").split("\n")):
-            module = homes.get(owner.type if owner else None, module_of(crate, file))
+            module = homes.get(owner.type if owner else "", module_of(crate, file))
             found.append("::".join([crate.name, *module, *([owner.type + owner.trait] if owner else []), name]))
     return found
 
 
-def hollow(source: Path, copy: Path, kept=frozenset()):
+def hollow(source: Path, copy: Path, kept: Set[str] = frozenset()) -> None:
     """Copies a crate without its bodies and proofs, but for those of the functions whose names are kept, or whose paths, as
     `paths_in` has them, beside `+NAME` for each cycle of theirs. The copy's folder has the crate's name."""
     shutil.rmtree(copy, ignore_errors=True)

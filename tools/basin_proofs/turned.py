@@ -53,7 +53,7 @@ def functions_in(crate: Path) -> list[Function]:
         lines = file.read_text(encoding="utf-8").split("\n")
         for at, owner, name, body in functions_of(lines):
             if body:
-                module = homes.get(owner.type if owner else None, module_of(crate, file))
+                module = homes.get(owner.type if owner else "", module_of(crate, file))
                 parts = [crate.name, *module, *([owner.type + owner.trait] if owner else []), name]
                 where = str(file.relative_to(crate))
                 cycle = cycle_above(lines, at)
@@ -92,7 +92,7 @@ def with_cycles(chosen: list[Function], functions: list[Function]) -> list[Funct
     return [it for it in functions if it in chosen or it.cycle in cycles]
 
 
-def apply(copy: Path, edit: Edit):
+def apply(copy: Path, edit: Edit) -> None:
     """Makes an edit in a copy of its crate."""
     for file, old, new in edit.pairs:
         text = (copy / file).read_text(encoding="utf-8")

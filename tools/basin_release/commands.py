@@ -1,11 +1,15 @@
 """The commands as docs/GUIDE.md has them, and what is made of that table: help, manual page, completion."""
 
 import re
+import sys
+import textwrap
 from dataclasses import dataclass
+from pathlib import Path
 
 from basin_files.program import Unable
 
 HEADING = "## All commands"
+WIDTH = 79  # of help, in letters
 OWN_WORDS = ("help", "--help", "--version")  # of the launcher
 
 
@@ -35,12 +39,27 @@ def section(guide: str) -> str:
     return found[0]
 
 
-def commands_of(guide: str) -> list[Command]:
-    """The rows of its table."""
+def rows_of(guide: str, count: int) -> list[list[str]]:
+    """The rows with so many cells of the section's tables, without their headings."""
     rows = [[cell.strip() for cell in line.split("|")[1:-1]] for line in section(guide).splitlines() if line.startswith("| `")]
-    if not rows or any(len(row) != 4 for row in rows):
-        raise Unable("the table of commands in docs/GUIDE.md isn't read")
+    if any(len(row) not in (3, 4) for row in rows) or not (found := [row for row in rows if len(row) == count]):
+        raise Unable("the tables of commands and options in docs/GUIDE.md aren't read")
+    return found
+
+
+def commands_of(guide: str) -> list[Command]:
+    """The rows of the table of commands."""
+    rows = rows_of(guide, 4)
     return [Command(tuple(row[0].strip("`").split()), row[1], options_in(row[2]), row[3]) for row in rows]
+
+
+def explained(guide: str) -> list[tuple[str, str, str]]:
+    """The rows of the table of options: each option, the commands that have it, and what it does."""
+    found = [(row[0].strip("`"), row[1], row[2]) for row in rows_of(guide, 3)]
+    named = {f"{it.name} {it.value}".strip() for command in commands_of(guide) for it in command.options}
+    if differ := named ^ {name for name, _, _ in found}:
+        raise Unable(f"docs/GUIDE.md explains other options than its commands have: {', '.join(sorted(differ))}")
+    return found
 
 
 def options_in(cell: str) -> tuple[Option, ...]:
@@ -52,6 +71,28 @@ def options_in(cell: str) -> tuple[Option, ...]:
 def remarks(guide: str) -> str:
     """What the section says below its table."""
     return section(guide).rpartition("|\n")[2].strip()
+
+
+# ---- help
+
+
+def help_text(guide: str) -> str:
+    """The commands and options for a terminal: plain lines, none of them wider than 80 columns."""
+    lines = ["basin COMMAND WORD..", "", "Commands:"]
+    for command in commands_of(guide):
+        lines += [f"  {' '.join(command.words)}", *filled(f"Writes {command.writes}. Status {command.statuses}.")]
+        if command.options:
+            lines += filled("Options: " + ", ".join(f"{it.name} {it.value}".strip() for it in command.options) + ".")
+    lines += ["", "Options:"]
+    for name, commands, does in explained(guide):
+        lines += [f"  {name}", *filled(f"({commands}) {does}.")]
+    return "\n".join([*lines, "", *filled(remarks(guide), ""), ""])
+
+
+def filled(text: str, margin: str = "      ") -> list[str]:
+    """A text as lines of a terminal, without backquotes."""
+    text = text.replace("`", "")
+    return textwrap.wrap(text, WIDTH, initial_indent=margin, subsequent_indent=margin, break_long_words=False, break_on_hyphens=False)
 
 
 # ---- the manual page
@@ -82,11 +123,14 @@ def manual(guide: str, version: str, day: str) -> str:
         "Reads a model, rules, inputs, edits and traces from files, and writes tables to the standard output.",
         "A refusal is one line on the standard error.",
         ".SH COMMANDS", *(line for command in commands_of(guide) for line in entry(command)),
+        ".SH OPTIONS", "An option may be anywhere after the command.",
+        *(line for name, whose, does in explained(guide) for line in (".TP", roff(f"`{name}`"), roff(f"({whose}) {does}."))),
         ".SH \"EXIT STATUS\"", "0 and 1 mean what is said of each command.", roff(remarks(guide).partition(" `docs/FORMATS.md`")[0]),
         ".SH FILES",
         "The folder in which the program is installed has the guide (\\fIdocs/GUIDE.md\\fR), the references",
         "(\\fIdocs/FORMATS.md\\fR, \\fIdocs/LANGUAGE.md\\fR), \\fIexamples\\fR, scripts (\\fItools\\fR), and",
-        "\\fIPROOF.txt\\fR, which says what was proved. The Debian package has it at \\fI/usr/lib/basin\\fR.",
+        "\\fIPROOF.txt\\fR, which says what was proved. The Debian package has it at \\fI/usr/lib/basin\\fR, and",
+        "each script as a command of its own: \\fBbasin\\-doctor\\fR, \\fBbasin\\-inputs\\fR and so on.",
         ".SH EXAMPLES", ".EX",
         "basin simulate examples/one\\-reservoir/model.toml examples/one\\-reservoir/inputs.csv", ".EE",
     ]
@@ -128,3 +172,43 @@ BEHIND
 }
 complete -o filenames -F _basin basin
 """
+
+
+def completion_of_fish(guide: str) -> str:
+    """The same for fish."""
+    commands, at_first = commands_of(guide), "complete -c basin -n 'test (count (commandline -opc)) -eq 1'"
+    lines = ["# Completion for fish of basin's words, made of the table of commands in docs/GUIDE.md."]
+    lines += [f"{at_first} -f -a '{command.words[0]}' -d {quoted(command.writes)}" for command in commands]
+    lines.append(f"{at_first} -f -a '{' '.join(word for word in OWN_WORDS if word[0] != '-')}'")
+    for command in commands:
+        for option in command.options:
+            behind = "" if not option.value else " -r" if option.value.isupper() else f" -x -a '{option.value}'"
+            seen = f"-n '__fish_seen_subcommand_from {command.words[0]}'"
+            lines.append(f"complete -c basin {seen} -l {option.name.removeprefix('--')}{behind}")
+    return "\n".join(lines) + "\n"
+
+
+def completion_of_zsh(guide: str) -> str:
+    """The same for zsh, a file _basin on its path of functions."""
+    commands = commands_of(guide)
+    lines = ["#compdef basin", "# Completion for zsh of basin's words, made of the table of commands in docs/GUIDE.md.", "local -a commands=("]
+    lines += [f"  {quoted(command.words[0] + ':' + command.writes.replace(':', ','))}" for command in commands]
+    lines += ["  'help:all commands'", ")", "if (( CURRENT == 2 )); then _describe command commands; return; fi", "local -a options=()"]
+    lines.append("case $words[2] in")
+    for command in commands:
+        options = []
+        for option in command.options:
+            behind = "" if not option.value else f":{option.value}:_files" if option.value.isupper() else f":order:({option.value})"
+            options.append(f"'{option.name}{'=-' if behind else ''}{behind}'")
+        lines.append(f"  {command.words[0]}) options=({' '.join(options)}) ;;")
+    return "\n".join([*lines, "esac", "_arguments $options '*:file:_files'"]) + "\n"
+
+
+def quoted(text: str) -> str:
+    """A text between marks, as both shells read it."""
+    text = text.replace("`", "").replace("'", "\u2019")
+    return f"'{text}'"
+
+
+if __name__ == "__main__":  # `./basin help` of a checkout
+    sys.stdout.write(help_text(Path(sys.argv[1]).read_text()))

@@ -4,6 +4,7 @@ import gzip
 import hashlib
 import io
 import os
+import re
 import shutil
 import subprocess
 import tarfile
@@ -21,7 +22,9 @@ LINKS = {
     "usr/share/doc/basin/PROOF.txt": "../../../lib/basin/PROOF.txt",
     "usr/share/doc/basin/docs": "../../../lib/basin/docs",
     "usr/share/doc/basin/examples": "../../../lib/basin/examples",
+    "usr/lib/python3/dist-packages/basin": "../../basin/python/basin",
 }
+TOOL = re.compile(rf"{HOME}/tools/([a-z]+)")
 CONTROL = """Package: basin
 Version: {version}
 Architecture: amd64
@@ -29,7 +32,7 @@ Maintainer: basin <basin@localhost>
 Installed-Size: {size}
 Depends: libc6 (>= {glibc})
 Recommends: python3 (>= 3.11)
-Suggests: graphviz, gnuplot-nox
+Suggests: graphviz, gnuplot-nox, python3-pandas, python3-xarray, python3-netcdf4, python3-distributed, python3-cryptography
 Section: science
 Priority: optional
 Description: proved simulator of regulated river basins
@@ -40,7 +43,8 @@ Description: proved simulator of regulated river basins
 # What Python keeps of the scripts that were run is no file of the package, and would stay behind.
 REMOVAL = """#!/bin/sh
 set -e
-find "$DPKG_ROOT/usr/lib/basin" -name __pycache__ -prune -exec rm -rf {} +
+home=$DPKG_ROOT/usr/lib/basin
+[ ! -d "$home" ] || find "$home" -name __pycache__ -prune -exec rm -rf {} +
 """
 
 
@@ -91,9 +95,17 @@ def installed(tree: Tree, notice: str) -> Tree:
     files = {f"{HOME}/{path}": file for path, file in tree.items()}
     files["usr/share/man/man1/basin.1.gz"] = squeezed(tree["man/basin.1"])
     files["usr/share/bash-completion/completions/basin"] = tree["completion/basin"]
+    files["usr/share/fish/vendor_completions.d/basin.fish"] = tree["completion/basin.fish"]
+    files["usr/share/zsh/vendor-completions/_basin"] = tree["completion/_basin"]
     files["usr/share/doc/basin/changelog.gz"] = squeezed(tree["CHANGELOG.md"])
     files["usr/share/doc/basin/copyright"] = File(notice.encode())
     return files
+
+
+def commands_of(files: Tree) -> dict[str, str]:
+    """Links by which each tool is a command of its own, basin-doctor and so on."""
+    names = [found[1] for path, file in files.items() if file.is_program and (found := TOOL.fullmatch(path))]
+    return {f"usr/bin/basin-{name}": f"../lib/basin/tools/{name}" for name in names}
 
 
 def squeezed(file: File) -> File:
@@ -119,7 +131,7 @@ def laid_out(files: Tree, folder: Path, epoch: int) -> None:
         place.parent.mkdir(parents=True, exist_ok=True)
         place.write_bytes(file.content)
         place.chmod(file.mode)
-    for path, target in LINKS.items():
+    for path, target in (LINKS | commands_of(files)).items():
         (folder / path).parent.mkdir(parents=True, exist_ok=True)
         (folder / path).symlink_to(target)
     for place in [folder, *folder.rglob("*")]:

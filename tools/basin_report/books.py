@@ -26,7 +26,7 @@ class Book:
     brought: list[tuple[str, int]] = field(default_factory=list)
     taken: list[tuple[str, int]] = field(default_factory=list)
 
-    def told(self) -> dict:
+    def told(self) -> dict[str, object]:
         """The books as a browser reads them."""
         return {
             "said": self.said,
@@ -51,6 +51,7 @@ def book_of(model: Model, files: tuple[str, str], inputs: Inputs, section: Secti
     book = Book()
     for line in output.splitlines()[1:]:
         found = LINE.fullmatch(line)
+        assert found, line  # by docs/FORMATS.md
         book.rows.append((found[1], [] if found[2] else [int(found[place]) for place in range(3, 7)]))
     book.brought = list(sums_of(section, edge(model, "in", "out")))
     book.taken = list(sums_of(section, edge(model, "out", "in")))
@@ -70,7 +71,7 @@ def is_counted(model: Model, slot: Slot) -> bool:
     """Whether a slot's water counts: an Outflow's, or that of its parts, where one of these is linked with an inflow."""
     if slot.name not in (*PARTS, "Outflow"):
         return True
-    parts = [one for one in model.object_named(slot.owner).slots if one.name in PARTS]
+    parts = [one for one in model.owner(slot).slots if one.name in PARTS]
     is_parted = any(other.way == "in" for part in parts for other in model.group(part.full_name))
     return (slot.name in PARTS) == is_parted
 

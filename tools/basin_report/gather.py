@@ -2,6 +2,7 @@
 
 from collections.abc import Iterator
 from dataclasses import dataclass, field
+from functools import cached_property
 from pathlib import Path
 
 from basin_files.asking import NO_SUCH_OPTION, asked_run
@@ -59,7 +60,7 @@ class Told:
 
     section: Section
     lines: list[str]
-    effects: dict
+    effects: dict[str, object]
     book: Book
     story: Story
 
@@ -79,6 +80,11 @@ class Gathered:
     def __post_init__(self) -> None:
         if not self.policy.findings:
             self.run_all()
+
+    @cached_property
+    def remarked(self) -> remarks.Remarked:
+        """The text of the policy, with what is to be looked at."""
+        return remarks.lines_of(self.policy, list(self.findings()))
 
     @property
     def refusal(self) -> list[str]:
@@ -102,7 +108,7 @@ class Gathered:
     def inputs(self, batch: int) -> Inputs:
         """The inputs of the run of a batch."""
         inputs = read_inputs(bytes_of(self.files.inputs), self.model)
-        return edited(inputs, bytes_of(self.files.edits), batch) if batch else inputs
+        return edited(inputs, bytes_of(self.files.edits), batch) if batch and self.files.edits else inputs
 
     def told(self, section: Section, room: int) -> Told:
         """What is told of a run."""
@@ -116,9 +122,9 @@ class Gathered:
 
     # ---- as a browser reads it
 
-    def data(self) -> dict:
+    def data(self) -> dict[str, object]:
         """All but the numbers and the stories of the runs."""
-        timesteps = self.model.timesteps
+        timesteps = self.model.run
         steps = range(1, timesteps.count + 1)
         slots = list(self.model.slots)
         return {
@@ -134,29 +140,29 @@ class Gathered:
             "chosen": {base: self.chosen(base, units) for base, units in UNITS.items()},
             "rules": [plain(name, LONG) for name in self.policy.names()] if self.runs else [],
             "sets": [[slots.index(one) for one in rule.slots()] for rule in self.policy.facts(self.model)] if self.runs else [],
-            "policy": remarks.lines_of(self.policy, list(self.findings())),
+            "policy": self.remarked,
             "asked": "" if self.is_asked else f"{NO_SUCH_OPTION[0].upper()}{NO_SUCH_OPTION[1:]}.",
             "runs": [run_of(told) for told in self.runs],
         }
 
-    def slot(self, name: str, slots: list[str]) -> dict:
+    def slot(self, name: str, slots: list[str]) -> dict[str, int | str]:
         """A slot: its name, its unit, the place of its object, and that of the first slot of its link."""
         slot = self.model.slots[name]
         owner = [thing.name for thing in self.model.objects].index(slot.owner)
         return {"name": name, "unit": slot.unit, "object": owner, "first": slots.index(self.model.group(name)[0].full_name)}
 
-    def unit(self, unit: str, base: str) -> list:
+    def unit(self, unit: str, base: str) -> tuple[str, float, bool]:
         """A unit: its name, how many base units it is, and whether that is of one second."""
-        factor, timesteps = factor_of(unit, base, self.model.timesteps), self.model.timesteps
+        factor, timesteps = factor_of(unit, base, self.model.run), self.model.run
         is_rate = unit.partition("/")[2] not in ("", "step") or unit == "cfs"
-        return [unit, float(factor(1) / timesteps.seconds(1) if is_rate else factor(1)), is_rate]
+        return unit, float(factor(1) / timesteps.seconds(1) if is_rate else factor(1)), is_rate
 
     def chosen(self, base: str, units: tuple[str, ...]) -> int:
         """The place of the unit that is chosen if nobody chooses: the first where something comes to one of it."""
         slots = [name for name, slot in self.model.slots.items() if slot.unit == base]
         rows = [row for told in self.runs[:1] for row in told.section.rows]
         most = max((row.values[name] or 0 for row in rows for name in slots), default=0)
-        seconds = self.model.timesteps.seconds(1)
+        seconds = self.model.run.seconds(1)
         _, factor, is_rate = self.unit(units[0], base)
         return 0 if most >= factor * (seconds if is_rate else 1) else units.index(base)
 
@@ -178,18 +184,18 @@ class Gathered:
         """Where a rule stands in the text."""
         return self.policy.facts(self.model)[rule - 1].head
 
-    def series(self, number: int) -> dict:
+    def series(self, number: int) -> dict[str, dict[int, str]]:
         """The numbers and flags of a run."""
         return series_of(self.model, self.runs[number].section)
 
 
-def effects_of(effects: Effects) -> dict:
+def effects_of(effects: Effects) -> dict[str, object]:
     """What became of what each rule wanted, as a browser reads it."""
     headings, *rows = effects.rows()
     return {"headings": headings, "rows": rows, "lines": [plain(one, LONG) for one in effects.sentences()]}
 
 
-def run_of(told: Told) -> dict:
+def run_of(told: Told) -> dict[str, object]:
     """What is told of a run, as a browser reads it."""
     return {
         "batch": told.section.batch,

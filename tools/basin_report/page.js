@@ -127,7 +127,7 @@ const showObject = () => {
 const go = (slot, step) => {
   state.slot = slot;
   state.thing = slot.object;
-  state.at = Math.max(0, Math.min(STEPS - 1, step - 1));
+  state.at = Math.max(0, Math.min(STEPS - 1, Math.trunc(step) - 1));
   if (state.at < state.from || state.at >= state.to) [state.from, state.to] = [0, STEPS];
   history.replaceState(null, "", `#slot=${encodeURIComponent(slot.name)}&step=${state.at + 1}`);
   showObject();

@@ -3,6 +3,7 @@
 import json
 import re
 import shutil
+from collections.abc import Mapping
 from html import escape
 from pathlib import Path
 
@@ -37,7 +38,7 @@ def page_of(known: Gathered) -> str:
         "STYLE": (HERE / "page.css").read_text(),
         "HEAD": head_of(known),
         "MAP": map_of(known.model),
-        "POLICY": "\n".join(escape(plain(line.expandtabs(4), LONG)) for line in data["policy"]["lines"]),
+        "POLICY": "\n".join(escape(plain(line.expandtabs(4), LONG)) for line in known.remarked["lines"]),
         "STILLS": "\n".join(part for told in known.runs[:1] for part in stills(known.model, told.section)),
         "DATA": safe(data),
         "RUNS": "\n".join(runs),
@@ -46,7 +47,7 @@ def page_of(known: Gathered) -> str:
     return MARK.sub(lambda found: parts[found[1]], (HERE / "page.html").read_text())
 
 
-def safe(value: dict) -> str:
+def safe(value: Mapping[str, object]) -> str:
     """A value as a script of JSON."""
     return json.dumps(value, separators=(",", ":")).replace("<", "\\u003c")
 
@@ -58,7 +59,7 @@ def script(name: str, text: str) -> str:
 
 def head_of(known: Gathered) -> str:
     """What stands below the title: how the first run ended, of what files it is, and what is proved of it."""
-    told, timesteps = (known.runs or [None])[0], known.model.timesteps
+    told, timesteps = known.runs[0] if known.runs else None, known.model.run
     ending = told.section.ending if told else known.policy.refusal
     sort = "" if told and not told.section.fault else ' class="fault"'
     lines = "".join(f"<li>{escape(line.strip())}</li>" for line in (told.lines if told else known.refusal))

@@ -1,11 +1,20 @@
 """The text of a policy, with what is wrong with it, or what to look at, at its place."""
 
+from typing import TypedDict
+
 from basin_rules.findings import Finding
 from basin_rules.places import Source
 from basin_rules.policy import Policy
 
 
-def lines_of(policy: Policy, found: list[tuple[str, Finding]]) -> dict:
+class Remarked(TypedDict):
+    """A policy as a browser reads it: its lines, and remarks."""
+
+    lines: list[str]
+    remarks: list[dict[str, int | str]]
+
+
+def lines_of(policy: Policy, found: list[tuple[str, Finding]]) -> Remarked:
     """The lines of a policy, and remarks: of each the line from 1, the letters from and to, its sort, and its words."""
     return {
         "lines": [line.decode("utf-8", "replace").rstrip("\r") for line in policy.source.content.split(b"\n")],
@@ -13,7 +22,7 @@ def lines_of(policy: Policy, found: list[tuple[str, Finding]]) -> dict:
     }
 
 
-def remark(source: Source, sort: str, finding: Finding) -> dict:
+def remark(source: Source, sort: str, finding: Finding) -> dict[str, int | str]:
     """A remark."""
     line = source.line(finding.span.begin)
     begin = source.begins[line - 1]

@@ -3,7 +3,7 @@
 import json
 from dataclasses import dataclass, field
 
-from basin_files.asking import FATES
+from basin_files.asking import FATES, Asked
 from basin_files.model import Model
 from basin_files.program import Progress
 from basin_files.walking import Event, Walk
@@ -61,18 +61,18 @@ class Teller:
             progress.at(step, last, "timesteps")
         return Story(f"[{','.join(events)}]", first, last)
 
-    def told(self, event: Event) -> list:
+    def told(self, event: Event) -> list[object]:
         """An event as a browser reads it."""
         who = -event.rule if event.rule else self.objects[event.thing]
         puts = [self.put(one) for one in event.asked]
         return [who, event.step, [self.look(event, *cell) for cell in self.walk.looked_at(event)], puts]
 
-    def look(self, event: Event, slot: str, step: int) -> list:
+    def look(self, event: Event, slot: str, step: int) -> list[object]:
         """A look: what the cell held then."""
         held = self.walk.held(slot, step, event.place)
         return [self.slots[slot], step, number_of(held.value), held.flag or held.whence]
 
-    def put(self, one) -> list:
+    def put(self, one: Asked) -> list[object]:
         """A put."""
-        told = [FATES.index(one.fate), self.slots[one.slot], one.step, number_of(one.value), one.flag]
+        told: list[object] = [FATES.index(one.fate), self.slots[one.slot], one.step, number_of(one.value), one.flag]
         return [*told, number_of(one.held[0]), one.held[1]] if one.held else told

@@ -1,13 +1,20 @@
 """A file of code as the tools read it: its blocks and budgets, or the first thing that is wrong with it."""
 
-from dataclasses import dataclass, field
+from __future__ import annotations
 
+from collections.abc import Callable
+from dataclasses import dataclass, field
+from typing import Any
+
+from basin_files.firing import PREDEFINED
+from basin_files.model import Model
 from basin_files.reasons import nearest, shown, why_unknown
 
 from . import meant, verifier
 from .costs import Budget, words_above
 from .findings import Finding
-from .places import Span
+from .places import Source, Span
+from .verifier import Basin, Before, Block, Line, Misfit, Refused, Scope
 
 STAGES = {
     "top": "the first line is `CODE 1`",
@@ -15,7 +22,7 @@ STAGES = {
     "headed": "behind a block's first line stands `LOCALS K`",
     "inside": "an instruction or `END` stands here",
 }
-BEHIND = {
+BEHIND: dict[Callable[[str], object], str] = {
     verifier.quantity_in: "a whole number from -10^17 to 10^17, without zeros in front",
     verifier.truth_in: "true or false",
     verifier.slot_in: "a slot, Object.Slot",
@@ -42,18 +49,18 @@ LIST_TAKES = {
 class CodeFile:
     """A file of code: its text, its blocks with their budgets, and what is wrong."""
 
-    source: object
-    blocks: list = field(default_factory=list)
-    budgets: list = field(default_factory=list)
-    findings: list = field(default_factory=list)
+    source: Source
+    blocks: list[Block] = field(default_factory=list)
+    budgets: list[list[int]] = field(default_factory=list)
+    findings: list[Finding] = field(default_factory=list)
 
 
-def is_code(content):
+def is_code(content: bytes) -> bool:
     """Whether a policy is code: its first line is `CODE 1`."""
     return content.startswith(b"CODE 1\n") or content == b"CODE 1"
 
 
-def basin_of(model):
+def basin_of(model: Model) -> Basin:
     """A model as the verifier sees it: of each object its slots, each with whether it can be set, and its table."""
     return {
         thing.name: {
@@ -64,7 +71,7 @@ def basin_of(model):
     }
 
 
-def read_code(source, model):
+def read_code(source: Source, model: Model) -> CodeFile:
     """The code that a text spells, judged with a model with which nothing is wrong."""
     code = CodeFile(source)
     try:
@@ -75,7 +82,7 @@ def read_code(source, model):
     return code
 
 
-def finding_of(refused, source, model):
+def finding_of(refused: Refused, source: Source, model: Model) -> Finding:
     """What is told of code that is refused."""
     if refused.scope:
         return of_place(refused, source, model)
@@ -87,7 +94,7 @@ def finding_of(refused, source, model):
     return Finding(str(refused), Span(end, end), says if end else "there is no line, and the first one is `CODE 1`")
 
 
-def line_span(source, number):
+def line_span(source: Source, number: int) -> Span:
     """Where a line stands."""
     end = source.begins[number] - 1 if number < len(source.begins) else len(source.content)
     return Span(source.begins[number - 1], end)
@@ -96,7 +103,7 @@ def line_span(source, number):
 # ---- lines
 
 
-def of_line(number, source):
+def of_line(number: int, source: Source) -> tuple[str, str]:
     """What is told of a line that isn't allowed where it stands, and what may be meant."""
     span = line_span(source, number)
     word, *texts = source.text[span.begin : span.end].split(" ")
@@ -114,12 +121,12 @@ def of_line(number, source):
     return f"`{word}` isn't allowed here: {STAGES[stage]}", ""
 
 
-def many(count):
+def many(count: int) -> str:
     """How many words."""
     return "nothing" if count == 0 else "one word" if count == 1 else f"{count} words"
 
 
-def stage_at(number, source):
+def stage_at(number: int, source: Source) -> str:
     """The stage of the text at a line, all lines before which are allowed."""
     stage = "top"
     for line in source.text.split("\n")[: number - 1]:
@@ -130,9 +137,10 @@ def stage_at(number, source):
 # ---- places of a block
 
 
-def of_place(refused, source, model):
+def of_place(refused: Refused, source: Source, model: Model) -> Finding:
     """What is told of a misfit at a place of a block."""
     scope, place, misfit = refused.scope, refused.place, refused.misfit
+    assert scope and misfit  # what is refused at a place has both
     block = scope.block
     at_end = place == len(block.lines)
     span = line_span(source, block.line + 2 + place if place or block.lines else block.line)
@@ -145,7 +153,7 @@ def of_place(refused, source, model):
     return Finding(str(refused), span, says, hint, whose=whose)
 
 
-def before_of(scope, place):
+def before_of(scope: Scope, place: int) -> Before | None:
     """What is before a place, all places before which are allowed; `None` where that isn't known."""
     before = verifier.Before([], [])
     try:
@@ -160,32 +168,32 @@ def before_of(scope, place):
 class Site:
     """A place of a block: its instruction, what is before it, and the misfit there."""
 
-    scope: object
+    scope: Scope
     place: int
     word: str
-    things: list
-    before: object
-    model: object
-    misfit: object
+    things: list[Any]  # what the readers of its word make of the texts behind it
+    before: Before | None
+    model: Model
+    misfit: Misfit
 
     @property
-    def operands(self):
+    def operands(self) -> str:
         """The operands that are there, the last one behind."""
         kinds = " ".join(self.before.kinds[::-1]) if self.before else ""
         return f"the operands are {kinds}" if kinds else "there are no operands"
 
     @property
-    def block(self):
+    def block(self) -> Block:
         """The block."""
         return self.scope.block
 
 
-def no_name(site):
+def no_name(site: Site) -> tuple[str, str]:
     """A name that isn't there."""
     if site.word in ("slot", "put"):
         return why_unknown(site.model, ".".join(site.things[0])).rstrip("."), ""
     if site.word == "call":
-        near = nearest(site.things[0], verifier.PREDEFINED)
+        near = nearest(site.things[0], PREDEFINED)
         return f"there is no predefined function {site.things[0]}", near or ""
     if site.word == "invoke":
         number, blocks = site.things[0], site.scope.blocks
@@ -197,20 +205,20 @@ def no_name(site):
     return why, ", ".join(names)
 
 
-def not_settable(site):
+def not_settable(site: Site) -> tuple[str, str]:
     """A slot that its object derives."""
     owner, name = site.things[0]
-    names = [slot.full_name for slot in site.model.object_named(owner).slots if slot.settable]
+    names = [slot.full_name for slot in site.model.the_object(owner).slots if slot.settable]
     return f"{owner} derives {owner}.{name} from its other slots, so no rule sets it", f"one of {', '.join(names)}"
 
 
-def target_step(site):
+def target_step(site: Site) -> tuple[str, str]:
     """A put for another timestep."""
     says, hint = meant.target_step(site.model.ahead)
     return f"{says}, which is 0 behind the slot" if not site.model.ahead else says, hint
 
 
-def jumped(site):
+def jumped(site: Site) -> tuple[str, str]:
     """A jump that leads to no place where it may."""
     to, lines = site.things[0], site.block.lines
     if to <= site.place:
@@ -224,33 +232,35 @@ def jumped(site):
     return f"the target at place {to} is in another loop", ""
 
 
-def later_call(site):
+def later_call(site: Site) -> tuple[str, str]:
     """A function that stands here or later."""
     return f"block {site.things[0]} stands here or later, and a block calls those before it", ""
 
 
-def operands(site):
+def operands(site: Site) -> tuple[str, str]:
     """Operands that are too few, or of other kinds than the instruction takes."""
     return f"`{spelt((site.word, *site.things))}` takes {taken(site)}, and {site.operands}", ""
 
 
-def taken(site):
+def taken(site: Site) -> str:
     """What an instruction takes, the last operand behind."""
     word, things = site.word, site.things
     if word in LIST_TAKES:
         return LIST_TAKES[word].format(*things)
     if word == "call":
-        return " ".join("N" * verifier.PREDEFINED[things[0]])
+        return " ".join("N" * PREDEFINED[things[0]])
     if word == "invoke":
         return " ".join(site.scope.blocks[things[0] - 1].parameters) or "nothing"
     if word == "store":
-        return site.block.locals[things[0]]
+        kind: str = site.block.locals[things[0]]
+        return kind
     return " ".join(verifier.PLAIN[word][0][::-1])
 
 
-def shape(site):
+def shape(site: Site) -> tuple[str, str]:
     """What else is wrong with a place."""
     word, things, block = site.word, site.things, site.block
+    loops = site.before.loops if site.before else []
     if word in ("load", "store", "foreach", "map"):
         count = len(block.locals)
         if things[0] >= count:
@@ -263,26 +273,26 @@ def shape(site):
         if behind is None:
             return "behind a `jump` stands a `target`, since no way leads there but a jump", ""
     if word in ("jump", "branch"):
-        declared = verifier.declared_at(block.lines, things[0])
+        declared = verifier.declared_at(block.lines, things[0]) or []
         return f"the target at place {things[0]} declares {kinds_of(declared[::-1])}, and {site.operands}", ""
     if word in verifier.LOOP_ENDS:
-        if not site.before.loops:
+        if not loops:
             return f"`{word}` ends a loop, and none is open", ""
-        loop = site.before.loops[-1]
+        loop = loops[-1]
         began = block.lines[loop.start][0]
         return f"the loop that `{began}` begins at place {loop.start} is open, and {site.operands}", ""
-    if site.before.loops:
-        return f"the block ends, and the loop of place {site.before.loops[-1].start} is open", ""
+    if loops:
+        return f"the block ends, and the loop of place {loops[-1].start} is open", ""
     due = "a rule ends with none" if block.is_rule else f"a function ends with its result, {block.result}"
     return f"the block ends, and {site.operands}: {due}", ""
 
 
-def kinds_of(kinds):
+def kinds_of(kinds: list[str]) -> str:
     """Kinds for people to read."""
     return " ".join(kinds) or "no operands"
 
 
-def spelt(line):
+def spelt(line: Line) -> str:
     """An instruction as its line spells it."""
     words = []
     for thing in line[1:]:
@@ -295,12 +305,12 @@ def spelt(line):
     return " ".join([line[0], *words])
 
 
-def above(site):
+def above(site: Site) -> tuple[str, str]:
     """Budgets that are above their limits."""
     return words_above(Budget(*site.misfit.budget)), ""
 
 
-MISFITS = {
+MISFITS: dict[str, Callable[[Site], tuple[str, str]]] = {
     "too many": lambda site: (f"there are at most {verifier.MOST_ALIKE} rules, and as many functions", ""),
     "no such name": no_name,
     "not settable": not_settable,

@@ -38,10 +38,11 @@ class Effects:
     model: Model
     policy: Policy
     walk: Walk
-    counts: dict = field(default_factory=lambda: defaultdict(Counter))
-    gave: dict = field(default_factory=lambda: defaultdict(list))  # by rule, slot, object and flag: moments
-    held: dict = field(default_factory=lambda: defaultdict(list))  # by rule, slot and the rule that holds it: moments
-    denied: dict = field(default_factory=lambda: defaultdict(list))  # by rule, slot and the flag that denied it: moments
+    counts: dict[tuple[int, str], Counter[str]] = field(default_factory=lambda: defaultdict(Counter))
+    # moments by rule and slot, and by the object and flag, the rule that holds it, or the flag that denied it
+    gave: dict[tuple[int, str, str, str], list[Moment]] = field(default_factory=lambda: defaultdict(list))
+    held: dict[tuple[int, str, int], list[Moment]] = field(default_factory=lambda: defaultdict(list))
+    denied: dict[tuple[int, str, str], list[Moment]] = field(default_factory=lambda: defaultdict(list))
 
     def __post_init__(self) -> None:
         self.names = self.policy.names()
@@ -52,7 +53,7 @@ class Effects:
                 firings[(event.rule, event.step)].append(event)
         progress = Progress("each firing is gone through again")
         for (rule, step), events in firings.items():
-            progress.at(step, self.model.timesteps.count, "timesteps")
+            progress.at(step, self.model.run.count, "timesteps")
             self.count(rule, step, events)
 
     def count(self, rule: int, step: int, events: list[Event]) -> None:
@@ -75,8 +76,10 @@ class Effects:
 
     def note(self, rule: int, put: Asked, events: list[Event], content: Content, what: str) -> None:
         """Notes what is worth a look."""
+        if content.value is None:
+            return
         moment = Moment(put.step, put.value, content.value)
-        if what == "gave way":
+        if what == "gave way" and content.event:
             self.gave[(rule, put.slot, content.event.thing, content.flag)].append(moment)
         if what in ("denied", "passed"):
             puts = [one for event in events[:-1] for one in self.walk.wanted(event)]

@@ -2,7 +2,7 @@
 
 from dataclasses import dataclass, field
 
-from .places import Span
+from .places import Source, Span
 
 
 @dataclass
@@ -13,11 +13,11 @@ class Finding:
     span: Span
     says: str
     hint: str = ""
-    more: list = field(default_factory=list)  # lines beside it
+    more: list[str] = field(default_factory=list)  # lines beside it
     whose: str = ""  # the declaration, or the block
 
 
-def told(finding, source):
+def told(finding: Finding, source: Source) -> list[str]:
     """The lines that tell of a finding, with the text and a mark below what it is of."""
     whose = f" ({finding.whose})" if finding.whose else ""
     lines = [f"{source.path} {source.place(finding.span.begin)}{whose}: {finding.says}."]
@@ -26,7 +26,7 @@ def told(finding, source):
     return lines + ([f"May be meant: {finding.hint}."] if finding.hint else [])
 
 
-def told_short(finding, source):
+def told_short(finding: Finding, source: Source) -> str:
     """One line that tells of a finding."""
     whose = f" ({finding.whose})" if finding.whose else ""
     return f"{source.path} {source.place(finding.span.begin)}{whose}: {finding.says}."

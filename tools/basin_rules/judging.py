@@ -1,10 +1,15 @@
 """The types of a ruleset: what each expression is, or the first refusal of a declaration, in `basin`'s words."""
 
+from __future__ import annotations
+
 from collections import ChainMap
+from collections.abc import Callable, Iterable, MutableMapping
 from dataclasses import dataclass
+from typing import Any
 
 from basin_files.firing import PREDEFINED
 from basin_files.formats import GREATEST_QUANTITY
+from basin_files.model import Model, Slot
 from basin_files.reasons import why_unknown
 
 from . import meant, trees
@@ -17,12 +22,14 @@ from .measures import (
     TRUTH,
     UNITS,
     VOLUME,
+    Measure,
     Type,
     is_measure,
     per,
     times,
     unit_words,
 )
+from .places import Source, Span
 from .verifier import LONGEST
 
 ORDER = (
@@ -43,6 +50,8 @@ ORDER = (
 )
 TABLES = {"StorageToElevation": (VOLUME, LENGTH), "ElevationToStorage": (LENGTH, VOLUME)}
 
+Scope = MutableMapping[str, Type]  # the types of variables
+
 
 class Wrong(Exception):
     """Why a form has no type: `basin`'s word for it, what is told of it, and what may be meant.
@@ -50,7 +59,7 @@ class Wrong(Exception):
     `span` is where it shows, if that isn't the whole form.
     """
 
-    def __init__(self, kind, says, hint="", span=None):
+    def __init__(self, kind: str, says: str, hint: str = "", span: Span | None = None) -> None:
         super().__init__(kind)
         self.kind, self.says, self.hint, self.span = kind, says, hint, span
 
@@ -58,7 +67,7 @@ class Wrong(Exception):
 class Misfit(Exception):
     """A refusal of a declaration: the number of its node, where that stands, and why."""
 
-    def __init__(self, number, span, wrong):
+    def __init__(self, number: int, span: Span, wrong: Wrong) -> None:
         super().__init__(wrong.kind)
         self.number, self.span, self.wrong = number, wrong.span or span, wrong
 
@@ -67,19 +76,19 @@ class Misfit(Exception):
 class Signature:
     """A function that can be called: its declaration, the types of its parameters, and that of its result."""
 
-    declaration: object
-    takes: list
-    result: object
+    declaration: trees.Declaration
+    takes: list[Type]
+    result: Type
 
 
-def soonest(wrongs):
+def soonest(wrongs: Iterable[Wrong | None]) -> None:
     """Raises that of several things that are wrong which stands first in the order, if there are some."""
     found = [wrong for wrong in wrongs if wrong]
     if found:
         raise min(found, key=lambda wrong: ORDER.index(wrong.kind))
 
 
-def misfit(given, asked, called, whose):
+def misfit(given: Type, asked: Type, called: str, whose: str) -> Wrong | None:
     """Why a value can't stand where one of another type is asked for, or `None`; `called` is the value."""
     if given.sort != asked.sort:
         says = f"{called} is {given.words()}, and {whose} has to be {asked.words()}"
@@ -91,26 +100,28 @@ def misfit(given, asked, called, whose):
     return next((wrong for wrong in wrongs if wrong), None)
 
 
-def unit_misfit(given, asked, called, whose):
+def unit_misfit(given: Type, asked: Type, called: str, whose: str) -> Wrong | None:
     """Why it measures something else than what is asked for, or `None`."""
     if given.measure == asked.measure:
         return None
     return Wrong("wrong unit", f"{called} {measured(given)}, and {whose} {measured(asked)}")
 
 
-def measured(given):
+def measured(given: Type) -> str:
     """What a value measures, for people to read."""
     unit = unit_words(given.measure)
     return f"measures {unit}" if unit else "is a plain number"
 
 
-def written_type(written):
+def written_type(written: trees.TypeName) -> Type:
     """The type that a declaration writes. `Wrong` where there is none."""
     if written.word in ("BOOLEAN", "DATETIME"):
         return TRUTH if written.word == "BOOLEAN" else DATE
-    if written.unit.text not in UNITS:
-        raise Wrong("unknown unit", *meant.unit(written.unit.text), written.unit.span)
-    measure = UNITS[written.unit.text][0]
+    unit = written.unit
+    assert unit  # all others have one
+    if unit.text not in UNITS:
+        raise Wrong("unknown unit", *meant.unit(unit.text), unit.span)
+    measure = UNITS[unit.text][0]
     of_one = Type("slot" if "SLOT" in (written.word, written.element) else "number", measure)
     if written.word != "LIST":
         return of_one
@@ -119,7 +130,7 @@ def written_type(written):
     return of_one.list_of(written.most)
 
 
-def type_here(written):
+def type_here(written: trees.TypeName) -> Type:
     """The type that is written, and a plain number where that is none."""
     try:
         return written_type(written)
@@ -127,26 +138,26 @@ def type_here(written):
         return NUMBER
 
 
-def signature_of(function):
+def signature_of(function: trees.Declaration) -> Signature:
     """A function as calls see it."""
-    return Signature(function, [type_here(one.type) for one in function.parameters], type_here(function.result))
+    return Signature(function, [type_here(one.type) for one in function.parameters], type_here(function.gives))
 
 
 class Judge:
     """Judges declarations with a model, in their order: `earlier` are the functions that can be called."""
 
-    def __init__(self, model, source, declarations):
+    def __init__(self, model: Model, source: Source, declarations: list[trees.Declaration]) -> None:
         self.model, self.source = model, source
-        self.earlier = {}
+        self.earlier: dict[str, Signature] = {}
         self.later = {one.name for one in declarations if not one.is_rule}
 
-    def text(self, node):
+    def text(self, node: trees.Node) -> str:
         """What stands at a node."""
         return f"`{self.source.words(node.span)}`"
 
     # ---- declarations
 
-    def declaration(self, declaration):
+    def declaration(self, declaration: trees.Declaration) -> None:
         """Judges a declaration but for what it costs. `Misfit` tells the first thing that is wrong."""
         if declaration.is_rule:
             self.statements({}, declaration.body)
@@ -155,17 +166,17 @@ class Judge:
         scope = {one.name: type_here(one.type) for one in declaration.parameters}
         body = declaration.body[0]
         given = self.expression(scope, body)
-        wrong = misfit(given, type_here(declaration.result), self.text(body), f"the result of {declaration.name}")
+        wrong = misfit(given, type_here(declaration.gives), self.text(body), f"the result of {declaration.name}")
         if wrong:
-            wrong.hint = meant.of_value(body, given, type_here(declaration.result), self.source)
+            wrong.hint = meant.of_value(body, given, type_here(declaration.gives), self.source)
             raise Misfit(0, body.span, wrong)
 
-    def declared(self, declaration):
+    def declared(self, declaration: trees.Declaration) -> None:
         """What later declarations can call."""
         if not declaration.is_rule:
             self.earlier.setdefault(declaration.name, signature_of(declaration))
 
-    def head(self, function):
+    def head(self, function: trees.Declaration) -> None:
         """Judges the head of a function."""
         names = [one.name for one in function.parameters]
         twice = next((one for number, one in enumerate(function.parameters) if one.name in names[:number]), None)
@@ -174,7 +185,7 @@ class Judge:
         if twice:
             raise Misfit(0, twice.span, Wrong("duplicate name", f"an earlier parameter is named {twice.name}, too"))
         wrongs = []
-        for written in [one.type for one in function.parameters] + [function.result]:
+        for written in [one.type for one in function.parameters] + [function.gives]:
             try:
                 written_type(written)
             except Wrong as wrong:
@@ -184,12 +195,12 @@ class Judge:
 
     # ---- statements
 
-    def statements(self, scope, statements):
+    def statements(self, scope: Scope, statements: list[trees.Node]) -> None:
         """Judges statements in their order."""
         for statement in statements:
             self.statement(scope, statement)
 
-    def statement(self, scope, statement):
+    def statement(self, scope: Scope, statement: trees.Node) -> None:
         """Judges a statement behind its parts."""
         value = self.expression(scope, statement.parts[0])
         if isinstance(statement, trees.With):
@@ -201,10 +212,10 @@ class Judge:
                 condition = statement.parts[0]
                 says = f"{self.text(condition)} is {value.words()}, and a condition has to be a truth value"
                 raise Misfit(statement.number, condition.span, Wrong("wrong type", says))
-        else:
+        elif isinstance(statement, trees.Assign):
             self.target(statement, value)
 
-    def target(self, statement, given):
+    def target(self, statement: trees.Assign, given: Type) -> None:
         """Judges what a statement sets."""
         try:
             slot = self.slot(statement.full_name)
@@ -221,7 +232,7 @@ class Judge:
         except Wrong as wrong:
             raise Misfit(statement.number, statement.target, wrong) from None
 
-    def slot(self, full_name):
+    def slot(self, full_name: str) -> Slot:
         """The slot of a name."""
         slot = self.model.slots.get(full_name)
         if not slot:
@@ -230,40 +241,40 @@ class Judge:
 
     # ---- expressions
 
-    def expression(self, scope, node):
+    def expression(self, scope: Scope, node: trees.Node) -> Type:
         """The type of an expression, which it is given."""
         try:
-            node.type = FORMS[type(node)](self, scope, node)
+            given = node.type = FORMS[type(node)](self, scope, node)
         except Wrong as wrong:
             raise Misfit(node.number, node.span, wrong) from None
-        return node.type
+        return given
 
-    def all(self, scope, nodes):
+    def all(self, scope: Scope, nodes: list[trees.Node]) -> list[Type]:
         """The types of expressions, in their order."""
         return [self.expression(scope, node) for node in nodes]
 
-    def literal(self, scope, node):
+    def literal(self, scope: Scope, node: trees.Literal) -> Type:
         """A number with its unit."""
         unit = node.unit.text if node.unit else ""
-        if unit not in UNITS:
-            raise Wrong("unknown unit", *meant.unit(unit), node.unit.span)
+        if node.unit and unit not in UNITS:
+            raise Wrong("unknown unit", *meant.unit(unit, self.model.timesteps), node.unit.span)
         measure, factor = UNITS[unit]
         if node.value * factor > GREATEST_QUANTITY:
             says = f"{node.value:,} {unit} are {node.value * factor:,} {unit_words(measure)}"
             raise Wrong("literal range", f"{says}, and the greatest number is 10^17")
         return Type("number", measure)
 
-    def slot_name(self, scope, node):
+    def slot_name(self, scope: Scope, node: trees.SlotName) -> Type:
         """A slot."""
         return Type("slot", UNITS[self.slot(node.full_name).unit][0])
 
-    def name(self, scope, node):
+    def name(self, scope: Scope, node: trees.Name) -> Type:
         """A variable."""
         if node.name not in scope:
             raise Wrong("unknown name", *meant.variable(node.name, scope, self))
         return scope[node.name]
 
-    def call(self, scope, node):
+    def call(self, scope: Scope, node: trees.Call) -> Type:
         """A call of a function, behind its arguments."""
         given = self.all(scope, node.parts)
         if node.name in PREDEFINED:
@@ -281,14 +292,14 @@ class Judge:
         )
         return known.result
 
-    def count(self, node, count, hint=""):
+    def count(self, node: trees.Call, count: int, hint: str = "") -> None:
         """Judges how many arguments a call has; the hint is for one that has too few."""
         if len(node.parts) != count:
             given = f"{len(node.parts)} argument{'s' * (len(node.parts) != 1)}"
             says = f"{node.name} has {given} here, and takes {count}"
             raise Wrong("wrong count", says, meant.COUNTS.get(node.name, "") if len(node.parts) > count else hint)
 
-    def predefined(self, node, given):
+    def predefined(self, node: trees.Call, given: list[Type]) -> Type:
         """A call of a predefined function."""
         of_list = meant.OF_LISTS.get(node.name, "") if given and given[0].is_list else ""
         self.count(node, PREDEFINED[node.name], of_list)
@@ -298,25 +309,25 @@ class Judge:
         self.alike(node.parts, given)
         return NUMBER if node.name == "Sign" else given[0]
 
-    def product_over(self, node, value, by, over):
+    def product_over(self, node: trees.Call, value: Type, by: Type, over: Type) -> Type:
         """A product of two numbers over a third."""
         for part in node.parts:
-            self.is_number(part, part.type, f"an argument of {node.name}")
+            self.is_number(part, part.judged, f"an argument of {node.name}")
         return self.measuring(per(times(value.measure, by.measure), over.measure))
 
-    def measuring(self, powers):
+    def measuring(self, powers: Measure) -> Type:
         """A number that measures these powers of units, where it can."""
         if not is_measure(powers):
             raise Wrong("wrong unit", f"it would measure {unit_words(powers)}, and powers go from -6 to 6")
         return Type("number", powers)
 
-    def is_number(self, node, given, whose):
+    def is_number(self, node: trees.Node, given: Type, whose: str) -> None:
         """Judges whether a value is a number."""
         if given.sort != "number":
             says = f"{self.text(node)} is {given.words()}, and {whose} has to be a number"
             raise Wrong("wrong type", says, meant.of_value(node, given, NUMBER, self.source))
 
-    def alike(self, nodes, given):
+    def alike(self, nodes: list[trees.Node], given: list[Type]) -> None:
         """Judges whether values are of the type of the first of them."""
         first, asked = nodes[0], given[0]
         soonest(
@@ -324,18 +335,20 @@ class Judge:
             for node, one in zip(nodes[1:], given[1:])
         )
 
-    def hinted(self, wrong, node, given, asked, other=None):
+    def hinted(
+        self, wrong: Wrong | None, node: trees.Node, given: Type, asked: Type, other: trees.Node | None = None
+    ) -> Wrong | None:
         """What is wrong, with what may be meant."""
         if wrong:
             of_other = meant.of_value(other, asked, given, self.source) if other else ""
             wrong.hint = meant.best(meant.of_value(node, given, asked, self.source), of_other)
         return wrong
 
-    def brackets(self, scope, node):
+    def brackets(self, scope: Scope, node: trees.Brackets) -> Type:
         """What stands in brackets."""
         return self.expression(scope, node.parts[0])
 
-    def list(self, scope, node):
+    def list(self, scope: Scope, node: trees.ListOf) -> Type:
         """A list of numbers or of slots."""
         given = self.all(scope, node.parts)
         first = given[0]
@@ -353,7 +366,7 @@ class Judge:
         soonest(wrongs)
         return first.list_of(len(given))
 
-    def choice(self, scope, node):
+    def choice(self, scope: Scope, node: trees.Choice) -> Type:
         """An IF of expressions."""
         condition, yes, no = self.all(scope, node.parts)
         if condition != TRUTH:
@@ -364,19 +377,19 @@ class Judge:
         soonest([self.hinted(wrong, node.parts[2], no, yes, node.parts[1])])
         return Type(yes.sort, yes.measure, max(yes.most, no.most))
 
-    def let(self, scope, node):
+    def let(self, scope: Scope, node: trees.Let) -> Type:
         """A LET."""
         value = self.expression(scope, node.parts[0])
         return self.expression(inside(scope, {node.name: value}), node.parts[1])
 
-    def items(self, node, given):
+    def items(self, node: trees.For | trees.Map, given: Type) -> Type:
         """The type of the items of the list of a loop."""
         if not given.is_list:
             says = f"{self.text(node.parts[0])} is {given.words()}, and the loop goes through a list"
             raise Wrong("wrong type", says)
         return given.item
 
-    def each(self, scope, node):
+    def each(self, scope: Scope, node: trees.For) -> Type:
         """A FOR."""
         given, total = self.all(scope, node.parts[:2])
         names = {node.item: self.items(node, given), node.total: total}
@@ -386,7 +399,7 @@ class Judge:
         soonest([self.hinted(wrong, node.parts[2], body, total, node.parts[1])])
         return total
 
-    def map(self, scope, node):
+    def map(self, scope: Scope, node: trees.Map) -> Type:
         """A MAP."""
         given = self.expression(scope, node.parts[0])
         names = {node.item: self.items(node, given)}
@@ -394,7 +407,7 @@ class Judge:
         self.is_number(node.parts[1], body, "what MAP makes of an item")
         return body.list_of(given.most)
 
-    def one(self, scope, node):
+    def one(self, scope: Scope, node: trees.One) -> Type:
         """A word of one expression."""
         part = node.parts[0]
         given = self.expression(scope, part)
@@ -414,12 +427,12 @@ class Judge:
         self.asked(part, given, given == DATE, "a date")
         return NUMBER
 
-    def asked(self, node, given, holds, called):
+    def asked(self, node: trees.Node, given: Type, holds: bool, called: str) -> None:
         """Judges what a word asks for."""
         if not holds:
             raise Wrong("wrong type", f"{self.text(node)} is {given.words()}, and {called} is asked for")
 
-    def two(self, scope, node):
+    def two(self, scope: Scope, node: trees.Two) -> Type:
         """A word or an operator of two expressions."""
         left, right = self.all(scope, node.parts)
         if node.word in OF_TWO:
@@ -437,14 +450,14 @@ class Judge:
         self.same_unit(node, left, right)
         return left if node.word in ("+", "-") else TRUTH
 
-    def same_unit(self, node, left, right):
+    def same_unit(self, node: trees.Two, left: Type, right: Type) -> None:
         """Judges whether both sides measure the same."""
         if left.measure != right.measure:
-            sides = [f"{self.text(part)} {measured(part.type)}" for part in node.parts]
+            sides = [f"{self.text(part)} {measured(part.judged)}" for part in node.parts]
             says = f"{sides[0]}, and {sides[1]}: both sides of {node.word} have to measure the same"
             raise Wrong("wrong unit", says, meant.of_sides(node, left, right, self.source))
 
-    def of_dates(self, node, left, right):
+    def of_dates(self, node: trees.Two, left: Type, right: Type) -> Type:
         """A sum, a difference or a comparison with a date in it."""
         if left == right and node.word not in ("+", "-"):
             return TRUTH
@@ -455,19 +468,19 @@ class Judge:
                 says = f"{self.text(node.parts[1])} {measured(right)}, and a date is moved by timesteps"
                 raise Wrong("wrong unit", says, meant.steps(node, self.source))
             return DATE
-        sides = [f"{self.text(part)} is {part.type.words()}" for part in node.parts]
+        sides = [f"{self.text(part)} is {part.judged.words()}" for part in node.parts]
         raise Wrong("wrong type", f"{sides[0]}, and {sides[1]}: {meant.DATES[node.word in ('+', '-')]}")
 
-    def product(self, node, left, right):
+    def product(self, node: trees.Two, left: Type, right: Type) -> Type:
         """A product or a quotient."""
         for part, given in zip(node.parts, (left, right)):
             self.is_number(part, given, f"what stands beside {node.word}")
         return self.measuring((times if node.word == "*" else per)(left.measure, right.measure))
 
-    def append(self, node, items, one):
+    def append(self, node: trees.Two, items: Type, one: Type) -> Type:
         """A list with an item more."""
         self.asked(node.parts[0], items, items.is_list, "a list")
-        wrongs = []
+        wrongs: list[Wrong | None] = []
         if items.most >= LONGEST:
             says = f"{self.text(node.parts[0])} may have {items.most:,} items already"
             wrongs.append(Wrong("list too long", says))
@@ -475,7 +488,7 @@ class Judge:
         soonest(wrongs)
         return one.list_of(items.most + 1)
 
-    def item(self, node, items, place):
+    def item(self, node: trees.Two, items: Type, place: Type) -> Type:
         """An item of a list."""
         self.asked(node.parts[0], items, items.is_list, "a list")
         wrong = misfit(place, NUMBER, self.text(node.parts[1]), "an item's place")
@@ -483,7 +496,7 @@ class Judge:
             raise wrong
         return items.item
 
-    def convert(self, scope, node):
+    def convert(self, scope: Scope, node: trees.Convert) -> Type:
         """A look into a reservoir's table."""
         given = self.expression(scope, node.parts[0])
         thing = self.model.object_named(node.owner)
@@ -497,7 +510,7 @@ class Judge:
         soonest([self.hinted(wrong, node.parts[0], given, asked)])
         return answered
 
-    def look(self, scope, node):
+    def look(self, scope: Scope, node: trees.At) -> Type:
         """The value of a slot at a date."""
         slot, date = self.all(scope, node.parts)
         if slot.sort != "slot":
@@ -508,12 +521,12 @@ class Judge:
         return Type("number", slot.measure)
 
 
-def inside(scope, names):
+def inside(scope: Scope, names: dict[str, Type]) -> Scope:
     """A scope with names more."""
     return ChainMap(names, scope)
 
 
-def taken_name(name, earlier, source):
+def taken_name(name: str, earlier: dict[str, Signature], source: Source) -> Wrong:
     """Why a function can't have a name."""
     if name in PREDEFINED:
         return Wrong("duplicate name", f"{name} is a predefined function")
@@ -521,7 +534,8 @@ def taken_name(name, earlier, source):
     return Wrong("duplicate name", f"the function of line {line} has the name {name} already")
 
 
-FORMS = {
+# Each takes the nodes of its own form.
+FORMS: dict[type[trees.Node], Callable[[Judge, Scope, Any], Type]] = {
     trees.Literal: Judge.literal,
     trees.Truth: lambda judge, scope, node: TRUTH,
     trees.Now: lambda judge, scope, node: DATE,

@@ -1,13 +1,26 @@
 """What may be meant where a type doesn't fit: hints in people's words."""
 
+from __future__ import annotations
+
+from collections.abc import Mapping
+from typing import TYPE_CHECKING
+
 from basin_files.firing import PREDEFINED
 from basin_files.formats import RESERVED_WORDS
+from basin_files.model import BasinObject, Model, Slot
+from basin_files.moments import Timesteps
 from basin_files.reasons import nearest, shown
 
 from . import trees
-from .measures import FLOW, PLAIN, TIMESTEP, UNITS, VOLUME, unit_words
+from .measures import FLOW, PLAIN, TIMESTEP, UNITS, VOLUME, Type, unit_words
+from .places import Source
 
-SECONDS = "3 * 86400 \"m3/step\" where a timestep is a day; docs/LANGUAGE.md, \"Two common tasks\", has months"
+if TYPE_CHECKING:
+    from .judging import Judge
+
+SECONDS = "3 * 86400 \"m3/step\" where a timestep is a day; docs/FUNCTIONS.md has months"
+LENGTHS = {"1h": "an hour", "6h": "6 hours", "12h": "12 hours"}
+CUBIC_METRES_OF_1000_CFS = 28_316_847  # m3/s, times 10^6
 # What other systems write, and what it is here.
 OTHER_UNITS = {
     "m3/s": f"there is none, since a timestep's length depends on the model: 3 m3/s are {SECONDS}",
@@ -36,7 +49,7 @@ OTHER_FUNCTIONS = {
     "GetHour": "there is none: a slot of a data object that a rule counts up, from the one of the timestep before",
     "DAYOFYEAR": "a list of the days before each month, ITEM(days, MONTH(t)) + DAY(t)",
     "GetDayOfYear": "a list of the days before each month, ITEM(days, MONTH(t)) + DAY(t)",
-    "GetDaysInMonth": "a list of twelve, ITEM(days, MONTH(t)); docs/LANGUAGE.md, \"Two common tasks\", has leap years",
+    "GetDaysInMonth": "a list of twelve, ITEM(days, MONTH(t)); docs/FUNCTIONS.md has leap years",
     "TableInterpolation": "ElevationToStorage or StorageToElevation for a reservoir's table, else a FOR over two lists",
     "TableLookup": "ElevationToStorage or StorageToElevation for a reservoir's table, else a FOR over two lists",
     "FlowToVolume": 'flow * 1 "step"',
@@ -69,21 +82,32 @@ COUNTS = {
     "Max": "Max(a, Max(b, c)) for three",
     "Abs": "",
 }
+SHARE = ", a flow over so many timesteps"
 TIGHT = (trees.At, trees.Name, trees.Literal, trees.Call, trees.Brackets)
 DATES = {True: "a date is moved by a number of timesteps behind it", False: "dates are compared with dates"}
 
 
-def unit(word):
-    """What is told of a unit that isn't there, and what may be meant."""
+def unit(word: str, timesteps: Timesteps | None = None) -> tuple[str, str]:
+    """Returns the message for an unknown unit and the suggestion, for a model with these timesteps."""
     says = f"{shown(word)} is none of the units: {', '.join(one for one in UNITS if one)}"
     bare = word.strip().replace("^", "")
     if bare in OTHER_UNITS:
-        return says, OTHER_UNITS[bare]
+        return says, of_length(OTHER_UNITS[bare], timesteps)
     near = bare if bare in UNITS else nearest(bare, [one for one in UNITS if one])
     return says, f'"{near}"' if near else ""
 
 
-def target_step(most):
+def of_length(hint: str, timesteps: Timesteps | None) -> str:
+    """Returns a hint for timesteps of a day with the numbers of the model's shorter timestep."""
+    if not timesteps or timesteps.step not in LENGTHS:
+        return hint
+    seconds = timesteps.seconds(1)
+    cubic_metres = (CUBIC_METRES_OF_1000_CFS * seconds + 500_000) // 1_000_000
+    hint = hint.replace("86400", str(seconds)).replace("2446576", str(cubic_metres))
+    return hint.replace("a timestep is a day", f"a timestep is {LENGTHS[timesteps.step]}")
+
+
+def target_step(most: int) -> tuple[str, str]:
     """What is told of a slot that is set too far ahead, where rules set so many timesteps ahead at most."""
     later = 'a slot of a data object that is set now, and read at `[t - 1 "step"]` later'
     if most:
@@ -92,21 +116,22 @@ def target_step(most):
     return "a rule sets slots at this timestep alone, `[t]`", hint
 
 
-def settable(model, slot):
+def settable(model: Model, slot: Slot) -> str:
     """What a rule can set of the object of a slot."""
-    names = [one.full_name for one in model.object_named(slot.owner).slots if one.settable]
+    names = [one.full_name for one in model.owner(slot).slots if one.settable]
     return f"one of {', '.join(names)}"
 
 
-def variable(name, scope, judge):
+def variable(name: str, scope: Mapping[str, Type], judge: Judge) -> tuple[str, str]:
     """What is told of a name that isn't there, and what may be meant."""
     says = f"there is no variable {name} here"
     if name.upper() in RESERVED_WORDS:
         return says, f"{name.upper()}, in capitals"
     if name == "T":
         return says, "t, this timestep"
-    if judge.model.object_named(name):
-        return says, f"a slot of {name}: {', '.join(one.full_name for one in judge.model.object_named(name).slots)}"
+    thing = judge.model.object_named(name)
+    if thing:
+        return says, f"a slot of {name}: {', '.join(one.full_name for one in thing.slots)}"
     if name in judge.earlier or name in judge.later:
         return says, f"{name}(), a call of the function"
     near = nearest(name, scope)
@@ -114,7 +139,7 @@ def variable(name, scope, judge):
     return says, near or (f"{' or '.join(slots[:3])}, with its object" if slots else "")
 
 
-def function(name, judge):
+def function(name: str, judge: Judge) -> tuple[str, str]:
     """What is told of a function that isn't there, and what may be meant."""
     says = f"there is no function {name}"
     if name in OTHER_FUNCTIONS:
@@ -124,18 +149,18 @@ def function(name, judge):
     return says, nearest(name, known) or ""
 
 
-def owner(name, model):
+def owner(name: str, model: Model) -> tuple[str, str]:
     """What is told of an object that isn't there, and what may be meant."""
     return f"there is no object {name}", nearest(name, [thing.name for thing in model.objects]) or ""
 
 
-def with_table(thing, model):
+def with_table(thing: BasinObject, model: Model) -> str:
     """The objects that have a table into which rules may look, or how this one may get it."""
     names = [one.name for one in model.objects if one.looked_up]
     return ", ".join(names) or ("a table for it in the model" if thing.kind == "reservoir" else "")
 
 
-def known(part, given, source):
+def known(part: trees.Node, given: Type, source: Source) -> tuple[str, str]:
     """What is told of KNOWN of what is no look at a slot."""
     says = f"`{source.words(part.span)}` is no value of a slot at a date, and KNOWN asks of nothing else"
     if given.sort == "slot":
@@ -146,7 +171,7 @@ def known(part, given, source):
     return says, f"KNOWN({source.words(inner.span)}), without brackets" if isinstance(inner, trees.At) else ""
 
 
-def date(node, given, source):
+def date(node: trees.At, given: Type, source: Source) -> tuple[str, str]:
     """What is told of a date that is none, and what may be meant."""
     slot, behind = (source.words(part.span) for part in node.parts)
     says = f"`{behind}` is {given.words()}, and a date stands in [ ]"
@@ -155,13 +180,13 @@ def date(node, given, source):
     return says, f'{slot}[t], or {slot}[t - 1 "step"] of the timestep before' if given.sort == "number" else ""
 
 
-def item(node, given, source):
+def item(node: trees.At, given: Type, source: Source) -> str:
     """An item of a list that is asked for in square brackets."""
     words = [source.words(part.span) for part in node.parts]
     return f"ITEM({words[0]}, {words[1]})" if given.is_list else ""
 
 
-def steps(node, source):
+def steps(node: trees.Two, source: Source) -> str:
     """A date that is moved by a number without its unit."""
     words = [source.words(part.span) for part in node.parts]
     bare = isinstance(node.parts[1], trees.Literal) and not node.parts[1].unit
@@ -169,17 +194,17 @@ def steps(node, source):
     return f"{words[0]} {node.word} {moved}"
 
 
-def of_sides(node, left, right, source):
+def of_sides(node: trees.Two, left: Type, right: Type, source: Source) -> str:
     """What may be meant where two sides measure other things."""
     return best(of_value(node.parts[0], left, right, source), of_value(node.parts[1], right, left, source))
 
 
-def best(*hints):
-    """Of some hints the one that is meant most often: a number with its unit, a volume, and a quotient at last."""
-    return min(hints, key=lambda hint: (not hint, "/ 1 " in hint))
+def best(*hints: str) -> str:
+    """Of some hints the one that is meant most often: a unit for a number that has none, a volume, and a quotient at last."""
+    return min(hints, key=lambda hint: (not hint, not hint.endswith(SHARE), "/ 1 " in hint))
 
 
-def of_value(node, given, asked, source):
+def of_value(node: trees.Node, given: Type, asked: Type, source: Source) -> str:
     """What may be meant by a value of one type where another is asked for, or ""."""
     text = source.words(node.span)
     tight = text if isinstance(node, TIGHT) else f"({text})"
@@ -192,6 +217,9 @@ def of_value(node, given, asked, source):
         return f'{text} "{words[0]}"' if words else ""
     if given.measure == FLOW and asked.measure == VOLUME:
         return f'{tight} * 1 "step", what flows in a timestep'
+    divisor = plain_divisor(node)
+    if given.measure == VOLUME and asked.measure == FLOW and divisor:
+        return f'{source.words(node.parts[0].span)} / {divisor.value} "step"{SHARE}'
     if given.measure == VOLUME and asked.measure == FLOW:
         return f'{tight} / 1 "step", a flow of a timestep'
     if given.measure == PLAIN and asked.measure == TIMESTEP:
@@ -199,7 +227,13 @@ def of_value(node, given, asked, source):
     return plain_number(node, tight, given) if asked.measure == PLAIN else ""
 
 
-def plain_number(node, text, given):
+def plain_divisor(node: trees.Node) -> trees.Literal | None:
+    """The number without a unit by which a value is divided: of a volume over some timesteps the unit is left out."""
+    divisor = node.parts[1] if isinstance(node, trees.Two) and node.word == "/" else None
+    return divisor if isinstance(divisor, trees.Literal) and not (divisor.unit and divisor.unit.text) else None
+
+
+def plain_number(node: trees.Node, text: str, given: Type) -> str:
     """What may be meant where a plain number is asked for."""
     if isinstance(node, trees.Literal):
         return f"{node.value}, without its unit"

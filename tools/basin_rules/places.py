@@ -14,7 +14,7 @@ class Span:
     end: int
 
 
-def readable(content):
+def readable(content: bytes) -> str:
     """Bytes as letters of one line: a tab is a blank, and what can't be shown a question mark."""
     text = content.decode("utf-8", "replace").replace("\t", " ")
     return text if text.isprintable() else "".join(one if one.isprintable() else "?" for one in text)
@@ -23,30 +23,34 @@ def readable(content):
 class Source:
     """The bytes of a file, and where its lines begin. `text` has a letter for each byte, as `basin` reads them."""
 
-    def __init__(self, path, content):
+    def __init__(self, path: str, content: bytes) -> None:
         self.path, self.content = path, content
         self.text = content.decode("latin-1")
         self.begins = [0] + [place + 1 for place, byte in enumerate(content) if byte == 10]
 
-    def line(self, offset):
+    def line(self, offset: int) -> int:
         """The number of the line in which a byte stands, counted from 1."""
         return bisect_right(self.begins, offset)
 
-    def column(self, offset):
+    def column(self, offset: int) -> int:
         """The letter of its line that the byte is part of, counted from 1."""
         return len(readable(self.content[self.begins[self.line(offset) - 1] : offset])) + 1
 
-    def place(self, offset):
+    def place(self, offset: int) -> str:
         """Line and column, for people to read."""
         return f"line {self.line(offset)}, column {self.column(offset)}"
 
-    def words(self, span, most=50):
+    def where(self, offset: int) -> dict[str, int | str]:
+        """The file, the line and the column, for programs."""
+        return {"file": self.path, "line": self.line(offset), "column": self.column(offset)}
+
+    def words(self, span: Span, most: int = 50) -> str:
         """What stands in a span, on one line, cut to so many letters."""
         piece = self.content[span.begin : min(span.end, span.begin + 10 * most)]
         text = readable(b" ".join(piece.split()))
         return text if len(text) <= most else f"{text[: most - 3]} .."
 
-    def marked(self, span):
+    def marked(self, span: Span) -> list[str]:
         """The line in which a span begins, and a line with a mark below that part of it."""
         number = self.line(span.begin)
         begin = self.begins[number - 1]

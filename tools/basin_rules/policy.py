@@ -8,9 +8,11 @@ from basin_files.program import Unable, answered, bytes_of
 from basin_files.reasons import LONG, plain
 
 from . import codefile, verifier
+from .codefile import CodeFile
+from .findings import Finding
 from .looks import Look, RuleFacts, Setting, calls_of, facts_of
-from .places import Source
-from .rulesets import check_text, read_ruleset
+from .places import Source, Span
+from .rulesets import Ruleset, check_text, read_ruleset
 
 
 @dataclass
@@ -19,35 +21,43 @@ class RuleRow:
 
     number: int
     name: str
-    sets: list
-    looks: list
-    budget: tuple
+    sets: list[str]
+    looks: list[str]
+    budget: tuple[int, ...]
 
 
 @dataclass
 class Policy:
     """A policy: its text, the ruleset or the code that it is, and what is wrong with it."""
 
-    source: object
-    ruleset: object = None
-    code: object = None
-    findings: list = field(default_factory=list)
+    source: Source
+    ruleset: Ruleset | None = None
+    code: CodeFile | None = None
+    findings: list[Finding] = field(default_factory=list)
 
     @property
-    def refusal(self):
+    def refusal(self) -> str:
         """What `basin` answers where something is wrong, by this tool's reading."""
         return f"basin: {'code' if self.code else 'rules'}: {self.findings[0].refusal}" if self.findings else ""
 
     @property
-    def answer(self):
-        """What `check` writes where nothing is wrong, by this tool's reading."""
-        return verifier.check_text(self.code.blocks, self.code.budgets) if self.code else check_text(self.ruleset)
+    def rules(self) -> Ruleset:
+        """The ruleset that it is, where it isn't code."""
+        assert self.ruleset
+        return self.ruleset
 
-    def names(self):
+    @property
+    def answer(self) -> str:
+        """What `check` writes where nothing is wrong, by this tool's reading."""
+        if self.code:
+            return verifier.check_text(self.code.blocks, self.code.budgets)
+        return check_text(self.rules)
+
+    def names(self) -> list[str]:
         """Each rule for people to read."""
-        if self.ruleset:
-            return [rule.called for rule in self.ruleset.rules]
-        return [f"rule {number}" for number in range(1, 1 + sum(block.is_rule for block in self.code.blocks))]
+        if self.code:
+            return [f"rule {number}" for number in range(1, 1 + sum(block.is_rule for block in self.code.blocks))]
+        return [rule.called for rule in self.rules.rules]
 
     def compiled(self, model_path: str, path: str) -> str:
         """The code of the policy, whose files these are: its own text, or what the program makes of the ruleset."""
@@ -57,23 +67,23 @@ class Policy:
         """The blocks of that code."""
         return blocks_of(self.compiled(model_path, path))
 
-    def rows(self, model):
+    def rows(self, model: Model) -> list[RuleRow]:
         """What is told of each rule; nothing is wrong with the policy."""
-        return rows_of_code(self.code) if self.code else rows_of_ruleset(self.ruleset, model)
+        return rows_of_code(self.code) if self.code else rows_of_ruleset(self.rules, model)
 
-    def facts(self, model):
+    def facts(self, model: Model) -> list[RuleFacts]:
         """What each rule looks at and sets, as far as the text tells."""
-        return facts_of_code(self.code) if self.code else facts_of(self.ruleset, model)
+        return facts_of_code(self.code) if self.code else facts_of(self.rules, model)
 
-    def uncalled(self):
+    def uncalled(self) -> list[tuple[str, Span]]:
         """The functions that no rule calls, by itself or through others: the name and the place of each."""
         if self.code:
             return uncalled_of_code(self.code)
-        called = calls_of(self.ruleset)
-        return [(name, one.name_span) for name, one in self.ruleset.functions.items() if name not in called]
+        called = calls_of(self.rules)
+        return [(name, one.name_span) for name, one in self.rules.functions.items() if name not in called]
 
 
-def read_policy(path, model):
+def read_policy(path: str, model: Model) -> Policy:
     """The policy of a file, judged with a model with which nothing is wrong."""
     content = bytes_of(path)
     source = Source(plain(str(path)), content)
@@ -94,28 +104,30 @@ def good_policy(path: str, model: Model, model_path: str) -> Policy:
     return policy
 
 
-def rows_of_ruleset(ruleset, model):
+def rows_of_ruleset(ruleset: Ruleset, model: Model) -> list[RuleRow]:
     """What is told of each rule of a ruleset."""
     rows = []
     for rule, facts in zip(ruleset.rules, facts_of(ruleset, model)):
         looks = list(dict.fromkeys(f"{look.slot}{look.time}" for look in facts.looks))
-        budget = rule.budget
+        budget = rule.comes_to
         amounts = (budget.instructions, budget.reads, budget.puts, budget.words)
         sets = list(dict.fromkeys(setting.cell for setting in facts.settings))
         rows.append(RuleRow(rule.rule, plain(rule.name, LONG), sets, looks, amounts))
     return rows
 
 
-def rows_of_code(code):
+def rows_of_code(code: CodeFile) -> list[RuleRow]:
     """What is told of each rule of a file of code, which has no names."""
-    rows, slots = [], []
+    rows: list[RuleRow] = []
+    slots: list[list[str]] = []
     for block, budget in zip(code.blocks, code.budgets):
         named = [".".join(line[1]) for line in block.lines if line[0] == "slot"]
         named += [slot for line in block.lines if line[0] == "invoke" for slot in slots[line[1] - 1]]
         slots.append(list(dict.fromkeys(named)))
         if block.is_rule:
-            puts = [Setting(".".join(line[1]), False, None, None, line[2]) for line in block.lines if line[0] == "put"]
-            sets = list(dict.fromkeys(put.cell for put in puts))
+            puts = [line for line in block.lines if line[0] == "put"]
+            settings = [Setting(".".join(line[1]), False, Span(0, 0), None, line[2]) for line in puts]
+            sets = list(dict.fromkeys(setting.cell for setting in settings))
             rows.append(RuleRow(len(rows) + 1, "", sets, slots[-1], tuple(budget)))
     return rows
 
@@ -123,9 +135,9 @@ def rows_of_code(code):
 # ---- what code tells of its rules
 
 
-def facts_of_code(code):
+def facts_of_code(code: CodeFile) -> list[RuleFacts]:
     """What each rule of code sets, and its looks at `t` up to where it first branches or loops."""
-    facts = []
+    facts: list[RuleFacts] = []
     for block in code.blocks:
         if not block.is_rule:
             continue
@@ -145,10 +157,11 @@ def facts_of_code(code):
     return facts
 
 
-def uncalled_of_code(code):
+def uncalled_of_code(code: CodeFile) -> list[tuple[str, Span]]:
     """The functions of code that no rule calls, by number."""
     calls = {number: called_by(block) for number, block in enumerate(code.blocks, 1)}
-    called, waiting = set(), [number for number, block in enumerate(code.blocks, 1) if block.is_rule]
+    called: set[int] = set()
+    waiting = [number for number, block in enumerate(code.blocks, 1) if block.is_rule]
     while waiting:
         found = calls[waiting.pop()] - called
         called |= found
@@ -158,6 +171,6 @@ def uncalled_of_code(code):
     return [(f"of block {number}", lines[number]) for number in functions if number not in called]
 
 
-def called_by(block):
+def called_by(block: verifier.Block) -> set[int]:
     """The numbers of the functions that a block calls."""
     return {line[1] for line in block.lines if line[0] == "invoke"}

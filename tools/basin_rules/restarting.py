@@ -11,6 +11,7 @@ from basin_files.moments import stamp_of
 from basin_files.program import Unable
 from basin_files.sections import Section
 
+from .looks import Look, RuleFacts
 from .never import has_past
 from .policy import Policy
 
@@ -26,7 +27,7 @@ class Restart:
 
     def text(self, text: str) -> str:
         """The model's text, with what it has at its beginning: start, number of timesteps, contents and histories."""
-        start = stamp_of(self.model.timesteps.end(self.step))
+        start = stamp_of(self.model.run.end(self.step))
         values = {"run.start": f'"{start}"', "run.steps": str(self.steps)}
         for number, thing in enumerate(self.model.objects, 1):
             if past_name(thing):
@@ -58,26 +59,46 @@ class Restart:
         for slot, values in by_slot.items():
             yield from rows_of(slot, values)
 
+    def carried(self, names: list[str], inputs: Inputs) -> Iterator[str]:
+        """Yields inputs of the first timestep: the values of these slots in the table, where the inputs do not give them."""
+        if names and self.step == len(self.section.rows):
+            raise Unable("--carry needs a row after that of --step, since the next run computes its timestep again")
+        for name in dict.fromkeys(names):
+            slot = self.model.slots.get(name)
+            if slot is None or not slot.settable:
+                raise Unable(f"{name} is no slot that inputs can give")
+            if inputs.given(name, self.step + 1) is None:
+                yield f"{name},1,{self.held(name, self.step + 1)}"
+
     # ---- what it doesn't carry on
 
-    def left_behind(self, policy: Policy | None) -> Iterator[str]:
-        """What the whole run knew at its later timesteps, and the run from here on doesn't."""
+    def left_behind(self) -> Iterator[str]:
+        """Yields what the whole run knew of objects at its later timesteps, and the run from here on doesn't."""
         for thing in self.model.objects:
             table = thing.options.get("table") if thing.stores else None
             level = self.section.rows[self.step - 1].values.get(f"{thing.name}.PoolElevation")
             if table and level is not None and level != elevation(table, self.held(f"{thing.name}.Storage", self.step)):
                 yield f"{thing.name} stands at {level} mm, and its table has its storage up to another elevation"
-        if policy:
-            for rule in policy.facts(self.model):
-                yield from (f"{rule.called} {what}" for what in dict.fromkeys(self.of_rule(rule)))
 
-    def of_rule(self, rule: object) -> Iterator[str]:
-        """What a rule knew of timesteps up to this one that a model doesn't give, or had set ahead."""
+    def left_by_rules(self, policy: Policy, carried: list[str]) -> Iterator[str]:
+        """Yields what rules knew of timesteps up to this one that neither the model nor the slots that are carried give."""
+        linked = {slot.full_name for name in carried if name in self.model.slots for slot in self.model.group(name)}
+        for rule in policy.facts(self.model):
+            yield from (f"{rule.called} {what}" for what in dict.fromkeys(self.of_rule(rule, linked)))
+
+    def of_rule(self, rule: RuleFacts, carried: set[str]) -> Iterator[str]:
+        """Yields that of one rule, and what it had set ahead."""
         for look in rule.looks:
             if look.ahead is None:
                 yield f"looks at {look.slot or 'a slot'} at a time that only a run tells: it may be one before this run"
             elif look.ahead < 0 and not has_past(self.model, look.slot, -look.ahead):
-                yield f"looks at {look.slot}{look.time}, which no model gives before its first timestep"
+                if look.ahead < -1 or look.slot not in carried:
+                    yield f"looks at {look.slot}{look.time}, which no model gives before its first timestep{self.cure(look)}"
         for setting in rule.settings:
             if setting.ahead:
                 yield f"sets {setting.cell}: what it set by timestep {self.step} for later ones is left behind"
+
+    def cure(self, look: Look) -> str:
+        """Returns how the inputs of the next run give what a rule looks back at, or nothing where they can't."""
+        slot = self.model.slots.get(look.slot)
+        return f"; begin one timestep earlier with --carry {look.slot}" if look.ahead == -1 and slot and slot.settable else ""

@@ -2,11 +2,15 @@
 
 from dataclasses import dataclass, field
 
+from basin_files.model import Model
+
 from . import costs, slips
 from .findings import Finding
 from .grammar import NoReading, TooDeep, numbered, pieces_of, read_declaration
 from .judging import Judge, Misfit, signature_of
-from .tokens import BadToken, tokens_of
+from .places import Source, Span
+from .tokens import BadToken, Token, tokens_of
+from .trees import Declaration
 from .verifier import MOST_ALIKE
 
 
@@ -14,26 +18,28 @@ from .verifier import MOST_ALIKE
 class Ruleset:
     """A ruleset: its text, its declarations as far as they could be read, and what is wrong."""
 
-    source: object
-    declarations: list = field(default_factory=list)
-    findings: list = field(default_factory=list)
+    source: Source
+    declarations: list[Declaration] = field(default_factory=list)
+    findings: list[Finding] = field(default_factory=list)
 
     @property
-    def rules(self):
+    def rules(self) -> list[Declaration]:
         """Its rules, that of the highest priority first."""
         return [one for one in self.declarations if one.is_rule]
 
     @property
-    def functions(self):
+    def functions(self) -> dict[str, Declaration]:
         """Its functions by name."""
         return {one.name: one for one in self.declarations if not one.is_rule}
 
-    def refuse(self, *words, **more):
+    def refuse(
+        self, refusal: str, span: Span, says: str, hint: str = "", more: list[str] | None = None, whose: str = ""
+    ) -> None:
         """Notes what is wrong."""
-        self.findings.append(Finding(*words, **more))
+        self.findings.append(Finding(refusal, span, says, hint, more or [], whose))
 
 
-def read_ruleset(source, model):
+def read_ruleset(source: Source, model: Model) -> Ruleset:
     """The ruleset that a text spells, judged with a model with which nothing is wrong."""
     ruleset = Ruleset(source)
     try:
@@ -48,7 +54,7 @@ def read_ruleset(source, model):
     return ruleset
 
 
-def read_pieces(ruleset, pieces):
+def read_pieces(ruleset: Ruleset, pieces: list[list[Token]]) -> None:
     """Reads the declarations of the tokens, one after another."""
     begun = {"RULE": 0, "FUNCTION": 0}
     for number, piece in enumerate(pieces, 1):
@@ -69,7 +75,7 @@ def read_pieces(ruleset, pieces):
         ruleset.declarations.append(declaration)
 
 
-def judge_declarations(ruleset, model):
+def judge_declarations(ruleset: Ruleset, model: Model) -> None:
     """Judges the types and the costs of all declarations. Costs are reckoned as long as nothing is wrong."""
     judge = Judge(model, ruleset.source, ruleset.declarations)
     costing = costs.Costing()
@@ -85,23 +91,23 @@ def judge_declarations(ruleset, model):
             ruleset.refuse(refusal, misfit.span, misfit.wrong.says, misfit.wrong.hint, whose=one.called)
 
 
-def judge_cost(ruleset, costing, declaration):
+def judge_cost(ruleset: Ruleset, costing: costs.Costing, declaration: Declaration) -> None:
     """Reckons the budget of a declaration, and judges whether it is within its limits."""
     signature = None if declaration.is_rule else signature_of(declaration)
-    declaration.budget = costing.budget(declaration, signature)
-    above = declaration.budget.above()
+    budget = declaration.budget = costing.budget(declaration, signature)
+    above = budget.above()
     if above:
         refusal = f"declaration {declaration.number} node 0: too costly"
         more = costs.dearest(declaration, above[0][0], ruleset.source)
-        says = costs.words_above(declaration.budget)
+        says = costs.words_above(budget)
         ruleset.refuse(refusal, declaration.head, says, more=more, whose=declaration.called)
 
 
-def check_text(ruleset):
+def check_text(ruleset: Ruleset) -> str:
     """What `check` writes of an accepted ruleset."""
     lines = [f"ok {len(ruleset.rules)} rules {len(ruleset.functions)} functions"]
     for rule in ruleset.rules:
-        budget = rule.budget
+        budget = rule.comes_to
         lines.append(
             f"rule {rule.rule} instructions {budget.instructions} reads {budget.reads} puts {budget.puts}"
             f" words {budget.words}"

@@ -6,10 +6,10 @@ from basin_files.formats import GREATEST_QUANTITY, RESERVED_WORDS
 
 from . import meant
 from .findings import Finding
-from .grammar import COMPARISON, DEEPEST, EXPRESSION, OPERATORS, STATEMENT, TooDeep
+from .grammar import COMPARISON, DEEPEST, EXPRESSION, OPERATORS, STATEMENT, NoReading, TooDeep
 from .measures import UNITS
-from .places import Span, readable
-from .tokens import DIGITS
+from .places import Source, Span, readable
+from .tokens import DIGITS, BadToken, Token
 
 ENDS = {"RULE": "ENDRULE", "FUNCTION": "ENDFUNCTION", "IF": "ENDIF", "WITH": "ENDWITH", "LET": "ENDLET"}
 ENDS |= {"FOR": "ENDFOR", "MAP": "ENDMAP"}
@@ -67,7 +67,7 @@ OTHER_TYPES = {
 }
 
 
-def listed(words, last="or"):
+def listed(words: list[str], last: str = "or") -> str:
     """Words in a row: a, b or c."""
     *others, end = words
     return f"{', '.join(others)} {last} {end}" if others else end
@@ -76,7 +76,7 @@ def listed(words, last="or"):
 # ---- tokens
 
 
-def of_token(bad, source):
+def of_token(bad: BadToken, source: Source) -> tuple[str, str]:
     """What is told of a place that has no token, and what may be meant."""
     if bad.sort == "string":
         return "the string isn't closed in its line", 'a " is missing, or one is too many before it'
@@ -106,49 +106,57 @@ def of_token(bad, source):
 class Stop:
     """Where no reading goes on: the tokens of the declaration, and what may stand there."""
 
-    piece: list
-    wrong: object
-    source: object
+    piece: list[Token]
+    wrong: NoReading
+    source: Source
 
-    def token(self, back=0):
+    def token(self, back: int = 0) -> Token | None:
         """The token there, or so many before it; `None` where there is none."""
         at = self.wrong.at - back
         return self.piece[at] if 0 <= at < len(self.piece) else None
 
-    def wants(self, *words):
+    def there(self, back: int = 0) -> Token:
+        """The same where there is one."""
+        token = self.token(back)
+        assert token
+        return token
+
+    def wants(self, *words: str) -> bool:
         """Whether one of these may stand there."""
         return any(word in self.wrong.wanted for word in words)
 
-    def is_mark(self, back, *texts):
+    def is_mark(self, back: int, *texts: str) -> bool:
         """Whether the token there, or so many before it, is one of these marks."""
         token = self.token(back)
-        return bool(token) and token.is_mark(*texts)
+        return token is not None and token.is_mark(*texts)
 
-    def is_kind(self, back, kind):
+    def is_kind(self, back: int, kind: str) -> bool:
         """Whether it is of a kind."""
         token = self.token(back)
-        return bool(token) and token.kind == kind
+        return token is not None and token.kind == kind
 
-    def touches(self):
+    def touches(self) -> bool:
         """Whether no blank stands between the token there and the one before it."""
-        return bool(self.token() and self.token(1)) and self.token(1).end == self.token().begin
+        here, before = self.token(), self.token(1)
+        return here is not None and before is not None and before.end == here.begin
 
-    def line(self, span):
+    def line(self, span: Span) -> int:
         """The line of a span."""
         return self.source.line(span.begin)
 
 
-def of_grammar(refusal, wrong, piece, source):
+def of_grammar(refusal: str, wrong: NoReading | TooDeep, piece: list[Token], source: Source) -> Finding:
     """What is told of tokens that are no declaration."""
     if isinstance(wrong, TooDeep):
         return Finding(refusal, wrong.span, *of_depth(wrong))
     stop = Stop(piece, wrong, source)
     end = piece[-1].end
-    span = stop.token().span if stop.token() else Span(end, end)
+    here = stop.token()
+    span = here.span if here else Span(end, end)
     return Finding(refusal, span, expected(stop), next(filter(None, (hint(stop) for hint in HINTS)), ""))
 
 
-def of_depth(wrong):
+def of_depth(wrong: TooDeep) -> tuple[str, str]:
     """What is told of forms within forms that are too many, and what may be meant."""
     says = f"forms within forms are more than {DEEPEST} deep here"
     if wrong.chain > DEEPEST // 2:
@@ -157,7 +165,7 @@ def of_depth(wrong):
     return says, "a function for a part of it, or WITH and LET one after another"
 
 
-def expected(stop):
+def expected(stop: Stop) -> str:
     """What stands there, and what is expected."""
     token = stop.token()
     here = f"`{stop.source.words(token.span, 30)}` stands here" if token else "the text ends here"
@@ -172,15 +180,15 @@ def expected(stop):
 # ---- what may be meant: each of these answers a hint, or ""
 
 
-def brackets(stop):
+def brackets(stop: Stop) -> str:
     """RPL's `Dam.Outflow[]`."""
     return "`[t]`, at this timestep" if stop.is_mark(0, "]") and stop.is_mark(1, "[") else ""
 
 
-def assignment(stop):
+def assignment(stop: Stop) -> str:
     """`=` for `:=`, and a slot that is set without `[t]`."""
     if stop.wants("[") and stop.is_mark(0, ":=", "=") and stop.is_mark(2, "."):
-        return f"`{stop.token(3).text}.{stop.token(1).text}[t] :=`, at this timestep"
+        return f"`{stop.there(3).text}.{stop.there(1).text}[t] :=`, at this timestep"
     if stop.wants(":=") and stop.is_mark(0, "=", ":"):
         return "`:=`, which sets; `=` compares"
     if stop.is_mark(0, "=") and stop.is_mark(1, "=", "<", ">"):
@@ -188,7 +196,7 @@ def assignment(stop):
     return ""
 
 
-def small_letters(stop):
+def small_letters(stop: Stop) -> str:
     """`if` for `IF`."""
     for back in (0, 1):
         token = stop.token(back)
@@ -197,7 +205,7 @@ def small_letters(stop):
     return ""
 
 
-def two_words(stop):
+def two_words(stop: Stop) -> str:
     """`END IF` for `ENDIF`."""
     for back in (0, 1):
         token, behind = stop.token(back), stop.token(back - 1)
@@ -206,37 +214,37 @@ def two_words(stop):
     return ""
 
 
-def function_heads(stop):
+def function_heads(stop: Stop) -> str:
     """`FUNCTION "Half" (NUMERIC x) RETURN NUMERIC IS`."""
     if stop.is_kind(0, "string") and stop.is_mark(1, "FUNCTION"):
         return "a name without quotes, as FUNCTION Half(NUMERIC \"m3\" x) : NUMERIC \"m3\" IS"
-    if stop.is_kind(0, "name") and stop.token().text.upper() in ("RETURN", "RETURNS") and stop.is_mark(1, ")"):
+    if stop.is_kind(0, "name") and stop.there().text.upper() in ("RETURN", "RETURNS") and stop.is_mark(1, ")"):
         return "`:`, and behind it the type of what the function answers"
     return ""
 
 
-def other_words(stop):
+def other_words(stop: Stop) -> str:
     """Words of other languages."""
     for back in (0, 1):
         if stop.is_kind(back, "name"):
-            hint = OTHER_WORDS.get(stop.token(back).text, "")
+            hint = OTHER_WORDS.get(stop.there(back).text, "")
             if hint:
                 return hint
     return ""
 
 
-def semicolon(stop):
+def semicolon(stop: Stop) -> str:
     """`ENDIF;`."""
     if not stop.is_mark(0, ";"):
         return ""
     if stop.is_mark(1, "ENDIF", "ENDWITH", "THEN", "ELSE", "DO", ":", ";"):
-        return f"no `;` behind `{stop.token(1).text}`"
+        return f"no `;` behind `{stop.there(1).text}`"
     if stop.wrong.at == 0:
         return "no `;` behind `ENDRULE` and `ENDFUNCTION`"
     return "no `;` here: a function is one expression" if stop.wants("ENDFUNCTION") else ""
 
 
-def numbers(stop):
+def numbers(stop: Stop) -> str:
     """Decimals, marks of thousands, exponents, and units without quotes."""
     before, here, behind = stop.token(1), stop.token(), stop.token(-1)
     if not here:
@@ -258,7 +266,7 @@ def numbers(stop):
     return unquoted(stop, before, here, behind)
 
 
-def unquoted(stop, before, here, behind):
+def unquoted(stop: Stop, before: Token, here: Token, behind: Token | None) -> str:
     """A unit that stands behind a number without quotes."""
     whole = here.text
     last = stop.token(-2)
@@ -270,7 +278,7 @@ def unquoted(stop, before, here, behind):
     return f"a unit in quotes: {meant.OTHER_UNITS[unit]}" if unit in meant.OTHER_UNITS else ""
 
 
-def target(stop):
+def target(stop: Stop) -> str:
     """A slot that is set at another timestep."""
     if stop.wants("t") and stop.is_mark(1, "["):
         return AT_T
@@ -279,18 +287,18 @@ def target(stop):
     return AT_T if stop.wants("]") and stop.is_kind(0, "string") else ""
 
 
-def slot(stop):
+def slot(stop: Stop) -> str:
     """A slot without its object, with round brackets, or a name that is given a value."""
     if stop.wants(".") and stop.is_mark(0, "["):
-        return f"`Object.{stop.token(1).text}[t]`, with the slot's object"
+        return f"`Object.{stop.there(1).text}[t]`, with the slot's object"
     if stop.wants(".") and stop.is_mark(0, ":=", "="):
-        return f"`WITH {stop.token(1).text} := .. DO .. ENDWITH` gives a value a name"
+        return f"`WITH {stop.there(1).text} := .. DO .. ENDWITH` gives a value a name"
     if stop.is_mark(0, "(") and stop.is_mark(2, "."):
-        return f"`{stop.token(3).text}.{stop.token(1).text}[t]`, in square brackets"
+        return f"`{stop.there(3).text}.{stop.there(1).text}[t]`, in square brackets"
     return ""
 
 
-def not_ended(stop):
+def not_ended(stop: Stop) -> str:
     """A form that is still open where another one begins or an outer one ends."""
     token, opened = stop.token(), stop.wrong.opened
     if not opened or (token and not token.is_mark("RULE", "FUNCTION", *ENDS.values())):
@@ -305,7 +313,7 @@ def not_ended(stop):
     return f"`{end}` {'before it' if token else 'at the end'}: {where} isn't ended{more}"
 
 
-def missing_semicolon(stop):
+def missing_semicolon(stop: Stop) -> str:
     """A statement without its `;`."""
     before, here, behind = stop.token(1), stop.token(), stop.token(-1)
     if not stop.wants(";") or not before:
@@ -317,7 +325,7 @@ def missing_semicolon(stop):
     return f"a `;` behind `{stop.source.words(before.span, 30)}` in line {stop.line(before.span)}"
 
 
-def expressions(stop):
+def expressions(stop: Stop) -> str:
     """Comparisons in a chain, empty lists, comments, and signs before a number."""
     here = stop.token()
     if not here:
@@ -341,7 +349,7 @@ def expressions(stop):
     return ""
 
 
-def heads(stop):
+def heads(stop: Stop) -> str:
     """The head of a rule or of a function."""
     here = stop.token()
     if not here:
@@ -349,11 +357,11 @@ def heads(stop):
     if stop.wants("its name in quotes") and here.kind == "name":
         return f'`RULE "{here.text}":`, with its name in quotes'
     if stop.wants("(") and stop.is_mark(2, "FUNCTION"):
-        return f"`{stop.token(1).text}()`, with brackets also where there are no parameters"
+        return f"`{stop.there(1).text}()`, with brackets also where there are no parameters"
     if stop.wants("NUMERIC") and here.kind == "name":
         return OTHER_TYPES.get(here.text, f'`NUMERIC "m3" {here.text}`: a type stands before the name')
     if stop.wants("a unit in quotes") and stop.is_mark(1, "NUMERIC", "SLOT"):
-        return f'`{stop.token(1).text} "m3"`, with its unit, or `""` for a plain number'
+        return f'`{stop.there(1).text} "m3"`, with its unit, or `""` for a plain number'
     if here.kind == "mark" and here.text[0].isalpha() and stop.wants("a name"):
         return f"another name: the language keeps the word {here.text} for itself"
     if stop.wants(":") and here.kind != "end":

@@ -35,10 +35,12 @@ def taking_hold(policy: Policy, rules: list[RuleFacts]) -> Iterator[Finding]:
     """Rules that put Max, Min or Clamp over what a slot holds to the slot itself."""
     for rule in rules if policy.ruleset else ():
         for setting in rule.settings:
-            call = without_brackets(setting.value)
-            is_own = isinstance(call, trees.Call) and any(is_now(part, setting.slot) for part in call.parts)
+            call = without_brackets(setting.value) if setting.value else None
+            if not isinstance(call, trees.Call) or call.name not in (*KEEPS, "Clamp"):
+                continue
+            is_own = any(is_now(part, setting.slot) for part in call.parts)
             is_lowest = rule.number == len(rules)
-            if setting.sure and not setting.ahead and not is_lowest and is_own and call.name in (*KEEPS, "Clamp"):
+            if setting.sure and not setting.ahead and not is_lowest and is_own:
                 own = f"{setting.slot}[t]"
                 says = (
                     f"the rule takes hold of {own} also where it changes nothing, so what comes there from lower"
@@ -119,7 +121,7 @@ class Yielding:
             for rule in self.rules:
                 yield from ((rule, one) for one in rule.settings if self.first(one.slot) == first and not one.ahead)
             for slot in self.model.group(first):
-                owner = self.model.object_named(slot.owner)
+                owner = self.model.owner(slot)
                 if owner.name not in seen and not past_name(owner) and owner.kind not in ("data", "water_user"):
                     seen.add(owner.name)
                     others = [one for one in owner.slots if one.role == "solvable" and one.full_name != slot.full_name]

@@ -26,11 +26,11 @@ class Token:
     end: int
 
     @property
-    def span(self):
+    def span(self) -> Span:
         """Where it stands."""
         return Span(self.begin, self.end)
 
-    def is_mark(self, *texts):
+    def is_mark(self, *texts: str) -> bool:
         """Whether it is one of these marks."""
         return self.kind == "mark" and self.text in texts
 
@@ -38,21 +38,28 @@ class Token:
 class BadToken(Exception):
     """A place that has no token: `byte`, `string` (it isn't closed in its line) or `number` (it is too great)."""
 
-    def __init__(self, sort, span):
+    def __init__(self, sort: str, span: Span) -> None:
         super().__init__(sort)
         self.sort, self.span = sort, span
 
 
-def tokens_of(text):
+def tokens_of(text: str) -> list[Token]:
     """The tokens of a text, with a letter for each byte. `BadToken` tells the first place that has none."""
-    tokens, place = [], GAP.match(text).end()
+    tokens: list[Token] = []
+    place = behind_gap(text, 0)
     while place < len(text):
         tokens.append(token_at(text, place))
-        place = GAP.match(text, tokens[-1].end).end()
+        place = behind_gap(text, tokens[-1].end)
     return tokens
 
 
-def token_at(text, place):
+def behind_gap(text: str, place: int) -> int:
+    """The place behind blanks and comments."""
+    found = GAP.match(text, place)
+    return found.end() if found else place
+
+
+def token_at(text: str, place: int) -> Token:
     """The token at a place."""
     found = TOKEN.match(text, place)
     if not found:
@@ -62,7 +69,7 @@ def token_at(text, place):
             "string" if is_string else "byte",
             Span(place, (end if end >= 0 else len(text)) if is_string else place + 1),
         )
-    kind, spelt = found.lastgroup, found.group()
+    kind, spelt = found.lastgroup or "", found.group()
     if kind == "number" and (len(spelt) > DIGITS or int(spelt) > GREATEST_QUANTITY):
         raise BadToken("number", Span(place, found.end()))
     if kind == "string":

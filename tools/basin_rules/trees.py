@@ -3,11 +3,20 @@
 A node's `parts` are the nodes below it, in the order of the text, in which `basin` counts them.
 """
 
+from __future__ import annotations
+
+from collections.abc import Iterator
 from dataclasses import dataclass, field
+from typing import TYPE_CHECKING
 
 from basin_files.reasons import LONG, plain
 
 from .places import Span
+
+if TYPE_CHECKING:
+    from .costs import Budget, Cost
+    from .measures import Type
+    from .tokens import Token
 
 
 @dataclass(eq=False)
@@ -18,13 +27,25 @@ class Node:
     """
 
     span: Span
-    parts: list = field(default_factory=list)
+    parts: list[Node] = field(default_factory=list)
     depth: int = 1
     number: int = 0
-    type: object = None
-    cost: object = None
+    type: Type | None = None
+    cost: Cost | None = None
 
-    def nodes(self):
+    @property
+    def judged(self) -> Type:
+        """The type of an expression that is judged."""
+        assert self.type
+        return self.type
+
+    @property
+    def reckoned(self) -> Cost:
+        """What a node comes to that is reckoned."""
+        assert self.cost
+        return self.cost
+
+    def nodes(self) -> Iterator[Node]:
         """The node itself and all below it, in the order of their numbers."""
         waiting = [self]
         while waiting:
@@ -38,7 +59,7 @@ class Literal(Node):
     """A number, with its unit where it has one."""
 
     value: int = 0
-    unit: object = None  # a token
+    unit: Token | None = None
 
 
 @dataclass(eq=False)
@@ -154,8 +175,8 @@ class Assign(Node):
 class Branch(Node):
     """`IF c THEN .. ELSE .. ENDIF`: the condition is its first part, then stand `yes` and `no`."""
 
-    yes: list = field(default_factory=list)
-    no: list = field(default_factory=list)
+    yes: list[Node] = field(default_factory=list)
+    no: list[Node] = field(default_factory=list)
 
 
 @dataclass(eq=False)
@@ -177,7 +198,7 @@ class TypeName:
     word: str
     span: Span
     element: str = ""
-    unit: object = None
+    unit: Token | None = None
     most: int = 0
 
 
@@ -197,24 +218,36 @@ class Declaration:
     name: str
     head: Span
     name_span: Span
-    body: list  # the statements of a rule, or the expression of a function
-    parameters: list = field(default_factory=list)
-    result: object = None
+    body: list[Node]  # the statements of a rule, or the expression of a function
+    parameters: list[Parameter] = field(default_factory=list)
+    result: TypeName | None = None
     number: int = 0  # among all declarations
     rule: int = 0  # among the rules
-    budget: object = None
+    budget: Budget | None = None
 
     @property
-    def is_rule(self):
+    def comes_to(self) -> Budget:
+        """The budget of a declaration with which nothing is wrong."""
+        assert self.budget
+        return self.budget
+
+    @property
+    def gives(self) -> TypeName:
+        """The type of a function's result."""
+        assert self.result
+        return self.result
+
+    @property
+    def is_rule(self) -> bool:
         """Whether it is a rule."""
         return self.result is None
 
     @property
-    def called(self):
+    def called(self) -> str:
         """The declaration for people to read."""
         return f'rule {self.rule} "{plain(self.name, LONG)}"' if self.is_rule else f"function {self.name}"
 
-    def nodes(self):
+    def nodes(self) -> Iterator[Node]:
         """All its nodes, in the order of their numbers."""
         for node in self.body:
             yield from node.nodes()

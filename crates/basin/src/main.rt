@@ -1,5 +1,5 @@
-//! The program `basin`: hands the words, the files, the standard streams, the methods of all kinds and the functions that rules
-//! call by name to `basin_main`, and ends with its status.
+//! Starts the program `basin`: hands the words, the files, the standard streams, the methods of all kinds and the functions that
+//! rules call by name to `basin_main`, and ends with its status.
 #![tactic(auto)]
 
 #[cfg(test)]

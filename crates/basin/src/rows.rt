@@ -1,6 +1,5 @@
-//! Worked examples of the top call, over files and sinks in memory, and of the methods of objects, by a catalogue of them
-//! all. There is nothing here but tests: what they compare with was worked out by hand, or by programs that know nothing
-//! of this one.
+//! Tests the top call on worked examples, over files and sinks in memory, and the methods of objects, by a catalogue of them all.
+//! There is nothing here but tests: what they compare with was worked out by hand, or by programs that know nothing of this one.
 
 mod basins;
 mod counting;

@@ -1,4 +1,5 @@
-//! The law.
+//! Proves that accepted code is accepted, and does the same, where rules may put further ahead. Each law is the `ensures` of a
+//! function that does nothing.
 ghost use Rattle.std.specs.Prelude.{◌≡◌, ◌≤◌, ℕ, ℤ, List, Ok, Option};
 ghost use Rattle.rw_base.specs.declared.number.Cell.{Cell};
 ghost use Rattle.rw_model.specs.Draft.{Draft};

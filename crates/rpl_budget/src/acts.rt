@@ -1,4 +1,4 @@
-// One pass over statements.
+//! Computes the load of statements in one pass over them.
 ghost use Rattle.std.specs.Prelude.{◌≡◌, ◌∷◌, IfOk, OnOk};
 ghost use Rattle.rpl_tree.specs.Seen.{act_of, acts_in};
 ghost use Rattle.rpl_budget.specs.Pass as Pass;
@@ -14,7 +14,7 @@ use rpl_scope::Scope;
 use rpl_tree::Statement;
 use rw_base::NoMemory;
 
-/// What statements come to, one after the other, where these functions and names can be used. The names stay as they are.
+/// Computes the load of statements, one after the other, where these functions and names can be used. The names stay as they are.
 #[cycle(acts)]
 pub(crate) fn acts<'a>(
     known: &[Known],

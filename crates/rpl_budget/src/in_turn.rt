@@ -1,3 +1,4 @@
+//! Computes the budgets of declarations one at a time, for a caller that goes through them itself.
 ghost use Rattle.std.specs.Prelude.{◌≡◌, IfOk, OnOk};
 ghost use Rattle.rpl_tree.specs.Seen.{declared_of};
 ghost use Rattle.rpl_budget.specs.Pass.{and_priced, declared_budget, predefined_priced};
@@ -11,8 +12,8 @@ use rw_base::NoMemory;
 use std::alloc::Global;
 use std::marker::Model;
 
-/// The budgets of declarations in turn, seen as the functions that the next one can call: whoever goes through a declaration for
-/// something else, too, goes through it while it is at hand.
+/// The budgets of declarations in turn, seen as the functions that the next one can call: a caller that goes through a
+/// declaration for something else, too, goes through it while it is at hand.
 #[derive(Drop)]
 pub struct InTurn<'a> {
     known: Vec<Known<'a>>,
@@ -29,7 +30,7 @@ impl<'a> Model for InTurn<'a> {
 }
 
 impl<'a> InTurn<'a> {
-    /// Before the first declaration. `NoMemory` tells nothing.
+    /// Returns the state before the first declaration. `NoMemory` says nothing.
     pub fn begin(alloc: Global) -> Result<InTurn<'a>, NoMemory>
         ensures { IfOk result (λ turn. turn ≡ predefined_priced) }
     {
@@ -37,7 +38,7 @@ impl<'a> InTurn<'a> {
         Ok(InTurn { known })
     }
 
-    /// The budgets of the next declaration, as `budgets` gives them. `NoMemory` tells nothing of it.
+    /// Returns the budgets of the next declaration, as `budgets` gives them. `NoMemory` says nothing of it.
     pub fn next(
         &mut self,
         alloc: Global,

@@ -1,4 +1,4 @@
-// The kinds of values, with any room, and what definitions ask of them.
+//! Lists the kinds of values with the room of their lists, and computes the kinds that the definitions give.
 ghost use Rattle.std.specs.Prelude.{◌≡◌, ◌≤◌, ◌^◌, IfOk};
 ghost use Rattle.rpl_tree.specs.declared.words.TwoWord.TheVariants as TwoWord;
 ghost use Rattle.rpl_tree.specs.Kinds as Kinds;
@@ -9,7 +9,7 @@ ghost use Rattle.rpl_budget.specs.Seen.{tree_kind_seen};
 use rpl_tree::{OneWord, TwoWord, TypeText};
 use rw_base::NoMemory;
 
-/// The kind of an expression's value; a list has room for so many elements.
+/// The kinds of the values of expressions. A list has room for this many elements.
 #[derive(Clone, Copy)]
 pub(crate) enum TreeKind {
     Number,
@@ -34,7 +34,7 @@ pub(crate) fn is_same_kind(a: TreeKind, b: TreeKind) -> bool
     }
 }
 
-/// How many words a value takes.
+/// Returns the number of words that a value takes.
 pub(crate) fn weight(kind: TreeKind) -> u128
     ensures is { result ≡ Value.weight (tree_kind_seen kind) }
     ensures bound { result ≤ 2 ^ 64 }
@@ -74,7 +74,7 @@ pub(crate) fn list_kind(m: u64, kind: TreeKind) -> TreeKind
     }
 }
 
-/// Of two lists that with more room.
+/// Returns the one with more room of two lists.
 pub(crate) fn join(a: TreeKind, b: TreeKind) -> TreeKind
     ensures { tree_kind_seen result ≡ Kinds.join (tree_kind_seen a) (tree_kind_seen b) }
 {
@@ -124,7 +124,7 @@ pub(crate) fn two_kind(word: TwoWord, a: TreeKind, b: TreeKind) -> Result<TreeKi
     }
 }
 
-/// Of values of a type that is written.
+/// Returns the kind of the values of a type that is written.
 pub(crate) fn kind_of_type(written: &TypeText) -> TreeKind
     ensures { tree_kind_seen result ≡ Kinds.kind_of_type (type_of written.now) }
 {

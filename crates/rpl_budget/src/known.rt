@@ -1,3 +1,4 @@
+//! Holds the functions that can be called, and computes the load of a call.
 ghost use Rattle.std.specs.Prelude.{◌≡◌, bytes_eq, option_map, if◌then◌else◌};
 ghost use Rattle.rpl_tree.specs.Budget.{capped, limits};
 ghost use Rattle.rpl_tree.specs.Value as Value;
@@ -10,7 +11,7 @@ use crate::load::{Load, nothing, plus, standing, stopped};
 use rpl_scope::is_same_name;
 use rw_base::limits::WORDS_MAX;
 
-/// A function that can be called, and what a call comes to, its arguments apart.
+/// A function that can be called, and the load of a call, its arguments apart.
 #[derive(Drop)]
 pub(crate) struct Known<'a> {
     pub(crate) name: &'a [u8],
@@ -21,7 +22,7 @@ pub(crate) struct Known<'a> {
     pub(crate) most: TreeCost,
 }
 
-/// The words of values of these kinds.
+/// Adds up the words of values of these kinds.
 pub(crate) fn weights(kinds: &[TreeKind]) -> u64
     ensures { result ≡ capped limits.words (Value.weights (tree_kinds_seen kinds.now)) }
 {
@@ -49,7 +50,7 @@ fn known_or<'a, 'b>(
     }
 }
 
-/// The function of a name that was declared last.
+/// Returns the function of a name that was declared last.
 pub(crate) fn function_named<'a, 'b>(known: &'a [Known<'b>], name: &[u8]) -> Option<&'a Known<'b>>
     ensures { priced_or_none (option_map (λ f. f.now) result)
         ≡ Pass.priced_named (functions_of known.now) name.now }
@@ -61,7 +62,7 @@ pub(crate) fn function_named<'a, 'b>(known: &'a [Known<'b>], name: &[u8]) -> Opt
     found
 }
 
-/// A call of a function whose arguments are there.
+/// Returns the load of a call of a function whose arguments are there.
 pub(crate) fn called(f: &Known) -> Load
     ensures { result ≡ Pass.load_of_call (priced_seen f.now) }
 {

@@ -1,4 +1,4 @@
-// What the budgets of all declarations are, and what they come to in rules that were worked out by hand.
+//! Proves what the budgets of all declarations are, and computes them in rules that were worked out by hand.
 ghost use Rattle.std.specs.Prelude.{◌≡◌, ◌<◌, ◌+◌, ℕ, List, [], ◌∷◌, Some, length, pos, slice_get};
 ghost use Rattle.rpl_tree.specs.Tree.{Declared};
 ghost use Rattle.rpl_tree.specs.Budget.{budget, budget_of};

@@ -1,5 +1,5 @@
-//! The budgets of rulesets: the most that a firing of each declaration counts, looks and puts, and the most words that it
-//! keeps at a time, as `rpl_tree` defines them (`specs/Budget.antt`). One pass goes over each declaration from the leaves on,
+//! Computes the budgets of rulesets: the most that a firing of each declaration counts, looks and puts, and the most words that
+//! it keeps at a time, as `rpl_tree` defines them (`specs/Budget.antt`). One pass goes over each declaration from the leaves on,
 //! and each number stops at the first above its limit.
 #![tactic(auto)]
 

@@ -1,4 +1,4 @@
-// What a part of a tree adds to the budgets. Each number stops at the first above its limit.
+//! Adds up what the parts of a tree add to the budgets. Each number stops at the first above its limit.
 ghost use Rattle.std.specs.Prelude.{◌≡◌, ◌<◌, ◌+◌, ◌*◌, ◌^◌};
 ghost use Rattle.rpl_tree.specs.Budget.{capped};
 ghost use Rattle.rpl_budget.specs.Loads as Loads;
@@ -7,18 +7,18 @@ ghost use Rattle.rpl_budget.specs.Seen.{tree_kind_seen};
 use crate::kind::{TreeKind, is_same_kind, weight};
 use rw_base::limits::{INSTRUCTIONS_MAX, LOOKS_MAX, PUTS_MAX, WORDS_MAX};
 
-/// What evaluating an expression, or executing statements, comes to at most.
+/// The load of evaluating an expression, or executing statements: what that adds to the budgets at most.
 #[derive(Clone, Copy)]
 pub(crate) struct Load {
-    /// How much it counts.
+    /// What it counts.
     pub(crate) count: u64,
-    /// How often it looks.
+    /// The number of looks.
     pub(crate) looks: u64,
-    /// How often it puts.
+    /// The number of puts.
     pub(crate) puts: u64,
-    /// How many words of operands and open loops stand at a time.
+    /// The number of words of operands and open loops at a time.
     pub(crate) height: u64,
-    /// How many words its locals take.
+    /// The number of words that its locals take.
     pub(crate) locals: u64,
 }
 
@@ -84,7 +84,7 @@ pub(crate) fn one_put() -> Load
     }
 }
 
-/// Of a value that is made, or fetched from a local.
+/// Returns the load of a value that is made, or fetched from a local.
 pub(crate) fn fetched(kind: TreeKind) -> Load
     ensures { result ≡ Loads.fetched (tree_kind_seen kind) }
 {
@@ -96,7 +96,7 @@ pub(crate) fn fetched(kind: TreeKind) -> Load
     }
 }
 
-/// Of a value that is kept in a local.
+/// Returns the load of a value that is kept in a local.
 pub(crate) fn kept(kind: TreeKind) -> Load
     ensures { result ≡ Loads.load_kept (tree_kind_seen kind) }
 {
@@ -108,7 +108,7 @@ pub(crate) fn kept(kind: TreeKind) -> Load
     }
 }
 
-/// Of a local that is there for a value of the kind.
+/// Returns the load of a local that is there for a value of the kind.
 pub(crate) fn local(kind: TreeKind) -> Load
     ensures { result ≡ Loads.local (tree_kind_seen kind) }
 {
@@ -118,7 +118,7 @@ pub(crate) fn local(kind: TreeKind) -> Load
     }
 }
 
-/// Of so many words that stand at once.
+/// Returns the load of this many words at once.
 pub(crate) fn standing(words: u128) -> Load
     ensures { result ≡ Loads.load_standing words }
 {
@@ -128,7 +128,7 @@ pub(crate) fn standing(words: u128) -> Load
     }
 }
 
-/// One, and behind it another.
+/// Returns the load of one, and after it another.
 pub(crate) fn both(a: Load, b: Load) -> Load
     ensures { result ≡ Loads.load_both a b }
 {
@@ -141,7 +141,7 @@ pub(crate) fn both(a: Load, b: Load) -> Load
     }
 }
 
-/// One of the two.
+/// Returns the load of one of the two.
 pub(crate) fn either(a: Load, b: Load) -> Load
     ensures { result ≡ Loads.either a b }
 {
@@ -154,7 +154,7 @@ pub(crate) fn either(a: Load, b: Load) -> Load
     }
 }
 
-/// So often.
+/// Returns the load of m repetitions.
 pub(crate) fn times(m: u64, a: Load) -> Load
     ensures { result ≡ Loads.load_times m a }
 {
@@ -167,7 +167,7 @@ pub(crate) fn times(m: u64, a: Load) -> Load
     }
 }
 
-/// Where so many words wait below it.
+/// Returns the load where this many words wait below it.
 pub(crate) fn above(words: u128, a: Load) -> Load
     ensures { result ≡ Loads.above words a }
 {
@@ -177,7 +177,7 @@ pub(crate) fn above(words: u128, a: Load) -> Load
     }
 }
 
-/// Its locals alone.
+/// Returns the load of its locals alone.
 pub(crate) fn locals_alone(a: Load) -> Load
     ensures { result ≡ Loads.locals_alone a }
 {
@@ -187,7 +187,7 @@ pub(crate) fn locals_alone(a: Load) -> Load
     }
 }
 
-/// What nobody evaluates, as it stands in the code.
+/// Returns the load of what nobody evaluates, as it is in the code.
 pub(crate) fn unspent(a: Load) -> Load
     ensures { result ≡ Loads.unspent a }
 {
@@ -198,7 +198,7 @@ pub(crate) fn unspent(a: Load) -> Load
     }
 }
 
-/// A value of a kind that is given the room of its place.
+/// Returns the load of a value of a kind that is given the room of its place.
 pub(crate) fn fitted(place: TreeKind, kind: TreeKind, a: Load) -> Load
     ensures { result ≡ Loads.fitted (tree_kind_seen place) (tree_kind_seen kind) a }
 {
@@ -210,7 +210,7 @@ pub(crate) fn fitted(place: TreeKind, kind: TreeKind, a: Load) -> Load
     both(a, both(steps(widening), standing(weight(place))))
 }
 
-/// A look at a slot at a date.
+/// Returns the load of a look at a slot at a date.
 pub(crate) fn looked(slot: Load, date: Load) -> Load
     ensures { result ≡ Loads.looked slot date }
 {

@@ -1,3 +1,4 @@
+//! Holds a variable or a parameter with the kind of its values, and finds the kind of a name.
 ghost use Rattle.std.specs.Prelude.{◌≡◌};
 ghost use Rattle.rpl_tree.specs.Kinds as Kinds;
 ghost use Rattle.rpl_budget.specs.Seen.{tree_kind_seen, names_of};
@@ -12,7 +13,7 @@ pub(crate) struct Named<'a> {
     pub(crate) kind: TreeKind,
 }
 
-/// The kind of the innermost of a name, and that of a number where there is none.
+/// Returns the kind of the innermost entry of a name, and that of a number where there is none.
 #[tactic(auto, using(crate::proofs::Found::kind_found))]
 pub(crate) fn kind_named<'a>(names: &Scope<'a, TreeKind>, name: &'a [u8]) -> TreeKind
     ensures { tree_kind_seen result ≡ Kinds.kind_named (names_of names.now) name.entry.now }

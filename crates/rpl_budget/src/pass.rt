@@ -1,4 +1,4 @@
-// One pass over an expression, from the leaves on.
+//! Computes the kind and the load of an expression in one pass, from the leaves on.
 ghost use Rattle.std.specs.Prelude.{◌≡◌, ◌∷◌, [], IfOk, OnOk, drop};
 ghost use Rattle.rpl_tree.specs.Seen.{tree_of, trees_in};
 ghost use Rattle.rpl_tree.specs.Tree.{at, bind, call, choice, convert, each, list, mapped, one, two};
@@ -16,7 +16,7 @@ use rpl_scope::Scope;
 use rpl_tree::{ConvertWord, Expr, LoopText, OneWord, TwoWord};
 use rw_base::NoMemory;
 
-/// What an expression comes to, where these functions and names can be used. The names stay as they are.
+/// Computes the kind and the load of an expression, where these functions and names can be used. The names stay as they are.
 #[cycle(pass)]
 #[tactic(auto, using(rpl_tree::proofs::Viewed::tree_of_list))]
 pub(crate) fn pass<'a>(

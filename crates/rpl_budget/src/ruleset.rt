@@ -1,4 +1,4 @@
-// The budgets of declarations, in order.
+//! Computes the budgets of declarations, in order.
 ghost use Rattle.std.specs.Prelude.{◌≡◌, [], IfOk, OnOk, codes, map};
 ghost use Rattle.rpl_tree.specs.Cost as Cost;
 ghost use Rattle.rpl_tree.specs.Mean as Mean;
@@ -83,7 +83,7 @@ fn param_names<'a>(alloc: Global, params: &'a [Param]) -> Result<Scope<'a, TreeK
     Ok(names)
 }
 
-/// The budgets of a declaration. A function can be called by those that follow.
+/// Computes the budgets of a declaration. A function can be called by those that follow.
 pub(crate) fn declared<'a>(
     alloc: Global,
     known: &mut Vec<Known<'a>>,
@@ -143,7 +143,7 @@ fn of_numbers(name: &'static [u8], takes: Vec<TreeKind>) -> Known<'static>
     }
 }
 
-/// The functions that there are in each ruleset, the last of them first.
+/// Returns the functions that there are in each ruleset, the last of them first.
 pub(crate) fn predefined(alloc: Global) -> Result<Vec<Known<'static>>, NoMemory>
     ensures { IfOk result (λ known. functions_of known.items ≡ Pass.predefined_priced) }
 {
@@ -159,8 +159,8 @@ pub(crate) fn predefined(alloc: Global) -> Result<Vec<Known<'static>>, NoMemory>
     Ok(known)
 }
 
-/// The budgets of each declaration of a ruleset, in order: `docs/LANGUAGE.md` says under "Limits, costs and budgets" what is
-/// counted, and up to where. `NoMemory` tells nothing of the ruleset.
+/// Computes the budgets of each declaration of a ruleset, in order: `docs/LANGUAGE.md` says under "Limits, costs and budgets"
+/// what is counted, and up to where. `NoMemory` says nothing of the ruleset.
 pub fn budgets(alloc: Global, rules: &ParsedRules) -> Result<Vec<TreeCost>, NoMemory>
     ensures of_rules { IfOk result (λ costs. map budget_seen costs.items
         ≡ budgets_of (rules_of rules.now)) }

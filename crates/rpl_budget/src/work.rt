@@ -1,4 +1,4 @@
-// What a pass finds of an expression, by what it finds of its parts.
+//! Computes the kind and the load of an expression from those of its parts.
 ghost use Rattle.std.specs.Prelude.{◌≡◌, ◌+◌};
 ghost use Rattle.rpl_budget.specs.Pass as Pass;
 ghost use Rattle.rpl_budget.specs.Seen.{tree_kind_seen, measured_seen};
@@ -10,14 +10,14 @@ use crate::load::{
 };
 use rpl_tree::{Expr, OneWord, TwoWord};
 
-/// An expression's kind, and what it adds to the budgets.
+/// The kind of an expression, and what it adds to the budgets.
 #[derive(Clone, Copy)]
 pub(crate) struct Work {
     pub(crate) kind: TreeKind,
     pub(crate) load: Load,
 }
 
-/// A value of a kind that is made, or fetched from a local.
+/// Returns the work of a value of a kind that is made, or fetched from a local.
 pub(crate) fn made(kind: TreeKind) -> Work
     ensures { measured_seen result ≡ Pass.made (tree_kind_seen kind) }
 {
@@ -36,7 +36,7 @@ pub(crate) fn leaf(kind: TreeKind) -> Work
     }
 }
 
-/// An element and those behind it.
+/// Returns the work of an element and those after it.
 pub(crate) fn element(value: Work, others: Work) -> Work
     ensures { measured_seen result
         ≡ Pass.measured_element (measured_seen value) (measured_seen others) }
@@ -47,7 +47,7 @@ pub(crate) fn element(value: Work, others: Work) -> Work
     }
 }
 
-/// A list of so many elements.
+/// Returns the work of a list of `count` elements.
 pub(crate) fn listed(count: u64, all: Work) -> Work
     ensures { measured_seen result ≡ Pass.measured_list count (measured_seen all) }
 {
@@ -68,7 +68,7 @@ fn one_of(kind: TreeKind, first: Work, second: Work) -> Load
     either(a, b)
 }
 
-/// An IF of a test and two values.
+/// Returns the work of an IF of a test and two values.
 pub(crate) fn chosen(test: Work, first: Work, second: Work) -> Work
     ensures { measured_seen result
         ≡ Pass.measured_choice (measured_seen test) (measured_seen first) (measured_seen second) }
@@ -80,7 +80,7 @@ pub(crate) fn chosen(test: Work, first: Work, second: Work) -> Work
     }
 }
 
-/// A value under a name, and what is done with it.
+/// Returns the load of a value under a name, and of what is done with it.
 pub(crate) fn bound(value: Work, body: Load) -> Load
     ensures { result ≡ Pass.measured_binding (measured_seen value) body }
 {
@@ -99,7 +99,7 @@ fn turns(all: TreeKind, total: TreeKind, body: Work) -> Load
     above(u128::from(room_of(all)) + 3, times(room_of(all), turn))
 }
 
-/// A loop over a list, with an accumulator.
+/// Returns the load of a loop over a list, with an accumulator.
 pub(crate) fn turned(all: Work, first: Work, body: Work) -> Load
     ensures { result
         ≡ Pass.load_of_loop (measured_seen all) (measured_seen first) (measured_seen body) }
@@ -111,7 +111,7 @@ pub(crate) fn turned(all: Work, first: Work, body: Work) -> Load
     both(before, both(start, turns(all.kind, total, body)))
 }
 
-/// A list of what comes of each element of another.
+/// Returns the load of a MAP: a list of one value for each element of another list.
 pub(crate) fn mapped(all: Work, body: Work) -> Load
     ensures { result ≡ Pass.mapped_over (measured_seen all) (measured_seen body) }
 {
@@ -134,7 +134,7 @@ fn known_load(e: &Expr, load: Load) -> Load
     }
 }
 
-/// A word before an expression.
+/// Returns the load of a word before an expression.
 pub(crate) fn one_load(word: OneWord, e: &Expr, load: Load) -> Load
     ensures { result ≡ Pass.one_load word (tree_of e.now) load }
 {
@@ -154,7 +154,7 @@ fn operation(word: TwoWord, kind: TreeKind) -> u128
     }
 }
 
-/// A word between two expressions.
+/// Returns the load of a word between two expressions.
 #[inline(always)]
 pub(crate) fn two_load(word: TwoWord, left: Work, right: Load) -> Load
     ensures { result ≡ Pass.two_load word (measured_seen left) right }

@@ -1,4 +1,4 @@
-//! An agenda of two rules that is asked which of them is due.
+//! Tests an agenda of two rules that is asked which of them is due.
 ghost use Rattle.std.specs.Prelude.{◌≡◌, [], ◌∷◌};
 ghost use Rattle.rw_agenda.specs.Agenda.{unfired};
 

@@ -1,4 +1,4 @@
-//! Texts of code that are read, written again, and refused.
+//! Tests texts of code that are read, written again, and refused.
 ghost use Rattle.std.specs.Prelude.{◌≤◌, length};
 
 use rpl_code::{CodeFault, read_code, write_code};

@@ -1,4 +1,4 @@
-//! Rules of code that are fired in a basin of one reservoir. What they come to was worked out by hand.
+//! Tests rules of code that are fired in a basin of one reservoir. What they come to was worked out by hand.
 ghost use Rattle.std.specs.Prelude.{◌≡◌, ◌≤◌, length, Ok};
 ghost use Rattle.rpl_verify.specs.Verified.{verified};
 

@@ -1,4 +1,4 @@
-//! Names in scope, of which one is hidden by another and found again.
+//! Tests names in scope, of which one is hidden by another and found again.
 ghost use Rattle.std.specs.Prelude.{◌≡◌, OnErr};
 
 use rpl_scope::Scope;

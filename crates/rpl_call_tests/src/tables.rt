@@ -1,4 +1,4 @@
-//! Tables of predefined functions: one that is whole, and those that are refused.
+//! Tests tables of predefined functions: one that is whole, and those that are refused.
 use rpl_predef::{
     Predef, Predefs, PredefsFault, absolute, clamped, greatest, least, mul_div, rounded_down, sign,
 };

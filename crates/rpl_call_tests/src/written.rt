@@ -1,4 +1,4 @@
-//! A firing with two puts to one slot, of which the later one is written.
+//! Tests a firing with two puts to one slot, of which the later one is written.
 ghost use Rattle.std.specs.Prelude.{◌≡◌, Ok};
 ghost use Rattle.rpl_verify.specs.Verified.{verified};
 ghost use Rattle.rw_rules.specs.Firing.{IsRuleTurn};
@@ -104,7 +104,7 @@ fn is_fired_of_rules(
     drop(rules);
 }
 
-/// Of two puts to a slot the later one is written.
+/// Tests that of two puts to a slot the later one is written.
 pub(crate) fn the_later_is_written(
     rt: &impl Abort,
     alloc: Global,

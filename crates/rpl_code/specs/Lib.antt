@@ -1,4 +1,5 @@
 pub mod Weight
+pub mod Pieces
 pub mod Bounds
 pub mod Spelling
 pub mod Parting

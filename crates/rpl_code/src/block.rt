@@ -1,6 +1,7 @@
+//! Holds a block of code: a rule or a function.
 use crate::{Kinds, Lines, ValueKind};
 
-/// What a block stands for.
+/// The kinds of blocks.
 #[derive(Debug, Drop)]
 pub enum BlockHead {
     /// A rule.
@@ -17,7 +18,7 @@ pub enum BlockHead {
 /// A block of code: a rule or a function.
 #[derive(Debug, Drop)]
 pub struct Block {
-    /// Which of the two.
+    /// Whether it is a rule or a function.
     pub head: BlockHead,
     /// The kinds of its locals, without the parameters.
     pub locals: Kinds,

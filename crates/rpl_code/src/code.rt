@@ -1,3 +1,4 @@
+//! Holds the code of a policy as a list of blocks.
 ghost use Rattle.std.specs.Prelude.{◌≡◌};
 ghost use Rattle.rpl_code.specs.Bounds.{IsCode};
 
@@ -23,7 +24,7 @@ impl Model for Code {
 }
 
 impl Code {
-    /// The code of these blocks, in their order. It takes no memory.
+    /// Returns the code of these blocks, in their order. It takes no memory.
     pub fn of(blocks: Vec<Block>) -> Code
         requires { IsCode blocks.items }
         ensures { result ≡ blocks.items }
@@ -31,7 +32,7 @@ impl Code {
         Code { blocks }
     }
 
-    /// The blocks, in their order. Each part of them can be spelt.
+    /// Returns the blocks, in their order. Each part of them can be spelt.
     pub fn blocks(&self) -> &[Block]
         ensures blocks { result.now ≡ self.now }
         ensures bounds { IsCode self.now }

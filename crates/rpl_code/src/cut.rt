@@ -1,7 +1,8 @@
+//! Cuts a text at the first byte of a value.
 ghost use Rattle.std.specs.Prelude.{◌≡◌, ◌<◌, [], ◌∷◌, length, MatchOption, IfSome};
 ghost use Rattle.rpl_code.specs.Parting.{parted};
 
-/// What stands before the first of these bytes and what stands behind it, if there is one.
+/// Returns what is before the first of these bytes and what is after it, if there is one.
 pub(crate) fn cut(text: &[u8], byte: u8) -> Option<(&[u8], &[u8])>
     ensures parts { MatchOption result (parted byte text.now ≡ text.now ∷ [])
         (λ parts. parted byte text.now ≡ parts.0.now ∷ parted byte parts.1.now) }

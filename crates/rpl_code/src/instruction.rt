@@ -1,12 +1,13 @@
-use crate::Kinds;
+//! Lists the instructions of code.
+use crate::OperandKinds;
 use rw_model::Name;
 use std::mem::size_of;
 
 // A code has up to a third as many instructions as its text has bytes.
 const _: () = prove!(size_of::<Instruction>() == 64);
 
-/// An instruction of a block. A local is named by its number, and so is a block; a place is a line of the block. Each
-/// counts from 0, but blocks from 1.
+/// The instructions of a block. A local is named by its number, and so is a block; a place is a line of the block. Each counts
+/// from 0, but blocks from 1.
 #[derive(Debug, Drop)]
 pub enum Instruction {
     /// A number, from -Q to Q.
@@ -22,9 +23,9 @@ pub enum Instruction {
         /// Its name there.
         slot: Name,
     },
-    /// The value of a local.
+    /// Fetches the value of a local.
     Load(u32),
-    /// A value becomes that of a local.
+    /// Makes a value that of a local.
     Store(u32),
     /// The sum.
     Add,
@@ -36,9 +37,9 @@ pub enum Instruction {
     Div,
     /// The number with the other sign.
     Neg,
-    /// The timestep so many later.
+    /// The timestep that is this many later.
     Shift,
-    /// The timestep so many earlier.
+    /// The timestep that is this many earlier.
     Back,
     /// How many timesteps the first is after the second.
     Between,
@@ -66,39 +67,39 @@ pub enum Instruction {
     Day,
     /// The year in which a timestep begins.
     Year,
-    /// The elevation at which a reservoir has a storage.
+    /// The elevation in mm at which a reservoir has a storage in m3.
     ToElevation(Name),
-    /// The storage that a reservoir has at an elevation.
+    /// The storage in m3 that a reservoir has at an elevation in mm.
     ToStorage(Name),
-    /// A predefined function.
+    /// Calls a predefined function.
     Call(Name),
-    /// A function block, by its number.
+    /// Calls a function block, by its number.
     Invoke(u32),
-    /// A list of so many values.
+    /// A list of this many values.
     List(u16),
-    /// A list with one value more.
+    /// The list with one more value.
     Append,
-    /// The same list, with room for so many.
+    /// The same list, with room for this many values.
     Widen(u16),
     /// A value of a list, by its place.
     Item,
-    /// How many values a list has.
+    /// The number of values in a list.
     Length,
-    /// On to a place.
+    /// Goes on at a place.
     Jump(u32),
-    /// On to a place where the truth value is false.
+    /// Goes on at a place where the truth value is false.
     Branch(u32),
-    /// A place that is jumped to, with the kinds of all operands there, bottom first.
-    Target(Kinds),
-    /// The loop up to its `Next` begins, once for each value of a list, which becomes that of a local.
+    /// A place to which jumps go, with the kinds of all operands there, bottom first.
+    Target(OperandKinds),
+    /// Begins the loop up to its `Next`, once for each value of a list, which becomes that of a local.
     Foreach(u32),
-    /// The end of a loop that `Foreach` began.
+    /// Ends a loop that `Foreach` began.
     Next,
-    /// The loop up to its `Yield` begins, once for each value of a list, which becomes that of a local.
+    /// Begins the loop up to its `Yield`, once for each value of a list, which becomes that of a local.
     Map(u32),
-    /// The end of a loop that `Map` began: its number goes into the list that the loop makes.
+    /// Ends a loop that `Map` began: its number goes into the list that the loop makes.
     Yield,
-    /// A slot is given a value, so many timesteps ahead.
+    /// Gives a slot a value, a number of timesteps ahead.
     Put {
         /// The object that has the slot.
         object: Name,

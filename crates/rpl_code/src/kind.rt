@@ -1,7 +1,8 @@
+//! Lists the kinds of values, and counts the words that a value of each takes.
 ghost use Rattle.std.specs.Prelude.{◌≡◌};
 ghost use Rattle.rpl_code.specs.Weight.{words_of};
 
-/// What a value is: a number, a truth value, a timestep, a slot, or a list of at most so many numbers or slots.
+/// The kinds of values: a number, a truth value, a timestep, a slot, or a list of a limited number of numbers or slots.
 #[derive(Clone, Copy, Debug, PartialEq, Eq, Drop)]
 pub enum ValueKind {
     /// A number.
@@ -12,14 +13,14 @@ pub enum ValueKind {
     D,
     /// A slot.
     S,
-    /// A list of numbers, of at most so many.
+    /// A list of at most this many numbers.
     NList(u16),
-    /// A list of slots, of at most so many.
+    /// A list of at most this many slots.
     SList(u16),
 }
 
 impl ValueKind {
-    /// How many words a value of this kind takes: one, and for a list one more than its greatest length.
+    /// Returns the number of words that a value of this kind takes: one, and for a list one more than its maximum length.
     pub fn words(self) -> u32
         ensures { result ≡ words_of self }
     {

@@ -1,4 +1,4 @@
-// Kinds in words.
+//! Reads kinds from words.
 ghost use Rattle.std.specs.Prelude.{◌≡◌, codes, option_and_then, option_map};
 ghost use Rattle.rpl_code.specs.Parting.{parted};
 ghost use Rattle.rpl_code.specs.Words.{entry_at, plain_kinds, list_kinds, length_in, kind_in, each_kind, kinds_in};
@@ -33,7 +33,7 @@ fn list_kind(letter: &[u8], digits: &[u8]) -> Result<ValueKind, LineFault>
     }
 }
 
-/// A kind: a letter, and for a list its greatest length behind a `*`.
+/// Reads a kind: a letter, and for a list its maximum length after a `*`.
 pub(crate) fn kind_in(word: &[u8]) -> Result<ValueKind, LineFault>
     ensures { Says (kind_in word.now) result }
 {
@@ -56,7 +56,7 @@ fn each_kind(alloc: Global, words: &[u8]) -> Result<Kinds, LineFault>
     Ok(Kinds::of(kinds))
 }
 
-/// Kinds with commas between them, and `-` for none.
+/// Reads kinds with commas between them, and `-` for none.
 pub(crate) fn kinds_in(alloc: Global, word: &[u8]) -> Result<Kinds, LineFault>
     ensures { Says (kinds_in word.now) result }
 {

@@ -1,9 +1,11 @@
+//! Holds the kinds of several values in a row.
 ghost use Rattle.std.specs.Prelude.{◌≡◌};
 
 use crate::ValueKind;
+use std::alloc::Global;
 use std::marker::Model;
 
-/// Kinds of values in a row, which contracts see as a list.
+/// The kinds of values in a row, which contracts see as a list.
 #[derive(Debug, Drop)]
 pub struct Kinds {
     items: Vec<ValueKind>,
@@ -19,17 +21,22 @@ impl Model for Kinds {
 }
 
 impl Kinds {
-    /// These kinds, in their order.
+    /// Returns these kinds, in their order.
     pub fn of(items: Vec<ValueKind>) -> Kinds
         ensures { result ≡ items.items }
     {
         Kinds { items }
     }
 
-    /// The kinds, in their order.
+    /// Returns the kinds, in their order.
     pub fn as_slice(&self) -> &[ValueKind]
         ensures { result.now ≡ self.now }
     {
         self.items.as_slice()
+    }
+
+    /// Returns the allocator of their memory.
+    pub(crate) fn allocator(&self) -> Global {
+        *self.items.allocator()
     }
 }

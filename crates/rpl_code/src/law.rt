@@ -1,6 +1,7 @@
-// That spelling and reading are one, and what both come to on worked texts.
+//! Proves that writing and reading undo each other, and what both give on worked texts.
 ghost use Rattle.std.specs.Prelude.{◌≡◌, ◌≤◌, length, Ok, Err, [], ◌∷◌, ◌++◌, codes, List, ℕ, Result, MatchResult};
 ghost use Rattle.rw_base.specs.declared.limits.TheConstants.{TEXT_MAX};
+ghost use Rattle.rpl_code.specs.declared.numbers.TheConstants.{GREATEST};
 ghost use Rattle.rw_base.specs.Answers.{Answers};
 ghost use Rattle.rpl_code.specs.declared.instruction.Instruction.TheVariants as Instruction;
 ghost use Rattle.rpl_code.specs.declared.block.Block.{Block};
@@ -95,4 +96,9 @@ pub fn written_code_is_read_again()
     ensures { (blocks : List Block) (result : Result (List Block) CodeFault) → IsCode blocks
         → Answers NoMemory code_refusal_of (λ code. code) result (read (spelt blocks))
         → MatchResult result (λ code. code ≡ blocks) (λ fault. fault ≡ NoMemory) }
+{}
+
+/// The greatest number that is read of code.
+pub fn limits_of_code()
+    ensures number { GREATEST ≡ 100000000000000000 }
 {}

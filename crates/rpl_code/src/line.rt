@@ -1,4 +1,4 @@
-// What lines say.
+//! Reads what a line says.
 ghost use Rattle.std.specs.Prelude.{◌≡◌, ◌∷◌, codes, option_and_then};
 ghost use Rattle.std.specs.Str.{bytes_eq};
 ghost use Rattle.rpl_code.specs.declared.said.Said.TheVariants as Said;
@@ -13,7 +13,7 @@ use crate::line_fault::LineFault;
 use crate::names::{name_in, slot_in};
 use crate::numbers::{ahead_in, count_in, length_in, quantity_in};
 use crate::said::Said;
-use crate::{BlockHead, Instruction};
+use crate::{BlockHead, Instruction, OperandKinds};
 use std::alloc::Global;
 
 fn truth_in(word: &[u8]) -> Result<bool, LineFault>
@@ -100,7 +100,7 @@ fn said_with_one(alloc: Global, word: &str, one: &[u8]) -> Result<Said, LineFaul
         "widen" => Instruction::Widen(length_in(one)?),
         "jump" => Instruction::Jump(count_in(one)?),
         "branch" => Instruction::Branch(count_in(one)?),
-        "target" => Instruction::Target(kinds_in(alloc, one)?),
+        "target" => Instruction::Target(OperandKinds::of(kinds_in(alloc, one)?)),
         "foreach" => Instruction::Foreach(count_in(one)?),
         "map" => Instruction::Map(count_in(one)?),
         _ => return Err(LineFault::Bad),
@@ -156,7 +156,7 @@ fn said_with(alloc: Global, word: &str, others: &[u8]) -> Result<Said, LineFault
     }
 }
 
-/// What a line says.
+/// Reads what a line says.
 pub(crate) fn said_in(alloc: Global, line: &[u8]) -> Result<Said, LineFault>
     ensures { Says (said_by (parted 32 line.now)) result }
 {

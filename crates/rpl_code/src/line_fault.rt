@@ -1,7 +1,8 @@
+//! Lists why a line is not read.
 use rw_base::NoMemory;
 use std::alloc::{AllocError, AllocFailed};
 
-/// Why a line, or a word of it, isn't read.
+/// The reasons why a line, or a word of it, is not read.
 #[derive(Clone, Copy)]
 pub(crate) enum LineFault {
     /// It says nothing.

@@ -1,3 +1,4 @@
+//! Holds the instructions of a block.
 ghost use Rattle.std.specs.Prelude.{◌≡◌, ◌++◌, [], ◌∷◌, OnOk};
 
 use crate::Instruction;
@@ -20,21 +21,21 @@ impl Model for Lines {
 }
 
 impl Lines {
-    /// These instructions, in their order.
+    /// Returns these instructions, in their order.
     pub fn of(items: Vec<Instruction>) -> Lines
         ensures { result ≡ items.items }
     {
         Lines { items }
     }
 
-    /// The instructions, in their order.
+    /// Returns the instructions, in their order.
     pub fn as_slice(&self) -> &[Instruction]
         ensures { result.now ≡ self.now }
     {
         self.items.as_slice()
     }
 
-    /// One instruction more, behind the others. The one other answer is want of memory.
+    /// Appends one instruction. The one error is want of memory.
     pub(crate) fn push(&mut self, instruction: Instruction) -> Result<(), NoMemory>
         ensures { OnOk result (self.new ≡ self.old ++ instruction ∷ []) }
     {

@@ -1,4 +1,4 @@
-// Names in words.
+//! Reads names from words.
 ghost use Rattle.rpl_code.specs.Words.{name_in, slot_spelt};
 ghost use Rattle.rpl_code.specs.Answers.{Says};
 
@@ -7,7 +7,7 @@ use crate::line_fault::LineFault;
 use rw_model::{Name, is_plain};
 use std::alloc::Global;
 
-/// The name of an object or of a function.
+/// Reads the name of an object or of a function.
 pub(crate) fn name_in(alloc: Global, word: &[u8]) -> Result<Name, LineFault>
     ensures { Says (name_in word.now) result }
 {
@@ -20,7 +20,7 @@ pub(crate) fn name_in(alloc: Global, word: &[u8]) -> Result<Name, LineFault>
     Ok(Name::of(String::from_str(alloc, text)?))
 }
 
-/// The names of an object and of its slot, with a point between them.
+/// Reads the names of an object and of its slot, with a point between them.
 pub(crate) fn slot_in(alloc: Global, word: &[u8]) -> Result<(Name, Name), LineFault>
     ensures { Says (slot_spelt word.now) result }
 {

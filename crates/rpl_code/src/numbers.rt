@@ -1,4 +1,4 @@
-// Numbers in words.
+//! Reads numbers from words.
 ghost use Rattle.std.specs.Prelude.{◌≡◌, ◌≢◌, ℕ, ◌<◌, ◌≤◌, ◌^◌, IfOk, MatchOption, IfSome, option_map, pos, neg_ℤ};
 ghost use Rattle.std.specs.Str.{bytes_eq};
 ghost use Rattle.std.specs.Fmt.{decimal};
@@ -55,7 +55,7 @@ fn number_in(least: u64, most: u64, word: &[u8]) -> Result<u64, LineFault>
     }
 }
 
-/// The number of a local, of a place or of a block.
+/// Reads the number of a local, of a place or of a block.
 pub(crate) fn count_in(word: &[u8]) -> Result<u32, LineFault>
     ensures { Says (count_in word.now) result }
 {
@@ -63,7 +63,7 @@ pub(crate) fn count_in(word: &[u8]) -> Result<u32, LineFault>
     Ok(number as u32)
 }
 
-/// The greatest length of a list.
+/// Reads the maximum length of a list.
 pub(crate) fn length_in(word: &[u8]) -> Result<u16, LineFault>
     ensures { Says (length_in word.now) result }
 {
@@ -71,7 +71,7 @@ pub(crate) fn length_in(word: &[u8]) -> Result<u16, LineFault>
     Ok(number as u16)
 }
 
-/// How many timesteps ahead a slot is put.
+/// Reads how many timesteps ahead a slot is put.
 pub(crate) fn ahead_in(word: &[u8]) -> Result<u8, LineFault>
     ensures { Says (number_in 0 255 word.now) result }
 {
@@ -96,7 +96,7 @@ fn negative_in(digits: &[u8]) -> Result<i64, LineFault>
     Ok(-(number as i64))
 }
 
-/// A quantity, with `-` before its digits where it is below 0.
+/// Reads a quantity, with `-` before its digits where it is below 0.
 pub(crate) fn quantity_in(word: &[u8]) -> Result<i64, LineFault>
     ensures { Says (quantity_in word.now) result }
 {

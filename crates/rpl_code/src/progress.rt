@@ -1,6 +1,7 @@
+//! Holds how far the lines of a text were read.
 use crate::{Block, BlockHead};
 
-/// How far the lines of a text have come that were read.
+/// How far the lines of a text were read.
 #[derive(Drop)]
 pub(crate) enum Progress {
     /// None was read.

@@ -1,4 +1,4 @@
-// Texts are read as code.
+//! Reads code from its text.
 ghost use Rattle.std.specs.Prelude.{◌≡◌, ◌≤◌, ◌&&◌, [], List, None, false, Result, Err, length, IfOk, IfErr};
 ghost use Rattle.rw_base.specs.declared.limits.TheConstants.{TEXT_MAX};
 ghost use Rattle.std.specs.Str.{bytes_eq};
@@ -103,12 +103,12 @@ fn is_whole(progress: &Progress, left: &[u8]) -> bool
     matches!(progress, Progress::Between) && left.is_empty()
 }
 
-/// Reads a code from its text, of 16,777,216 bytes at most, as `docs/FORMATS.md` says under "Code". The time that it takes
-/// grows as the text's length does.
+/// Reads a code from its text, of 16,777,216 bytes at most, as `docs/FORMATS.md` says under "Code". The time that it takes grows
+/// as the text's length does.
 ///
-/// `BadLine` names the first line, counted from 1, that ends with a line feed and isn't allowed where it stands.
-/// `Truncated` comes where there is no such line, but the text ends before an `END` that is due, or its last line has no
-/// line feed. `NoMemory` says nothing of the text.
+/// `BadLine` names the first line, counted from 1, that ends with a line feed and is not allowed where it is. `Truncated` comes
+/// where there is no such line, but the text ends before an `END` that is due, or its last line has no line feed. `NoMemory` says
+/// nothing of the text.
 pub fn read_code(alloc: Global, text: &[u8]) -> Result<Code, CodeFault>
     requires { length text.now ≤ TEXT_MAX }
     ensures { Answers CodeFault.NoMemory code_refusal_of (λ code. code) result (read text.now) }

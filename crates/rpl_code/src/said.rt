@@ -1,3 +1,4 @@
+//! Lists what a line of a code's text can say.
 use crate::{BlockHead, Instruction, Kinds};
 
 /// What a line of a code's text says.

@@ -1,9 +1,9 @@
-// The words of a line.
+//! Writes the words of a line.
 ghost use Rattle.std.specs.Prelude.{◌≡◌, ◌++◌, ◌∷◌, [], OnOk, string_bytes, map, option_map};
 ghost use Rattle.std.specs.Fmt.{decimal, signed_decimal};
 ghost use Rattle.rpl_code.specs.Spelling.{each_after, kind_text, kinds_text, slot_text, truth_text, word_alone, word_before, word_of, operands_of};
 
-use crate::{Instruction, Kinds, ValueKind};
+use crate::{Instruction, Kinds, OperandKinds, ValueKind};
 use itoa::Buffer;
 use rw_base::NoMemory;
 use rw_model::Name;
@@ -130,6 +130,28 @@ pub(crate) fn push_kinds_word(text: &mut String, kinds: &Kinds) -> Result<(), No
     push_kinds(text, kinds.as_slice())
 }
 
+// Appends the kinds of operands.
+fn push_operand_kinds(text: &mut String, kinds: &OperandKinds) -> Result<(), NoMemory>
+    ensures { OnOk result (string_bytes text.new ≡ string_bytes text.old ++ kinds_text kinds.now) }
+{
+    match kinds.as_slice() {
+        Some(kinds) => push_kinds(text, kinds),
+        None => {
+            let kinds = kinds.to_vec()?;
+            push_kinds(text, kinds.as_slice())
+        }
+    }
+}
+
+// Appends a blank and the kinds of operands, as one word.
+fn push_operands_word(text: &mut String, kinds: &OperandKinds) -> Result<(), NoMemory>
+    ensures { OnOk result (string_bytes text.new ≡ string_bytes text.old
+        ++ each_after 32 (kinds_text kinds.now ∷ [])) }
+{
+    text.push_str(" ")?;
+    push_operand_kinds(text, kinds)
+}
+
 // The word of an instruction that stands alone.
 fn word_alone(instruction: &Instruction) -> Option<&'static str>
     ensures { option_map (λ word. word.now) result ≡ word_alone instruction.now }
@@ -192,7 +214,7 @@ fn word_before(instruction: &Instruction) -> &'static str
     }
 }
 
-/// The word with which an instruction begins.
+/// Returns the word with which an instruction begins.
 pub(crate) fn word_of(instruction: &Instruction) -> &'static str
     ensures { result.now ≡ word_of instruction.now }
 {
@@ -202,7 +224,7 @@ pub(crate) fn word_of(instruction: &Instruction) -> &'static str
     }
 }
 
-/// Appends the words behind the first, each after a blank.
+/// Appends the words after the first, each after a blank.
 pub(crate) fn push_operands(text: &mut String, instruction: &Instruction) -> Result<(), NoMemory>
     ensures { OnOk result (string_bytes text.new ≡ string_bytes text.old
         ++ each_after 32 (operands_of instruction.now)) }
@@ -221,7 +243,7 @@ pub(crate) fn push_operands(text: &mut String, instruction: &Instruction) -> Res
         Instruction::ToElevation(name) | Instruction::ToStorage(name) | Instruction::Call(name) =>
             push_name(text, name),
         Instruction::List(most) | Instruction::Widen(most) => push_number(text, u32::from(*most)),
-        Instruction::Target(kinds) => push_kinds_word(text, kinds),
+        Instruction::Target(kinds) => push_operands_word(text, kinds),
         Instruction::Put {
             object,
             slot,

@@ -1,4 +1,4 @@
-// The lines of a code.
+//! Writes the text of code, line by line.
 ghost use Rattle.std.specs.Prelude.{◌≡◌, ◌++◌, ◌∷◌, [], OnOk, IfOk, codes, string_bytes, map, flat_map};
 ghost use Rattle.rpl_code.specs.Bounds.{IsCode};
 ghost use Rattle.rpl_code.specs.Spelling.{instruction_line, head_line, locals_line, block_lines, lines_ended, spelt};
@@ -76,15 +76,15 @@ fn push_blocks(text: &mut String, blocks: &[Block]) -> Result<(), NoMemory>
     Ok(())
 }
 
-/// The line before all blocks.
+/// Returns the line before all blocks.
 pub fn begin_code(alloc: Global) -> Result<String, NoMemory>
     ensures { IfOk result (λ text. string_bytes text ≡ lines_ended (codes "CODE 1" ∷ [])) }
 {
     Ok(String::from_str(alloc, "CODE 1\n")?)
 }
 
-/// The text of a code, as `docs/FORMATS.md` says under "Code": a line for each head, for the locals, for each instruction
-/// and for each end, and `CODE 1` before all. Want of memory is the one other answer.
+/// Returns the text of a code, as `docs/FORMATS.md` says under "Code": a line for each head, for the locals, for each instruction
+/// and for each end, and `CODE 1` before all. The one error is want of memory.
 pub fn write_code(alloc: Global, code: &Code) -> Result<Vec<u8>, NoMemory>
     ensures { IfOk result (λ text. text.items ≡ spelt code.now) }
 {

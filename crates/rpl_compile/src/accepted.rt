@@ -1,4 +1,4 @@
-// Of an accepted ruleset the code is spelt by a text, and accepted, with the budgets of the ruleset.
+//! Proves that the code of an accepted ruleset is spelt by a text, and accepted, with the budgets of the ruleset.
 ghost use Rattle.std.specs.Prelude.{◌≡◌, ◌≤◌, List, Ok};
 ghost use Rattle.rw_base.specs.declared.limits.TheConstants.{RULES_MAX};
 ghost use Rattle.rw_model.specs.Draft.{Draft};

@@ -1,4 +1,4 @@
-// The kinds of expressions whose code isn't written yet.
+//! Finds the kinds of expressions whose code is not written yet.
 ghost use Rattle.std.specs.Prelude.{◌≡◌, ◌∷◌, IfOk, OnOk};
 ghost use Rattle.rpl_tree.specs.Seen.{tree_of, trees_in};
 ghost use Rattle.rpl_tree.specs.Tree.{list};
@@ -14,7 +14,7 @@ use rpl_scope::Scope;
 use rpl_tree::Expr;
 use rw_base::NoMemory;
 
-/// The kind that an expression will have. The names stay as they are.
+/// Returns the kind that an expression will have. The names stay as they are.
 #[cycle(ahead)]
 #[tactic(auto, using(rpl_tree::proofs::Viewed::tree_of_list, rpl_tree::proofs::Viewed::tree_of_call))]
 pub(crate) fn ahead<'a>(
@@ -57,7 +57,7 @@ pub(crate) fn ahead<'a>(
     }
 }
 
-/// The kind of what a function answers.
+/// Returns the kind of the result of a function.
 pub(crate) fn result_named(known: &[Known], name: &[u8]) -> ValueKind
     ensures { kind_seen result
         ≡ (Written.callee_named (callees_of known.now) name.now).head.result }
@@ -88,7 +88,7 @@ fn inside<'a>(
     Ok(found)
 }
 
-/// The kind of the first of these.
+/// Returns the kind of the first of these.
 #[cycle(ahead)]
 fn first_ahead<'a>(
     known: &[Known],
@@ -105,7 +105,7 @@ fn first_ahead<'a>(
     }
 }
 
-/// The kind of a list of these.
+/// Returns the kind of a list of these.
 #[cycle(ahead)]
 #[tactic(auto, using(crate::proofs::Counted::count_is))]
 pub(crate) fn list_ahead<'a>(

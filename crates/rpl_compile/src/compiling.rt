@@ -1,3 +1,4 @@
+//! Compiles an accepted ruleset to code, to its text, or to verified code.
 ghost use Rattle.std.specs.Prelude.{◌≡◌, Ok, IfOk, IsOk};
 ghost use Rattle.rpl_code.specs.Spelling.{spelt};
 ghost use Rattle.rpl_tree.specs.Seen.{rules_of};
@@ -13,8 +14,8 @@ use rw_base::NoMemory;
 use rw_model::Basin;
 use std::alloc::Global;
 
-/// The code of a ruleset that was accepted for the basin: a block for each declaration, in order, as `docs/LANGUAGE.md` says
-/// under "What rules become". Whoever lets it run takes it verified, from `compile`. Want of memory is the one other answer.
+/// Returns the code of a ruleset that was accepted for the basin: a block for each declaration, in order, as `docs/LANGUAGE.md`
+/// says under "What rules become". A caller that runs it takes it verified, from `compile`. The one error is want of memory.
 pub fn code_of(alloc: Global, typed: &Typed, basin: &Basin) -> Result<Code, NoMemory>
     requires { IsOk (rules_judged basin.now (rules_of typed.now.rules)) }
     ensures { IfOk result (λ code. code ≡ translate (rules_of typed.now.rules)) }
@@ -25,7 +26,7 @@ pub fn code_of(alloc: Global, typed: &Typed, basin: &Basin) -> Result<Code, NoMe
     Ok(Code::of(blocks))
 }
 
-/// The text of that code, as `write_code` of `rpl_code` writes it. Of the code no more than a block is there at a time.
+/// Returns the text of that code, as `write_code` of `rpl_code` writes it. Of the code no more than a block is there at a time.
 pub fn code_text(alloc: Global, typed: &Typed, basin: &Basin) -> Result<Vec<u8>, NoMemory>
     requires { IsOk (rules_judged basin.now (rules_of typed.now.rules)) }
     ensures { IfOk result (λ text. text.items ≡ spelt (translate (rules_of typed.now.rules))) }
@@ -35,7 +36,7 @@ pub fn code_text(alloc: Global, typed: &Typed, basin: &Basin) -> Result<Vec<u8>,
     text_of(alloc, rules, basin)
 }
 
-/// The same code, verified. That of an accepted ruleset is never refused: want of memory is the one other answer.
+/// Returns the same code, verified. That of an accepted ruleset is never refused: want of memory is the one error.
 pub fn compile(alloc: Global, typed: &Typed, basin: &Basin) -> Result<Verified, NoMemory>
     requires { IsOk (rules_judged basin.now (rules_of typed.now.rules)) }
     ensures code { IfOk result (λ code. code.blocks ≡ translate (rules_of typed.now.rules)) }
@@ -62,8 +63,8 @@ fn into_code(alloc: Global, typed: Typed, basin: &Basin) -> Result<Code, NoMemor
     Ok(Code::of(blocks))
 }
 
-/// The same as `compile`, of a ruleset that goes: each declaration is freed as soon as its block is there, so that the ruleset
-/// and its code take little more memory than one of the two.
+/// Returns what `compile` returns, of a ruleset that is dropped: each declaration is freed as soon as its block is there, so that
+/// the ruleset and its code take little more memory than one of the two.
 pub fn compile_away(alloc: Global, typed: Typed, basin: &Basin) -> Result<Verified, NoMemory>
     requires { IsOk (rules_judged basin.now (rules_of typed.rules)) }
     ensures code { IfOk result (λ code. code.blocks ≡ translate (rules_of typed.rules)) }

@@ -1,4 +1,4 @@
-// The code of expressions.
+//! Writes the code of expressions.
 ghost use Rattle.std.specs.Prelude.{◌≡◌, [], IfOk, drop, option_map};
 ghost use Rattle.rpl_code.specs.declared.instruction.Instruction.TheVariants as I;
 ghost use Rattle.rpl_tree.specs.Seen.{tree_of, trees_in};
@@ -22,7 +22,7 @@ use rpl_tree::{ConvertWord, Expr, LoopText, OneWord, SlotText, TwoWord};
 use rw_base::NoMemory;
 use std::alloc::Global;
 
-/// The code of an expression, behind what is written. Its kind is answered.
+/// Writes the code of an expression, after what is written, and returns its kind.
 #[cycle(code)]
 #[tactic(auto, using(rpl_tree::proofs::Viewed::tree_of_list, rpl_tree::proofs::Viewed::tree_of_call))]
 pub(crate) fn code<'a>(

@@ -1,4 +1,4 @@
-// Worked rules, of which the code does what the rule means.
+//! Proves on worked rules that their code does what the rule means.
 ghost use Rattle.std.specs.Prelude.{[], ◌∷◌, codes, false, neg_ℤ, pos, true};
 ghost use Rattle.rw_base.specs.Quantity.{quantity_max};
 ghost use Rattle.rpl_tree.specs.declared.words.ConvertWord.TheVariants.{ElevationToStorage, StorageToElevation};
@@ -28,7 +28,7 @@ pub fn rulesets()
         (only_slot 1 (pos 100)) }
 {}
 
-/// A firing that ends inside an IF, AND or OR, and branches that aren't taken.
+/// A firing that ends inside an IF, AND or OR, and branches that are not taken.
 pub fn choices()
     ensures first_ends { TreeAlike (choice (truth true) y_now (whole (pos 1))) }
     ensures second_ends { TreeAlike (choice (truth false) (whole (pos 1)) y_now) }
@@ -80,7 +80,7 @@ pub fn tests()
         (one_else_two (two GreaterEqual (whole (pos 2)) (whole (pos 2)))) }
 {}
 
-/// Dates, looks before the run and behind it, and tables.
+/// Dates, looks before the run and after it, and tables.
 #[tactic(auto, unfolding(rw_calendar::specs::Moment::hours_later))]
 pub fn dates()
     ensures between { TreeAlike (two Less_by now now) }
@@ -115,7 +115,7 @@ pub fn lists()
     ensures result { CallAlike both_call }
 {}
 
-/// Statements, and a put that the slot can't have.
+/// Statements, and a put that the slot cannot have.
 pub fn statements()
     ensures both { ActsAlike (x_put (whole (pos 1)) ∷ y_put (whole (pos 2)) ∷ []) }
     ensures none { ActsAlike (x_put (whole (pos 1)) ∷ y_put y_now ∷ []) }

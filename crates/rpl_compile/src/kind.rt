@@ -1,4 +1,4 @@
-// The kinds of values, as code has them.
+//! Computes the kinds of values, as code has them.
 ghost use Rattle.std.specs.Prelude.{◌≡◌};
 ghost use Rattle.rpl_code.specs.declared.kind.ValueKind.TheVariants as ValueKind;
 ghost use Rattle.rpl_tree.specs.Kinds as Kinds;
@@ -10,7 +10,7 @@ ghost use Rattle.rpl_compile.specs.Written as Written;
 use rpl_code::ValueKind;
 use rpl_tree::{OneWord, TwoWord, TypeText};
 
-/// A number of 16 bits. Any other is none that is asked for.
+/// Returns a number of 16 bits. Any other is none that is asked for.
 pub(crate) fn short(n: u64) -> u16
     ensures { result ≡ Written.short n }
 {
@@ -59,14 +59,14 @@ pub(crate) fn list_kind(m: u16, kind: ValueKind) -> ValueKind
     }
 }
 
-/// A list of numbers with the room of another.
+/// Returns the kind of a list of numbers with the room of another list.
 pub(crate) fn numbers_like(kind: ValueKind) -> ValueKind
     ensures { kind_seen result ≡ Value.numbers_kind (Value.room_of (kind_seen kind)) }
 {
     ValueKind::NList(room_of(kind))
 }
 
-/// Of two lists that with more room.
+/// Returns the one with more room of two lists.
 pub(crate) fn join(a: ValueKind, b: ValueKind) -> ValueKind
     ensures { kind_seen result ≡ Kinds.join (kind_seen a) (kind_seen b) }
 {
@@ -105,7 +105,7 @@ pub(crate) fn kind_of_two(word: TwoWord, a: ValueKind, b: ValueKind) -> ValueKin
     }
 }
 
-/// Of values of a type that is written.
+/// Returns the kind of the values of a type that is written.
 pub(crate) fn written_kind(text: &TypeText) -> ValueKind
     ensures { kind_seen result ≡ Written.written_kind (type_of text.now) }
 {

@@ -1,4 +1,4 @@
-// What the definition comes to, in rules whose code was worked out by hand.
+//! Proves what the definition gives for rules whose code was worked out by hand.
 ghost use Rattle.std.specs.Prelude.{◌≡◌, [], ◌∷◌, codes, false, pos, true};
 ghost use Rattle.rpl_code.specs.declared.kind.ValueKind.TheVariants as K;
 ghost use Rattle.rpl_code.specs.declared.instruction.Instruction.TheVariants as I;
@@ -23,8 +23,7 @@ pub fn rulesets()
     ensures none { translate [] ≡ [] }
 {}
 
-/// Numbers are of base units. Operands stand before their operator, the left one first. Of dates there are operators of
-/// their own.
+/// Numbers are of base units. Operands come before their operator, the left one first. Of dates there are operators of their own.
 pub fn operators()
     ensures unit { lines_of_tree (of_unit (pos 2) (codes "dam3"))
         ≡ putting (number_instruction 2000 ∷ []) }

@@ -1,8 +1,8 @@
-//! The code of a ruleset. `specs/Translate.antt` says what it is: a block of each declaration, in order. `code_of`
-//! answers it for a ruleset that was accepted, and `compile` answers it verified. It goes over each tree once, line by
-//! line, and writes the places of jumps once they are known (`specs/Written.antt`). The laws are worked rules, line by
-//! line (`law`), that the code of an accepted ruleset is accepted (`accepted`), and that the code of each rule does what
-//! the rule means (`meaning`; worked rules in `firings`).
+//! Compiles rulesets to code. `specs/Translate.antt` defines that code: a block of each declaration, in order. `code_of` returns
+//! it for a ruleset that was accepted, and `compile` returns it verified. The compiler goes over each tree once, line by line,
+//! and writes the places of jumps once they are known (`specs/Written.antt`). The laws are worked rules, line by line (`law`),
+//! that the code of an accepted ruleset is accepted (`accepted`), and that the code of each rule does what the rule means
+//! (`meaning`; worked rules in `firings`).
 #![tactic(auto)]
 
 pub mod accepted;

@@ -1,4 +1,4 @@
-// That the code of a rule does what the rule means.
+//! Proves that the code of a rule does what the rule means.
 ghost use Rattle.std.specs.Prelude.{◌≡◌, ◌≤◌, ℕ, ℤ, IsSome, List, Ok, Option};
 ghost use Rattle.rw_base.specs.declared.limits.TheConstants.{RULES_MAX};
 ghost use Rattle.rw_base.specs.declared.number.Cell.{Cell};

@@ -1,4 +1,4 @@
-// The lines of operators and words, of literals and names.
+//! Writes the lines of operators and words, of literals and names.
 ghost use Rattle.std.specs.Prelude.{◌≡◌, ◌*ℤ◌, IfOk, OnOk, option_map, unsigned_abs};
 ghost use Rattle.rpl_code.specs.declared.instruction.Instruction.TheVariants as I;
 ghost use Rattle.rw_base.specs.Unit.{units, unit_in};
@@ -18,7 +18,7 @@ use std::str;
 // ---- names and numbers
 
 #[tactic(auto, using(crate::proofs::Texts::spelt_text, crate::proofs::Texts::spelt_none))]
-/// A name. What is no text is none that is asked for.
+/// Returns a name. What is no text is none that is asked for.
 pub(crate) fn name_of(alloc: Global, word: &[u8]) -> Result<Name, NoMemory>
     ensures { IfOk result (λ name. name ≡ Written.spelt_name word.now) }
 {
@@ -40,7 +40,7 @@ fn within(number: i64) -> i64
     if is_quantity(number) { number } else { 0 }
 }
 
-/// A quantity in base units. Any other number is none that is asked for.
+/// Returns a quantity in base units. Any other number is none that is asked for.
 fn in_units(number: i64, factor: i64) -> i64
     ensures { result ≡ Written.within (number *ℤ factor) }
 {
@@ -63,7 +63,7 @@ fn factor_named(word: &[u8]) -> i64
     }
 }
 
-/// A number that is written, with the unit if there is one.
+/// Returns a number that is written, with the unit if there is one.
 pub(crate) fn number_of(number: i64, unit: &Option<Vec<u8>>) -> i64
     ensures { result ≡ Written.number_in_units number (option_map (λ word. word.items) unit.now) }
 {
@@ -75,7 +75,7 @@ pub(crate) fn number_of(number: i64, unit: &Option<Vec<u8>>) -> i64
 
 // ---- words
 
-/// A word before an expression, but KNOWN.
+/// Returns the instruction of a word before an expression, but KNOWN.
 pub(crate) fn one_line(word: OneWord) -> Instruction
     ensures { result ≡ Operations.one_line word }
 {
@@ -154,7 +154,7 @@ fn opposite(w: &mut Writing, test: Instruction) -> Result<(), NoMemory>
     line(w, Instruction::Not)
 }
 
-/// A word between two expressions of these kinds, which are there. OR and AND are branches.
+/// Writes a word between two expressions of these kinds, which are there. OR and AND are branches.
 #[inline(always)]
 pub(crate) fn two_lines(
     w: &mut Writing,
@@ -182,7 +182,7 @@ pub(crate) fn two_lines(
     }
 }
 
-/// How many timesteps ahead. More than a byte holds are none that are asked for.
+/// Returns how many timesteps ahead. A number that a byte cannot hold is none that is asked for.
 pub(crate) fn ahead_of(ahead: i64) -> u8
     ensures { result ≡ Written.byte (unsigned_abs ahead) }
 {

@@ -1,4 +1,4 @@
-// The blocks of declarations, in order.
+//! Writes the blocks of declarations, in order.
 ghost use Rattle.std.specs.Prelude.{◌≡◌, ◌+◌, IfOk, OnOk, drop, map, string_bytes};
 ghost use Rattle.rpl_code.specs.Spelling.{spelt};
 ghost use Rattle.rpl_tree.specs.Seen.{acts_in, declared_of, parameter_of, rules_of, tree_of, type_of};
@@ -14,7 +14,7 @@ use crate::kind::written_kind;
 use crate::known::Known;
 use crate::statement::statements;
 use crate::writing::{Local, Writing, give_room, number};
-use rpl_code::{Block, BlockHead, Kinds, Lines, ValueKind, begin_code, push_block};
+use rpl_code::{Block, BlockHead, Kinds, Lines, SharedKinds, ValueKind, begin_code, push_block};
 use rpl_scope::Scope;
 use rpl_tree::{Declaration, Expr, Param, ParsedRules, Statement, TypeText};
 use rw_base::NoMemory;
@@ -72,6 +72,7 @@ fn rule(alloc: Global, known: &[Known], room: usize, body: &[Statement]) -> Resu
         names: Scope::new(alloc),
         locals: Vec::new(alloc),
         below: Vec::new(alloc),
+        shared: SharedKinds::none(),
         lines: Vec::with_capacity(alloc, room)?,
     };
     statements(known, &mut w, body)?;
@@ -106,6 +107,7 @@ fn begin_function<'a>(
         names,
         locals,
         below: Vec::new(alloc),
+        shared: SharedKinds::none(),
         lines: Vec::with_capacity(alloc, room)?,
     })
 }
@@ -268,7 +270,7 @@ fn written_text(alloc: Global, declarations: &[Declaration]) -> Result<String, N
     Ok(text)
 }
 
-/// The text of the blocks of a ruleset for a basin. `NoMemory` tells nothing of the ruleset.
+/// Returns the text of the blocks of a ruleset for a basin. `NoMemory` says nothing of the ruleset.
 pub(crate) fn text_of(
     alloc: Global,
     rules: &ParsedRules,
@@ -283,7 +285,7 @@ pub(crate) fn text_of(
     Ok(text.into_bytes())
 }
 
-/// The blocks of a ruleset for a basin, which goes. `NoMemory` tells nothing of the ruleset.
+/// Returns the blocks of a ruleset for a basin, and drops the ruleset. `NoMemory` says nothing of the ruleset.
 pub(crate) fn into_blocks(
     alloc: Global,
     rules: ParsedRules,
@@ -298,7 +300,7 @@ pub(crate) fn into_blocks(
     Ok(blocks)
 }
 
-/// The blocks of a ruleset for a basin. `NoMemory` tells nothing of the ruleset.
+/// Returns the blocks of a ruleset for a basin. `NoMemory` says nothing of the ruleset.
 pub(crate) fn blocks_of(
     alloc: Global,
     rules: &ParsedRules,

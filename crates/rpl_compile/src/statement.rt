@@ -1,4 +1,4 @@
-// The code of statements.
+//! Writes the code of statements.
 ghost use Rattle.std.specs.Prelude.{◌≡◌, IfOk, OnOk, length};
 ghost use Rattle.rpl_tree.specs.Seen.{act_of, acts_in, tree_of};
 ghost use Rattle.rpl_tree.specs.Tree.{assign};
@@ -17,7 +17,7 @@ use rpl_code::Instruction;
 use rpl_tree::{Expr, SlotText, Statement};
 use rw_base::NoMemory;
 
-/// The code of statements, behind what is written.
+/// Writes the code of statements, after what is written.
 #[cycle(statements)]
 pub(crate) fn statements<'a>(
     known: &[Known],

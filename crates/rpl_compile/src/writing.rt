@@ -1,4 +1,4 @@
-// What is written of a block so far, and its parts that forms share.
+//! Holds what is written of a block so far, and writes the parts that several forms share.
 ghost use Rattle.std.specs.Prelude.{◌≡◌, ◌+◌, [], ◌∷◌, ◌++◌, IfOk, OnOk, length};
 ghost use Rattle.rpl_code.specs.declared.instruction.Instruction.TheVariants as Instruction;
 ghost use Rattle.rpl_tree.specs.Kinds.{kind_named};
@@ -8,12 +8,12 @@ ghost use Rattle.rpl_compile.specs.Site.{bound, local_named, names_in};
 ghost use Rattle.rpl_compile.specs.Written as Written;
 
 use crate::kind::{is_same_kind, room_of};
-use rpl_code::{Instruction, Kinds, ValueKind};
+use rpl_code::{Instruction, OperandKinds, SharedKinds, ValueKind};
 use rpl_scope::Scope;
 use rw_base::NoMemory;
 use std::alloc::Global;
 
-/// A name's local, and the kind of its values.
+/// The local of a name, and the kind of its values.
 #[derive(Clone, Copy)]
 pub(crate) struct Local {
     pub(crate) kind: ValueKind,
@@ -30,12 +30,14 @@ pub(crate) struct Writing<'a> {
     pub(crate) locals: Vec<ValueKind>,
     /// The kinds of the operands that are there, the last one last.
     pub(crate) below: Vec<ValueKind>,
+    /// What the next target may share of them.
+    pub(crate) shared: SharedKinds,
     pub(crate) lines: Vec<Instruction>,
 }
 
 // ---- lines
 
-/// One line more.
+/// Appends one line.
 pub(crate) fn line(w: &mut Writing, instruction: Instruction) -> Result<(), NoMemory>
     ensures { OnOk result (written_of w.new ≡ Written.with_line instruction (written_of w.old)) }
 {
@@ -52,7 +54,7 @@ fn put_line(w: &mut Writing, place: usize, instruction: Instruction)
     }
 }
 
-/// There is no memory for more blocks, lines or locals than 32 bits can count.
+/// Returns a number in 32 bits. There is no memory for more blocks, lines or locals than 32 bits can count.
 pub(crate) fn number(n: usize) -> Result<u32, NoMemory>
     ensures { IfOk result (λ number. number ≡ n) }
 {
@@ -64,7 +66,7 @@ pub(crate) fn number(n: usize) -> Result<u32, NoMemory>
 
 // ---- operands
 
-/// An operand more.
+/// Adds an operand.
 pub(crate) fn operand(w: &mut Writing, kind: ValueKind) -> Result<(), NoMemory>
     ensures { OnOk result (written_of w.new
         ≡ Written.with_operand (kind_seen kind) (written_of w.old)) }
@@ -73,7 +75,7 @@ pub(crate) fn operand(w: &mut Writing, kind: ValueKind) -> Result<(), NoMemory>
     Ok(())
 }
 
-/// The last operands are taken.
+/// Removes the last operands.
 pub(crate) fn drop_operands(w: &mut Writing, n: usize)
     ensures { written_of w.new ≡ Written.without_operands n (written_of w.old) }
 {
@@ -95,7 +97,7 @@ pub(crate) fn give_room(w: &mut Writing, place: ValueKind, kind: ValueKind) -> R
 
 // ---- names and locals
 
-/// A local more, whose number is answered. Its kind isn't known yet.
+/// Adds a local, and returns its number. Its kind is not known yet.
 pub(crate) fn reserve(w: &mut Writing) -> Result<u32, NoMemory>
     ensures written { OnOk result (written_of w.new ≡ Written.with_local (written_of w.old)) }
     ensures number { IfOk result (λ local. local ≡ length (written_of w.old).locals) }
@@ -114,7 +116,7 @@ pub(crate) fn fill(w: &mut Writing, local: u32, kind: ValueKind)
     }
 }
 
-/// A name for a local.
+/// Adds a name for a local.
 pub(crate) fn add_name<'a>(
     w: &mut Writing<'a>,
     name: &'a [u8],
@@ -127,14 +129,14 @@ pub(crate) fn add_name<'a>(
     w.names.push(name, local)
 }
 
-/// Takes the name away that was added last.
+/// Removes the name that was added last.
 pub(crate) fn drop_name(w: &mut Writing)
     ensures { written_of w.new ≡ Written.without_name (written_of w.old) }
 {
     w.names.pop();
 }
 
-/// The local of a name. Where there is none, no name is asked for.
+/// Returns the local of a name. Where there is none, no name is asked for.
 #[tactic(auto, using(crate::proofs::Found::kind_found, crate::proofs::Found::number_found))]
 pub(crate) fn local_named<'a>(names: &Scope<'a, Local>, name: &'a [u8]) -> Local
     ensures kind { kind_seen result.kind ≡ kind_named (names_in
@@ -149,7 +151,7 @@ pub(crate) fn local_named<'a>(names: &Scope<'a, Local>, name: &'a [u8]) -> Local
 
 // ---- branches
 
-/// A branch to a place that isn't known yet. Its own place is answered.
+/// Begins a branch to a place that is not known yet, and returns its own place.
 pub(crate) fn begin_branch(w: &mut Writing) -> Result<usize, NoMemory>
     ensures written { OnOk result (written_of w.new ≡ Written.with_branch (written_of w.old)) }
     ensures place { IfOk result (λ place. place ≡ length (written_of w.old).lines) }
@@ -159,16 +161,16 @@ pub(crate) fn begin_branch(w: &mut Writing) -> Result<usize, NoMemory>
     Ok(place)
 }
 
-/// A place that is jumped to, where all operands are there.
+/// Writes a place that is jumped to, where all operands are there.
 fn target(w: &mut Writing) -> Result<(), NoMemory>
     ensures { OnOk result (written_of w.new
         ≡ Written.with_line (Instruction.Target (written_of w.old).below) (written_of w.old)) }
 {
-    let kinds = w.below.clone()?;
-    line(w, Instruction::Target(Kinds::of(kinds)))
+    let kinds = OperandKinds::sharing(w.alloc, &w.below, &mut w.shared)?;
+    line(w, Instruction::Target(kinds))
 }
 
-/// Behind the first part. The place of the jump at its end is answered.
+/// Ends the first part of an IF and begins the second, and returns the place of the jump between them.
 pub(crate) fn begin_second(w: &mut Writing, branch: usize) -> Result<usize, NoMemory>
     ensures written { OnOk result (written_of w.new
         ≡ Written.with_second branch (written_of w.old)) }
@@ -182,7 +184,7 @@ pub(crate) fn begin_second(w: &mut Writing, branch: usize) -> Result<usize, NoMe
     Ok(place)
 }
 
-/// Behind the second part of an IF of statements.
+/// Ends the second part of an IF of statements.
 pub(crate) fn end_second(w: &mut Writing, jump: usize) -> Result<(), NoMemory>
     ensures { OnOk result (written_of w.new
         ≡ Written.with_end jump (written_of w.old).below (written_of w.old)) }
@@ -192,7 +194,7 @@ pub(crate) fn end_second(w: &mut Writing, jump: usize) -> Result<(), NoMemory>
     target(w)
 }
 
-/// Behind the second part of an IF that has a value.
+/// Ends the second part of an IF that has a value.
 pub(crate) fn end_value(w: &mut Writing, jump: usize, kind: ValueKind) -> Result<(), NoMemory>
     ensures { OnOk result (written_of w.new
         ≡ Written.with_value_end jump (kind_seen kind) (written_of w.old)) }

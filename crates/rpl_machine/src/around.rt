@@ -1,3 +1,4 @@
+//! Holds what a firing sees: the basin, the values of its slots, the functions that rules call by name, and the timestep.
 use rpl_predef::Predefs;
 use rw_base::StepNo;
 use rw_model::Basin;

@@ -1,3 +1,4 @@
+//! Keeps the blocks that wait for one that they called.
 ghost use Rattle.std.specs.Prelude.{◌≡◌, ◌<◌, ◌∷◌, [], length, IfOk, MatchOption};
 ghost use Rattle.rpl_machine.specs.Steps.{calls_max};
 

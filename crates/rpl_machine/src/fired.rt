@@ -1,3 +1,4 @@
+//! Holds what a firing did.
 use rw_firing::{FireEnd, Look, RulePut};
 
 /// What a firing did.

@@ -1,3 +1,4 @@
+//! Keeps the looks of a firing.
 ghost use Rattle.std.specs.Prelude.{◌≡◌, ◌≤◌, ◌<◌, ◌∷◌, ◌++◌, [], length, vec_capacity, IfOk};
 ghost use Rattle.rpl_machine.specs.Steps.{looks_max};
 

@@ -1,3 +1,4 @@
+//! Keeps the puts of a firing.
 ghost use Rattle.std.specs.Prelude.{◌≡◌, ◌<◌, ◌++◌, ◌∷◌, [], length, IfOk};
 ghost use Rattle.rpl_machine.specs.Steps.{puts_max};
 

@@ -1,3 +1,5 @@
+//! Holds a loop that is gone through.
+
 /// A loop that is gone through: the place where it begins, the word of the local that takes the list's words, counted from those of
 /// the block, for how many words the list has room, how many are left, and how many a mapping has made.
 #[derive(Clone, Copy)]

@@ -1,4 +1,4 @@
-// Expressions of their parts.
+//! Builds expressions from their parts.
 ghost use Rattle.std.specs.Prelude.{◌≡◌, Some, None, IfOk, IfErr, map, max};
 ghost use Rattle.rpl_tree.specs.Tree.{name, literal, call, slot, list, two, at, one, brackets, choice, bind, each, mapped, convert};
 ghost use Rattle.rpl_tree.specs.Seen.{tree_of};
@@ -12,14 +12,14 @@ use crate::token::Span;
 use rpl_tree::{ConvertWord, Expr, LoopText, OneWord, Pair, SlotText, TwoWord};
 use std::alloc::Global;
 
-/// The greater of two depths.
+/// Returns the greater of two depths.
 pub(crate) fn max_of(a: u8, b: u8) -> u8
     ensures { result ≡ max a b }
 {
     if a < b { b } else { a }
 }
 
-/// `value "unit"`.
+/// Builds `value "unit"`.
 pub(crate) fn in_unit(alloc: Global, text: &[u8], value: i64, unit: Span) -> Result<Expr, Stop>
     ensures ok { IfOk result (λ e. tree_of e ≡ literal value (Some (bytes_in text.now unit))) }
     ensures err { IfErr result (λ f. f ≡ Stop.NoMemory) }
@@ -31,7 +31,7 @@ pub(crate) fn in_unit(alloc: Global, text: &[u8], value: i64, unit: Span) -> Res
     })
 }
 
-/// A variable.
+/// Builds a variable.
 pub(crate) fn variable(alloc: Global, text: &[u8], named: Span) -> Result<Expr, Stop>
     ensures ok { IfOk result (λ e. tree_of e ≡ name (bytes_in text.now named)) }
     ensures err { IfErr result (λ f. f ≡ Stop.NoMemory) }
@@ -40,7 +40,7 @@ pub(crate) fn variable(alloc: Global, text: &[u8], named: Span) -> Result<Expr, 
     Ok(Expr::Name(bytes))
 }
 
-/// `Object.Slot`.
+/// Builds `Object.Slot`.
 #[inline(always)]
 pub(crate) fn slot_text(
     alloc: Global,
@@ -57,7 +57,7 @@ pub(crate) fn slot_text(
     Ok(SlotText { object, slot })
 }
 
-/// `Object.Slot`, as an expression.
+/// Builds `Object.Slot` as an expression.
 pub(crate) fn slot_of(
     alloc: Global,
     text: &[u8],
@@ -72,7 +72,7 @@ pub(crate) fn slot_of(
     Ok(Expr::Slot(found))
 }
 
-/// `name(args)`.
+/// Builds `name(args)`.
 pub(crate) fn call_of(
     alloc: Global,
     text: &[u8],
@@ -87,7 +87,7 @@ pub(crate) fn call_of(
     Ok(Expr::Call { name, args })
 }
 
-/// `{items}`.
+/// Builds `{items}`.
 #[tactic(auto, using(crate::proofs::Viewed::tree_of_list))]
 pub(crate) fn list_of(items: Vec<Expr>) -> Expr
     ensures { tree_of result ≡ list (trees_of (map tree_of items.items)) }
@@ -95,7 +95,7 @@ pub(crate) fn list_of(items: Vec<Expr>) -> Expr
     Expr::List(items)
 }
 
-/// A word between two expressions, or before both.
+/// Builds a word between two expressions, or before both.
 #[inline(always)]
 pub(crate) fn two(alloc: Global, word: TwoWord, left: Expr, right: Expr) -> Result<Expr, Stop>
     ensures ok { IfOk result (λ e. tree_of e ≡ two word (tree_of left) (tree_of right)) }
@@ -111,7 +111,7 @@ pub(crate) fn two(alloc: Global, word: TwoWord, left: Expr, right: Expr) -> Resu
     Ok(Expr::Two { word, parts })
 }
 
-/// A word before an expression.
+/// Builds a word before an expression.
 pub(crate) fn one(alloc: Global, word: OneWord, arg: Expr) -> Result<Expr, Stop>
     ensures ok { IfOk result (λ e. tree_of e ≡ one word (tree_of arg)) }
     ensures err { IfErr result (λ f. f ≡ Stop.NoMemory) }
@@ -120,7 +120,7 @@ pub(crate) fn one(alloc: Global, word: OneWord, arg: Expr) -> Result<Expr, Stop>
     Ok(Expr::One { word, arg })
 }
 
-/// `(e)`.
+/// Builds `(e)`.
 pub(crate) fn brackets(alloc: Global, e: Expr) -> Result<Expr, Stop>
     ensures ok { IfOk result (λ r. tree_of r ≡ brackets (tree_of e)) }
     ensures err { IfErr result (λ f. f ≡ Stop.NoMemory) }
@@ -129,7 +129,7 @@ pub(crate) fn brackets(alloc: Global, e: Expr) -> Result<Expr, Stop>
     Ok(Expr::Brackets(inside))
 }
 
-/// `slot[step]`.
+/// Builds `slot[step]`.
 #[inline(always)]
 pub(crate) fn at_step(alloc: Global, slot: Expr, step: Expr) -> Result<Expr, Stop>
     ensures ok { IfOk result (λ e. tree_of e ≡ at (tree_of slot) (tree_of step)) }
@@ -145,7 +145,7 @@ pub(crate) fn at_step(alloc: Global, slot: Expr, step: Expr) -> Result<Expr, Sto
     Ok(Expr::At(parts))
 }
 
-/// `IF condition THEN yes ELSE no ENDIF`.
+/// Builds `IF condition THEN yes ELSE no ENDIF`.
 pub(crate) fn choice(alloc: Global, condition: Expr, yes: Expr, no: Expr) -> Result<Expr, Stop>
     ensures ok { IfOk result (λ e. tree_of e ≡ choice (tree_of condition) (tree_of yes)
         (tree_of «no»)) }
@@ -155,7 +155,7 @@ pub(crate) fn choice(alloc: Global, condition: Expr, yes: Expr, no: Expr) -> Res
     Ok(Expr::If { condition, yes, no })
 }
 
-/// `LET name := value IN body ENDLET`.
+/// Builds `LET name := value IN body ENDLET`.
 pub(crate) fn binding(
     alloc: Global,
     text: &[u8],
@@ -191,7 +191,7 @@ fn loop_text(alloc: Global, text: &[u8], names: LoopNames) -> Result<Box<LoopTex
     boxed(alloc, LoopText { name, total })
 }
 
-/// `FOR name IN list WITH total := first DO body ENDFOR`.
+/// Builds `FOR name IN list WITH total := first DO body ENDFOR`.
 pub(crate) fn for_each(
     alloc: Global,
     text: &[u8],
@@ -214,7 +214,7 @@ pub(crate) fn for_each(
     })
 }
 
-/// `MAP name IN list DO body ENDMAP`.
+/// Builds `MAP name IN list DO body ENDMAP`.
 pub(crate) fn mapping(
     alloc: Global,
     text: &[u8],
@@ -231,7 +231,7 @@ pub(crate) fn mapping(
     Ok(Expr::Map { name, list, body })
 }
 
-/// A conversion by an object's table.
+/// Builds a conversion by an object's table.
 pub(crate) fn conversion(
     alloc: Global,
     text: &[u8],

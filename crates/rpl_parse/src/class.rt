@@ -1,15 +1,16 @@
+//! Classifies bytes by what they can be part of, and counts those of a class at the front of a text.
 ghost use Rattle.std.specs.Prelude.{◌≡◌, ◌≤◌, ◌+◌, length};
 ghost use Rattle.rw_base.specs.Byte.{is_letter};
 ghost use Rattle.rpl_parse.specs.Scan.{is_of, is_blank, run, head_is};
 
 use rw_base::is_digit;
 
-/// What a byte may be part of.
+/// The classes of bytes, by what a byte may be part of.
 #[derive(Clone, Copy)]
 pub(crate) enum Class {
     /// A number.
     Digit,
-    /// A word, behind its first letter.
+    /// A word, after its first letter.
     WordByte,
     /// A comment.
     OfLine,
@@ -40,7 +41,7 @@ fn is_of(class: Class, b: u8) -> bool
     }
 }
 
-/// How many bytes at the front are of a class.
+/// Counts the bytes at the front that are of a class.
 pub(crate) fn run(class: Class, bytes: &[u8]) -> usize
     ensures value { result ≡ run class bytes.now }
     ensures within { result ≤ length bytes.now }
@@ -53,7 +54,7 @@ pub(crate) fn run(class: Class, bytes: &[u8]) -> usize
     bytes.len()
 }
 
-/// Whether that byte is at the front.
+/// Returns whether that byte is at the front.
 pub(crate) fn head_is(byte: u8, bytes: &[u8]) -> bool
     ensures { result ≡ head_is byte bytes.now }
 {

@@ -1,4 +1,4 @@
-// One declaration, of all its tokens.
+//! Reads one declaration from all of its tokens.
 ghost use Rattle.std.specs.Prelude.{◌≡◌, IfOk, IfErr, map};
 ghost use Rattle.rpl_tree.specs.Tree.{rule};
 ghost use Rattle.rpl_tree.specs.Seen.{declared_of, act_of, parameter_of};
@@ -16,7 +16,7 @@ use rpl_tree::{Declaration, Param, Statement};
 use rw_base::limits::DEPTH_MAX;
 use std::alloc::Global;
 
-/// The declaration that all these tokens spell.
+/// Returns the declaration that all these tokens spell.
 pub(crate) fn declaration(
     alloc: Global,
     text: &[u8],
@@ -33,7 +33,7 @@ pub(crate) fn declaration(
     function(alloc, text, rest)
 }
 
-/// A rule, behind its first word.
+/// Reads a rule, after its first word.
 fn rule(alloc: Global, text: &[u8], tokens: &[TokenAt]) -> Result<Declaration, Stop>
     ensures { GivesDeclared result (rule_behind (toks text.now tokens.now)) }
 {
@@ -55,7 +55,7 @@ fn rule_of(name: Vec<u8>, body: Vec<Statement>) -> Declaration
     Declaration::Rule { name, body }
 }
 
-/// A function, behind its first word.
+/// Reads a function, after its first word.
 fn function(alloc: Global, text: &[u8], tokens: &[TokenAt]) -> Result<Declaration, Stop>
     ensures { GivesDeclared result (function_behind (toks text.now tokens.now)) }
 {
@@ -69,7 +69,7 @@ fn function(alloc: Global, text: &[u8], tokens: &[TokenAt]) -> Result<Declaratio
     function_body(alloc, text, name, params, rest)
 }
 
-/// A function, behind its parameters.
+/// Reads a function, after its parameters.
 fn function_body(
     alloc: Global,
     text: &[u8],

@@ -1,4 +1,4 @@
-// Expressions, from the front of some tokens. Each function answers the tree, its depth and the tokens behind it.
+//! Reads expressions from the front of some tokens. Each function returns the tree, its depth and the tokens after it.
 ghost use Rattle.std.specs.Prelude.{◌≡◌, ◌≤◌, ◌<◌, ◌+◌, ◌-◌, ◌++◌, ◌∷◌, [], IfOk, IfErr, OnOk, length, map, option_map, option_and_then, max, Some};
 ghost use Rattle.rw_base.specs.declared.limits.TheConstants.{DEPTH_MAX};
 ghost use Rattle.rpl_tree.specs.Seen.{tree_of};
@@ -19,7 +19,7 @@ use crate::token::{Mark, Span, Token, TokenAt};
 use rpl_tree::{ConvertWord, Expr, OneWord, TwoWord};
 use std::alloc::Global;
 
-/// An expression of a level, at most so deep.
+/// Reads an expression of a level, of at most this depth.
 #[cycle(parse)]
 #[tactic(auto, unfolding(crate::specs::Reading::read_tree))]
 pub(crate) fn expression<'a>(
@@ -39,7 +39,7 @@ pub(crate) fn expression<'a>(
     level(alloc, text, tokens, limit - 1, k)
 }
 
-/// The level at which tokens begin, of those up to k: that of a word that stands first, or 0. So an expression in brackets
+/// Returns the level at which tokens begin, of those up to k: that of a word that comes first, or 0. So an expression in brackets
 /// takes one frame of the stack for all levels.
 fn start_of(text: &[u8], tokens: &[TokenAt], k: u8) -> u8
     ensures { StartsAt k (toks text.now tokens.entry.now) result }
@@ -74,7 +74,7 @@ fn level<'a>(
     climb(alloc, text, first, deep, rest, depth, start, k)
 }
 
-/// What stands at the level at which tokens begin: behind a word, or a primary and its dates.
+/// Reads what is at the level at which tokens begin: what follows a word, or a primary and its dates.
 #[cycle(parse)]
 #[tactic(auto, unfolding(crate::specs::Reading::level))]
 fn begun<'a>(
@@ -104,7 +104,7 @@ fn begun<'a>(
     Ok((whole, deep + 1, rest))
 }
 
-/// The chains of the levels above one, up to k.
+/// Reads the chains of the levels above one, up to k.
 #[cycle(parse)]
 #[tactic(auto, unfolding(crate::specs::Reading::climbed))]
 fn climb<'a>(
@@ -139,7 +139,7 @@ fn climb<'a>(
     Ok((left, deep, rest))
 }
 
-/// The other operands of a level, unless a word stands before its expressions.
+/// Reads the other operands of a level, unless a word comes before its expressions.
 #[cycle(parse)]
 fn rise<'a>(
     alloc: Global,
@@ -185,7 +185,7 @@ fn primary<'a>(
     }
 }
 
-/// A number, and its unit if there is one.
+/// Reads a number, and its unit if there is one.
 fn number<'a>(
     alloc: Global,
     text: &[u8],
@@ -342,7 +342,7 @@ fn maps<'a>(
     Ok((whole, max_of(a, b) + 1, rest))
 }
 
-/// A word, and an expression in brackets.
+/// Reads a word, and an expression in brackets.
 #[cycle(parse)]
 fn of_one<'a>(
     alloc: Global,
@@ -363,7 +363,7 @@ fn of_one<'a>(
     Ok((whole, deep + 1, rest))
 }
 
-/// A word, and two expressions in brackets.
+/// Reads a word, and two expressions in brackets.
 #[cycle(parse)]
 fn of_two<'a>(
     alloc: Global,
@@ -408,7 +408,7 @@ fn converts<'a>(
     Ok((whole, deep + 1, rest))
 }
 
-/// An expression, and a mark behind it.
+/// Reads an expression, and a mark after it.
 #[cycle(parse)]
 fn up_to<'a>(
     alloc: Global,
@@ -498,7 +498,7 @@ fn braces<'a>(
     Ok((list_of(items), most + 1, rest))
 }
 
-/// Expressions that are parted by commas.
+/// Reads expressions that are separated by commas.
 #[cycle(parse)]
 fn items<'a>(
     alloc: Global,
@@ -547,7 +547,7 @@ fn more<'a>(
     Ok((items, most, rest))
 }
 
-/// A date, and the bracket behind it. That of most slots is t, which is told by two tokens.
+/// Reads a date, and the bracket after it. That of most slots is t, which is recognized by two tokens.
 #[cycle(parse)]
 fn date<'a>(
     alloc: Global,
@@ -567,7 +567,7 @@ fn date<'a>(
     up_to(alloc, text, Mark::RightBracket, tokens, depth)
 }
 
-/// The dates in brackets behind a slot.
+/// Reads the dates in brackets after a slot.
 #[cycle(parse)]
 #[tactic(auto, unfolding(crate::specs::Reading::steps))]
 fn steps<'a>(
@@ -601,7 +601,7 @@ fn steps<'a>(
     Ok((slot, deep, rest))
 }
 
-/// The other operands of a level.
+/// Reads the other operands of a level.
 #[cycle(parse)]
 #[inline(always)]
 #[tactic(auto, unfolding(crate::specs::Reading::chain))]
@@ -639,7 +639,7 @@ fn chain<'a>(
     Ok((left, deep, rest))
 }
 
-/// What stands behind an operator of a level: an expression that is tighter, since chains associate to the left.
+/// Reads what follows an operator of a level: an expression that is tighter, since chains associate to the left.
 #[cycle(parse)]
 fn operand<'a>(
     alloc: Global,

@@ -1,3 +1,4 @@
+//! Finds which piece is at the front of some bytes: a token, or what separates tokens.
 ghost use Rattle.std.specs.Prelude.{◌≡◌, ◌≤◌, ◌<◌, ◌+◌, ◌∷◌, length, ℕ, take, MatchOption};
 ghost use Rattle.rpl_parse.specs.Scan.{number_of, head_is, greatest, number_front, quoted_front, word_front, single, short_or_long, mark_front, front};
 ghost use Rattle.rpl_parse.specs.Pieces.{piece_seen, fits_piece};
@@ -7,18 +8,18 @@ use crate::reserved::reserved;
 use crate::token::Mark;
 use rw_base::{QUANTITY_MAX, is_digit};
 
-/// What stands at the front of some bytes, and of how many.
+/// The pieces at the front of some bytes, each with its number of bytes.
 #[derive(Clone, Copy)]
 pub(crate) enum Piece {
-    /// What parts tokens.
+    /// What separates tokens.
     Gap(usize),
     /// A reserved word or a mark.
     Mark(Mark, usize),
     /// Another word.
     Name(usize),
-    /// A number, and of how many digits.
+    /// A number, and its number of digits.
     Number(u64, usize),
-    /// A string, and how many bytes stand between its quotes.
+    /// A string, and how many bytes are between its quotes.
     Text(usize),
     /// No token.
     Bad,
@@ -27,7 +28,7 @@ pub(crate) enum Piece {
 // The greatest number.
 const GREATEST: u64 = QUANTITY_MAX as u64;
 
-/// What digits stand for, if that isn't above Q.
+/// Returns the number that digits spell, if that is not above Q.
 fn number_of(digits: &[u8]) -> Option<u64>
     ensures { MatchOption result (greatest < number_of 0 digits.now) (λ v. (v
         ≡ number_of 0 digits.now) × (v ≤ greatest)) }
@@ -126,7 +127,7 @@ fn mark_front(b: u8, bytes: &[u8]) -> Piece
     }
 }
 
-/// What stands at the front.
+/// Returns the piece at the front.
 #[inline(always)]
 pub(crate) fn front(bytes: &[u8]) -> Piece
     ensures value { piece_seen bytes.now result ≡ front bytes.now }

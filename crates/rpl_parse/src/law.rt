@@ -1,4 +1,4 @@
-// What the definitions of this crate come to: worked tokens and declarations, and that a text is read in one way.
+//! Proves what the definitions of this crate mean for worked tokens and declarations, and that a text is read in one way.
 ghost use Rattle.std.specs.Prelude.{◌≡◌, ◌≤◌, ℕ, List, [], ◌∷◌, Ok, Err, codes, pos};
 ghost use Rattle.rw_base.specs.Quantity.{quantity_max};
 ghost use Rattle.rpl_tree.specs.Tree.{Declared, brackets};
@@ -8,6 +8,7 @@ ghost use Rattle.rpl_tree.specs.Bounds.{AreLimited};
 ghost use Rattle.rpl_parse.specs.declared.token.Mark.TheVariants as Mark;
 ghost use Rattle.rpl_parse.specs.Tokens.{Tok, mark, word, digits, text, lined};
 ghost use Rattle.rpl_parse.specs.Scan.{tokens, all, bad_at, greatest};
+ghost use Rattle.rpl_parse.specs.declared.front.TheConstants.{GREATEST};
 ghost use Rattle.rpl_tree.specs.Depth.{depth};
 ghost use Rattle.rpl_parse.specs.Grammar.{Spells};
 ghost use Rattle.rpl_parse.specs.Statements.{IsDeclaration};
@@ -26,7 +27,7 @@ pub fn bounds()
     ensures all { (rules : ParsedRules) → IsRuleset rules → AreLimited (rules_of rules) }
 {}
 
-/// Tokens are the longest; a word that begins as a reserved word is a name; comments and blanks part tokens.
+/// Tokens are the longest; a word that begins as a reserved word is a name; comments and blanks separate tokens.
 #[tactic(auto, unfolding(crate::specs::Scan::scan))]
 pub fn worked_tokens()
     ensures longest { tokens (codes "<=>") ≡ all (lined (mark Mark.LessEqual) 1
@@ -47,8 +48,8 @@ pub fn words_and_marks()
     ensures marks { tokens every_sign ≡ marked sign_marks }
 {}
 
-/// A byte that no token begins with, a string that isn't closed in its line, 19 digits and a number above Q are bad
-/// tokens, at the line in which they begin.
+/// A byte that no token begins with, a string that is not closed in its line, 19 digits and a number above Q are bad tokens, at
+/// the line in which they begin.
 #[tactic(auto, unfolding(crate::specs::Scan::scan))]
 pub fn worked_bad_tokens()
     ensures byte { tokens (codes "t\n@\n@") ≡ bad_at 2 }
@@ -59,7 +60,7 @@ pub fn worked_bad_tokens()
 {}
 
 /// Chains associate to the left. From the tightest to the loosest there are `[ ]`, `-` before one part, products, sums,
-/// comparisons, NOT, AND, OR: each stands in the next one without brackets, on either side. Brackets are a node.
+/// comparisons, NOT, AND, OR: each can be part of the next one without brackets, on either side. Brackets are a node.
 pub fn worked_expressions()
     ensures chain { Spells from_the_left differences [] }
     ensures logic { Spells or_last logical [] }
@@ -74,7 +75,7 @@ pub fn worked_rules()
     ensures twice { (d : Declared) → ¬ IsDeclaration (setting comparisons) d }
 {}
 
-/// Declarations are cut behind the first word that ends one; what is left is one, too.
+/// Declarations are cut after the first word that ends one; what is left is one, too.
 #[tactic(auto, unfolding(crate::specs::Scan::scan))]
 pub fn worked_pieces()
     ensures two { pieces
@@ -82,4 +83,9 @@ pub fn worked_pieces()
         ≡ piece (mark Mark.EndRule ∷ []) 1 ∷ piece (mark Mark.Rule ∷ mark Mark.Is ∷ []) 2 ∷ [] }
     ensures none { IsReading [] (Ok []) }
     ensures bad { IsReading (codes "RULE @ 0") (Err (bad_token 1)) }
+{}
+
+/// The greatest number that is read of a ruleset.
+pub fn limits_of_rulesets()
+    ensures number { GREATEST ≡ 100000000000000000 }
 {}

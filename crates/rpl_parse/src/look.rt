@@ -1,4 +1,4 @@
-// What stands at the front of some tokens. The text is there for the clauses, which speak of the bytes of its tokens.
+//! Looks at the front of some tokens. The text is there for the clauses, which speak of the bytes of its tokens.
 ghost use Rattle.std.specs.Prelude.{◌≡◌, ◌-◌, IfOk, IfErr, option_map, take, drop};
 ghost use Rattle.rpl_parse.specs.Reading.{behind, behind_name, name_before, now_before, has_operator, turn, turns_of, prefix_of, operator};
 ghost use Rattle.rpl_parse.specs.Grammar.{looseness_of, mark_of_one};
@@ -9,7 +9,7 @@ use crate::token::{Mark, Span, Token, TokenAt};
 use rpl_tree::{OneWord, TwoWord};
 use std::alloc::Global;
 
-/// The tokens behind a mark.
+/// Returns the tokens after a mark.
 pub(crate) fn behind<'a>(_text: &[u8], mark: Mark, tokens: &'a [TokenAt]) -> Option<&'a [TokenAt]>
     ensures { option_map (λ r. toks _text.now r.now) result ≡ behind mark
         (toks _text.now tokens.entry.now) }
@@ -29,7 +29,7 @@ fn is_same(a: Mark, b: Mark) -> bool
     a == b
 }
 
-/// The name at the front.
+/// Returns the name at the front, and the tokens after it.
 pub(crate) fn behind_name<'a>(_text: &[u8], tokens: &'a [TokenAt]) -> Option<(Span, &'a [TokenAt])>
     ensures { option_map (λ r. record {
       called = bytes_in _text.now r.0;
@@ -45,7 +45,7 @@ pub(crate) fn behind_name<'a>(_text: &[u8], tokens: &'a [TokenAt]) -> Option<(Sp
     }
 }
 
-/// A name, and a mark behind it.
+/// Returns the name at the front, and the tokens after the mark that follows it.
 pub(crate) fn name_before<'a>(
     text: &[u8],
     mark: Mark,
@@ -61,7 +61,7 @@ pub(crate) fn name_before<'a>(
     Some((name, rest))
 }
 
-/// `t`, and a mark behind it.
+/// Returns the tokens after `t` and a mark.
 pub(crate) fn now_before<'a>(
     text: &[u8],
     mark: Mark,
@@ -74,7 +74,7 @@ pub(crate) fn now_before<'a>(
     behind(text, mark, rest)
 }
 
-/// Whether an operator stands at the front, of whatever level.
+/// Returns whether an operator, of whatever level, is at the front.
 pub(crate) fn has_operator(_text: &[u8], tokens: &[TokenAt]) -> bool
     ensures { result ≡ has_operator (toks _text.now tokens.now) }
 {
@@ -90,7 +90,7 @@ pub(crate) fn has_operator(_text: &[u8], tokens: &[TokenAt]) -> bool
     }
 }
 
-/// An operator of a level.
+/// Returns the operator of a level at the front, and the tokens after it.
 pub(crate) fn turn<'a>(
     _text: &[u8],
     k: u8,
@@ -150,14 +150,14 @@ fn looseness(word: TwoWord) -> u8
     }
 }
 
-/// How many operators of a level an expression that is so deep may have.
+/// Returns how many operators of a level an expression of this depth may have.
 pub(crate) fn turns(k: u8, depth: u8) -> u8
     ensures { result ≡ turns_of k depth }
 {
     if k == 4 { 1 } else { depth }
 }
 
-/// The word that stands before an expression of a level.
+/// Returns the word that is before an expression of a level.
 pub(crate) fn prefix(k: u8) -> Option<OneWord>
     ensures { result ≡ prefix_of k }
 {
@@ -170,7 +170,7 @@ pub(crate) fn prefix(k: u8) -> Option<OneWord>
     }
 }
 
-/// The mark of a word.
+/// Returns the mark of a word.
 pub(crate) fn mark_of_one(word: OneWord) -> Mark
     ensures { result ≡ mark_of_one word }
 {
@@ -185,7 +185,7 @@ pub(crate) fn mark_of_one(word: OneWord) -> Mark
     }
 }
 
-/// A copy of the bytes between two places.
+/// Copies the bytes between two places.
 pub(crate) fn copied(alloc: Global, text: &[u8], span: Span) -> Result<Vec<u8>, Stop>
     ensures ok { IfOk result (λ v. v.items ≡ bytes_in text.now span) }
     ensures err { IfErr result (λ f. f ≡ Stop.NoMemory) }
@@ -196,7 +196,7 @@ pub(crate) fn copied(alloc: Global, text: &[u8], span: Span) -> Result<Vec<u8>, 
     }
 }
 
-/// The bytes between two places; those that aren't there are left out.
+/// Returns the bytes between two places; those that are not there are left out.
 fn between(text: &[u8], start: usize, end: usize) -> &[u8]
     ensures { result.now ≡ take (end - start) (drop start text.now) }
 {

@@ -1,10 +1,10 @@
-// What takes memory, for a part of any type: nothing but the want of it is told.
+//! Allocates parts of a tree, of any type. The one error is want of memory.
 ghost use Rattle.std.specs.Prelude.{◌≡◌, ◌++◌, ◌∷◌, [], IfOk, IfErr, OnOk};
 
 use crate::stop::Stop;
 use std::alloc::Global;
 
-/// A box.
+/// Makes a box.
 #[inline(always)]
 pub(crate) fn boxed<T: Drop>(alloc: Global, value: T) -> Result<Box<T>, Stop>
     ensures ok { IfOk result (λ b. b.value ≡ value) }
@@ -16,7 +16,7 @@ pub(crate) fn boxed<T: Drop>(alloc: Global, value: T) -> Result<Box<T>, Stop>
     }
 }
 
-/// Two boxes.
+/// Makes two boxes.
 #[inline(always)]
 pub(crate) fn pair<T: Drop>(alloc: Global, one: T, other: T) -> Result<(Box<T>, Box<T>), Stop>
     ensures one { IfOk result (λ both. both.0.value ≡ one) }
@@ -28,7 +28,7 @@ pub(crate) fn pair<T: Drop>(alloc: Global, one: T, other: T) -> Result<(Box<T>, 
     Ok((one, other))
 }
 
-/// Three boxes.
+/// Makes three boxes.
 pub(crate) fn three<T: Drop>(
     alloc: Global,
     one: T,
@@ -45,7 +45,7 @@ pub(crate) fn three<T: Drop>(
     Ok((one, other, third))
 }
 
-/// One item more.
+/// Appends an item.
 pub(crate) fn pushed<T: Drop>(items: &mut Vec<T>, one: T) -> Result<(), Stop>
     ensures ok { OnOk result (items.new.items ≡ items.old.items ++ one ∷ []) }
     ensures err { IfErr result (λ f. f ≡ Stop.NoMemory) }

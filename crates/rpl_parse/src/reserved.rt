@@ -1,3 +1,4 @@
+//! Recognizes the reserved words of the language.
 ghost use Rattle.std.specs.Prelude.{◌≡◌, nat_eq};
 ghost use Rattle.std.specs.Cmp.Lexicographic.{pointwise};
 ghost use Rattle.rpl_parse.specs.Scan.{look_up, declaration_words, block_words, words_of_values, reserved};
@@ -10,7 +11,7 @@ fn is_word(a: &[u8], b: &[u8]) -> bool
     a == b
 }
 
-/// The mark of a reserved word.
+/// Returns the mark of a reserved word.
 #[inline(never)]
 pub(crate) fn reserved(word: &[u8]) -> Option<Mark>
     ensures { result ≡ reserved word.now }

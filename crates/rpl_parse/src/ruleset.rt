@@ -1,3 +1,4 @@
+//! Reads a text as a ruleset, declaration by declaration, or finds its first fault.
 ghost use Rattle.std.specs.Prelude.{◌≡◌, ◌≤◌, ◌<◌, ◌+◌, ◌-◌, ◌^◌, ◌++◌, ◌∷◌, [], IfOk, IfErr, IfSome, OnOk, length, map};
 ghost use Rattle.rw_base.specs.declared.limits.TheConstants.{TEXT_MAX};
 ghost use Rattle.rpl_tree.specs.Seen.{declared_of, rules_of};
@@ -17,8 +18,8 @@ use rpl_tree::{Declaration, ParsedRules};
 use rw_base::limits::RULES_MAX;
 use std::alloc::Global;
 
-/// The rules that a text spells, or why it is no ruleset. All tokens are judged first, and then the declarations in order,
-/// each for too many before its tokens. `NoMemory` says nothing of the text. `docs/LANGUAGE.md` has the language, and its
+/// Returns the rules that a text spells, or why it is no ruleset. All tokens are judged first, and then the declarations in
+/// order, each for too many before its tokens. `NoMemory` says nothing of the text. `docs/LANGUAGE.md` has the language, and its
 /// limits under "Limits, costs and budgets".
 pub fn parse(alloc: Global, text: &[u8]) -> Result<ParsedRules, ParseFault>
     requires { length text.now ≤ TEXT_MAX }
@@ -28,7 +29,7 @@ pub fn parse(alloc: Global, text: &[u8]) -> Result<ParsedRules, ParseFault>
     rules_in(alloc, text)
 }
 
-/// What is due for a text.
+/// Returns what is due for a text.
 fn rules_in(alloc: Global, text: &[u8]) -> Result<ParsedRules, ParseFault>
     requires { length text.now ≤ TEXT_MAX }
     ensures reading { TellsDue (IsReading text.now) rules_of result }
@@ -40,7 +41,7 @@ fn rules_in(alloc: Global, text: &[u8]) -> Result<ParsedRules, ParseFault>
     }
 }
 
-/// A fault of a text whose tokens are judged up to a place, unless one from there on is bad, which comes first.
+/// Returns the fault of a text whose tokens are judged up to a place, unless one from there on is bad, which comes first.
 fn unless_bad(text: &[u8], from: Place, fault: ParseFault) -> ParseFault
     requires room { length text.now ≤ TEXT_MAX }
     requires inside { IsPlaceIn text.now from }
@@ -56,7 +57,7 @@ fn unless_bad(text: &[u8], from: Place, fault: ParseFault) -> ParseFault
     }
 }
 
-/// The declaration of these tokens, which is the one of a number behind so many rules and functions.
+/// Returns the declaration of these tokens, which is the one of this number after so many rules and functions.
 fn judged(
     alloc: Global,
     text: &[u8],
@@ -82,7 +83,7 @@ fn judged(
     }
 }
 
-/// The fault of a scanner that stops.
+/// Returns the fault for a scanner that stops.
 fn fault_of(stop: ScanStop) -> ParseFault
     ensures { result ≡ scan_fault stop }
 {
@@ -92,7 +93,7 @@ fn fault_of(stop: ScanStop) -> ParseFault
     }
 }
 
-/// The declarations of a text, or what is refused first. Of its tokens no more than a declaration's are there at a time.
+/// Returns the declarations of a text, or what is refused first. Of its tokens no more than a declaration's are there at a time.
 fn declarations(alloc: Global, text: &[u8]) -> Result<Vec<Declaration>, ParseFault>
     requires { length text.now ≤ TEXT_MAX }
     ensures { TellsDue (IsReading text.now) (λ found. map declared_of found.items) result }
@@ -123,7 +124,7 @@ fn declarations(alloc: Global, text: &[u8]) -> Result<Vec<Declaration>, ParseFau
     Ok(found)
 }
 
-/// Whether this is the 201st rule or function.
+/// Returns whether this is the 201st rule or function.
 fn is_full(text: &[u8], tokens: &[TokenAt], rules: u32, functions: u32) -> bool
     ensures { result ≡ is_full (toks text.now tokens.now) rules functions }
 {

@@ -1,3 +1,4 @@
+//! Cuts a text into tokens, a declaration at a time, and finds the line of the first bad token.
 ghost use Rattle.std.specs.Prelude.{◌≡◌, ◌≤◌, ◌<◌, ◌+◌, ◌-◌, ◌^◌, ◌++◌, ◌∷◌, List, [], IfOk, IfErr, OnOk, length, drop, MatchOption};
 ghost use Rattle.rw_base.specs.declared.limits.TheConstants.{TEXT_MAX};
 ghost use Rattle.rpl_parse.specs.Cut.{IsPlaceIn, TakesUp, scanned_at};
@@ -10,19 +11,19 @@ use crate::cut::is_end;
 use crate::front::{Piece, front};
 use crate::token::{Span, Token, TokenAt};
 
-/// Why a text has no tokens.
+/// The reasons why a text has no tokens.
 #[derive(Clone, Copy)]
 pub(crate) enum ScanStop {
-    /// The line of the first bad token.
+    /// The first bad token is in this line.
     BadToken(u32),
-    /// Memory ran out.
+    /// There was no memory.
     NoMemory,
 }
 
 /// A place of a text from which it is read on, and its line.
 #[derive(Clone, Copy)]
 pub(crate) struct Place {
-    /// How many bytes are before it.
+    /// The number of bytes before it.
     pub(crate) at: usize,
     /// The line, counted from 1.
     pub(crate) line: u32,
@@ -31,9 +32,9 @@ pub(crate) struct Place {
 /// What is found at a place.
 #[derive(Clone, Copy)]
 enum Found {
-    /// Nothing that stands between tokens, of so many bytes.
+    /// No token, but this many bytes that separate tokens.
     Gap(usize),
-    /// A token, of so many bytes.
+    /// A token of this many bytes.
     Token(Token, usize),
     /// No token.
     Bad,
@@ -50,7 +51,7 @@ fn span(start: usize, length: usize) -> Span
     }
 }
 
-/// The bytes from a place on.
+/// Returns the bytes from a place on.
 fn behind(at: usize, text: &[u8]) -> &[u8]
     requires { at ≤ length text.now }
     ensures { result.now ≡ drop at text.now }
@@ -58,7 +59,7 @@ fn behind(at: usize, text: &[u8]) -> &[u8]
     &text[at..]
 }
 
-/// What stands at a place of the text.
+/// Returns what is at a place of the text.
 #[inline(always)]
 fn found_at(text: &[u8], at: usize) -> Found
     requires room { length text.now ≤ TEXT_MAX }
@@ -75,7 +76,7 @@ fn found_at(text: &[u8], at: usize) -> Found
     }
 }
 
-/// Whether a space is at a place of the text: most of what parts tokens is one.
+/// Returns whether a space is at a place of the text: most of what separates tokens is one.
 #[inline(always)]
 fn is_space(text: &[u8], at: usize) -> bool
     requires { at < length text.now }
@@ -84,7 +85,7 @@ fn is_space(text: &[u8], at: usize) -> bool
     head_is(32, behind(at, text))
 }
 
-/// Takes up the tokens of the declaration at a place, each the longest, and answers the place behind them. There are none where
+/// Appends the tokens of the declaration at a place, each the longest, and returns the place after them. There are none where
 /// nothing is left.
 pub(crate) fn next_tokens(
     text: &[u8],
@@ -123,7 +124,7 @@ pub(crate) fn next_tokens(
     Ok(Place { at, line })
 }
 
-/// The line of the first bad token from a place on.
+/// Returns the line of the first bad token from a place on.
 pub(crate) fn bad_line(text: &[u8], from: Place) -> Option<u32>
     requires room { length text.now ≤ TEXT_MAX }
     requires inside { IsPlaceIn text.now from }

@@ -1,4 +1,4 @@
-// Statements, from the front of some tokens.
+//! Reads statements from the front of some tokens.
 ghost use Rattle.std.specs.Prelude.{◌≡◌, ◌≤◌, ◌<◌, ◌+◌, ◌-◌, ◌++◌, ◌∷◌, [], IfOk, IfErr, OnOk, map, option_map, option_and_then};
 ghost use Rattle.rw_base.specs.declared.limits.TheConstants.{DEPTH_MAX};
 ghost use Rattle.rpl_tree.specs.Tree.{assign, branch, with_name};
@@ -18,7 +18,7 @@ use crate::token::{Mark, Span, Token, TokenAt};
 use rpl_tree::{Expr, Statement};
 use std::alloc::Global;
 
-/// What an assignment sets, behind the name of its object.
+/// What an assignment sets, after the name of its object.
 #[derive(Clone, Copy)]
 struct Target {
     /// The slot.
@@ -27,7 +27,7 @@ struct Target {
     ahead: i64,
 }
 
-/// Statements that are at most so deep.
+/// Reads statements of at most this depth.
 #[cycle(acts)]
 #[tactic(auto, unfolding(crate::specs::ReadingActs::more_acts))]
 pub(crate) fn statements<'a>(
@@ -53,7 +53,7 @@ pub(crate) fn statements<'a>(
     Ok((acts, most, rest))
 }
 
-/// The statement at the front, if one begins there.
+/// Reads the statement at the front, if one begins there.
 #[cycle(acts)]
 fn statement<'a>(
     alloc: Global,
@@ -86,7 +86,7 @@ fn statement<'a>(
     Ok(Some(found))
 }
 
-/// Whether a statement begins.
+/// Returns whether a statement begins.
 fn begins(_text: &[u8], tokens: &[TokenAt]) -> bool
     ensures { result ≡ begins_act (toks _text.now tokens.now) }
 {
@@ -140,7 +140,7 @@ fn assignment(
     })
 }
 
-/// What is set, behind the name of its object.
+/// Reads what is set, after the name of its object.
 fn behind_target<'a>(text: &[u8], tokens: &'a [TokenAt]) -> Option<(Target, &'a [TokenAt])>
     ensures { option_map (λ r. record {
       slot = bytes_in text.now r.0.slot;
@@ -168,7 +168,7 @@ fn ahead<'a>(text: &[u8], tokens: &'a [TokenAt]) -> Option<(i64, &'a [TokenAt])>
     }
 }
 
-/// The number at the front.
+/// Returns the number at the front, and the tokens after it.
 pub(crate) fn behind_number<'a>(_text: &[u8], tokens: &'a [TokenAt]) -> Option<(i64, &'a [TokenAt])>
     ensures { option_map (λ r. record { value = r.0; next = toks _text.now r.1.now }) result
         ≡ behind_number (toks _text.now tokens.entry.now) }
@@ -266,7 +266,7 @@ fn with_of(
     Ok(Statement::With { name, value, body })
 }
 
-/// An expression, and a mark behind it.
+/// Reads an expression, and a mark after it.
 pub(crate) fn value_to<'a>(
     alloc: Global,
     text: &[u8],

@@ -1,8 +1,10 @@
-/// Why nothing is read.
+//! Lists why some tokens are not read.
+
+/// The reasons why nothing is read.
 #[derive(Clone, Copy)]
 pub(crate) enum Stop {
-    /// The tokens aren't in the grammar.
+    /// The tokens are not in the grammar.
     Bad,
-    /// Memory ran out.
+    /// There was no memory.
     NoMemory,
 }

@@ -1,6 +1,6 @@
-// The tokens of a ruleset's text.
+//! Lists the tokens of a ruleset's text.
 
-/// A reserved word or a mark.
+/// The reserved words and the marks.
 #[derive(Clone, Copy, PartialEq, Eq)]
 pub(crate) enum Mark {
     /// `RULE`
@@ -127,12 +127,12 @@ pub(crate) enum Mark {
     GreaterEqual,
 }
 
-/// Bytes of the text, from a place up to another.
+/// The bytes of the text from a place up to another.
 #[derive(Clone, Copy)]
 pub(crate) struct Span {
     /// The place of the first byte.
     pub(crate) start: u32,
-    /// The place behind the last byte.
+    /// The place after the last byte.
     pub(crate) end: u32,
 }
 
@@ -145,7 +145,7 @@ pub(crate) enum Token {
     Name(Span),
     /// A number, at most Q.
     Number(i64),
-    /// What stands between quotes.
+    /// What is between quotes.
     Text(Span),
 }
 

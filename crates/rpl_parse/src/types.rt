@@ -1,4 +1,4 @@
-// Types and parameters, from the front of some tokens.
+//! Reads types and parameters from the front of some tokens.
 ghost use Rattle.std.specs.Prelude.{◌≡◌, ◌++◌, ◌∷◌, [], IfErr, OnOk, map, length};
 ghost use Rattle.rpl_tree.specs.Seen.{parameter_of};
 ghost use Rattle.rpl_parse.specs.ReadingDeclared.{behind_text, read_type, type_by, list_type_read, read_parameter, parameters, some_parameters, more_parameters, params_read};
@@ -13,7 +13,7 @@ use crate::token::{Mark, Token, TokenAt};
 use rpl_tree::{Param, TypeText};
 use std::alloc::Global;
 
-/// The string at the front.
+/// Returns the string at the front, and the tokens after it.
 pub(crate) fn behind_text<'a>(
     alloc: Global,
     text: &[u8],
@@ -31,7 +31,7 @@ pub(crate) fn behind_text<'a>(
     Ok((bytes, rest))
 }
 
-/// The type at the front.
+/// Returns the type at the front, and the tokens after it.
 pub(crate) fn read_type<'a>(
     alloc: Global,
     text: &[u8],
@@ -111,7 +111,7 @@ fn parameter<'a>(
     Ok((Param { name, kind }, rest))
 }
 
-/// Parameters, behind the bracket that opens them and up to the one that closes them.
+/// Reads parameters, after the bracket that opens them and up to the one that closes them.
 pub(crate) fn parameters<'a>(
     alloc: Global,
     text: &[u8],

@@ -1,4 +1,4 @@
-//! What the policy of code promises, and which runs it has. Each law is the `ensures` of a function that does nothing.
+//! Proves what the policy of code promises, and which runs it has. Each law is the `ensures` of a function that does nothing.
 ghost use Rattle.std.specs.Prelude.{◌≡◌, ℤ, List, []};
 ghost use Rattle.rw_base.specs.declared.number.Cell.{Cell};
 ghost use Rattle.rw_model.specs.Draft.{Draft};
@@ -19,8 +19,8 @@ use rpl_verify::law::verified_code_is_safe;
 use rw_run::law::some_run;
 
 /// Accepted code keeps what is asked of a policy: each rule ends at whatever timestep and however the cells are; a firing depends
-/// on nothing but the cells at which it looks; one that isn't done asks for nothing; and each put is to a slot that can be set, of
-/// a value that the slot can have.
+/// on nothing but the cells at which it looks; one that is not done asks for nothing; and each put is to a slot that can be set,
+/// of a value that the slot can have.
 pub fn code_keeps_promises()
     ensures { (basin : Draft) (code : List Block) (budgets : List Budget)
         → AreAccepted basin code budgets → IsPolicyOf basin (policy_of_code basin code) }
@@ -49,8 +49,8 @@ pub fn firings_are_verified()
     verified_code_is_safe();
 }
 
-/// A dam on one day, into which 100 flow. Rule 2 lets 50 out, and the dam comes to hold 1050; rule 1 holds it at 1020, and the dam
-/// lets 80 out. The code has this run and this trace.
+/// A dam on one day, into which 100 flow. Rule 2 releases 50, and the dam then holds 1050; rule 1 holds it at 1020, and the dam
+/// releases 80. The code has this run and this trace.
 pub fn a_dam()
     ensures code { IsRun dam_basin (policy_of_code dam_basin cap_and_base_code) dam_inflow
         (log_after dam_run (with_inputs [] dam_inflow)) }

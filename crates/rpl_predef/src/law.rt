@@ -1,4 +1,4 @@
-// What the table of predefined functions comes to, as the program reaches it.
+//! Proves what the table of predefined functions is, as the program reaches it.
 ghost use Rattle.std.specs.Prelude.{◌≡◌, Some, None, [], ◌∷◌};
 ghost use Rattle.rpl_predef.specs.Rows.{first_wrong_row};
 

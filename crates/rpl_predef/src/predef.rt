@@ -1,3 +1,4 @@
+//! Holds a function beside the row of the table that it computes.
 ghost use Rattle.std.specs.Prelude.{◌≡◌};
 ghost use Rattle.rw_base.specs.Predefined.{predefined_of};
 ghost use Rattle.rpl_predef.specs.Rows.{IsRow, ComputesRow};
@@ -17,8 +18,8 @@ pub struct Predef {
 }
 
 impl Predef {
-    /// Keeps `f` as the function of row `k`, 1 to 7, which it has to compute. A row with fewer than three arguments is
-    /// handed 0 for the others. Units are no concern of it.
+    /// Returns `f` as the function of row `k`, 1 to 7, which it has to compute. A row with fewer than three arguments is handed 0
+    /// for the others. Units do not concern it.
     pub fn of(k: u8, f: fn(Qty, Qty, Qty) -> Qty) -> Predef
         requires row { IsRow k }
         requires callable { IsAlwaysCallable f }
@@ -34,7 +35,7 @@ impl Predef {
 }
 
 impl Predef {
-    /// What the function answers, which is what its row says, in the unit that this has by those of the arguments.
+    /// Returns the result of the function, which is what its row says, in the unit that follows from those of the arguments.
     pub fn call(&self, a: Qty, b: Qty, c: Qty) -> Qty
         ensures { result ≡ predefined_of self.now.row a b c }
     {

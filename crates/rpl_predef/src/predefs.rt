@@ -1,3 +1,4 @@
+//! Holds a function for each row of the table, and calls it by the number of the row.
 ghost use Rattle.std.specs.Prelude.{◌≡◌, ◌≢◌, ◌↔◌, ◌≤◌, ℕ, map, length, IfOk, IsOk, Err, Some};
 ghost use Rattle.rpl_predef.specs.declared.predefs.PredefsFault.TheVariants as PredefsFault;
 ghost use Rattle.rw_base.specs.Predefined.{predefined_of};
@@ -9,10 +10,10 @@ use rw_base::Qty;
 // How many rows the table has.
 const ROWS: usize = 7;
 
-/// Why functions are no table.
+/// The reasons why functions are no table.
 #[derive(Clone, Copy, Debug, PartialEq, Eq)]
 pub enum PredefsFault {
-    /// There aren't 7 functions, but so many.
+    /// There are not 7 functions, but this many.
     WrongCount(usize),
     /// The function in this place, counted from 1, is of another row.
     WrongPlace(u8),
@@ -43,7 +44,7 @@ fn first_wrong(rows: &[Predef]) -> Option<u8>
 }
 
 impl Predefs {
-    /// The table of these functions: Min, Max, Abs, Clamp, RoundDown, Sign, MulDiv.
+    /// Returns the table of these functions: Min, Max, Abs, Clamp, RoundDown, Sign, MulDiv.
     ///
     /// Their count is judged first. `WrongPlace` names the first function of another row.
     pub fn of(rows: Vec<Predef>) -> Result<Predefs, PredefsFault>
@@ -65,8 +66,8 @@ impl Predefs {
         Ok(Predefs { rows })
     }
 
-    /// What row `k` of the table, 1 to 7, says of these arguments, by the function that was handed in for it, in the unit
-    /// that this has by theirs: `docs/LANGUAGE.md` has the functions under "Numbers". It takes no memory.
+    /// Returns what row `k` of the table, 1 to 7, says of these arguments, by the function that was handed in for it, in the unit
+    /// that follows from theirs: `docs/LANGUAGE.md` has the functions under "Numbers". It takes no memory.
     pub fn call(&self, k: u8, a: Qty, b: Qty, c: Qty) -> Qty
         requires { IsRow k }
         ensures { result ≡ predefined_of k a b c }

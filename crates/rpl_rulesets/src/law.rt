@@ -1,4 +1,5 @@
-//! What the policy of a ruleset promises, and which runs it has. Each law is the `ensures` of a function that does nothing.
+//! Proves what the policy of a ruleset promises, and which runs it has. Each law is the `ensures` of a function that does
+//! nothing.
 ghost use Rattle.std.specs.Prelude.{◌↔◌, ◌≤◌, ℤ, List, []};
 ghost use Rattle.rw_base.specs.declared.limits.TheConstants.{RULES_MAX};
 ghost use Rattle.rw_base.specs.declared.number.Cell.{Cell};

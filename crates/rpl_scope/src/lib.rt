@@ -1,5 +1,5 @@
-//! Names in scope, and what each stands for. A name is looked up in a time that grows as the logarithm of how many there are,
-//! and not as their number.
+//! Finds what names in scope stand for. A name is looked up in a time that grows as the logarithm of how many there are, and not
+//! as their number.
 #![tactic(auto)]
 
 mod name;

@@ -1,3 +1,4 @@
+//! Holds the names in scope, of which an inner one hides the outer ones of the same name.
 ghost use Rattle.std.specs.Prelude.{◌≡◌, ◌∷◌, [], OnErr, OnOk, length};
 ghost use Rattle.rpl_scope.specs.Scope.{first_named, outer_entries};
 
@@ -33,7 +34,7 @@ impl<'a, T: Copy> Model for Scope<'a, T> {
 }
 
 impl<'a, T: Copy> Scope<'a, T> {
-    /// No names.
+    /// Returns the scope of no names.
     pub fn new(alloc: Global) -> Scope<'a, T>
         ensures { result ≡ [] }
     {
@@ -43,7 +44,7 @@ impl<'a, T: Copy> Scope<'a, T> {
         }
     }
 
-    /// What the innermost of a name stands for. `None` exactly where there is no such name.
+    /// Returns what the innermost entry of a name stands for. `None` exactly where there is no such name.
     pub fn find(&self, name: &'a [u8]) -> Option<T>
         ensures { result ≡ first_named self.now name.entry.now }
     {
@@ -53,7 +54,7 @@ impl<'a, T: Copy> Scope<'a, T> {
         }
     }
 
-    /// Another name, which is the innermost of all. The one error is want of memory, after which the names are those that
+    /// Adds a name, which becomes the innermost of all. The one error is want of memory, after which the names are those that
     /// were there.
     pub fn push(&mut self, name: &'a [u8], means: T) -> Result<(), NoMemory>
         ensures ok { OnOk result (self.new ≡ (name.entry.now, means) ∷ self.old) }
@@ -71,7 +72,7 @@ impl<'a, T: Copy> Scope<'a, T> {
         }
     }
 
-    /// Takes the innermost name away, if there is one.
+    /// Removes the innermost name, if there is one.
     pub fn pop(&mut self)
         ensures { self.new ≡ outer_entries self.old }
     {

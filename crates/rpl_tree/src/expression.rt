@@ -1,3 +1,4 @@
+//! Holds an expression of a ruleset as it is written.
 use crate::{ConvertWord, LoopText, OneWord, SlotText, TwoWord};
 
 /// An expression.
@@ -32,25 +33,25 @@ pub enum Expr {
     List(Vec<Expr>),
     /// `IF condition THEN yes ELSE no ENDIF`.
     If {
-        /// Which of the two is taken.
+        /// The test that decides between the two.
         condition: Box<Expr>,
-        /// Where it is true.
+        /// The value where it is true.
         yes: Box<Expr>,
-        /// Where it is false.
+        /// The value where it is false.
         no: Box<Expr>,
     },
     /// `LET name := value IN body ENDLET`.
     Let {
         /// The variable.
         name: Vec<u8>,
-        /// What it stands for in the body.
+        /// What the variable stands for in the body.
         value: Box<Expr>,
-        /// What is answered.
+        /// The value of the whole.
         body: Box<Expr>,
     },
     /// `FOR name IN list WITH total := first DO body ENDFOR`.
     For {
-        /// Its variables. They stand apart, so that a node of any other form takes less memory.
+        /// The variables. They are apart, so that a node of any other form takes less memory.
         names: Box<LoopText>,
         /// The list.
         list: Box<Expr>,
@@ -65,7 +66,7 @@ pub enum Expr {
         name: Vec<u8>,
         /// The list.
         list: Box<Expr>,
-        /// What stands in the place of the element.
+        /// What takes the place of the element.
         body: Box<Expr>,
     },
     /// A word and one expression, as `NOT x`.
@@ -84,7 +85,7 @@ pub enum Expr {
     },
     /// `StorageToElevation(object, x)` or `ElevationToStorage(object, x)`.
     Convert {
-        /// Which of the two.
+        /// Which of the two conversions.
         word: ConvertWord,
         /// The reservoir whose table is read.
         object: Vec<u8>,

@@ -1,4 +1,4 @@
-// What the definitions of this crate come to, in rules that were worked out by hand.
+//! Proves what the definitions of this crate mean, in rules that were worked out by hand.
 ghost use Rattle.std.specs.Prelude.{◌≡◌, ◌≢◌, ◌↔◌, IsTrue, ℕ, List, Option, [], ◌∷◌, false, None, Some, codes, neg_ℤ, pos, true, ℤ, ◌+ℤ◌};
 ghost use Rattle.rw_base.specs.Quantity.{IsQuantity, quantity_max};
 ghost use Rattle.rw_base.specs.declared.number.Cell.{Cell};
@@ -18,8 +18,8 @@ ghost use Rattle.rpl_tree.specs.Count.{declared_locals, nodes_of};
 ghost use Rattle.rpl_tree.specs.Budget.{budget, budget_of};
 ghost use Rattle.rpl_tree.specs.Worked.{acts_do, ahead, all_cells, basin_over_days, both_call, call_with_numbers, called_by, canal, cap_and_base, count_call, dam, done_by, ended_early, fire, first_of_l, flow_object, hundredth, n_name, n_to_x, negative_outflow, numbers_object, of_unit, one_more, one_else_two, one_to_x, only_slot, loop_over, pair, part_of_n, pool_by, raise_and_reset, rules_do, seepage_set, storage_after, storage_before, sum, sum_ahead, sum_of_slots, sum_too_early, three_numbers, trees_from, turns_of_one_name, twice_each, unknown_cells, whole, with_functions, x_ahead_by, x_by, x_ends, x_is, x_put, x_rule, x_wants_y, y_now, y_put};
 
-/// A firing depends on nothing but the cells at which it looks: where others hold something else, the rule does the same.
-/// One that isn't done asks for nothing.
+/// A firing depends on nothing but the cells at which it looks: where other cells hold something else, the rule does the same. A
+/// firing that is not done asks for nothing.
 pub fn firings()
     ensures framed { (rules : List Declared) (basin : Draft) (number step : ℕ)
         (values other : Cell → Option ℤ) (fire : Fire)
@@ -30,8 +30,8 @@ pub fn firings()
         → fire.end ≢ Done → fire.puts ≡ [] }
 {}
 
-/// `<>`, `>` and `>=` are NOT of the opposite test. AND and OR are the IFs that they stand for, where their right side is
-/// a truth. A pair of brackets means what stands in it.
+/// `<>`, `>` and `>=` are NOT of the opposite test. AND and OR are the IFs that they stand for, where their right side is a
+/// truth. A pair of brackets means what is inside it.
 pub fn stands_for()
     ensures unequal { (world : World) (functions : List Function) (env : Env) (l r : Tree)
         → value_of world functions env (two Unequal l r)
@@ -52,7 +52,7 @@ pub fn stands_for()
         → value_of world functions env (brackets t) ≡ value_of world functions env t }
 {}
 
-/// What is tested of a result is that it is a quantity.
+/// The test of a result is whether it is a quantity.
 pub fn quantities()
     ensures { (z : ℤ) → IsTrue (is_quantity z) ↔ IsQuantity z }
 {}
@@ -68,7 +68,7 @@ pub fn cap_and_base_rules()
     ensures base_budget { budget_of cap_and_base 2 ≡ budget 2 0 1 1 }
 {}
 
-/// `D.X[t] := Max(D.X[t], 10);` ends at its look where X is unknown, and asks for nothing then.
+/// `D.X[t] := Max(D.X[t], 10);` ends at its look where X is unknown, and then asks for nothing.
 pub fn raise_and_reset_rules()
     ensures unknown { rules_do raise_and_reset unknown_cells
         ≡ ended_early Unknown (cell_of 1 1 ∷ []) 3 }
@@ -89,8 +89,8 @@ pub fn hundredth_rule()
         ≡ ended_early ZeroDivisor (cell_of 2 1 ∷ []) 5 }
 {}
 
-/// A loop over two steps that calls a function for each, which looks so many steps ahead. Behind the last timestep
-/// nothing is known, and nothing is looked at. A rule can't call a function that is declared after it.
+/// A loop over two steps that calls a function for each, which looks that many steps ahead. After the last timestep nothing is
+/// known, and nothing is looked at. A rule cannot call a function that is declared after it.
 pub fn sum_ahead_rule()
     ensures sum { mean sum_ahead (basin_over_days 3 (dam ∷ flow_object ∷ [])) 1 1
         (only_slot 1 (pos 100))
@@ -117,7 +117,7 @@ pub fn ends_in_a_choice()
         ≡ x_wants_y 6 }
 {}
 
-/// A branch that isn't taken isn't looked into, and no right side of an AND or OR that the left side decides.
+/// A branch that is not taken is not looked into, and neither is the right side of an AND or OR that the left side decides.
 pub fn only_one_branch()
     ensures first { x_by (choice (truth true) (whole (pos 7)) y_now) ≡ x_is (pos 7) 6 }
     ensures second { x_by (choice (truth false) y_now (whole (pos 7))) ≡ x_is (pos 7) 6 }
@@ -196,7 +196,7 @@ pub fn dates()
     ensures no_month { pool_by 33 (one Month (two Plus now (whole (pos 8)))) ≡ x_ends Unknown 4 }
 {}
 
-/// What is read off a table, and what isn't there.
+/// Values that are read from a table, and values that are not there.
 pub fn tables()
     ensures elevation { pool_by 1 (convert StorageToElevation (codes "Pool") (whole (pos 250)))
         ≡ x_is (pos 501) 3 }
@@ -207,7 +207,7 @@ pub fn tables()
     ensures no_table { pool_by 1 (convert ElevationToStorage (codes "D") (whole (pos 1))) ≡ None }
 {}
 
-/// Lists. Places count from 1, and a list with less room than its place asks is given that room, which counts.
+/// Lists. Places count from 1, and a list with less room than its place asks for is given that room, which counts.
 pub fn lists()
     ensures item { x_by (two Item (pair (pos 7) (pos 8)) (whole (pos 2))) ≡ x_is (pos 8) 8 }
     ensures no_item { x_by (two Item (pair (pos 7) (pos 8)) (whole (pos 0)))
@@ -261,8 +261,8 @@ pub fn puts_ahead()
     ensures behind { x_ahead_by 30 (neg_ℤ (pos 1)) ≡ None }
 {}
 
-/// Statements: puts are asked for in the order in which they are executed, all or, where the firing ends before, none. A
-/// value that the slot can't have ends it.
+/// Statements: puts are asked for in the order in which they are executed, all or, where the firing ends before, none. A value
+/// that the slot cannot have ends it.
 pub fn statements()
     ensures both { acts_do (x_put (whole (pos 1)) ∷ y_put (whole (pos 2)) ∷ [])
         ≡ fire Done [] (put_to 1 (pos 1) ∷ put_to 2 (pos 2) ∷ []) 4 }

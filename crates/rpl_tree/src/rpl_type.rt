@@ -1,6 +1,7 @@
+//! Lists the types of expressions.
 use rw_base::Dim;
 
-/// The type of an expression.
+/// The types of expressions.
 #[derive(Clone, Copy, Debug, PartialEq, Eq)]
 pub enum RplType {
     /// A number of a dimension.
@@ -11,8 +12,8 @@ pub enum RplType {
     Datetime,
     /// A slot whose values have a dimension.
     Slot(Dim),
-    /// A list of at most so many numbers, 1 to 4096, of a dimension.
+    /// A list of at most this many numbers, 1 to 4096, of a dimension.
     NumericList(u16, Dim),
-    /// A list of at most so many slots, 1 to 4096, of a dimension.
+    /// A list of at most this many slots, 1 to 4096, of a dimension.
     SlotList(u16, Dim),
 }

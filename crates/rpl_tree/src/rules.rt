@@ -1,3 +1,4 @@
+//! Holds the rules and functions of a ruleset as they are written.
 use crate::{Expr, Statement};
 
 /// A ruleset: its rules and functions, in the order of the text.
@@ -19,13 +20,13 @@ pub enum Declaration {
     },
     /// `FUNCTION name(params) : result IS body ENDFUNCTION`.
     Function {
-        /// What calls name.
+        /// The name by which it is called.
         name: Vec<u8>,
         /// The parameters, in order.
         params: Vec<Param>,
-        /// The type of what it answers.
+        /// The type of its result.
         result: TypeText,
-        /// What it answers.
+        /// The expression that gives its result.
         body: Expr,
     },
 }
@@ -33,7 +34,7 @@ pub enum Declaration {
 /// A parameter of a function.
 #[derive(Debug, Drop)]
 pub struct Param {
-    /// What its body calls it.
+    /// Its name in the body of the function.
     pub name: Vec<u8>,
     /// The type of its arguments.
     pub kind: TypeText,
@@ -68,8 +69,8 @@ pub struct SlotText {
 /// The variables of a FOR, as they are written.
 #[derive(Debug, Drop)]
 pub struct LoopText {
-    /// What stands for each element in turn.
+    /// The variable that stands for each element in turn.
     pub name: Vec<u8>,
-    /// The accumulator, which each turn sets to what its body answers.
+    /// The accumulator, which each turn sets to the value of its body.
     pub total: Vec<u8>,
 }

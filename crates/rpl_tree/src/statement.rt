@@ -1,3 +1,4 @@
+//! Holds a statement of a rule as it is written.
 use crate::{Expr, SlotText};
 
 /// A statement of a rule.
@@ -9,25 +10,25 @@ pub enum Statement {
         target: SlotText,
         /// How many timesteps ahead; 0 where only `[t]` is written.
         ahead: i64,
-        /// What it is set to.
+        /// The value that it is set to.
         value: Expr,
     },
     /// `IF condition THEN yes ELSE no ENDIF`.
     If {
-        /// Which of the two is executed.
+        /// The test that decides between the two.
         condition: Expr,
-        /// Where it is true.
+        /// The statements where it is true.
         yes: Vec<Statement>,
-        /// Where it is false; empty without an ELSE.
+        /// The statements where it is false; empty without an ELSE.
         no: Vec<Statement>,
     },
     /// `WITH name := value DO body ENDWITH`.
     With {
         /// The variable.
         name: Vec<u8>,
-        /// What it stands for in the body.
+        /// What the variable stands for in the body.
         value: Expr,
-        /// What is executed.
+        /// The statements of the body.
         body: Vec<Statement>,
     },
 }

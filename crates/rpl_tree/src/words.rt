@@ -1,4 +1,6 @@
-/// A word that stands before one expression.
+//! Lists the words and operators of expressions by the number of their parts.
+
+/// The words that are before one expression.
 #[derive(Clone, Copy, Debug, PartialEq, Eq)]
 pub enum OneWord {
     /// `NOT x`.
@@ -11,13 +13,13 @@ pub enum OneWord {
     Length,
     /// `MONTH(d)` of the moment at which a timestep begins.
     Month,
-    /// `DAY(d)`, likewise.
+    /// `DAY(d)` of the moment at which a timestep begins.
     Day,
-    /// `YEAR(d)`, likewise.
+    /// `YEAR(d)` of the moment at which a timestep begins.
     Year,
 }
 
-/// A word that stands between two expressions, or before both.
+/// The words that are between two expressions, or before both.
 #[derive(Clone, Copy, Debug, PartialEq, Eq)]
 pub enum TwoWord {
     /// `a OR b`.
@@ -50,7 +52,7 @@ pub enum TwoWord {
     Item,
 }
 
-/// What is read off a reservoir's table.
+/// The conversions by a reservoir's table.
 #[derive(Clone, Copy, Debug, PartialEq, Eq)]
 pub enum ConvertWord {
     /// The elevation in mm at a storage in m3.

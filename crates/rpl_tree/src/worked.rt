@@ -1,4 +1,4 @@
-// Two worked rulesets as the types hold them: what they hold are the plain trees of which the definitions speak.
+//! Builds two worked rulesets from these types: what they hold are the plain trees of which the definitions speak.
 ghost use Rattle.std.specs.Prelude.{◌≡◌, [], ◌∷◌, pos, IfOk, codes};
 ghost use Rattle.rpl_tree.specs.declared.words.TwoWord.TheVariants as TwoWord;
 ghost use Rattle.rpl_tree.specs.Tree.{call, name, two};
@@ -72,7 +72,7 @@ fn x_set(alloc: Global, value: Expr) -> Result<Statement, NoMemory>
     })
 }
 
-/// The ruleset `RULE "rule": D.X[t] := 100 / D.Y[t]; ENDRULE`.
+/// Returns the ruleset `RULE "rule": D.X[t] := 100 / D.Y[t]; ENDRULE`.
 pub fn hundredth_rules(alloc: Global) -> Result<ParsedRules, NoMemory>
     ensures { IfOk result (λ rules. rules_of rules ≡ hundredth) }
 {
@@ -214,7 +214,7 @@ fn sum_rule(alloc: Global) -> Result<Declaration, NoMemory>
     Ok(Declaration::Rule { name, body })
 }
 
-/// The function `Ahead` and the rule that sums what it answers for two steps.
+/// Returns the function `Ahead` and the rule that sums what it returns for two steps.
 pub fn sum_ahead_rules(alloc: Global) -> Result<ParsedRules, NoMemory>
     ensures { IfOk result (λ rules. rules_of rules ≡ sum_ahead) }
 {

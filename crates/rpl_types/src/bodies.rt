@@ -1,4 +1,4 @@
-// The types of the nodes of a declaration's body.
+//! Finds the types of the nodes of a declaration's body.
 ghost use Rattle.std.specs.Prelude.{[]};
 ghost use Rattle.rw_base.specs.Answers.{Answers};
 ghost use Rattle.rpl_tree.specs.Seen.{acts_in, tree_of};
@@ -16,7 +16,7 @@ use crate::visit::visit;
 use rpl_scope::Scope;
 use rpl_tree::{Expr, RplType, Statement};
 
-/// The type of a function's body, and those of its nodes.
+/// Returns the type of a function's body, and those of its nodes.
 #[tactic(auto, using(crate::proofs::VisitingActs::body_given))]
 pub(crate) fn body_types<'a>(
     known: &Known,
@@ -35,7 +35,7 @@ pub(crate) fn body_types<'a>(
     }
 }
 
-/// The types of a rule's nodes.
+/// Returns the types of a rule's nodes.
 #[tactic(auto, using(crate::proofs::VisitingActs::acts_given))]
 pub(crate) fn acts_types(known: &Known, body: &[Statement]) -> Result<Vec<Option<RplType>>, Stop>
     ensures { Answers Stop.NoMemory stop_refusal (λ types. types.items) result

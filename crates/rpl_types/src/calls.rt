@@ -1,4 +1,4 @@
-// The type of a call, by those of its arguments.
+//! Finds the type of a call from those of its arguments.
 ghost use Rattle.std.specs.Prelude.{◌≡◌, ◌<◌, ◌+◌, ◌∷◌, [], None, Some, bytes_eq, drop, length, map, option_map};
 ghost use Rattle.std.specs.List.{list_any};
 ghost use Rattle.rpl_tree.specs.Seen.{declared_of};
@@ -16,7 +16,7 @@ use rpl_tree::{Declaration, RplType};
 use rw_base::Dim;
 use rw_base::limits::LIST_MAX;
 
-/// A function that was declared: what calls name, the types of its parameters, and that of its result.
+/// A function that was declared: its name, the types of its parameters, and that of its result.
 #[derive(Drop)]
 pub(crate) struct Signature<'a> {
     pub(crate) name: &'a [u8],
@@ -24,7 +24,7 @@ pub(crate) struct Signature<'a> {
     pub(crate) result: RplType,
 }
 
-/// Why not all values can stand where a type is asked for.
+/// Returns why not all values fit where a type is asked for; `None` where they do.
 fn misfit_among(given: &[RplType], asked: &RplType) -> Option<TypeKind>
     ensures { result ≡ misfit_among given.now asked.now }
 {
@@ -35,7 +35,7 @@ fn misfit_among(given: &[RplType], asked: &RplType) -> Option<TypeKind>
     found
 }
 
-/// Why not each value can stand where the type in its place is asked for.
+/// Returns why not each value fits where the type in its place is asked for; `None` where each does.
 fn misfit_in_places(given: &[RplType], asked: &[RplType]) -> Option<TypeKind>
     requires { length given.now ≡ length asked.now }
     ensures { result ≡ misfit_in_places given.now asked.now }
@@ -57,7 +57,7 @@ fn arguments_misfit(given: &[RplType], asked: &[RplType]) -> Option<TypeKind>
     }
 }
 
-/// The type of a list of these items.
+/// Returns the type of a list of these items.
 pub(crate) fn list_type(items: &[RplType]) -> Result<RplType, TypeKind>
     ensures { result ≡ list_type items.now }
 {
@@ -87,7 +87,7 @@ fn row_misfit(first: &RplType, rest: &[RplType]) -> Option<TypeKind>
     sooner(misfit_among(rest, first), many)
 }
 
-/// How many arguments a predefined function takes, where there is one of the name.
+/// Returns the number of arguments of a predefined function. `None` where there is none of the name.
 pub(crate) fn predefined_count(name: &[u8]) -> Option<usize>
     ensures { result ≡ predefined_count name.now }
 {
@@ -162,7 +162,7 @@ fn predefined_type(name: &[u8], count: usize, args: &[RplType]) -> Result<RplTyp
     }
 }
 
-/// The function of a name, if one was declared. There are at most 200.
+/// Returns the function of a name, if one was declared. There are at most 200.
 pub(crate) fn signature_named<'a, 'b>(
     functions: &'a [Signature<'b>],
     name: &[u8],
@@ -209,7 +209,7 @@ fn unknown_type(later: &[Declaration], name: &[u8]) -> Result<RplType, TypeKind>
     }
 }
 
-/// The type of a call of the name, where these functions are declared before, and those declarations aren't.
+/// Returns the type of a call of the name, where these functions are declared before, and those declarations are not.
 pub(crate) fn call_type(
     earlier: &[Signature],
     later: &[Declaration],

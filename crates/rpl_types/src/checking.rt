@@ -1,3 +1,4 @@
+//! Judges a ruleset with a basin.
 ghost use Rattle.rw_base.specs.Answers.{Answers};
 ghost use Rattle.rpl_tree.specs.Bounds.{AreLimited};
 ghost use Rattle.rpl_tree.specs.Seen.{rules_of};
@@ -11,7 +12,7 @@ use rpl_tree::ParsedRules;
 use rw_model::Basin;
 use std::alloc::Global;
 
-/// Judges a ruleset with a basin: names, types, units and costs, declaration by declaration. docs/LANGUAGE.md says under
+/// Judges a ruleset with a basin: names, types, units and costs, declaration by declaration. `docs/LANGUAGE.md` says under
 /// "Refusals" what is wrong where, and in which order. `NoMemory` says nothing of the ruleset, which is dropped with either
 /// fault.
 pub fn check(alloc: Global, rules: ParsedRules, basin: &Basin) -> Result<Typed, TypeFault>

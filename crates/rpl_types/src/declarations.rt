@@ -1,4 +1,4 @@
-// Declarations, judged one after the other.
+//! Judges declarations one after the other.
 ghost use Rattle.std.specs.Prelude.{◌≡◌, ◌+◌, ◌++◌, ◌∷◌, [], IfErr, IfOk, None, OnOk, Some, map};
 ghost use Rattle.std.specs.Option.{ForSome};
 ghost use Rattle.rw_base.specs.Answers.{Answers};
@@ -33,7 +33,7 @@ use std::alloc::Global;
 /// The types of the nodes of a declaration.
 pub(crate) type NodeTypes = Vec<Option<RplType>>;
 
-/// The types, unless the declaration is refused as a whole.
+/// Returns the types, unless the declaration is refused as a whole.
 fn unless_as_whole(refusal: Option<TypeKind>, types: NodeTypes) -> Result<NodeTypes, Stop>
     ensures { Answers Stop.NoMemory stop_refusal (λ types. types.items) result
         (refused_as_whole refusal types.items) }
@@ -64,7 +64,7 @@ fn function_types(
     unless_as_whole(misfit(&own, &type_here(answers)), types)
 }
 
-/// The types of the nodes of a declaration, its budgets apart.
+/// Returns the types of the nodes of a declaration, its budgets apart.
 fn declared_types(known: &Known, declaration: &Declaration) -> Result<NodeTypes, Stop>
     ensures { Answers Stop.NoMemory stop_refusal (λ types. types.items) result
         (declared_types known.now.basin.now (callable_in known.now) (declared_of declaration.now)) }
@@ -99,7 +99,7 @@ fn cost_refusal(cost: &TreeCost) -> Option<TypeKind>
     }
 }
 
-/// The same, where each of its budgets is within its limit.
+/// Returns the types of the nodes of a declaration, where each of its budgets is within its limit.
 fn with_budget(known: &Known, declaration: &Declaration, cost: &TreeCost) -> Result<NodeTypes, Stop>
     ensures { Answers Stop.NoMemory stop_refusal (λ types. types.items) result
         (with_budget known.now.basin.now (callable_in known.now) (budget_seen cost.now)
@@ -136,7 +136,7 @@ fn add_function<'a>(
     }
 }
 
-/// The fault that tells what is wrong in the declaration of a number.
+/// Returns the fault for what is wrong in the declaration of a number.
 fn fault_at(number: usize, stop: Stop) -> TypeFault
     ensures told { ForSome (type_refusal_of result) (λ why. (why.declaration ≡ number)
         × (stop_refusal stop ≡ Some (node_refusal why.kind why.node))) }
@@ -155,7 +155,7 @@ fn fault_at(number: usize, stop: Stop) -> TypeFault
     }
 }
 
-/// The same with the budgets that it has in its turn, which are noted.
+/// Returns the types of the nodes of a declaration with the budgets that it has in its turn, which are noted.
 fn priced_types<'a>(
     known: &Known,
     turn: &mut InTurn<'a>,
@@ -181,7 +181,7 @@ fn priced_types<'a>(
     }
 }
 
-/// Where the budgets of declarations begin.
+/// Returns where the budgets of declarations begin.
 fn first_turn<'a>(alloc: Global) -> Result<InTurn<'a>, TypeFault>
     ensures ok { IfOk result (λ turn. turn ≡ predefined_priced) }
     ensures err { IfErr result (λ fault. fault ≡ TypeFault.NoMemory) }
@@ -192,7 +192,8 @@ fn first_turn<'a>(alloc: Global) -> Result<InTurn<'a>, TypeFault>
     }
 }
 
-/// The types of the nodes of all declarations, or the first refusal. Their budgets are added to none.
+/// Returns the types of the nodes of all declarations, or the first refusal, and adds their budgets to a list that is empty
+/// before.
 pub(crate) fn types_of_all(
     alloc: Global,
     basin: &Basin,

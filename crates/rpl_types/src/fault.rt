@@ -1,7 +1,8 @@
+//! Holds why a ruleset is not accepted, and where.
 use crate::TypeKind;
 use thiserror::Error;
 
-/// Why a ruleset isn't accepted.
+/// The reasons why a ruleset is not accepted.
 #[derive(Clone, Copy, Debug, PartialEq, Eq, Error)]
 pub enum TypeFault {
     /// The first refusal, in the order of the text.

@@ -1,4 +1,4 @@
-// When a type fits another.
+//! Decides whether a type fits where another is asked for.
 ghost use Rattle.std.specs.Prelude.{◌≡◌, max};
 ghost use Rattle.rw_base.specs.Answers.{unless_refused};
 ghost use Rattle.rw_model.specs.Links.{is_same_dim};
@@ -30,7 +30,7 @@ fn order(kind: TypeKind) -> u8
     }
 }
 
-/// Of two refusals that may be due at a node, the one that stands first.
+/// Returns the one that comes first, of two refusals that may be due at a node.
 pub(crate) fn sooner(a: Option<TypeKind>, b: Option<TypeKind>) -> Option<TypeKind>
     ensures { result ≡ sooner a b }
 {
@@ -53,7 +53,7 @@ fn is_same_dim(a: Dim, b: Dim) -> bool
     a.volume == b.volume && a.length == b.length && a.step == b.step && a.energy == b.energy
 }
 
-/// Why a dimension can't stand where another is asked for.
+/// Returns why a dimension does not fit where another is asked for; `None` where it does.
 pub(crate) fn unit_misfit(a: Dim, b: Dim) -> Option<TypeKind>
     ensures { result ≡ unit_misfit a b }
 {
@@ -64,7 +64,7 @@ pub(crate) fn unit_misfit(a: Dim, b: Dim) -> Option<TypeKind>
     }
 }
 
-/// Why a list of so many items can't stand where there may be so many.
+/// Returns why a list of n items does not fit where there may be `most`; `None` where it does.
 pub(crate) fn length_misfit(n: usize, most: usize) -> Option<TypeKind>
     ensures { result ≡ length_misfit n most }
 {
@@ -75,7 +75,7 @@ pub(crate) fn length_misfit(n: usize, most: usize) -> Option<TypeKind>
     }
 }
 
-/// Why a value of a type can't stand where another is asked for.
+/// Returns why a value of a type does not fit where another is asked for; `None` where it does.
 pub(crate) fn misfit(given: &RplType, asked: &RplType) -> Option<TypeKind>
     ensures { result ≡ misfit given.now asked.now }
 {
@@ -100,7 +100,7 @@ fn list_misfit(n: u16, a: Dim, m: u16, b: Dim) -> Option<TypeKind>
     )
 }
 
-/// The type of what is either the one or the other.
+/// Returns the type of what is either the one or the other.
 pub(crate) fn joined(a: &RplType, b: &RplType) -> Result<RplType, TypeKind>
     ensures { result ≡ joined_type a.now b.now }
 {

@@ -1,4 +1,4 @@
-// The type that each form has by the types of its parts.
+//! Finds the type of each form from the types of its parts.
 ghost use Rattle.std.specs.Prelude.{◌≡◌, ◌+◌, ◌<◌, ◌&&◌, None};
 ghost use Rattle.rw_base.specs.Answers.{unless_refused};
 ghost use Rattle.rw_base.specs.Dimension.{times_of, per_of};
@@ -12,7 +12,7 @@ use rpl_tree::{OneWord, RplType, TwoWord};
 use rw_base::Dim;
 use rw_base::limits::LIST_MAX;
 
-/// The dimension of a number that measures nothing.
+/// Returns the dimension of a number that measures nothing.
 pub(crate) fn plain_number() -> Dim
     ensures { result ≡ plain_number }
 {
@@ -36,7 +36,7 @@ fn timestep() -> Dim
     }
 }
 
-/// A number that measures nothing.
+/// Returns the type of a number that measures nothing.
 pub(crate) fn plain() -> RplType
     ensures { result ≡ plain }
 {
@@ -71,7 +71,7 @@ fn is_datetime(t: &RplType) -> bool
     }
 }
 
-/// The type, unless something is refused.
+/// Returns the type, unless something is refused.
 pub(crate) fn unless_refused(refusal: Option<TypeKind>, found: RplType) -> Result<RplType, TypeKind>
     ensures { result ≡ unless_refused refusal found }
 {
@@ -81,7 +81,7 @@ pub(crate) fn unless_refused(refusal: Option<TypeKind>, found: RplType) -> Resul
     }
 }
 
-/// The type of a list's items.
+/// Returns the type of a list's items.
 pub(crate) fn element_type(list: &RplType) -> Result<RplType, TypeKind>
     ensures { result ≡ element_type list.now }
 {
@@ -112,7 +112,7 @@ fn length_type(t: &RplType) -> Result<RplType, TypeKind>
     }
 }
 
-/// The type of a word and what it stands before, which may be a look at a slot.
+/// Returns the type of a word and the expression after it, which may be a look at a slot.
 pub(crate) fn one_type(word: OneWord, looks: bool, t: &RplType) -> Result<RplType, TypeKind>
     ensures { result ≡ one_type word looks t.now }
 {
@@ -237,7 +237,7 @@ fn item_type(a: &RplType, b: &RplType) -> Result<RplType, TypeKind>
     }
 }
 
-/// The type of a word between two parts.
+/// Returns the type of a word between two parts.
 #[inline(always)]
 pub(crate) fn two_type(word: TwoWord, a: &RplType, b: &RplType) -> Result<RplType, TypeKind>
     ensures { result ≡ two_type word a.now b.now }
@@ -265,7 +265,7 @@ fn both_boolean(a: &RplType, b: &RplType) -> bool
     is_boolean(a) && is_boolean(b)
 }
 
-/// The type of the value of a slot at a date.
+/// Returns the type of the value of a slot at a date.
 pub(crate) fn look_type(slot: &RplType, date: &RplType) -> Result<RplType, TypeKind>
     ensures { result ≡ look_type slot.now date.now }
 {
@@ -277,7 +277,7 @@ pub(crate) fn look_type(slot: &RplType, date: &RplType) -> Result<RplType, TypeK
 
 // ---- several parts
 
-/// The type of one of two branches, by a condition.
+/// Returns the type of one of two branches, by a condition.
 pub(crate) fn choice_type(
     condition: &RplType,
     yes: &RplType,
@@ -291,7 +291,7 @@ pub(crate) fn choice_type(
     }
 }
 
-/// The type of a MAP over a list, by what stands in the place of an item.
+/// Returns the type of a MAP over a list, by what takes the place of an item.
 pub(crate) fn mapped_type(list: &RplType, item: &RplType) -> Result<RplType, TypeKind>
     ensures { result ≡ mapped_type list.now item.now }
 {
@@ -302,14 +302,14 @@ pub(crate) fn mapped_type(list: &RplType, item: &RplType) -> Result<RplType, Typ
     }
 }
 
-/// The type of a FOR, by its accumulator and what a turn answers.
+/// Returns the type of a FOR, by its accumulator and the value of a turn.
 pub(crate) fn total_type(total: &RplType, body: &RplType) -> Result<RplType, TypeKind>
     ensures { result ≡ total_type total.now body.now }
 {
     unless_refused(misfit(body, total), *total)
 }
 
-/// Why a type is no condition's.
+/// Returns why a type is not that of a condition; `None` where it is.
 pub(crate) fn condition_misfit(t: &RplType) -> Option<TypeKind>
     ensures { result ≡ condition_misfit t.now }
 {

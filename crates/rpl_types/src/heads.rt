@@ -1,4 +1,4 @@
-// What the head of a declaration says of its types.
+//! Judges the head of a declaration: its name, its parameters and its types.
 ghost use Rattle.std.specs.Prelude.{◌≡◌, ◌&&◌, ◌||◌, None, Some, IfErr, IfOk, if◌then◌else◌, int_le, is_some, map, pos, unsigned_abs};
 ghost use Rattle.rpl_tree.specs.Seen.{parameter_of, type_of};
 ghost use Rattle.rpl_tree.specs.declared.rpl_type.RplType.TheVariants as RplType;
@@ -20,7 +20,7 @@ use rw_base::limits::LIST_MAX;
 use rw_base::{Dim, NoMemory};
 use std::alloc::Global;
 
-/// The room of a list, where there may be so much.
+/// Returns the room of a list. `None` where there may not be so much.
 fn room(m: i64) -> Option<u16>
     ensures { result
         ≡ (if int_le (pos 1) m && int_le m (pos longest) then Some (unsigned_abs m) else None) }
@@ -50,7 +50,7 @@ fn slot_list(m: i64, dim: Dim) -> Result<RplType, TypeKind>
     }
 }
 
-/// The type that is written, or what is wrong with it.
+/// Returns the type that is written, or what is wrong with it.
 fn written_type(text: &TypeText) -> Result<RplType, TypeKind>
     ensures { result ≡ written_type (type_of text.now) }
 {
@@ -85,7 +85,7 @@ fn type_misfit(text: &TypeText) -> Option<TypeKind>
     }
 }
 
-/// The type that is written, and a plain number where that is none.
+/// Returns the type that is written, and a plain number where that is none.
 pub(crate) fn type_here(text: &TypeText) -> RplType
     ensures { result ≡ type_here (type_of text.now) }
 {
@@ -95,7 +95,7 @@ pub(crate) fn type_here(text: &TypeText) -> RplType
     }
 }
 
-/// Why the types of parameters and a result aren't fine.
+/// Returns what is wrong with the types of parameters and a result; `None` where nothing is.
 fn head_misfit(params: &[Param], answers: &TypeText) -> Option<TypeKind>
     ensures { result ≡ head_misfit (map parameter_of params.now) (type_of answers.now) }
 {
@@ -106,7 +106,7 @@ fn head_misfit(params: &[Param], answers: &TypeText) -> Option<TypeKind>
     sooner(found, type_misfit(answers))
 }
 
-/// Whether two parameters have one name.
+/// Returns whether two parameters have one name.
 fn repeats_name(alloc: Global, params: &[Param]) -> Result<bool, Stop>
     ensures ok { IfOk result (λ repeats. repeats ≡ repeats_name (map parameter_of params.now)) }
     ensures err { IfErr result (λ stop. stop ≡ Stop.NoMemory) }
@@ -125,7 +125,7 @@ fn repeats_name(alloc: Global, params: &[Param]) -> Result<bool, Stop>
     Ok(false)
 }
 
-/// Whether a name can't be that of a function behind those.
+/// Returns whether a name cannot be that of a function after those.
 fn is_taken(earlier: &[Signature], name: &[u8]) -> bool
     ensures { result ≡ is_some (predefined_count name.now)
         || is_some (signature_named (signatures_of earlier.now) name.now) }
@@ -150,7 +150,7 @@ fn is_duplicate(
     }
 }
 
-/// What is wrong with a function before its body is judged.
+/// Returns what is wrong with a function before its body is judged; `None` where nothing is.
 pub(crate) fn head_refusal(
     alloc: Global,
     earlier: &[Signature],
@@ -169,7 +169,7 @@ pub(crate) fn head_refusal(
     }
 }
 
-/// The parameters as variables, the first of them the innermost.
+/// Returns the parameters as variables, the first of them the innermost.
 pub(crate) fn param_scope<'a>(
     alloc: Global,
     params: &'a [Param],
@@ -188,7 +188,7 @@ pub(crate) fn param_scope<'a>(
     Ok(scope)
 }
 
-/// The function as later declarations see it.
+/// Returns the function as later declarations see it.
 pub(crate) fn signature<'a>(
     alloc: Global,
     name: &'a [u8],

@@ -1,3 +1,4 @@
+//! Holds what a declaration is judged with: the basin and the other declarations.
 use crate::calls::Signature;
 use rpl_tree::Declaration;
 use rw_model::Basin;
@@ -6,7 +7,7 @@ use std::alloc::Global;
 /// What a declaration is judged with.
 #[derive(Drop)]
 pub(crate) struct Known<'a, 'b> {
-    /// Where memory is taken from.
+    /// The allocator from which memory is taken.
     pub(crate) alloc: Global,
     /// The basin.
     pub(crate) basin: &'a Basin,

@@ -1,4 +1,4 @@
-// What the definitions of this crate come to, on rulesets that were worked out by hand.
+//! Proves what the definitions of this crate mean, on rulesets that were worked out by hand.
 ghost use Rattle.std.specs.Prelude.{◌≡◌, List, [], ◌∷◌, ◌++◌, None, Ok, Some, codes, neg_ℤ, pos, true};
 ghost use Rattle.rw_base.specs.Quantity.{quantity_max};
 ghost use Rattle.rw_base.specs.Unit.{plain_number, timestep, volume};
@@ -18,15 +18,15 @@ ghost use Rattle.rpl_tree.specs.Budget.{budget, limits};
 ghost use Rattle.rpl_types.specs.Judged.{cost_refusal, rules_judged, judged_types, type_at};
 ghost use Rattle.rpl_types.specs.Worked.{a_count, a_flow, a_length, a_step, a_volume, accepted, added_to_storage, cubed, dam_flow_basin, function_of_list, inflow_now, inflow_slot, judged_acts, judged_ahead, judged_put, judged_with, judged_x, list_function, look_types, metre, nested_loops, declared_number_function, number_param, plain_numbers, one_timestep, pool_storage, refused, twice, twice_call, worked_basin, x_slot_tree};
 
-/// What is accepted is typed: each expression has a type by those of its parts, each value fits the slot that it is set to,
-/// each condition is a truth, what a function answers fits what its head says, and each cost is within its limit.
+/// What is accepted is typed: each expression has a type by those of its parts, each value fits the slot that it is set to, each
+/// condition is a truth, the value of a function fits what its head says, and each cost is within its limit.
 #[tactic(auto, using(crate::proofs::Accepted::accepted))]
 pub fn accepted()
     ensures { (basin : Draft) (rules : List Declared) (all : List Types)
         → rules_judged basin rules ≡ Ok all → IsTyped basin rules }
 {}
 
-/// A flow can't be added to a storage; what flows in a timestep can.
+/// A flow cannot be added to a storage; the volume that flows in during a timestep can.
 pub fn storage_and_inflow()
     ensures flow { added_to_storage inflow_now ≡ refused WrongUnit 1 2 }
     ensures volume { added_to_storage (two Times inflow_now (of_unit (pos 1) (codes "step")))
@@ -44,8 +44,8 @@ pub fn first_mistakes()
     ensures none { rules_judged worked_basin [] ≡ Ok [] }
 {}
 
-/// A storage that is capped beside a release, and a sum over the timesteps to come, which calls a function. The function
-/// can't be declared after the rule.
+/// A storage that is capped next to a release, and a sum over the timesteps to come, which calls a function. The function cannot
+/// be declared after the rule.
 pub fn accepted_rules()
     ensures cap_and_base { rules_judged worked_basin cap_and_base
         ≡ Ok ((None ∷ a_volume ∷ look_types volume ++ a_volume ∷ []) ∷ (None ∷ a_flow ∷ []) ∷ []) }
@@ -57,7 +57,7 @@ pub fn accepted_rules()
     ensures too_early { rules_judged dam_flow_basin sum_too_early ≡ refused NotEarlier 1 9 }
 {}
 
-/// Names and slots that aren't there.
+/// Names and slots that are not there.
 pub fn unknown_names()
     ensures name { judged_x n_name ≡ refused UnknownName 1 2 }
     ensures function { judged_x twice_call ≡ refused UnknownName 1 2 }
@@ -77,8 +77,8 @@ pub fn unknown_names()
     ensures range { judged_x (of_unit (pos 200000000000) (codes "Mm3")) ≡ refused LiteralRange 1 2 }
 {}
 
-/// Slots that can't be set, or not at another timestep. The value is judged first, and then the target: the slot, whether
-/// it can be set, the timestep, and at last the value's type.
+/// Slots that cannot be set, or not at another timestep. The value is judged first, and then the target: the slot, whether it can
+/// be set, the timestep, and at last the value's type.
 pub fn targets()
     ensures derived { judged_put (codes "Canal") (codes "Seepage")
         (of_unit (pos 1) (codes "m3/step"))
@@ -170,7 +170,7 @@ pub fn lists()
         ≡ refused WrongUnit 1 1 }
 {}
 
-/// What else the forms refuse, of kinds and of units, and how long a list in a head may be.
+/// Further refusals of the forms, of kinds and of units, and the length that a list in a head may have.
 pub fn further_forms()
     ensures index { judged_x (two Item (pair (pos 1) (pos 2)) one_timestep)
         ≡ refused WrongUnit 1 2 }
@@ -209,7 +209,7 @@ pub fn further_forms()
         ≡ refused ListTooLong 1 0 }
 {}
 
-/// Functions and their calls. A function can't call itself, and none that is declared after it.
+/// Functions and their calls. A function cannot call itself, nor one that is declared after it.
 pub fn functions()
     ensures call { judged_with (twice ∷ []) twice_call
         ≡ Ok ((a_count ∷ a_count ∷ a_count ∷ []) ∷ (None ∷ a_count ∷ a_count ∷ []) ∷ []) }
@@ -243,7 +243,7 @@ pub fn costs()
     ensures words { cost_refusal (budget 0 0 0 1000001) ≡ Some TooCostly }
 {}
 
-/// What is wrong with a declaration as a whole: first its head, and after its nodes its result and its cost.
+/// Refusals of a declaration as a whole: first of its head, and after its nodes of its result and its cost.
 pub fn wholes()
     ensures predefined { rules_judged worked_basin
         (declared_number_function (codes "Min") [] n_name ∷ [])

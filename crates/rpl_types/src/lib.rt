@@ -1,9 +1,8 @@
-//! The judge of rulesets. `check` answers which type each expression of a ruleset has with a basin, or the first thing that
-//! is wrong: `specs/Forms.antt` and `specs/Functions.antt` say which type each form has by those of its parts,
-//! `specs/Nodes.antt` goes over a declaration's nodes, and `specs/Judged.antt` over all declarations. `Typed` tells the types
-//! and the budgets. The code goes over a body once, and finds the types of its nodes as `specs/Visited.antt` says, which
-//! comes to what `specs/Nodes.antt` says. The laws have worked rulesets, and say that what is accepted is typed
-//! (`specs/HasType.antt`).
+//! Judges rulesets. `check` returns the type that each expression of a ruleset has with a basin, or the first thing that is
+//! wrong: `specs/Forms.antt` and `specs/Functions.antt` say which type each form has by those of its parts, `specs/Nodes.antt`
+//! goes over a declaration's nodes, and `specs/Judged.antt` over all declarations. `Typed` holds the types and the budgets. The
+//! code goes over a body once, and finds the types of its nodes as `specs/Visited.antt` says, which is proved to be what
+//! `specs/Nodes.antt` says. The laws have worked rulesets, and say that what is accepted is typed (`specs/HasType.antt`).
 #![tactic(auto)]
 
 mod bodies;

@@ -1,4 +1,4 @@
-// The types of what the basin and the table of units name.
+//! Finds the types of what the basin and the table of units name.
 ghost use Rattle.std.specs.Prelude.{◌≡◌, ◌*ℤ◌, None, option_and_then, option_map, is_some};
 ghost use Rattle.std.specs.Option.{ForSome};
 ghost use Rattle.rw_base.specs.Unit.{length, unit_in, units, volume};
@@ -17,7 +17,7 @@ use rw_base::{Dim, ObjectNo, QUANTITY_MAX, SlotNo, unit_of};
 use rw_model::{Basin, Kind};
 use std::str;
 
-/// The dimension and the factor of a unit.
+/// Returns the dimension and the factor of a unit.
 #[tactic(auto, using(crate::proofs::Texts::no_unit))]
 pub(crate) fn unit_named(word: &[u8]) -> Option<(Dim, i64)>
     ensures { result ≡ unit_in units word.now }
@@ -28,14 +28,14 @@ pub(crate) fn unit_named(word: &[u8]) -> Option<(Dim, i64)>
     }
 }
 
-/// Whether a number is a quantity.
+/// Returns whether a number is a quantity.
 fn is_quantity(number: i64) -> bool
     ensures { result ≡ is_quantity number }
 {
     -QUANTITY_MAX <= number && number <= QUANTITY_MAX
 }
 
-/// Whether so many units are a quantity.
+/// Returns whether a number of units is a quantity.
 fn is_quantity_of(number: i64, factor: i64) -> bool
     ensures { result ≡ is_quantity (number *ℤ factor) }
 {
@@ -58,7 +58,7 @@ fn in_unit(number: i64, unit: Option<(Dim, i64)>) -> Result<RplType, TypeKind>
     }
 }
 
-/// The type of a number that is written, with the unit if there is one.
+/// Returns the type of a number that is written, with the unit if there is one.
 pub(crate) fn literal_type(number: i64, unit: &Option<Vec<u8>>) -> Result<RplType, TypeKind>
     ensures { result ≡ literal_type number (option_map (λ word. word.items) unit.now) }
 {
@@ -68,7 +68,7 @@ pub(crate) fn literal_type(number: i64, unit: &Option<Vec<u8>>) -> Result<RplTyp
     }
 }
 
-/// The number of the slot that is called so.
+/// Returns the number of the slot of these names.
 #[tactic(auto, using(crate::proofs::Texts::no_slot, crate::proofs::Texts::no_owner))]
 pub(crate) fn slot_named(basin: &Basin, object: &[u8], slot: &[u8]) -> Option<SlotNo>
     ensures number { option_map (λ found. found.0) result
@@ -85,7 +85,7 @@ pub(crate) fn slot_named(basin: &Basin, object: &[u8], slot: &[u8]) -> Option<Sl
     basin.find_slot(object, slot)
 }
 
-/// The type of a slot that is called so.
+/// Returns the type of the slot of these names.
 pub(crate) fn slot_type(basin: &Basin, object: &[u8], slot: &[u8]) -> Result<RplType, TypeKind>
     ensures { result ≡ slot_type basin.now object.now slot.now }
 {
@@ -95,7 +95,7 @@ pub(crate) fn slot_type(basin: &Basin, object: &[u8], slot: &[u8]) -> Result<Rpl
     }
 }
 
-/// The number of the object that is called so.
+/// Returns the number of the object of this name.
 #[tactic(auto, using(crate::proofs::Searching::found_here, crate::proofs::Searching::found_later, crate::proofs::Searching::found_nowhere))]
 fn object_named(basin: &Basin, name: &[u8]) -> Option<ObjectNo>
     ensures number { option_map (λ found. found.0) result
@@ -111,7 +111,7 @@ fn object_named(basin: &Basin, name: &[u8]) -> Option<ObjectNo>
     None
 }
 
-/// Whether an object has a table.
+/// Returns whether an object has a table.
 fn has_table(basin: &Basin, object: ObjectNo) -> bool
     requires { IsObject basin.now.objects object.0 }
     ensures { result ≡ is_some (option_and_then (λ found. table_in found.kind)
@@ -129,7 +129,7 @@ fn is_with_table(kind: &Kind) -> bool
     }
 }
 
-/// What a table is asked for.
+/// Returns what a table is asked for.
 fn asks(word: ConvertWord) -> Dim
     ensures { result ≡ asks word }
 {
@@ -139,7 +139,7 @@ fn asks(word: ConvertWord) -> Dim
     }
 }
 
-/// What a table answers.
+/// Returns what a table gives.
 fn answers(word: ConvertWord) -> Dim
     ensures { result ≡ answers word }
 {
@@ -179,7 +179,7 @@ fn table_type(word: ConvertWord, table: bool, t: &RplType) -> Result<RplType, Ty
     )
 }
 
-/// The type of what is read off an object's table, at a value of that type.
+/// Returns the type of what is read from an object's table, at a value of that type.
 pub(crate) fn convert_type(
     basin: &Basin,
     word: ConvertWord,

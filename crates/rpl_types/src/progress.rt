@@ -1,4 +1,4 @@
-// What is known on the way over a declaration: the names that can be used, and the types of its nodes so far.
+//! Holds what is known on the way over a declaration: the names that can be used, and the types of its nodes so far.
 ghost use Rattle.std.specs.Prelude.{◌≡◌, IfErr, IfOk, OnOk};
 ghost use Rattle.rpl_types.specs.Forms.{name_type};
 ghost use Rattle.rpl_types.specs.Stopped.{progress_of};
@@ -16,11 +16,11 @@ use rw_base::NoMemory;
 pub(crate) struct Progress<'a> {
     /// The names that can be used, and their types.
     pub(crate) scope: Scope<'a, RplType>,
-    /// The types of the nodes so far: none of a statement, or of a node whose parts come yet.
+    /// The types of the nodes so far: none for a statement, or for a node whose parts are still to come.
     pub(crate) types: Vec<Option<RplType>>,
 }
 
-/// Keeps a place for the next node, whose number is answered.
+/// Keeps a place for the next node, and returns its number.
 pub(crate) fn reserve(progress: &mut Progress) -> Result<usize, Stop>
     ensures ok { OnOk result (progress_of progress.new ≡ node_reserved (progress_of progress.old)) }
     ensures node { IfOk result (λ node. node ≡ next_node (progress_of progress.old)) }
@@ -58,14 +58,14 @@ pub(crate) fn add_variable<'a>(
     }
 }
 
-/// Takes the name away that was added last.
+/// Removes the name that was added last.
 pub(crate) fn drop_variable(progress: &mut Progress)
     ensures { progress_of progress.new ≡ without_variable (progress_of progress.old) }
 {
     progress.scope.pop();
 }
 
-/// The type of a name: that of the innermost variable of the name.
+/// Returns the type of a name: that of the innermost variable of the name.
 pub(crate) fn name_type<'a>(progress: &Progress<'a>, name: &'a [u8]) -> Result<RplType, TypeKind>
     ensures { result ≡ name_type (progress_of progress.now).scope name.entry.now }
 {

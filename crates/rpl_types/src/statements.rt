@@ -1,4 +1,4 @@
-// The types of the nodes of statements, found on one way over them.
+//! Finds the types of the nodes of statements, on one way over them.
 ghost use Rattle.std.specs.Prelude.{◌≡◌};
 ghost use Rattle.rpl_tree.specs.Seen.{act_of, acts_in, tree_of};
 ghost use Rattle.rpl_tree.specs.Tree.{assign, branch, with_name};
@@ -17,7 +17,7 @@ use crate::visit::visit;
 use rpl_tree::{Expr, RplType, SlotText, Statement};
 use rw_model::Basin;
 
-/// Nothing, or what is wrong at the node.
+/// Returns nothing, or what is wrong at the node.
 fn stand(node: usize, found: Option<TypeKind>) -> Result<(), Stop>
     ensures { Stands node result found }
 {
@@ -27,14 +27,14 @@ fn stand(node: usize, found: Option<TypeKind>) -> Result<(), Stop>
     }
 }
 
-/// Whether rules can put so many timesteps ahead.
+/// Returns whether rules can put this many timesteps ahead.
 fn can_put_ahead(basin: &Basin, ahead: i64) -> bool
     ensures { result ≡ can_put_ahead basin.now ahead }
 {
     0 <= ahead && ahead <= i64::from(basin.control().ahead)
 }
 
-/// Why a value of the type can't be set there.
+/// Returns why a value of the type cannot be set there; `None` where it can.
 fn target_misfit(basin: &Basin, target: &SlotText, ahead: i64, t: &RplType) -> Option<TypeKind>
     ensures { result
         ≡ target_misfit basin.now target.now.object.items target.now.slot.items ahead t.now }
@@ -51,7 +51,7 @@ fn target_misfit(basin: &Basin, target: &SlotText, ahead: i64, t: &RplType) -> O
     misfit(t, &RplType::Numeric(basin.dim(slot)))
 }
 
-/// The statements in a row.
+/// Judges the statements in a row.
 #[cycle(statements)]
 pub(crate) fn statements<'a>(
     known: &Known,
@@ -66,7 +66,7 @@ pub(crate) fn statements<'a>(
     Ok(())
 }
 
-/// A statement.
+/// Judges a statement.
 #[cycle(statements)]
 #[tactic(auto, using(rpl_tree::proofs::Viewed::act_of_branch, rpl_tree::proofs::Viewed::act_of_with))]
 fn visit_statement<'a>(
@@ -100,7 +100,7 @@ fn visit_statement<'a>(
     }
 }
 
-/// `target[t + ahead] := value;`.
+/// Judges `target[t + ahead] := value;`.
 fn set<'a>(
     known: &Known,
     progress: &mut Progress<'a>,

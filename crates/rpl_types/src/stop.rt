@@ -1,7 +1,8 @@
+//! Lists why a declaration gets no types.
 use crate::TypeKind;
 use std::alloc::AllocFailed;
 
-/// Why no types are given of a declaration.
+/// The reasons why a declaration gets no types.
 #[derive(Clone, Copy, Drop)]
 pub(crate) enum Stop {
     /// Something is wrong at a node.
@@ -11,6 +12,6 @@ pub(crate) enum Stop {
         /// The node's number, from 1, or 0 for the declaration as a whole.
         node: usize,
     },
-    /// Memory ran out.
+    /// There was no memory.
     NoMemory,
 }

@@ -1,4 +1,7 @@
-/// Why a ruleset is refused. Where several are due at one node, that which stands first in docs/LANGUAGE.md is given.
+//! Lists why a ruleset is refused.
+
+/// The reasons why a ruleset is refused. Where several are due at one node, the one that comes first in `docs/LANGUAGE.md` is
+/// given.
 #[derive(Clone, Copy, Debug, PartialEq, Eq)]
 pub enum TypeKind {
     /// No variable, function or object has the name.
@@ -15,7 +18,7 @@ pub enum TypeKind {
     WrongUnit,
     /// There are more or fewer arguments than the function takes.
     WrongCount,
-    /// A function is called that isn't declared before.
+    /// A function is called that is not declared before.
     NotEarlier,
     /// A function has the name of a predefined or earlier one, or two parameters have one name.
     DuplicateName,

@@ -1,3 +1,4 @@
+//! Holds an accepted ruleset with the types of its nodes and its budgets.
 ghost use Rattle.std.specs.Prelude.{◌≡◌, ◌≤◌, ◌+◌, Some, IsSome, map, option_map};
 ghost use Rattle.rw_base.specs.declared.limits.TheConstants.{RULES_MAX};
 ghost use Rattle.rpl_budget.specs.Seen.{budget_seen};
@@ -43,7 +44,7 @@ impl Model for Typed {
     ghost coded = { Prim.hlevel (codes, e.the_row.coded, s.the_row.coded) };
 }
 
-/// How many of them are rules.
+/// Counts the rules.
 fn rules_in(declarations: &[Declaration]) -> u16
     requires { rule_count (map declared_of declarations.now) ≤ RULES_MAX }
     ensures { result ≡ rule_count (map declared_of declarations.now) }
@@ -57,7 +58,7 @@ fn rules_in(declarations: &[Declaration]) -> u16
     count
 }
 
-/// How many of them are functions.
+/// Counts the functions.
 fn functions_in(declarations: &[Declaration]) -> u16
     requires { function_count (map declared_of declarations.now) ≤ RULES_MAX }
     ensures { result ≡ function_count (map declared_of declarations.now) }
@@ -71,7 +72,7 @@ fn functions_in(declarations: &[Declaration]) -> u16
     count
 }
 
-/// The place of the rule of this number, counted from 0.
+/// Returns the place of the rule of this number, counted from 0.
 fn place_of_rule(declarations: &[Declaration], rule: u16) -> Option<usize>
     ensures { option_map (λ place. place + 1) result
         ≡ declaration_of_rule (map declared_of declarations.now) rule }
@@ -89,7 +90,7 @@ fn place_of_rule(declarations: &[Declaration], rule: u16) -> Option<usize>
 }
 
 impl Typed {
-    /// The rules and functions, as they were parsed.
+    /// Returns the rules and functions, as they were parsed.
     pub fn rules(&self) -> &ParsedRules
         ensures rules { result.now ≡ self.now.rules }
         ensures limited { AreLimited (rules_of result.now) }
@@ -97,7 +98,7 @@ impl Typed {
         &self.rules
     }
 
-    /// The rules and functions, as they were parsed. What was found of them goes.
+    /// Returns the rules and functions, as they were parsed. What was found of them is dropped.
     pub fn into_rules(self) -> ParsedRules
         ensures rules { result ≡ self.rules }
         ensures limited { AreLimited (rules_of result) }
@@ -112,7 +113,7 @@ impl Typed {
         rules
     }
 
-    /// The type of a node that is an expression, of a declaration. Both are counted from 1.
+    /// Returns the type of a node that is an expression, of a declaration. Both are counted from 1.
     pub fn type_of(&self, declaration: u32, node: u32) -> RplType
         requires expression { IsSome (type_at self.now.types declaration node) }
         ensures { type_at self.now.types declaration node ≡ Some result }
@@ -124,7 +125,7 @@ impl Typed {
         found
     }
 
-    /// How many rules there are, at most 200.
+    /// Returns the number of rules, at most 200.
     pub fn rule_count(&self) -> u16
         ensures count { result ≡ rule_count (rules_of self.now.rules) }
         ensures most { result ≤ RULES_MAX }
@@ -132,7 +133,7 @@ impl Typed {
         rules_in(&self.rules.declarations)
     }
 
-    /// How many functions there are, at most 200.
+    /// Returns the number of functions, at most 200.
     pub fn function_count(&self) -> u16
         ensures count { result ≡ function_count (rules_of self.now.rules) }
         ensures most { result ≤ RULES_MAX }
@@ -140,8 +141,8 @@ impl Typed {
         functions_in(&self.rules.declarations)
     }
 
-    /// What a firing of a rule comes to at most: instructions, reads, puts and words. docs/LANGUAGE.md says under "Limits,
-    /// costs and budgets" what is counted.
+    /// Returns the most that a firing of a rule counts, looks and puts, and the most words that it keeps. `docs/LANGUAGE.md` says
+    /// under "Limits, costs and budgets" what is counted.
     pub fn cost(&self, rule: RuleNo) -> TreeCost
         requires rule { IsSome (declaration_of_rule (rules_of self.now.rules) rule.0) }
         ensures { rule_budget (rules_of self.now.rules) rule.0 ≡ Some (budget_seen result) }

@@ -1,4 +1,4 @@
-// The types of an expression's nodes, found on one way over its tree.
+//! Finds the types of an expression's nodes, on one way over its tree.
 ghost use Rattle.std.specs.Prelude.{◌≡◌, ◌++◌, ◌∷◌, [], IfErr, OnOk};
 ghost use Rattle.rw_base.specs.Answers.{Answers};
 ghost use Rattle.rpl_tree.specs.Seen.{tree_of, trees_in};
@@ -21,7 +21,7 @@ use crate::progress::{Progress, add_variable, drop_variable, fill, name_type, re
 use crate::stop::Stop;
 use rpl_tree::{ConvertWord, Expr, LoopText, OneWord, RplType, TwoWord};
 
-/// The type, or what is wrong at the node.
+/// Returns the type, or what is wrong at the node.
 fn at_node(node: usize, found: Result<RplType, TypeKind>) -> Result<RplType, Stop>
     ensures { Answers Stop.NoMemory stop_refusal (λ own. own) result (at_node node found) }
 {
@@ -31,7 +31,7 @@ fn at_node(node: usize, found: Result<RplType, TypeKind>) -> Result<RplType, Sto
     }
 }
 
-/// Sets the type of a node, or tells what is wrong there.
+/// Sets the type of a node, or reports what is wrong there.
 #[inline(always)]
 fn settle(
     progress: &mut Progress,
@@ -45,7 +45,7 @@ fn settle(
     Ok(own)
 }
 
-/// The type of an expression without parts.
+/// Returns the type of an expression without parts.
 fn leaf(progress: &mut Progress, found: Result<RplType, TypeKind>) -> Result<RplType, Stop>
     ensures { GivesVisit progress.new result (leaf (progress_of progress.old) found) }
 {
@@ -53,7 +53,7 @@ fn leaf(progress: &mut Progress, found: Result<RplType, TypeKind>) -> Result<Rpl
     settle(progress, node, found)
 }
 
-/// The type of an expression, once those of all its nodes are set.
+/// Returns the type of an expression, once those of all its nodes are set.
 #[cycle(visit)]
 #[tactic(auto, using(rpl_tree::proofs::Viewed::tree_of_list, rpl_tree::proofs::Viewed::tree_of_call))]
 pub(crate) fn visit<'a>(
@@ -88,7 +88,7 @@ pub(crate) fn visit<'a>(
     }
 }
 
-/// `name`.
+/// Visits `name`.
 fn variable<'a>(progress: &mut Progress<'a>, name: &'a [u8]) -> Result<RplType, Stop>
     ensures { GivesVisit progress.new result
         (leaf (progress_of progress.old) (name_type (progress_of progress.old).scope name.now)) }
@@ -97,7 +97,7 @@ fn variable<'a>(progress: &mut Progress<'a>, name: &'a [u8]) -> Result<RplType, 
     leaf(progress, found)
 }
 
-/// `name(args)`.
+/// Visits `name(args)`.
 #[cycle(visit)]
 fn call<'a>(
     known: &Known,
@@ -114,7 +114,7 @@ fn call<'a>(
     settle(progress, node, found)
 }
 
-/// `(x)`.
+/// Visits `(x)`.
 #[cycle(visit)]
 fn brackets<'a>(
     known: &Known,
@@ -128,7 +128,7 @@ fn brackets<'a>(
     settle(progress, node, Ok(own))
 }
 
-/// `{x, y}`.
+/// Visits `{x, y}`.
 #[cycle(visit)]
 fn list<'a>(known: &Known, progress: &mut Progress<'a>, items: &'a [Expr]) -> Result<RplType, Stop>
     ensures { Visits known.now progress.old progress.new result (list (trees_in items.now)) }
@@ -139,7 +139,7 @@ fn list<'a>(known: &Known, progress: &mut Progress<'a>, items: &'a [Expr]) -> Re
     settle(progress, node, found)
 }
 
-/// The types of expressions in a row.
+/// Returns the types of expressions in a row.
 #[cycle(visit)]
 fn row<'a>(
     known: &Known,
@@ -166,7 +166,7 @@ fn pushed(found: &mut Vec<RplType>, own: RplType) -> Result<(), Stop>
     }
 }
 
-/// `IF condition THEN yes ELSE no ENDIF`.
+/// Visits `IF condition THEN yes ELSE no ENDIF`.
 #[cycle(visit)]
 fn choice<'a>(
     known: &Known,
@@ -186,7 +186,7 @@ fn choice<'a>(
     settle(progress, node, found)
 }
 
-/// `LET name := value IN body ENDLET`.
+/// Visits `LET name := value IN body ENDLET`.
 #[cycle(visit)]
 fn bind<'a>(
     known: &Known,
@@ -206,7 +206,7 @@ fn bind<'a>(
     settle(progress, node, Ok(own))
 }
 
-/// `FOR name IN list WITH total := first DO body ENDFOR`.
+/// Visits `FOR name IN list WITH total := first DO body ENDFOR`.
 #[cycle(visit)]
 fn each<'a>(
     known: &Known,
@@ -233,7 +233,7 @@ fn each<'a>(
     settle(progress, node, found)
 }
 
-/// `MAP name IN list DO body ENDMAP`.
+/// Visits `MAP name IN list DO body ENDMAP`.
 #[cycle(visit)]
 fn mapped<'a>(
     known: &Known,
@@ -255,7 +255,7 @@ fn mapped<'a>(
     settle(progress, node, found)
 }
 
-/// A word and one expression.
+/// Visits a word and one expression.
 #[cycle(visit)]
 fn one<'a>(
     known: &Known,
@@ -271,7 +271,7 @@ fn one<'a>(
     settle(progress, node, found)
 }
 
-/// Whether it is a look at a slot.
+/// Returns whether it is a look at a slot.
 fn is_look(e: &Expr) -> bool
     ensures { result ≡ is_look (tree_of e.now) }
 {
@@ -281,7 +281,7 @@ fn is_look(e: &Expr) -> bool
     }
 }
 
-/// A word and two expressions.
+/// Visits a word and two expressions.
 #[cycle(visit)]
 fn two<'a>(
     known: &Known,
@@ -300,7 +300,7 @@ fn two<'a>(
     settle(progress, node, found)
 }
 
-/// A word, an object and an expression.
+/// Visits a word, an object and an expression.
 #[cycle(visit)]
 fn convert<'a>(
     known: &Known,
@@ -318,7 +318,7 @@ fn convert<'a>(
     settle(progress, node, found)
 }
 
-/// `slot[step]`.
+/// Visits `slot[step]`.
 #[cycle(visit)]
 fn look<'a>(
     known: &Known,

@@ -1,3 +1,4 @@
+//! Lists why a block is refused.
 ghost use Rattle.std.specs.Prelude.{◌≡◌};
 ghost use Rattle.rpl_verify.specs.Answered.{placed_at};
 
@@ -6,7 +7,7 @@ use crate::place_fault::PlaceFault;
 use rw_base::NoMemory;
 use std::alloc::{AllocError, AllocFailed};
 
-/// Why a block is refused.
+/// The reasons why a block is refused.
 #[derive(Clone, Copy)]
 pub(crate) enum BlockFault {
     /// A place has a misfit.
@@ -15,7 +16,7 @@ pub(crate) enum BlockFault {
     NoMemory,
 }
 
-/// A fault at this place.
+/// Returns the fault at this place.
 pub(crate) fn placed_at(place: u32, fault: PlaceFault) -> BlockFault
     ensures { result ≡ placed_at place fault }
 {

@@ -1,12 +1,14 @@
-/// The most that a firing of a block can come to.
+//! Holds the budget of a block.
+
+/// The budget of a block: what its firings count, look, put and keep at most.
 #[derive(Clone, Copy, Debug, PartialEq, Eq)]
 pub struct Budget {
-    /// How much it counts.
+    /// The maximum that a firing counts.
     pub instructions: u64,
-    /// How often it looks.
+    /// The maximum number of looks.
     pub reads: u64,
-    /// How many puts it executes.
+    /// The maximum number of puts that it executes.
     pub puts: u64,
-    /// How many words it keeps at a time.
+    /// The maximum number of words that it keeps at a time.
     pub words: u64,
 }

@@ -1,4 +1,4 @@
-// A place of a block is judged, by what is before it.
+//! Judges a place of a block by what is before it.
 ghost use Rattle.std.specs.Prelude.{◌≡◌, ◌<◌, ◌∷◌, [], ℕ, slice_get};
 ghost use Rattle.rw_model.specs.Draft.{Draft};
 ghost use Rattle.rw_model.specs.Objects.{numbered};

@@ -1,4 +1,4 @@
-// Which kinds are the same, and what instructions on lists make of kinds.
+//! Compares kinds, and finds what instructions on lists make of them.
 ghost use Rattle.std.specs.Prelude.{◌≡◌, [], ◌∷◌, option_map};
 ghost use Rattle.rpl_verify.specs.Kinds.{is_same_value_kind, is_that_kind, element_kind, list_value_kind, list_room};
 ghost use Rattle.rpl_verify.specs.Table.{appended, element_picked, widened_list};
@@ -6,7 +6,7 @@ ghost use Rattle.rpl_verify.specs.Table.{appended, element_picked, widened_list}
 use rpl_code::ValueKind;
 use rw_base::limits::LIST_MAX;
 
-/// Whether two kinds are the same.
+/// Returns whether two kinds are the same.
 pub(crate) fn is_same_kind(a: ValueKind, b: ValueKind) -> bool
     ensures { result ≡ is_same_value_kind a b }
 {
@@ -21,7 +21,7 @@ pub(crate) fn is_same_kind(a: ValueKind, b: ValueKind) -> bool
     }
 }
 
-/// Whether both are there, and the same.
+/// Returns whether both kinds are there, and the same.
 pub(crate) fn is_kind(a: Option<ValueKind>, b: Option<ValueKind>) -> bool
     ensures { result ≡ is_that_kind a b }
 {
@@ -31,7 +31,7 @@ pub(crate) fn is_kind(a: Option<ValueKind>, b: Option<ValueKind>) -> bool
     }
 }
 
-/// The kind of a list's elements.
+/// Returns the kind of a list's elements.
 pub(crate) fn element_of(kind: ValueKind) -> Option<ValueKind>
     ensures { result ≡ element_kind kind }
 {
@@ -42,7 +42,7 @@ pub(crate) fn element_of(kind: ValueKind) -> Option<ValueKind>
     }
 }
 
-/// For how many elements a list has room.
+/// Returns for how many elements a list has room.
 pub(crate) fn room_of(kind: ValueKind) -> u16
     ensures { result ≡ list_room kind }
 {
@@ -52,7 +52,7 @@ pub(crate) fn room_of(kind: ValueKind) -> u16
     }
 }
 
-/// The kind of a list of so many elements, if there are such lists.
+/// Returns the kind of a list of `room` elements, if there are such lists.
 pub(crate) fn list_kind(room: u16, element: ValueKind) -> Option<ValueKind>
     ensures { result ≡ list_value_kind room element }
 {
@@ -63,7 +63,7 @@ pub(crate) fn list_kind(room: u16, element: ValueKind) -> Option<ValueKind>
     }
 }
 
-/// The list with one element more, if that goes into it.
+/// Returns the kind of the list with one element more, if there is room for it.
 pub(crate) fn appended(element: ValueKind, list: ValueKind) -> Option<ValueKind>
     ensures { option_map (λ kind. kind ∷ []) result ≡ appended (element ∷ list ∷ []) }
 {
@@ -78,7 +78,7 @@ pub(crate) fn appended(element: ValueKind, list: ValueKind) -> Option<ValueKind>
     }
 }
 
-/// The list with room for so many, if it has room for no more.
+/// Returns the kind of the list with room for `room` elements, if it has room for no more.
 pub(crate) fn widened(room: u16, list: ValueKind) -> Option<ValueKind>
     ensures { option_map (λ kind. kind ∷ []) result ≡ widened_list room (list ∷ []) }
 {
@@ -89,7 +89,7 @@ pub(crate) fn widened(room: u16, list: ValueKind) -> Option<ValueKind>
     }
 }
 
-/// What is picked from a list by a place.
+/// Returns the kind of what is picked from a list by a place.
 pub(crate) fn picked(place: ValueKind, list: ValueKind) -> Option<ValueKind>
     ensures { option_map (λ kind. kind ∷ []) result ≡ element_picked (place ∷ list ∷ []) }
 {

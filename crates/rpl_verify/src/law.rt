@@ -1,4 +1,5 @@
-// What the definitions of this crate come to, on codes that were worked out by hand.
+//! Proves that accepted code is safe and what budgets mean, and what the definitions of this crate give on codes that were worked
+//! out by hand.
 ghost use Rattle.std.specs.Prelude.{All, ◌↔◌, IsTrue, false, List, ℕ, ◌≡◌, [], ◌∷◌, Err, None, Ok, Some, codes, neg_ℤ, pos, replicate, true, ◌+ℤ◌};
 ghost use Rattle.rw_base.specs.Quantity.{quantity_max};
 ghost use Rattle.rpl_code.specs.declared.kind.ValueKind.TheVariants as K;
@@ -24,7 +25,7 @@ ghost use Rattle.rpl_verify.specs.Places.{spots};
 ghost use Rattle.rpl_verify.specs.Ways.{AreAcceptable, IsMost, sum_on, words_on};
 ghost use Rattle.rpl_verify.specs.Worked.{IsWayIn, along, along_rule, put_or_not, cap_and_base_code, code_does, dam_and_flow, doubled_items, earlier_code, endless, hundredth_code, long_locals, many_puts, misfit_ahead, misfit_at, misfit_in, function_with, misfit_of, nested, number, number_function, numbers_basin, looks_of_firing, one_dam, one_or_sum, one_or_two, over_a_list, pair_then, put_before_look, put_outflow, put_spill, puts_of_firing, raise_and_reset_code, rule_with, ruled, second_slot, seen_before, skipped, code_of_slot_sum, spilling_dam, sum_ahead_code, sum_or_two, three_counted, tower, words_of_firing, x_by_truth, x_of, x_of_pool, x_slot, y_slot, put_x, resolved_of};
 
-/// Codes that fit. What a jump leaves out is judged as well, with the operands that the target behind the jump declares.
+/// Codes that fit. What a jump leaves out is judged as well, with the operands that the target after the jump declares.
 pub fn codes_that_fit()
     ensures none { AreFit one_dam [] }
     ensures empty { AreFit one_dam (plain_rule []) }
@@ -39,7 +40,8 @@ pub fn codes_that_fit()
     ensures sum_of_slots { AreFit numbers_basin code_of_slot_sum }
 {}
 
-/// Names that aren't there, or that can't be used so. Of two misfits at a place the one with the lesser number counts.
+/// Names that are not there, or that cannot be used in that way. Of two misfits at a place the one with the smaller number
+/// counts.
 pub fn misfits_of_names()
     ensures too_many { misfit_in (replicate 201 (rule_with [] []))
         ≡ Some (refusal TooMany 201 0) }
@@ -119,7 +121,7 @@ pub fn misfits_of_loops()
     ensures no_operand { misfit_of [] (I.Foreach 0 ∷ []) ≡ misfit_at MissingOperand 0 }
 {}
 
-/// Operands. They are counted before their kinds are looked at, and a local that isn't there comes last.
+/// Operands. They are counted before their kinds are looked at, and a local that is not there comes last.
 pub fn misfits_of_operands()
     ensures missing { misfit_of [] (I.Add ∷ []) ≡ misfit_at MissingOperand 0 }
     ensures counted { misfit_of [] (I.Bool true ∷ I.Add ∷ []) ≡ misfit_at MissingOperand 1 }
@@ -139,9 +141,9 @@ pub fn misfits_of_operands()
     ensures no_result { misfit_in (number_function [] ∷ []) ≡ misfit_at WrongShape 0 }
 {}
 
-/// The budgets of accepted codes, block by block: what a firing counts, looks and puts at most, and the words that it keeps.
-/// Of two branches the dearer counts, a loop's body for each element that its list has room for, and what nothing reaches
-/// doesn't count.
+/// The budgets of accepted codes, block by block: what a firing counts, looks and puts at most, and the words that it keeps. Of
+/// two branches the dearer counts, a loop's body for each element that its list has room for, and what nothing reaches does not
+/// count.
 pub fn budgets()
     ensures empty { ruled (plain_rule []) ≡ Ok (budget 0 0 0 0 ∷ []) }
     ensures seven_kept { ruled seven_kept ≡ Ok (budget 4 0 1 2 ∷ []) }
@@ -171,7 +173,7 @@ pub fn budgets_above_limits()
     ensures words { ruled (long_locals 245) ≡ Err (refusal TooDeep 1 0) }
 {}
 
-/// What firings of these codes do: each looks, puts, counts and ends as the rule does that it is the code of.
+/// Firings of these codes: each looks, puts, counts and ends as the rule does that it is the code of.
 pub fn firings_of_rules()
     ensures cap { fire_of_code cap_and_base_code one_dam 1 1 (only_slot 3 (pos 1050))
         ≡ done_by (cell_of 3 1 ∷ []) 3 (pos 1020) 6 }
@@ -192,7 +194,7 @@ pub fn firings_of_rules()
         ≡ ended_early Unknown (cell_of 1 3 ∷ []) 29 }
 {}
 
-/// What firings of codes do that are no rule's.
+/// Firings of codes that are of no rule.
 pub fn firings_of_codes()
     ensures seven_kept { fire_of_code seven_kept one_dam 1 1 unknown_cells
         ≡ done_by [] 2 (pos 50) 4 }
@@ -208,7 +210,7 @@ pub fn firings_of_codes()
         ≡ done_by [] 2 (pos 3) 12 }
 {}
 
-/// A code that is refused, and whose firing would never end: as many steps as a firing may have come to nothing.
+/// A code that is refused, and whose firing would never end: in as many steps as a firing may have, it gives nothing.
 pub fn endless_code()
     ensures refused { first_code_refusal one_dam endless ≡ Some (refusal BackwardJump 1 1) }
     ensures nothing { fire_of_code endless one_dam 1 1 unknown_cells ≡ None }
@@ -272,7 +274,7 @@ pub fn lists()
 {}
 
 /// Codes with their instructions resolved. A local is named by its first word, a slot is the word that is its number less 1, and
-/// of a block that doesn't fit there is nothing.
+/// of a block that does not fit there is nothing.
 pub fn resolved_codes()
     ensures seven_kept { resolved_code one_dam seven_kept
         ≡ (R.Push (pos 7) ∷ R.Store 0 1 ∷ R.Push (pos 50) ∷ R.Put 2 0 ∷ R.End ∷ []) ∷ [] }
@@ -312,7 +314,7 @@ pub fn resolved_instructions()
     ensures no_block { resolved_at ((R.Now ∷ R.End ∷ []) ∷ []) 0 0 ≡ R.End }
 {}
 
-/// Codes that are stuck: they would take operands that aren't there or are of another kind, jump where nothing is declared of
+/// Codes that are stuck: they would take operands that are not there or are of another kind, jump where nothing is declared of
 /// the kind, end another loop than the innermost, or leave something behind.
 pub fn stuck_codes()
     ensures missing { x_of [] (I.Add ∷ []) ≡ None }
@@ -337,8 +339,8 @@ pub fn accepted_code()
         → AreAccepted basin blocks budgets → All IsWithinLimits budgets }
 {}
 
-/// Ways through blocks and what they come to: through a loop's body, by either side of a branch, by a branch in a loop's body,
-/// over a call, and past what nothing reaches. The budget is that of the dearest, in each of its parts.
+/// Ways through blocks and what they cost: through a loop's body, by either side of a branch, by a branch in a loop's body, over
+/// a call, and past what nothing reaches. The budget is that of the dearest, in each of its parts.
 pub fn ways()
     ensures in_turns { IsWayIn two_puts 1 (0 ∷ 1 ∷ 2 ∷ 3 ∷ 4 ∷ 5 ∷ 6 ∷ 7 ∷ []) }
     ensures turns { along_rule two_puts (0 ∷ 1 ∷ 2 ∷ 3 ∷ 4 ∷ 5 ∷ 6 ∷ 7 ∷ [])
@@ -372,7 +374,7 @@ pub fn ways()
     ensures not_a_way { IsWayIn two_puts 1 (0 ∷ 1 ∷ 2 ∷ 3 ∷ 7 ∷ []) → IsTrue false }
 {}
 
-/// What the budgets mean. Of a block that fits, the numbers that budgets are made of are the most that its ways come to. So code is
+/// The meaning of budgets. Of a block that fits, the numbers that budgets are made of are the most that its ways cost. So code is
 /// accepted exactly where it fits and the budgets that its ways have keep within the limits.
 pub fn budgets_of_ways()
     ensures sums { (scope : Scope) (budgets : List Budget) (price : Before → Instruction → ℕ)
@@ -387,8 +389,8 @@ pub fn budgets_of_ways()
         → AreAccepted basin blocks budgets ↔ AreAcceptable basin blocks budgets }
 {}
 
-/// Code that is refused has a first misfit, which the refusal tells, unless it is for a budget above a limit; and code that fits is
-/// refused for nothing else.
+/// Code that is refused has a first misfit, which the refusal names, unless it is for a budget above a limit; and code that fits
+/// is refused for nothing else.
 pub fn refused_code()
     ensures misfit { (basin : Draft) (blocks : List Block) (why : Refusal)
         → ruling basin blocks ≡ Err why → (IsOverLimit why.misfit → ⊥)
@@ -405,8 +407,8 @@ pub fn verified_code_is_safe()
         → AreAccepted basin blocks budgets → AreSafe basin blocks budgets }
 {}
 
-/// What `verify` answers is the code that it was given. That is accepted, and so it is safe; its instructions are resolved. Of all
-/// accepted code it answers that.
+/// The code that `verify` returns is the code that it was given. That is accepted, and so it is safe; its instructions are
+/// resolved. For all accepted code it returns that.
 pub fn answered_code_is_safe()
     ensures unchanged { (basin : Draft) (blocks : List Block) (a : Accepted)
         → verified basin blocks ≡ Ok a → a.blocks ≡ blocks }

@@ -1,7 +1,7 @@
-//! When the code of a policy is accepted for a basin, what a firing of it may cost, and what it does. `verify` answers the code
-//! with the budget of each block, or its first refusal, as the definitions give them. Accepted code is safe
-//! (`verified_code_is_safe`): whatever the cells hold and at whatever timestep, its rules are never stuck, end, and keep to
-//! their budgets. The other laws say what the definitions come to on worked codes.
+//! Decides when the code of a policy is accepted for a basin, and defines what a firing of it may cost and what it does. `verify`
+//! returns the code with the budget of each block, or its first refusal, as the definitions give them. Accepted code is safe
+//! (`verified_code_is_safe`): whatever the cells hold and at whatever timestep, its rules are never stuck, end, and keep to their
+//! budgets. The other laws say what the definitions give on worked codes.
 #![tactic(auto)]
 
 mod block;

@@ -1,4 +1,4 @@
-// Names that instructions use, looked up in the basin, the predefined functions and the blocks.
+//! Looks up the names that instructions use, in the basin, the predefined functions and the blocks.
 ghost use Rattle.std.specs.Prelude.{◌≡◌, ◌<◌, ℕ, List, Some, length, map, slice_get, bytes_eq, option_map, IfOk};
 ghost use Rattle.std.specs.Option.{ForSome};
 ghost use Rattle.rw_model.specs.Draft.{IsObject};
@@ -26,7 +26,7 @@ fn is_called(name: &Name, text: &str) -> bool
     text == name.as_str()
 }
 
-/// How many numbers a predefined function takes, if there is one of this name.
+/// Returns how many numbers a predefined function takes, if there is one of this name.
 pub(crate) fn predefined_count(name: &Name) -> Option<u8>
     ensures { result ≡ option_map takes_count (function_named predefined_functions name.now) }
 {
@@ -49,7 +49,7 @@ pub(crate) fn predefined_count(name: &Name) -> Option<u8>
     }
 }
 
-/// The call of a predefined function, by its row, or of row 0 if there is none of this name.
+/// Returns the call of a predefined function, by its row, or of row 0 if there is none of this name.
 pub(crate) fn call_of(name: &Name) -> Resolved
     ensures { result ≡ call_of 1 predefined_functions name.now }
 {
@@ -72,7 +72,7 @@ pub(crate) fn call_of(name: &Name) -> Resolved
     }
 }
 
-/// The block of a number, counted from 1.
+/// Returns the block of a number, counted from 1.
 pub(crate) fn block_numbered(blocks: &[Block], number: u32) -> Option<&Block>
     ensures { option_map (λ block. block.now) result ≡ numbered blocks.now number }
 {
@@ -97,7 +97,7 @@ fn find_object(basin: &Basin, name: &Name) -> Option<ObjectNo>
     None
 }
 
-/// The number of the object of this name, or 0 if there is none.
+/// Returns the number of the object of this name, or 0 if there is none.
 pub(crate) fn object_number(basin: &Basin, name: &Name) -> u16
     ensures { result ≡ object_or_none (object_named basin.now.objects name.now) }
 {
@@ -127,7 +127,8 @@ fn slot_seen(basin: &Basin, instruction: &Instruction) -> Option<u16>
     }
 }
 
-/// The slot that each of these lines names as an operand, if there is one: looked up once, for judging and for resolving.
+/// Returns the slot that each of these lines names as an operand, if there is one. It is looked up once, for judging and for
+/// resolving.
 pub(crate) fn slots_seen(
     alloc: Global,
     basin: &Basin,
@@ -143,7 +144,7 @@ pub(crate) fn slots_seen(
     Ok(slots)
 }
 
-/// The slot that the line of a place names, of those of all lines.
+/// Returns the slot that the line of a place names, of those of all lines.
 pub(crate) fn slot_at(slots: &[Option<u16>], place: usize) -> Option<u16>
     requires { place < length slots.now }
     ensures { slice_get slots.now place ≡ Some result }
@@ -151,7 +152,7 @@ pub(crate) fn slot_at(slots: &[Option<u16>], place: usize) -> Option<u16>
     slots[place]
 }
 
-/// The slot that is there, or 1 if there is none.
+/// Returns the slot that is there, or 1 if there is none.
 pub(crate) fn slot_or_first(slot: Option<u16>) -> u16
     ensures { result ≡ slot_or_first slot }
 {
@@ -161,7 +162,7 @@ pub(crate) fn slot_or_first(slot: Option<u16>) -> u16
     }
 }
 
-/// The number of the slot of these names, or 1 if there is none.
+/// Returns the number of the slot of these names, or 1 if there is none.
 pub(crate) fn slot_number(basin: &Basin, object: &Name, slot: &Name) -> u16
     ensures { result ≡ slot_or_first (slot_named basin.now.objects object.now slot.now) }
 {
@@ -267,8 +268,8 @@ fn call_misfit(blocks: &[Block], here: u32, called: u32) -> Option<VerifyKind>
     }
 }
 
-/// What is refused of the names that an instruction uses, in a block of this number and head, where
-/// this is the slot that it names.
+/// Returns what is refused of the names that an instruction uses, in a block of this number and head, where this is the slot that
+/// it names; `None` where nothing is.
 pub(crate) fn name_misfit(
     basin: &Basin,
     blocks: &[Block],

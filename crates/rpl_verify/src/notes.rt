@@ -1,4 +1,4 @@
-// What an instruction comes to by itself, with what is before it.
+//! Computes what an instruction costs by itself, with what is before it.
 ghost use Rattle.std.specs.Prelude.{◌≡◌, ◌+◌, ℕ, List, map, slice_get};
 ghost use Rattle.rw_model.specs.Draft.{Draft};
 ghost use Rattle.rw_model.specs.Objects.{numbered};
@@ -53,7 +53,7 @@ pub(crate) struct Note {
     pub(crate) words: u32,
 }
 
-/// The first number above the limit of a part.
+/// Returns the first number above the limit of a part.
 pub(crate) fn cap_of(part: Part) -> u32
     ensures { result ≡ limit_of part + 1 }
 {
@@ -65,14 +65,14 @@ pub(crate) fn cap_of(part: Part) -> u32
     }
 }
 
-/// A sum, up to the first number above the limit.
+/// Returns a sum, up to the first number above the limit.
 pub(crate) fn plus(part: Part, a: u64, b: u64) -> u32
     ensures { result ≡ capped (limit_of part) (a + b) }
 {
     a.saturating_add(b).min(u64::from(cap_of(part))) as u32
 }
 
-/// The words of kinds, up to the first number above the limit.
+/// Returns the words of kinds, up to the first number above the limit.
 pub(crate) fn words_of_all(kinds: &[ValueKind]) -> u32
     ensures { result ≡ capped limits.words (words_of_all kinds.now) }
 {
@@ -123,7 +123,7 @@ fn called(budgets: &[Budget], number: u32) -> Budget
     }
 }
 
-/// The words of a local, if there is one.
+/// Returns the words of a local, if there is one.
 pub(crate) fn local_words(locals: &[ValueKind], n: u32) -> u32
     ensures { result ≡ words_of_kind (slice_get locals.now n) }
 {
@@ -206,7 +206,7 @@ fn words(locals: u32, budgets: &[Budget], walk: &Walk, instruction: &Instruction
     }
 }
 
-/// The note of a place, where the locals take so many words.
+/// Returns the note of a place, where the locals take this many words.
 pub(crate) fn place_note(
     blocks: &[Block],
     locals: &[ValueKind],
@@ -230,7 +230,7 @@ pub(crate) fn place_note(
     }
 }
 
-/// The note of the end of a block, where the locals take so many words.
+/// Returns the note of the end of a block, where the locals take this many words.
 pub(crate) fn end_note(local_words: u32, walk: &Walk) -> Note
     ensures { (scope : Scope) (budgets : List Numbers)
         → local_words ≡ capped limits.words (words_of_all scope.locals)

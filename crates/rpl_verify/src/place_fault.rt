@@ -1,8 +1,9 @@
+//! Lists why a place is refused.
 use crate::VerifyKind;
 use rw_base::NoMemory;
 use std::alloc::{AllocError, AllocFailed};
 
-/// Why a place is refused.
+/// The reasons why a place is refused.
 #[derive(Clone, Copy)]
 pub(crate) enum PlaceFault {
     /// It has a misfit.

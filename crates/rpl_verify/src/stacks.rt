@@ -1,4 +1,4 @@
-// Lists of kinds, each held once: equal lists have one number.
+//! Holds lists of kinds, each once: equal lists have one number.
 ghost use Rattle.std.specs.Prelude.{◌≡◌, ◌<◌, ◌+◌, suc, [], ◌∷◌, length, IfOk};
 ghost use Rattle.rpl_code.specs.Weight.{words_of};
 ghost use Rattle.rpl_tree.specs.Budget.{capped, limits};
@@ -13,11 +13,11 @@ use std::alloc::Global;
 use std::collections::BTreeMap;
 use std::marker::Model;
 
-/// The most words that are told apart: one above the limit of words.
+/// The maximum number of words that is told apart: one above the limit of words.
 pub(crate) const WORDS_CAP: u32 = WORDS_MAX as u32 + 1;
 
-/// A list that isn't empty: the kind on top, the number of the list below, how many kinds the list
-/// has, and how many words these take, up to the first number above the limit.
+/// A list that is not empty: the kind on top, the number of the list below, how many kinds the list has, and how many words these
+/// take, up to the first number above the limit.
 #[derive(Clone, Copy)]
 pub(crate) struct Node {
     kind: ValueKind,
@@ -82,7 +82,7 @@ fn is_next(nodes: &[Node], below: u32, kind: ValueKind) -> bool
 }
 
 impl Stacks {
-    /// The empty list alone.
+    /// Returns the empty list alone.
     pub(crate) fn new(alloc: Global) -> Stacks
         ensures { result ≡ [] ∷ [] }
     {
@@ -111,7 +111,7 @@ impl Stacks {
         Ok(below + 1)
     }
 
-    /// The number of a list with one kind more. The next one is looked at in place, since it mostly is that one.
+    /// Returns the number of a list with one kind more. The next one is looked at in place, since it mostly is that one.
     #[inline(always)]
     pub(crate) fn push(&mut self, below: u32, kind: ValueKind) -> Result<u32, NoMemory>
         requires { below < length self.old }
@@ -167,7 +167,7 @@ impl Stacks {
         }
     }
 
-    /// The last kind of a list.
+    /// Returns the last kind of a list.
     pub(crate) fn top(&self, n: u32) -> Option<ValueKind>
         requires { n < length self.now }
         ensures { result ≡ top_of (at self.now n) }
@@ -179,7 +179,7 @@ impl Stacks {
         Some(self.nodes[n as usize - 1].kind)
     }
 
-    /// A list without its last kind.
+    /// Returns a list without its last kind.
     pub(crate) fn below(&self, n: u32) -> u32
         requires { n < length self.now }
         ensures { IsListBelow self.now n result }
@@ -191,7 +191,7 @@ impl Stacks {
         self.nodes[n as usize - 1].below
     }
 
-    /// How many kinds a list has.
+    /// Returns the number of kinds in a list.
     pub(crate) fn height(&self, n: u32) -> u32
         requires { n < length self.now }
         ensures { result ≡ length (at self.now n) }
@@ -203,7 +203,7 @@ impl Stacks {
         self.nodes[n as usize - 1].height
     }
 
-    /// How many words the kinds of a list take, up to the first number above the limit.
+    /// Returns the number of words that the kinds of a list take, up to the first number above the limit.
     pub(crate) fn words(&self, n: u32) -> u32
         requires { n < length self.now }
         ensures { result ≡ capped limits.words (words_of_all (at self.now n)) }
@@ -215,7 +215,7 @@ impl Stacks {
         self.nodes[n as usize - 1].words
     }
 
-    /// Whether two lists are the same.
+    /// Returns whether two lists are the same.
     pub(crate) fn same(&self, a: u32, b: u32) -> bool
         requires a_in { a < length self.now }
         requires b_in { b < length self.now }

@@ -1,4 +1,4 @@
-// The most of all ways through a block, from its end back.
+//! Computes the most of all ways through a block, from its end back.
 ghost use Rattle.std.specs.Prelude.{◌≡◌, ◌<◌, ◌+◌, ◌-◌, ◌^◌, ℕ, suc, ◌∷◌, List, drop, length, reverse, set, slice_index, IfOk};
 ghost use Rattle.rpl_code.specs.declared.instruction.Instruction.{Instruction};
 ghost use Rattle.rpl_tree.specs.Budget.{capped};
@@ -12,7 +12,7 @@ use rpl_code::Instruction;
 use rw_base::NoMemory;
 use std::alloc::Global;
 
-/// The note of a place.
+/// Returns the note of a place.
 pub(crate) fn note_at(notes: &[Note], place: usize) -> Note
     requires { place < length notes.now }
     ensures { drop place notes.now ≡ result ∷ drop (place + 1) notes.now }
@@ -112,7 +112,7 @@ fn most_from(
     }
 }
 
-/// Where it goes on behind the innermost loop.
+/// Returns where the code goes on after the innermost loop.
 pub(crate) fn loop_end(ends: &[usize]) -> usize
     ensures { result ≡ slice_index (reverse ends.now) 0 }
 {
@@ -160,8 +160,8 @@ fn fill_place(
     most[place] = found;
 }
 
-/// The budget of a block, by the notes of its places and of its end: the most of all ways through it, each number up to the
-/// first one above its limit. All four tables are filled in one pass.
+/// Returns the budget of a block, by the notes of its places and of its end: the most of all ways through it, each number up to
+/// the first one above its limit. All four tables are filled in one pass.
 pub(crate) fn budget_noted(
     alloc: Global,
     notes: &[Note],

@@ -1,4 +1,4 @@
-// What instructions take from the operands and leave in their place.
+//! Takes operands for an instruction, and leaves what it makes in their place.
 ghost use Rattle.std.specs.Prelude.{◌≡◌, ◌≤◌, [], ◌∷◌, length, reverse};
 ghost use Rattle.rpl_code.specs.declared.kind.ValueKind.TheVariants as K;
 ghost use Rattle.rpl_verify.specs.Kinds.{list_value_kind};
@@ -78,7 +78,7 @@ fn take_run(walk: &mut Walk, kind: ValueKind, count: u16) -> Result<(), PlaceFau
     Ok(())
 }
 
-/// Makes a list of so many operands.
+/// Makes a list of `count` operands.
 pub(crate) fn gather(walk: &mut Walk, count: u16) -> Result<(), PlaceFault>
     ensures { Goes (taken_by (goes_by count (listed count)) walk.old.before)
         walk.old walk.new result }
@@ -162,7 +162,7 @@ pub(crate) fn pick(walk: &mut Walk) -> Result<(), PlaceFault>
     }
 }
 
-/// Gives the list on top room for so many.
+/// Gives the list on top room for `room` elements.
 pub(crate) fn widen(walk: &mut Walk, room: u16) -> Result<(), PlaceFault>
     ensures { Goes (taken_by (goes_by 1 (widened_list room)) walk.old.before) walk.old
         walk.new result }

@@ -1,4 +1,4 @@
-// Code is judged block by block.
+//! Judges code block by block.
 ghost use Rattle.std.specs.Prelude.{◌≡◌, [], map, OnOk};
 ghost use Rattle.std.specs.List.{AllByRecursion};
 ghost use Rattle.rw_base.specs.Answers.{Answers};
@@ -29,7 +29,7 @@ fn fault_in(block: u32, fault: BlockFault) -> VerifyFault
     }
 }
 
-/// The budget of each block, and the blocks resolved and joined one behind the other; or the first refusal.
+/// Returns the budget of each block, and the blocks resolved and joined one after the other; or the first refusal.
 pub(crate) fn budgets(
     alloc: Global,
     basin: &Basin,

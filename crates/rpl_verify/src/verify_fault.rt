@@ -1,19 +1,20 @@
+//! Holds why code is not accepted, and at which place.
 use crate::VerifyKind;
 use rw_base::NoMemory;
 use std::alloc::{AllocError, AllocFailed};
 use thiserror::Error;
 
-/// Why code isn't accepted.
+/// The reasons why code is not accepted.
 #[derive(Clone, Copy, Debug, PartialEq, Eq, Error)]
 pub enum VerifyFault {
     /// The code is refused.
     #[error("{kind:?} in block {block} at place {place}")]
     Refused {
-        /// Why.
+        /// What is wrong.
         kind: VerifyKind,
         /// In which block, counted from 1.
         block: u32,
-        /// At which place, counted from 0. The end of a block is the place behind its last.
+        /// At which place, counted from 0. The end of a block is the place after its last.
         place: u32,
     },
     /// There was no memory. Nothing is said of the code.

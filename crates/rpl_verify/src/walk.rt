@@ -1,4 +1,4 @@
-// A walk through a block, place by place.
+//! Walks through a block, place by place, and keeps the kinds of the operands and the open loops.
 ghost use Rattle.std.specs.Prelude.{◌≡◌, ◌<◌, ◌+◌, ◌^◌, ◌&&◌, ℕ, [], ◌∷◌, length, map, reverse, IfOk, is_some, slice_get};
 ghost use Rattle.rpl_tree.specs.Budget.{capped, limits};
 ghost use Rattle.rpl_verify.specs.Kinds.{are_same_kinds, top_of, words_of_all};
@@ -14,13 +14,13 @@ use crate::kinds::room_of;
 use crate::list_loop::Loop;
 use crate::place_fault::PlaceFault;
 use crate::stacks::{Stacks, WORDS_CAP};
-use rpl_code::{Instruction, ValueKind};
+use rpl_code::{Instruction, OperandKinds, ValueKind};
 use rw_base::NoMemory;
 use std::alloc::Global;
 use std::marker::Model;
 
-/// A loop that is open: the place where it begins, its sort, for how many elements its list has
-/// room, and the number of the operands under that list.
+/// A loop that is open: the place where it begins, its sort, for how many elements its list has room, and the number of the
+/// operands under that list.
 #[derive(Clone, Copy)]
 pub(crate) struct OpenLoop {
     start: u32,
@@ -29,8 +29,7 @@ pub(crate) struct OpenLoop {
     under: u32,
 }
 
-/// What jumps have to know of a place: where the innermost loop begins, and the number of the kinds
-/// that are declared.
+/// What jumps have to know of a place: where the innermost loop begins, and the number of the kinds that are declared.
 #[derive(Clone, Copy)]
 pub(crate) struct Landing {
     innermost: Option<u32>,
@@ -101,6 +100,21 @@ fn number_of(stacks: &mut Stacks, kinds: &[ValueKind]) -> Result<u32, NoMemory>
     Ok(number)
 }
 
+// The number of the kinds of operands.
+fn number_of_all(stacks: &mut Stacks, kinds: &OperandKinds) -> Result<u32, NoMemory>
+    requires { IsRooted stacks.old }
+    ensures grows { Grows stacks.old stacks.new }
+    ensures made { IfOk result (λ n. IsNumberOf stacks.new n (reverse kinds.now)) }
+{
+    match kinds.as_slice() {
+        Some(kinds) => number_of(stacks, kinds),
+        None => {
+            let kinds = kinds.to_vec()?;
+            number_of(stacks, kinds.as_slice())
+        }
+    }
+}
+
 // The number of the kinds that an instruction declares.
 fn declare(stacks: &mut Stacks, instruction: &Instruction) -> Result<Option<u32>, NoMemory>
     requires { IsRooted stacks.old }
@@ -109,7 +123,7 @@ fn declare(stacks: &mut Stacks, instruction: &Instruction) -> Result<Option<u32>
 {
     match instruction {
         Instruction::Target(kinds) => {
-            let number = number_of(stacks, kinds.as_slice())?;
+            let number = number_of_all(stacks, kinds)?;
             Ok(Some(number))
         }
         _ => Ok(None),
@@ -188,7 +202,7 @@ fn start_of(openers: &[Beginning]) -> Option<u32>
 }
 
 impl Walk {
-    /// A walk before the first place of a block.
+    /// Returns a walk before the first place of a block.
     pub(crate) fn of(alloc: Global, lines: &[Instruction]) -> Result<Walk, NoMemory>
         requires { length lines.now < 2 ^ 32 }
         ensures { IfOk result (λ walk. walk
@@ -216,14 +230,14 @@ impl Walk {
         })
     }
 
-    /// How many operands there are.
+    /// Returns the number of operands.
     pub(crate) fn height(&self) -> u32
         ensures { result ≡ length self.now.before.kinds }
     {
         self.stacks.height(self.kinds)
     }
 
-    /// The words of the operands and the open loops, up to the first number above the limit.
+    /// Returns the words of the operands and the open loops, up to the first number above the limit.
     pub(crate) fn words(&self) -> u32
         ensures { result ≡ capped limits.words
             (words_of_all self.now.before.kinds + words_of_loops self.now.before.loops) }
@@ -232,14 +246,14 @@ impl Walk {
         words.min(u64::from(WORDS_CAP)) as u32
     }
 
-    /// The kind on top.
+    /// Returns the kind on top.
     pub(crate) fn top(&self) -> Option<ValueKind>
         ensures { result ≡ top_of self.now.before.kinds }
     {
         self.stacks.top(self.kinds)
     }
 
-    /// For how many elements the list on top has room.
+    /// Returns for how many elements the list on top has room.
     pub(crate) fn room(&self) -> u16
         ensures { result ≡ room_on_top self.now.before.kinds }
     {
@@ -249,7 +263,7 @@ impl Walk {
         }
     }
 
-    /// For how many elements the list below the top has room.
+    /// Returns for how many elements the list below the top has room.
     pub(crate) fn room_below(&self) -> u16
         ensures { result ≡ room_on_top (rest_of self.now.before.kinds) }
     {
@@ -259,7 +273,7 @@ impl Walk {
         }
     }
 
-    /// Lets the top go.
+    /// Removes the top.
     pub(crate) fn pop(&mut self)
         ensures { self.new ≡ without_top self.old }
     {
@@ -276,7 +290,7 @@ impl Walk {
         Ok(())
     }
 
-    /// Begins a loop at a place, over a list that isn't among the operands any more.
+    /// Begins a loop at a place, over a list that is no longer among the operands.
     pub(crate) fn open(&mut self, start: u32, sort: Loop, room: u16) -> Result<(), NoMemory>
         ensures { IfOk result (λ _. self.new ≡ with_loop start (loop_of sort) room self.old) }
     {
@@ -293,8 +307,7 @@ impl Walk {
         Ok(())
     }
 
-    /// Ends the innermost loop, where the operands are those under its list, and answers for how
-    /// many elements that has room.
+    /// Ends the innermost loop, where the operands are those under its list, and returns for how many elements that has room.
     pub(crate) fn close(&mut self, sort: Loop) -> Result<u16, PlaceFault>
         ensures { Closes (loop_of sort) self.old self.new result }
     {
@@ -308,7 +321,7 @@ impl Walk {
         Ok(last.room)
     }
 
-    /// Where the innermost loop begins.
+    /// Returns where the innermost loop begins.
     pub(crate) fn innermost(&self) -> Option<u32>
         ensures { result ≡ innermost self.now.before.loops }
     {
@@ -318,7 +331,7 @@ impl Walk {
         }
     }
 
-    /// Refuses a jump to a place that is no target, or lies in another loop.
+    /// Refuses a jump to a place that is no target, or is in another loop.
     pub(crate) fn find(&self, to: u32) -> Result<(), PlaceFault>
         ensures { Lands (landing (innermost self.now.before.loops) (slice_get self.now.spots to))
             (declares self.now.spots to) result }
@@ -336,7 +349,7 @@ impl Walk {
         Ok(())
     }
 
-    /// Whether the operands are those that are declared at a place.
+    /// Returns whether the operands are those that are declared at a place.
     pub(crate) fn carries(&self, to: u32) -> bool
         ensures { result ≡ is_declared (declares self.now.spots to) self.now.before.kinds }
     {
@@ -349,7 +362,7 @@ impl Walk {
         }
     }
 
-    /// Takes the operands that are declared at a place, if any are.
+    /// Makes the operands those that are declared at a place, if any are, and returns whether any are.
     pub(crate) fn land(&mut self, to: u32) -> bool
         ensures landed { self.new ≡ landed (declares self.old.spots to) self.old }
         ensures told { result ≡ is_some (declares self.old.spots to) }
@@ -367,7 +380,7 @@ impl Walk {
         }
     }
 
-    /// Whether no loop is open.
+    /// Returns whether no loop is open.
     pub(crate) fn is_shut(&self) -> bool
         ensures { result ≡ are_shut self.now.before.loops }
     {

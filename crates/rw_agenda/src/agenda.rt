@@ -1,3 +1,4 @@
+//! Holds the rules of a policy within a timestep, and finds the one that fires next.
 ghost use Rattle.std.specs.Prelude.{◌≡◌, ◌≤◌, ◌-◌, ◌^◌, [], IfOk, length, map, min, option_map, true, unwrap_or};
 ghost use Rattle.std.specs.List.{sum};
 ghost use Rattle.rw_base.specs.declared.number.Cell.{Cell};
@@ -17,9 +18,9 @@ use rw_series::Series;
 use std::alloc::Global;
 use std::marker::Model;
 
-/// The rules of a policy within a timestep, seen as the order in which they are taken, an entry for each, which tells at what it
-/// looked when it last fired, if it fired, and for each whether it is marked. The cells of a rule that isn't marked are known
-/// to hold what it saw, so that they need not be compared. Beside that it has for each cell the rules that looked there.
+/// The rules of a policy within a timestep, seen as the order in which they are taken, an entry for each with what it looked at
+/// when it last fired, if it fired, and for each whether it is marked. The cells of a rule that is not marked are known to hold
+/// what it saw, so that they need not be compared. The agenda also has, for each cell, the rules that looked there.
 #[derive(Drop)]
 pub struct Agenda {
     rules: Vec<LastLooks>,
@@ -41,9 +42,9 @@ impl Model for Agenda {
 }
 
 impl Agenda {
-    /// The agenda of a policy for a basin, of which no rule has fired. `reads` tells at most how many looks a firing of each
-    /// rule has, that of rule 1 first. There are at most `RULES_MAX` rules. The one error is want of memory; no other call
-    /// takes any.
+    /// Returns the agenda of a policy for a basin, of which no rule has fired. `reads` has the maximum number of looks of a
+    /// firing of each rule, that of rule 1 first. There are at most `RULES_MAX` rules. The one error is want of memory; no other
+    /// call takes any.
     pub fn for_rules(alloc: Global, basin: &Basin, reads: &[u32]) -> Result<Agenda, NoMemory>
         requires few { length reads.now ≤ RULES_MAX }
         ensures order { IfOk result (λ agenda. agenda.order ≡ basin.now.control.agenda) }
@@ -69,7 +70,7 @@ impl Agenda {
         self.index.clear();
     }
 
-    /// Whether it is known that no rule looked at a cell, so that what is written marks none.
+    /// Returns whether it is known that no rule looked at a cell, so that what is written marks none.
     #[inline(always)]
     pub fn is_idle(&self) -> bool
         ensures { result ≡ true → (basin : Draft) (cell : Cell)
@@ -78,8 +79,8 @@ impl Agenda {
         self.index.is_idle()
     }
 
-    /// A put to a cell was written. Each rule is marked that looked at a cell which shares its value with this one, and each
-    /// stays marked that was. It takes no memory.
+    /// Marks, after a put to a cell was written, each rule that looked at a cell which shares its value with this one. Each rule
+    /// that was marked stays marked. It takes no memory.
     #[inline(always)]
     pub fn changed(&mut self, basin: &Basin, c: Cell)
         requires { IsSlot basin.now.objects c.slot.0 }
@@ -91,7 +92,7 @@ impl Agenda {
             .mark(&mut self.marks, basin.group(c.slot), c.step);
     }
 
-    /// The first rule in the agenda's order that hasn't fired, or that looked at a cell which holds another value now.
+    /// Returns the first rule in the agenda's order that has not fired, or that looked at a cell which holds another value now.
     /// `None` exactly where there is none. `docs/DEFINITIONS.md` says under "Runs" when a rule is due.
     pub fn next(&self, series: &Series) -> Option<RuleNo>
         requires index { IsIndexed self.now (held series.now) }
@@ -100,7 +101,7 @@ impl Agenda {
         first_changed(&self.marks, self.rules.as_slice(), series)
     }
 
-    /// At what a rule looked when it last fired, nothing if it hasn't.
+    /// Returns what a rule looked at when it last fired, and nothing if it has not fired.
     pub fn looked(&self, rule: RuleNo) -> &[Look]
         requires { IsListed self.now rule.0 }
         ensures { result.now ≡ unwrap_or (looked_by self.now rule.0) [] }
@@ -108,8 +109,8 @@ impl Agenda {
         self.rules[usize::from(rule.0) - 1].looks()
     }
 
-    /// A rule fired, and looked at these cells, at no more than there is room for. What it looked at before is forgotten, and
-    /// of no other rule anything changes.
+    /// Keeps that a rule fired, and looked at these cells, at no more than there is room for. What it looked at before is
+    /// forgotten, and of no other rule anything changes.
     pub fn fired(&mut self, rule: RuleNo, looked: &[Look])
         requires known { IsListed self.old rule.0 }
         requires few { length looked.now ≤ look_room self.old rule.0 }

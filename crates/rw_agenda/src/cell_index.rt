@@ -1,3 +1,4 @@
+//! Finds the rules that looked at a cell, without a search through the looks of all rules.
 ghost use Rattle.std.specs.Prelude.{◌≡◌, ◌≤◌, ◌<◌, ◌+◌, ◌*◌, ◌-◌, ◌^◌, ◌==◌, ◌||◌, ◌&&◌, ◌++◌, ◌∷◌, [], ℕ, All, IfOk, IsSomeAnd, Some, None, true, false, length, unwrap_or, slice_index_or};
 ghost use Rattle.std.specs.List.{list_any, slice_get};
 ghost use Rattle.rw_base.specs.declared.number.Cell.{Cell};
@@ -18,10 +19,10 @@ use rw_model::Basin;
 use std::alloc::Global;
 use std::marker::Model;
 
-/// For each cell the rules that looked there, so that they are found without the looks of all rules. A rule watches each cell
-/// at which it looked, until all watches are taken out. Timesteps that lie `INDEX_STEPS` apart share their places: a run looks
-/// around its timestep, and what it asks over and over stays small. Where there was no room for a watch, every rule counts as one
-/// that looked everywhere: one too many is marked, and its looks are compared for nothing.
+/// The rules that looked at each cell, so that they are found without the looks of all rules. A rule watches each cell at which
+/// it looked, until all watches are removed. Timesteps that are `INDEX_STEPS` apart share their places: a run looks around its
+/// timestep, and what it asks over and over stays small. Where there was no room for a watch, every rule counts as one that
+/// looked everywhere: one too many is marked, and its looks are compared for nothing.
 #[derive(Drop)]
 pub(crate) struct CellIndex {
     slots: u16,
@@ -52,7 +53,7 @@ impl Model for CellIndex {
 }
 
 impl CellIndex {
-    /// An index of the cells of a basin that no rule watches, with room for so many watches. No other call takes memory.
+    /// Returns an index of the cells of a basin that no rule watches, with room for `room` watches. No other call takes memory.
     pub(crate) fn with_room(alloc: Global, basin: &Basin, room: u32) -> Result<CellIndex, NoMemory>
         ensures { IfOk result (λ index. (cell : Cell) (rule : ℕ)
             → is_watching index cell rule ≡ false) }
@@ -70,7 +71,8 @@ impl CellIndex {
         })
     }
 
-    /// No rule watches a cell. Those that come next have other numbers than all before, so that no cell's newest one is taken out.
+    /// Removes all watches. Those that come next have other numbers than all before, so that no cell's newest one has to be
+    /// removed.
     pub(crate) fn clear(&mut self)
         ensures { (cell : Cell) (rule : ℕ) → is_watching self.new cell rule ≡ false }
     {
@@ -82,7 +84,7 @@ impl CellIndex {
         self.full = false;
     }
 
-    /// The rule in this place looked at a cell, and watches it, once more where it does already.
+    /// Adds a watch of a cell by the rule in this place, once more where it watches the cell already.
     #[inline(always)]
     pub(crate) fn watch(&mut self, rule: u16, cell: Cell)
         ensures watching { is_watching self.new cell rule ≡ true }
@@ -104,8 +106,8 @@ impl CellIndex {
         self.newest[place] = self.past + self.watches.len() as u32;
     }
 
-    /// The rule in this place looked at these cells, and watches them. It watches those already at which it looked when it last
-    /// fired. In a place behind all at which it looked in the timestep it isn't asked whether it watches the cell.
+    /// Adds watches of these cells by the rule in this place. It watches those already at which it looked when it last fired. In
+    /// a place after all at which it looked in the timestep it is not asked whether it watches the cell.
     #[inline(always)]
     pub(crate) fn watch_all(&mut self, rule: u16, last: &LastLooks, looked: &[Look])
         requires { All (λ (look : Look). is_watching self.old look.cell rule ≡ true)
@@ -164,7 +166,7 @@ impl CellIndex {
         is_met(self.watches.as_slice(), self.past, newest, rule, step)
     }
 
-    /// Marks each rule of which there is a watch of a cell of one of these slots at the timestep, and no other.
+    /// Marks each rule that watches a cell of one of these slots at the timestep, and no other.
     #[inline(always)]
     pub(crate) fn mark(&self, marks: &mut Marks, group: &[SlotNo], step: StepNo)
         ensures { MarksMore
@@ -177,7 +179,7 @@ impl CellIndex {
         }
     }
 
-    /// Whether there was no room for a watch, so that every rule watches each cell.
+    /// Returns whether there was no room for a watch, so that every rule watches each cell.
     #[inline(always)]
     pub(crate) fn is_full(&self) -> bool
         ensures { result ≡ self.now.is_full }
@@ -185,7 +187,7 @@ impl CellIndex {
         self.full
     }
 
-    /// Whether there is no watch.
+    /// Returns whether there is no watch.
     #[inline(always)]
     pub(crate) fn is_idle(&self) -> bool
         ensures { result ≡ true → (cell : Cell) (rule : ℕ) → has_watch self.now cell rule ≡ false }

@@ -1,3 +1,4 @@
+//! Holds what a rule looked at when it last fired, and decides whether that has changed.
 ghost use Rattle.std.specs.Prelude.{◌≡◌, ◌≤◌, ◌+◌, ◌++◌, [], Some, IfOk, length, not, unwrap_or};
 ghost use Rattle.rw_run.specs.Log.{value_in};
 ghost use Rattle.rw_run.specs.Next.{is_changed, is_same_value};
@@ -11,8 +12,8 @@ use rw_series::Series;
 use std::alloc::Global;
 use std::marker::Model;
 
-/// At what a rule looked when it last fired, with room for so many looks. Beside that it has how often it looked at most in a
-/// firing of the timestep.
+/// What a rule looked at when it last fired, with room for a number of looks, and the maximum number of looks of its firings in
+/// the timestep.
 #[derive(Drop)]
 pub(crate) struct LastLooks {
     room: usize,
@@ -34,7 +35,7 @@ impl Model for LastLooks {
 }
 
 impl LastLooks {
-    /// Of a rule that hasn't fired. No other call takes memory.
+    /// Returns the looks of a rule that has not fired. No other call takes memory.
     pub(crate) fn with_room(alloc: Global, room: u32) -> Result<LastLooks, NoMemory>
         ensures { IfOk result (λ last. last ≡ unfired room) }
     {
@@ -48,7 +49,7 @@ impl LastLooks {
         })
     }
 
-    /// The rule hasn't fired.
+    /// Forgets that the rule fired.
     pub(crate) fn forget(&mut self)
         ensures { self.new ≡ unfired self.old.room }
     {
@@ -56,7 +57,7 @@ impl LastLooks {
         self.most = 0;
     }
 
-    /// The rule fired, and looked at this.
+    /// Keeps that the rule fired, and looked at this.
     pub(crate) fn keep(&mut self, looked: &[Look])
         requires { length looked.now ≤ self.old.room }
         ensures { self.new ≡ record { room = self.old.room; looked = Some looked.now } }
@@ -66,7 +67,7 @@ impl LastLooks {
         self.most = self.most.max(looked.len());
     }
 
-    /// At what the rule looked when it last fired, nothing if it hasn't.
+    /// Returns what the rule looked at when it last fired, and nothing if it has not fired.
     pub(crate) fn looks(&self) -> &[Look]
         ensures { result.now ≡ unwrap_or self.now.looked [] }
     {
@@ -77,12 +78,12 @@ impl LastLooks {
         }
     }
 
-    /// How often the rule looked at most, of its firings in the timestep. It tells what is worth a search and is a hint alone.
+    /// Returns the maximum number of looks of its firings in the timestep. It says what is worth a search, and is a hint alone.
     pub(crate) fn most(&self) -> usize {
         self.most
     }
 
-    /// Whether the rule hasn't fired, or one of the cells holds another value than it saw.
+    /// Returns whether the rule has not fired, or one of the cells holds another value than it saw.
     pub(crate) fn is_changed(&self, series: &Series) -> bool
         ensures { result ≡ is_changed (held series.now) self.now.looked }
     {

@@ -1,4 +1,4 @@
-//! What the definitions of this crate come to, on agendas that were worked out by hand and in general.
+//! Proves what the definitions of this crate mean, on agendas that were worked out by hand and in general.
 ghost use Rattle.std.specs.Option.{option_or};
 ghost use Rattle.std.specs.Prelude.{◌≡◌, ℕ, List, [], ◌∷◌, None, Some, false, pos};
 ghost use Rattle.rw_model.specs.Draft.{Draft};
@@ -7,11 +7,12 @@ ghost use Rattle.rw_firing.specs.declared.look.Look.{Look};
 ghost use Rattle.rw_run.specs.Log.{Asked, Cells, last_put};
 ghost use Rattle.rw_run.specs.Next.{is_changed};
 ghost use Rattle.rw_agenda.specs.Agenda.{Agenda, IsIndexed, IsListed, KeepsOtherMarks, MarksThose, after_firing, first_due_in};
+ghost use Rattle.rw_agenda.specs.declared.limits.TheConstants.{RULES_MAX};
 ghost use Rattle.rw_agenda.specs.Worked.{after_two, all_hold, both_saw_five, none_fired, none_known};
 
 use rw_run::law::index;
 
-/// Which of two rules is due, taken from rule 1 on.
+/// The one of two rules that is due, taken from rule 1 on.
 pub fn high_first()
     ensures fresh { first_due_in (none_fired HighFirst) none_known ≡ Some 1 }
     ensures second { first_due_in (after_two HighFirst) none_known ≡ Some 1 }
@@ -20,7 +21,7 @@ pub fn high_first()
     ensures unknown { first_due_in (both_saw_five HighFirst) none_known ≡ Some 1 }
 {}
 
-/// And from the last on.
+/// The one of two rules that is due, taken from the last on.
 pub fn low_first()
     ensures fresh { first_due_in (none_fired LowFirst) none_known ≡ Some 2 }
     ensures second { first_due_in (after_two LowFirst) none_known ≡ Some 1 }
@@ -28,9 +29,9 @@ pub fn low_first()
     ensures changed { first_due_in (both_saw_five LowFirst) (all_hold (pos 6)) ≡ Some 2 }
 {}
 
-/// What `next` asks for stays true. Where a rule fired and its cells hold what it saw, while the others keep their marks, and
-/// where a cell is written and those are marked that looked at one which shares its value with it, the cells of each rule that
-/// isn't marked still hold what it saw.
+/// What `next` requires stays true. Where a rule fired and its cells hold what it saw, while the others keep their marks, and
+/// where a cell is written and those are marked that looked at one which shares its value with it, the cells of each rule that is
+/// not marked still hold what it saw.
 pub fn index_stays()
     ensures fired { (old new : Agenda) (cells : Cells) (rule : ℕ) (looks : List Look)
         → IsIndexed old cells → IsListed old rule → is_changed cells (Some looks) ≡ false
@@ -42,3 +43,8 @@ pub fn index_stays()
 {
     index();
 }
+
+/// How many rules an agenda has at most.
+pub fn limits_of_agendas()
+    ensures rules { RULES_MAX ≡ 200 }
+{}

@@ -1,5 +1,5 @@
-//! Which rule of a policy fires next. An `Agenda` keeps, within a timestep, what each rule looked at when it last fired, and
-//! `next` answers the first rule, in the order of the basin's agenda, that hasn't fired or that looked at a cell which holds
+//! Decides which rule of a policy fires next. An `Agenda` keeps, within a timestep, what each rule looked at when it last fired,
+//! and `next` returns the first rule, in the order of the basin's agenda, that has not fired or that looked at a cell which holds
 //! another value now. Only making an agenda takes memory.
 #![tactic(auto)]
 

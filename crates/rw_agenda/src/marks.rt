@@ -1,3 +1,4 @@
+//! Holds which rules are marked, and finds the first of them in the agenda's order.
 ghost use Rattle.std.specs.Prelude.{◌≡◌, ◌≤◌, ◌<◌, ◌/◌, ◌%◌, ◌==◌, IfOk, None, Some, if◌then◌else◌, nat_lt, true, false, length, replicate, set, vec_len};
 ghost use Rattle.rw_agenda.specs.Marks.{IsFirstBit, IsFirstMarked, IsFirstOf, all_marked, with_mark};
 
@@ -8,8 +9,7 @@ use rw_model::AgendaOrder;
 use std::alloc::Global;
 use std::marker::Model;
 
-/// Which rules are marked. The turns of those that are stand as bits too, so that the first of them is found without looking at
-/// the others.
+/// The rules that are marked. Their turns are kept as bits too, so that the first of them is found without looking at the others.
 #[derive(Drop)]
 pub(crate) struct Marks {
     order: AgendaOrder,
@@ -28,7 +28,7 @@ impl Model for Marks {
 }
 
 impl Marks {
-    /// Marks of so many rules, each of which is marked. No other call takes memory.
+    /// Returns the marks of `rules` rules, each of which is marked. No other call takes memory.
     pub(crate) fn of_all(alloc: Global, order: AgendaOrder, rules: usize) -> Result<Marks, NoMemory>
         requires { rules ≤ RULES_MAX }
         ensures { IfOk result (λ marks. marks ≡ all_marked order rules) }
@@ -42,14 +42,14 @@ impl Marks {
         })
     }
 
-    /// In which order rules are taken.
+    /// Returns the order in which rules are taken.
     pub(crate) fn order(&self) -> AgendaOrder
         ensures { result ≡ self.now.order }
     {
         self.order
     }
 
-    /// Each rule is marked.
+    /// Marks each rule.
     pub(crate) fn set_all(&mut self)
         ensures { self.new ≡ all_marked self.old.order (length self.old.flags) }
     {
@@ -57,7 +57,7 @@ impl Marks {
         self.turns.fill(u64::MAX);
     }
 
-    /// The rule in a place is marked, if there is one.
+    /// Marks the rule in a place, if there is one.
     pub(crate) fn set(&mut self, place: u16)
         ensures { self.new ≡ with_mark self.old place true }
     {
@@ -68,7 +68,7 @@ impl Marks {
         }
     }
 
-    /// The rule in a place isn't marked.
+    /// Removes the mark of the rule in a place.
     pub(crate) fn clear(&mut self, place: u16)
         requires { place < length self.old.flags }
         ensures { self.new ≡ with_mark self.old place false }
@@ -78,7 +78,7 @@ impl Marks {
         clear_bit(self.turns.as_mut_slice(), turn);
     }
 
-    /// The first turn of a marked rule from this one on.
+    /// Returns the first turn of a marked rule from this one on.
     pub(crate) fn first_from(&self, turn: u16) -> Option<u16>
         ensures { IsFirstMarked self.now turn result }
     {

@@ -1,4 +1,5 @@
-//! The law.
+//! Proves that the run of a basin does not go by how far ahead its rules may put. Each law is the `ensures` of a function that
+//! does nothing.
 ghost use Rattle.std.specs.Prelude.{ℕ, ℤ, List};
 ghost use Rattle.rw_base.specs.declared.number.Cell.{Cell};
 ghost use Rattle.rw_model.specs.Draft.{Draft};

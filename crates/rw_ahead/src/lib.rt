@@ -1,4 +1,4 @@
-//! Laws alone: the run of a basin doesn't go by how far ahead its rules may put, but by what they put.
+//! Proves by laws alone that the run of a basin does not go by how far ahead its rules may put, but by what they put.
 #![tactic(auto)]
 
 pub mod law;

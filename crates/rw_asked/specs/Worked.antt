@@ -19,7 +19,7 @@ use Rattle.rw_run.specs.declared.trace.TraceEvent.{TraceEvent}
 use Rattle.rw_run.specs.declared.trace.TraceEvent.TheVariants.{Opened, Idle, Solve, Fire as FireLine, Written as WrittenLine, Closed}
 use Rattle.rw_run.specs.Dispatch.{cell_at}
 use Rattle.rw_run.specs.Frame.{log_after}
-use Rattle.rw_run.specs.Log.{Asked, Event, Log, closed, fired, idle, opened, solved}
+use Rattle.rw_run.specs.Log.{Asked, Cells, Event, Log, closed, fired, idle, opened, solved}
 use Rattle.rw_run.specs.Next.{Policy}
 use Rattle.rw_run.specs.Runs.{with_inputs}
 use Rattle.rw_asked.specs.declared.fate.Fate.{Fate}
@@ -149,3 +149,16 @@ confirmed_end =
     fires_so 3 4 ∷ left_line_at 5 1 (by_rule_of 3 (pos 80)) (Denied (by_rule_of 2 (pos 50))) ∷
     fires_so 1 6 ∷ left_line_at 3 1 (by_rule_of 1 (pos 1020)) (Kept (by_rule_of 1 (pos 1020))) ∷
     closes_at 1 ∷ []
+
+-- ---- single puts
+
+-- of rule 1 to the first slot at a timestep
+abbrev pub put_alone : ℕ → ℤ → Asked
+put_alone step value = record { cell = cell_at 1 step; content = by_rule_of 1 value }
+
+abbrev pub holds_nothing : Cells
+holds_nothing cell = None
+
+-- each cell holds this, by rule 1
+abbrev pub holds_all : ℤ → Cells
+holds_all value cell = Some (by_rule_of 1 value)

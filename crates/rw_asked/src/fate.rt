@@ -1,3 +1,4 @@
+//! Decides what became of a put that was asked for.
 ghost use Rattle.std.specs.Prelude.{◌≡◌, Some};
 ghost use Rattle.rw_model.specs.declared.put.PutEnd.TheVariants as End;
 ghost use Rattle.rw_model.specs.Draft.{IsSlot};
@@ -10,7 +11,7 @@ use rw_model::{Basin, Content, PutEnd, put_end};
 use rw_run::Write;
 use rw_series::{Series, is_shared};
 
-/// What became of a put that was asked for.
+/// The outcomes of a put that was asked for.
 #[derive(Clone, Copy, Debug, PartialEq, Eq)]
 pub enum Fate {
     /// The cell holds the new content. It was unknown, or held the same value.
@@ -19,7 +20,7 @@ pub enum Fate {
     Over(Content),
     /// The cell holds the value already, in this content.
     Kept(Content),
-    /// The held content, which is this one, stands.
+    /// The held content, which is this one, remains.
     Denied(Content),
     /// A later put of the same firing is to the same cell, or to one that shares its value with it.
     Again,
@@ -59,7 +60,7 @@ fn fate_by(held: &Content, put: &Write) -> Fate
     }
 }
 
-/// What becomes of a put of a dispatch by what its cell holds. It takes no memory.
+/// Returns what becomes of a put of a dispatch by what its cell holds. It takes no memory.
 #[inline(always)]
 pub fn fate_alone(series: &Series, put: &Write) -> Fate
     ensures { result ≡ fate_over (held series.now put.now.cell) put.now.content }
@@ -83,8 +84,8 @@ fn is_put_again(basin: &Basin, put: &Write, later: &[Write]) -> bool
     false
 }
 
-/// What becomes of a put of a firing, by what the cells hold before the firing and the puts that follow it there. It takes no
-/// memory.
+/// Returns what becomes of a put of a firing, by what the cells hold before the firing and the puts that follow it there. It
+/// takes no memory.
 pub fn fate_of(basin: &Basin, series: &Series, put: &Write, later: &[Write]) -> Fate
     requires { IsSlot basin.now.objects put.now.cell.slot.0 }
     ensures { result ≡ fate_of basin.now (held series.now) put.now later.now }

@@ -1,4 +1,4 @@
-//! What the trace with all puts says. Each law is the `ensures` of a function that does nothing.
+//! Proves what the trace with all puts says. Each law is the `ensures` of a function that does nothing.
 ghost use Rattle.std.specs.Prelude.{◌≡◌, ℕ, ℤ, pos, List, [], ◌∷◌, ◌++◌, codes, drop, Some};
 ghost use Rattle.std.specs.List.{filter, filter_map};
 ghost use Rattle.rw_base.specs.declared.number.Cell.{Cell};
@@ -16,7 +16,7 @@ ghost use Rattle.rw_asked.specs.declared.fate.Fate.{Fate};
 ghost use Rattle.rw_asked.specs.declared.fate.Fate.TheVariants as Became;
 ghost use Rattle.rw_asked.specs.Asked.{AllGranted, IsFateOf, asked_after, asks_of, asked_lines, asked_trace, fate_of, fate_over, is_in_run, trace_in, put_told_by, wanted_in};
 ghost use Rattle.rw_asked.specs.Words.{asked_trace_words};
-ghost use Rattle.rw_asked.specs.Worked.{asked_of_run, confirmed_end, confirmed_run, confirms, two_dams, upper_inflow, by_rule_of, closes_at, fires_so, given_value, left_line_at, opens_at, over_line_at, stops_so, wrote};
+ghost use Rattle.rw_asked.specs.Worked.{asked_of_run, confirmed_end, confirmed_run, confirms, two_dams, upper_inflow, by_rule_of, closes_at, fires_so, given_value, holds_all, holds_nothing, put_alone, left_line_at, opens_at, over_line_at, stops_so, wrote};
 
 /// Small runs: a put that is denied, ones that are put again, ones after the last timestep, and one that is written to one of
 /// two linked slots over what the other was put to.
@@ -48,7 +48,7 @@ pub fn worked_asks()
         ∷ closes_at 3 ∷ [] }
 {}
 
-/// Without the lines that it hasn't it is the trace, of an event and of a whole run.
+/// The trace with all puts, without the lines that the trace does not have, is the trace, of an event and of a whole run.
 #[tactic(auto, using(crate::proofs::Follow::event_plain, crate::proofs::Follow::run_plain))]
 pub fn plain_lines()
     ensures event { (basin : Draft) (policy : Policy) (log : Log) (event : Event)
@@ -58,7 +58,7 @@ pub fn plain_lines()
         → IsRun basin policy inputs log → trace_in (asked_trace basin policy log) ≡ trace_of log }
 {}
 
-/// Below the line of an event stands one line for each put that it asked for, in their order, besides what was over. Those of a
+/// After the line of an event there is one line for each put that it asked for, in their order, besides what was over. Those of a
 /// firing that are in the run's timesteps are what the log calls asked for.
 #[tactic(auto, using(crate::proofs::Fates::each_told, crate::proofs::Follow::firing_asks))]
 pub fn each_once()
@@ -71,7 +71,7 @@ pub fn each_once()
         ≡ filter (is_in_run basin) (wanted_in policy (cells_of basin log) (fired firing)) }
 {}
 
-/// What a line says of a put is so: a denied or a kept one names what its cell holds just before, and so does one that is written
+/// A line says of a put what is so: a denied or a kept one names what its cell holds just before, and so does one that is written
 /// over another value.
 #[tactic(auto, using(crate::proofs::Fates::fate_says, crate::proofs::Fates::alone_says))]
 pub fn fates()
@@ -81,8 +81,8 @@ pub fn fates()
         → IsFateOf basin cells put [] (fate_over (cells put.cell) put.content) }
 {}
 
-/// A put of a dispatch is written, over another value or not, or kept: where one is denied, the run ends by a conflict, and the line of that stands in the
-/// place of the event's.
+/// A put of a dispatch is written, over another value or not, or kept: where one is denied, the run ends by a conflict, and the
+/// line of that takes the place of the event's.
 #[tactic(auto, using(crate::proofs::Follow::dispatch_granted))]
 pub fn granted()
     ensures { (basin : Draft) (policy : Policy) (log : Log) (dispatch : Dispatch)
@@ -90,7 +90,7 @@ pub fn granted()
         → AllGranted (asks_of basin policy (cells_of basin log) (solved dispatch)) }
 {}
 
-/// A timestep that is taken over by another run tells the same lines there: its own, behind those of the log before it.
+/// A timestep that is taken over by another run has the same lines there: its own, after those of the log before it.
 #[tactic(auto, using(crate::proofs::Reused::taken_over, crate::proofs::Reused::appended))]
 pub fn taken_over()
     ensures same { (basin : Draft) (policy : Policy) (step : ℕ) (old other end : Log)
@@ -104,7 +104,7 @@ pub fn taken_over()
         ≡ asked_trace basin policy log ++ asked_after basin policy log events }
 {}
 
-/// Policies of as many rules that do the same tell the same lines, of a run and of one in which any object that waits may be
+/// Policies of as many rules that do the same have the same lines, of a run and of one in which any object that waits may be
 /// dispatched next.
 #[tactic(auto, using(crate::proofs::Alike::any_alike))]
 pub fn same_asks()
@@ -114,7 +114,7 @@ pub fn same_asks()
         × (asked_trace basin one log ≡ asked_trace basin other log) }
 {}
 
-/// A rule that confirms what another one set takes hold of it: two dams over a day. The last lines tell what was denied, and over
+/// A rule that confirms what another one set takes hold of it: two dams over a day. The last lines say what was denied, and over
 /// what the lower dam's storage was written.
 pub fn worked_trap()
     ensures run { IsRun two_dams confirms upper_inflow
@@ -140,4 +140,47 @@ pub fn worked_words()
     ensures over { asked_trace_words (data_object_basin HighFirst 1)
         (wrote 1 1 (by_rule_of 1 (pos 2)) ∷ over_line_at 1 1 (by_rule_of 2 (pos 10)) ∷ [])
         ≡ codes "# trace\n  D.X 1 2 R1\n  over D.X 1 10 R2\n" }
+{}
+
+/// Single puts in a run of one day. One after the last timestep is late, whatever follows it; one that another follows is put
+/// again, whatever its cell holds. What is said of a put is not always so: that it is late of one in the run, that it is put
+/// again of one that none follows, that it was kept where nothing is held. A denied put is not granted.
+pub fn worked_fates()
+    ensures late { fate_of (data_object_basin HighFirst 1) holds_nothing (put_alone 2 (pos 7))
+        (put_alone 2 (pos 8) ∷ []) ≡ Became.Late }
+    ensures again { fate_of (data_object_basin HighFirst 1) (holds_all (pos 7)) (put_alone 1 (pos 7))
+        (put_alone 1 (pos 8) ∷ []) ≡ Became.Again }
+    ensures in_run { ¬ IsFateOf (data_object_basin HighFirst 1) holds_nothing (put_alone 1 (pos 7)) []
+        Became.Late }
+    ensures alone { ¬ IsFateOf (data_object_basin HighFirst 1) holds_nothing (put_alone 1 (pos 7)) []
+        Became.Again }
+    ensures unheld { ¬ IsFateOf (data_object_basin HighFirst 1) holds_nothing (put_alone 1 (pos 7)) []
+        (Became.Kept (by_rule_of 1 (pos 7))) }
+    ensures denied { ¬ AllGranted (record {
+      put = put_alone 1 (pos 7);
+      fate = Became.Denied (given_value (pos 5));
+    } ∷ []) }
+{}
+
+/// What is said of a put by its cell isn't always so, either: that it was written of one over another value, and of one that was kept;
+/// that it was written over another value where nothing is held, the same is, or an input; that it was kept where another value is
+/// held; that it was denied where nothing is held, and where a value is held that gives way.
+pub fn worked_fates_by_cells()
+    ensures written_over { ¬ IsFateOf (data_object_basin HighFirst 1) (holds_all (pos 5))
+        (put_alone 1 (pos 7)) [] Became.Written }
+    ensures written_same { ¬ IsFateOf (data_object_basin HighFirst 1) (holds_all (pos 7))
+        (put_alone 1 (pos 7)) [] Became.Written }
+    ensures over_nothing { ¬ IsFateOf (data_object_basin HighFirst 1) holds_nothing
+        (put_alone 1 (pos 7)) [] (Became.Over (by_rule_of 1 (pos 5))) }
+    ensures over_same { ¬ IsFateOf (data_object_basin HighFirst 1) (holds_all (pos 7))
+        (put_alone 1 (pos 7)) [] (Became.Over (by_rule_of 1 (pos 7))) }
+    ensures over_given { ¬ IsFateOf (data_object_basin HighFirst 1)
+        (λ cell. Some (given_value (pos 5))) (put_alone 1 (pos 7)) []
+        (Became.Over (given_value (pos 5))) }
+    ensures kept_other { ¬ IsFateOf (data_object_basin HighFirst 1) (holds_all (pos 5))
+        (put_alone 1 (pos 7)) [] (Became.Kept (by_rule_of 1 (pos 5))) }
+    ensures denied_nothing { ¬ IsFateOf (data_object_basin HighFirst 1) holds_nothing
+        (put_alone 1 (pos 7)) [] (Became.Denied (given_value (pos 5))) }
+    ensures denied_lower { ¬ IsFateOf (data_object_basin HighFirst 1) (holds_all (pos 5))
+        (put_alone 1 (pos 7)) [] (Became.Denied (by_rule_of 1 (pos 5))) }
 {}

@@ -1,4 +1,4 @@
-//! The text of what became of puts.
+//! Writes the lines on what became of puts.
 ghost use Rattle.std.specs.Prelude.{◌≡◌, ◌<◌, ◌+◌, ◌++◌, OnOk, codes, drop, length, string_bytes};
 ghost use Rattle.std.specs.Fmt.{decimal};
 ghost use Rattle.rw_model.specs.Draft.{IsSlot};

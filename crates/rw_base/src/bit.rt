@@ -1,7 +1,8 @@
+//! Keeps a set of numbers as the bits of 64-bit words: number n is in the set where bit n, counted from 0, is set.
 ghost use Rattle.std.specs.Prelude.{◌≡◌, ◌<◌, ◌*◌, ◌==◌, ◌&&◌, ◌||◌, ℕ, length, not};
 ghost use Rattle.rw_base.specs.Bit.{has_bit};
 
-/// Whether a number is in the words: each has a bit for 64 numbers, that of 0 first.
+/// Returns whether a number is in the set. Each word has the bits of 64 numbers, and the first word has those of 0 to 63.
 #[inline(always)]
 pub fn has_bit(words: &[u64], number: u16) -> bool
     requires { number < 64 * length words.now }
@@ -10,7 +11,7 @@ pub fn has_bit(words: &[u64], number: u16) -> bool
     (words[usize::from(number / 64)] >> (number % 64)) % 2 == 1
 }
 
-/// The number is in the words, too.
+/// Adds a number to the set, and changes no other.
 #[inline(always)]
 pub fn set_bit(words: &mut [u64], number: u16)
     requires { number < 64 * length words.old }
@@ -22,7 +23,7 @@ pub fn set_bit(words: &mut [u64], number: u16)
     words[place] = words[place] | 1 << (number % 64);
 }
 
-/// The number is in the words no more.
+/// Removes a number from the set, and changes no other.
 #[inline(always)]
 pub fn clear_bit(words: &mut [u64], number: u16)
     requires { number < 64 * length words.old }

@@ -1,3 +1,4 @@
+//! Reads a whole number from the decimal digits of a text.
 ghost use Rattle.std.specs.Prelude.{◌≡◌, ◌≤◌, ◌+◌, ◌*◌, IfSome, None, if◌then◌else◌, option_and_then};
 ghost use Rattle.std.specs.List.{list_all};
 ghost use Rattle.rw_base.specs.Byte.{is_digit};
@@ -6,7 +7,7 @@ ghost use Rattle.rw_base.specs.Digit.{number_after, read_digits, within_64_bits}
 // A tenth of 2^64 - 1, rounded down.
 const TENTH: u64 = 1_844_674_407_370_955_161;
 
-/// Whether a byte is `0` to `9`.
+/// Returns whether a byte is one of `0` to `9`.
 pub fn is_digit(byte: u8) -> bool
     ensures { result ≡ is_digit byte }
 {
@@ -45,7 +46,7 @@ fn number_of(text: &[u8]) -> Option<u64>
     Some(number)
 }
 
-/// The number that a text of 1 to `most` digits spells. `None` exactly where it is no such text, or the number is above
+/// Returns the number that a text of 1 to `most` digits spells. `None` exactly where it is no such text, or the number is above
 /// 2^64 - 1.
 pub fn read_digits(text: &[u8], most: usize) -> Option<u64>
     ensures { result ≡ option_and_then within_64_bits (read_digits most text.now) }

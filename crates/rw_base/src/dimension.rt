@@ -1,10 +1,11 @@
+//! Holds what a quantity measures, as exponents of the base units, and computes the dimensions of products and quotients.
 ghost use Rattle.std.specs.Prelude.{◌↔◌, IsTrue};
 ghost use Rattle.rw_base.specs.Dimension.{Dimension, dimension, IsExponent, IsDimension, AnswersDimension, times_of, per_of, times_per_of};
 
 use std::marker::Model;
 
-/// The dimension of a quantity: the exponents of the base units m3, mm, timestep and kWh, each from -6 to 6. Of a flow,
-/// in m3/step, the volume's is 1, the timestep's -1, and the others are 0.
+/// The dimension of a quantity: the exponents of the base units m3, mm, timestep and kWh, each from -6 to 6. For a flow, in
+/// m3/step, they are 1 for m3, -1 for the timestep, and 0 for the others.
 #[derive(Clone, Copy, Debug, PartialEq, Eq, Drop)]
 pub struct Dim {
     /// The exponent of m3.
@@ -36,7 +37,7 @@ fn is_exponent(z: i8) -> bool
 }
 
 impl Dim {
-    /// The dimension with these exponents. `None` exactly where one is outside -6 to 6.
+    /// Returns the dimension with these exponents. `None` exactly where one is outside -6 to 6.
     pub fn of(volume: i8, length: i8, step: i8, energy: i8) -> Option<Dim>
         ensures { AnswersDimension (dimension volume length step energy) result }
     {
@@ -52,7 +53,7 @@ impl Dim {
         }
     }
 
-    /// The dimension of a product: the exponents added. `None` exactly where one is outside -6 to 6.
+    /// Returns the dimension of a product: the exponents are added. `None` exactly where one is outside -6 to 6.
     pub fn times(self, b: Dim) -> Option<Dim>
         ensures { AnswersDimension (times_of self b) result }
     {
@@ -64,8 +65,8 @@ impl Dim {
         )
     }
 
-    /// The dimension of a quotient: the exponents of b taken from those of self. `None` exactly where one is outside
-    /// -6 to 6.
+    /// Returns the dimension of a quotient: the exponents of b are subtracted from those of self. `None` exactly where one is
+    /// outside -6 to 6.
     pub fn per(self, b: Dim) -> Option<Dim>
         ensures { AnswersDimension (per_of self b) result }
     {
@@ -77,8 +78,8 @@ impl Dim {
         )
     }
 
-    /// The dimension of self * b / c: the exponents of self and b added, and those of c taken away. `None` exactly where one
-    /// is outside -6 to 6.
+    /// Returns the dimension of self * b / c: the exponents of self and b are added, and those of c subtracted. `None` exactly
+    /// where one is outside -6 to 6.
     pub fn times_per(self, b: Dim, c: Dim) -> Option<Dim>
         ensures { AnswersDimension (times_per_of self b c) result }
     {

@@ -1,4 +1,4 @@
-// What the definitions of this crate come to in plain words.
+//! Proves what the definitions of this crate mean in plain words.
 ghost use Rattle.std.specs.Prelude.{◌≡◌, ◌≢◌, ◌≤◌, ◌↔◌, ℕ, ℤ, pos, neg_ℤ, List, map, Option, Some, None, Result, Contains};
 ghost use Rattle.rw_base.specs.declared.quantity.ArithFault.{ArithFault};
 ghost use Rattle.rw_base.specs.Quantity.{IsQuantity, AnswersExactly, quantity_max};
@@ -6,6 +6,7 @@ ghost use Rattle.rw_base.specs.Quotient.{floor_div, IsFloor};
 ghost use Rattle.rw_base.specs.Dimension.{Dimension, AnswersDimension};
 ghost use Rattle.rw_base.specs.Unit.{units, words_of_units, unit_in};
 ghost use Rattle.rw_base.specs.Predefined.{rounded_down, predefined_of, IsFromZeroTo, IsMultipleOf, distance};
+ghost use Rattle.rw_base.specs.declared.limits.TheConstants.{DEPTH_MAX, INSTRUCTIONS_MAX, LIST_MAX, LOOKS_MAX, PUTS_MAX, RULES_MAX, TEXT_MAX, WORDS_MAX};
 
 /// What is exact has one answer: two calls that answer the same exact value, or the same exponents, answer alike.
 #[tactic(auto, using(crate::proofs::OneAnswer::AnswersExactly_one, crate::proofs::OneAnswer::AnswersDimension_one))]
@@ -74,4 +75,16 @@ pub fn predefined_values()
     ensures fewest { predefined_of 7 quantity_max (neg_ℤ quantity_max) (pos 1)
         ≡ neg_ℤ quantity_max }
     ensures no_function { predefined_of 0 (pos 7) (pos 7) (pos 7) ≡ pos 0 }
+{}
+
+/// What rules and their code that are read are held to, and how long a file is, in numbers: definitions have them by these names.
+pub fn limits()
+    ensures instructions { INSTRUCTIONS_MAX ≡ 1000000 }
+    ensures looks { LOOKS_MAX ≡ 20000 }
+    ensures puts { PUTS_MAX ≡ 2000 }
+    ensures words { WORDS_MAX ≡ 1000000 }
+    ensures list { LIST_MAX ≡ 4096 }
+    ensures rules { RULES_MAX ≡ 200 }
+    ensures depth { DEPTH_MAX ≡ 100 }
+    ensures text { TEXT_MAX ≡ 16777216 }
 {}

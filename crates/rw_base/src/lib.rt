@@ -1,7 +1,7 @@
-//! The arithmetic that every table rests on. Quantities are whole numbers within stated bounds, and no sum, difference
-//! or product leaves them unseen: each call answers the exact result, or names the exact result that has no place.
-//! Quotients are rounded down. Dimensions say what a quantity measures, and unit words stand for a dimension and a
-//! factor. Digits of a text spell a number, and numbers are kept as bits of words. No call takes memory.
+//! Provides the arithmetic that every table rests on. Quantities are whole numbers within stated bounds, and no sum, difference
+//! or product leaves them unnoticed: each call returns the exact result, or reports the exact result that is no quantity.
+//! Quotients are rounded down. Dimensions say what a quantity measures, and unit words stand for a dimension and a factor. Digits
+//! of a text spell a number, and sets of numbers are kept as bits of words. No call takes memory.
 #![tactic(auto)]
 
 mod bit;

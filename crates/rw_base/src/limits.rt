@@ -1,25 +1,26 @@
-//! What rules, and the code that they are turned into, are held to. `docs/LANGUAGE.md` has it under "Limits, costs and budgets".
+//! Limits rules, the code that they are compiled to, and the length of a text. `docs/LANGUAGE.md` has these limits under "Limits,
+//! costs and budgets".
 
-/// The most that a firing counts.
+/// The maximum that a firing may count.
 pub const INSTRUCTIONS_MAX: u64 = 1_000_000;
 
-/// How often a firing looks at cells at most.
+/// The maximum number of looks of a firing at cells.
 pub const LOOKS_MAX: u64 = 20_000;
 
-/// The most puts of a firing.
+/// The maximum number of puts of a firing.
 pub const PUTS_MAX: u64 = 2_000;
 
-/// The most words that a firing keeps at a time.
+/// The maximum number of words that a firing may keep at a time.
 pub const WORDS_MAX: u64 = 1_000_000;
 
-/// The most elements of a list.
+/// The maximum number of elements of a list.
 pub const LIST_MAX: u16 = 4096;
 
-/// The most rules of a policy, and the most functions.
+/// The maximum number of rules of a policy, and of functions.
 pub const RULES_MAX: u16 = 200;
 
-/// How deep a declaration may be nested.
+/// The maximum depth to which a declaration may be nested.
 pub const DEPTH_MAX: u8 = 100;
 
-/// The most bytes of a text.
+/// The maximum length of a text, in bytes.
 pub const TEXT_MAX: usize = 16_777_216;

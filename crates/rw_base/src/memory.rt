@@ -1,6 +1,8 @@
+//! Names the error of a call for which there is no memory, and turns the errors of the allocator into it.
 use std::alloc::{AllocError, AllocFailed};
 
-/// There was no memory. What the call was handed stands as it did, unless the call says otherwise.
+/// The error of a call for which there was no memory. What the call was handed is as it was before, unless the call says
+/// otherwise.
 #[derive(Clone, Copy, Debug, PartialEq, Eq)]
 pub struct NoMemory;
 

@@ -1,3 +1,5 @@
+//! Computes with whole quantities from -Q to Q: a call returns the exact result, reports it where it is no quantity, or brings it
+//! within the range where its name says so.
 ghost use Rattle.std.specs.Prelude.{◌≡◌, ◌≢◌, ◌↔◌, ℤ, pos, ◌+ℤ◌, ◌-ℤ◌, ◌*ℤ◌, ◌≤ℤ◌, SomeIff, IsOk, Err};
 ghost use Rattle.rw_base.specs.Predefined.{mul_div, nearest_quantity};
 ghost use Rattle.rw_base.specs.Quantity.{IsQuantity, AnswersExactly, quantity_max};
@@ -5,15 +7,15 @@ ghost use Rattle.rw_base.specs.Quotient.{floor_div};
 
 use std::marker::Model;
 
-/// The greatest quantity, Q = 10^17, in any unit. The least is -Q.
+/// The greatest quantity, Q = 10^17, in any unit. The least quantity is -Q.
 pub const QUANTITY_MAX: i64 = 100_000_000_000_000_000;
 
-/// Why arithmetic on quantities has no quantity as its answer.
+/// The reasons why arithmetic on quantities has no quantity as its result.
 #[derive(Clone, Copy, Debug, PartialEq, Eq)]
 pub enum ArithFault {
     /// The divisor is 0.
     ZeroDivisor,
-    /// The exact result, which is below -Q or above Q.
+    /// The exact result is this number, which is below -Q or above Q.
     OutOfRange(i128),
 }
 
@@ -120,7 +122,7 @@ fn floor_over(a: i64, b: i64, c: i64) -> Qty
 }
 
 impl Qty {
-    /// The quantity of a value, of whatever unit. `None` exactly outside -Q to Q.
+    /// Returns the quantity of a value, in whatever unit. `None` exactly outside -Q to Q.
     pub fn of(v: i64) -> Option<Qty>
         ensures { SomeIff result (IsQuantity v) v }
     {
@@ -131,7 +133,7 @@ impl Qty {
         }
     }
 
-    /// Its value, from -Q to Q, in the unit that it has.
+    /// Returns the value, from -Q to Q, in the unit that the quantity has.
     pub fn get(self) -> i64
         ensures value { result ≡ self }
         ensures bounds { IsQuantity result }
@@ -139,30 +141,31 @@ impl Qty {
         self.value
     }
 
-    /// The sum, of two of one unit. `OutOfRange` carries the exact sum, exactly where it is outside -Q to Q.
+    /// Returns the sum of two quantities of one unit. `OutOfRange` carries the exact sum, exactly where it is outside -Q to Q.
     pub fn add(self, b: Qty) -> Result<Qty, ArithFault>
         ensures { AnswersExactly (self +ℤ b) result }
     {
         within(i128::from(self.value) + i128::from(b.value))
     }
 
-    /// The difference, of two of one unit. `OutOfRange` carries the exact difference, exactly where it is outside -Q to Q.
+    /// Returns the difference of two quantities of one unit. `OutOfRange` carries the exact difference, exactly where it is
+    /// outside -Q to Q.
     pub fn sub(self, b: Qty) -> Result<Qty, ArithFault>
         ensures { AnswersExactly (self -ℤ b) result }
     {
         within(i128::from(self.value) - i128::from(b.value))
     }
 
-    /// The product, in the product of their units. `OutOfRange` carries the exact product, exactly where it is outside -Q to
-    /// Q.
+    /// Returns the product, in the product of both units. `OutOfRange` carries the exact product, exactly where it is outside -Q
+    /// to Q.
     pub fn mul(self, b: Qty) -> Result<Qty, ArithFault>
         ensures { AnswersExactly (self *ℤ b) result }
     {
         within(i128::from(self.value) * i128::from(b.value))
     }
 
-    /// The floor of the exact quotient, in the quotient of their units. `ZeroDivisor` exactly where b is 0. The quotient of
-    /// two quantities is always a quantity, so `OutOfRange` never comes.
+    /// Returns the floor of the exact quotient, in the quotient of both units. `ZeroDivisor` exactly where b is 0. The quotient
+    /// of two quantities is always a quantity, so `OutOfRange` never comes.
     pub fn div(self, b: Qty) -> Result<Qty, ArithFault>
         ensures zero { (result ≡ Err ArithFault.ZeroDivisor) ↔ (b ≡ pos 0) }
         ensures floor { b ≢ pos 0 → AnswersExactly (floor_div self b) result }
@@ -176,8 +179,8 @@ impl Qty {
         })
     }
 
-    /// The floor of self * b / c, in the unit that this has, brought within -Q and Q, and 0 where c is 0. The product
-    /// doesn't overflow.
+    /// Returns the floor of self * b / c, in the unit of that, brought within -Q and Q, and 0 where c is 0. The product does not
+    /// overflow.
     pub fn mul_div(self, b: Qty, c: Qty) -> Qty
         ensures { result ≡ mul_div self b c }
     {

@@ -1,10 +1,11 @@
+//! Counts the timesteps that were run. The count exists in contracts alone.
 ghost use Rattle.std.specs.Prelude.{◌≡◌, ℕ, ◌+◌, ◌<◌};
 
 use std::marker::Model;
 pub use std::sync::ledger::{Blank, Ledger};
 use std::sync::ledger::{Book, Share};
 
-/// How many timesteps were run. It takes no bytes at run time, and only `tick` changes it.
+/// A count of the timesteps that were run. It takes no bytes at run time, and only `tick` changes it.
 #[derive(Drop)]
 pub struct Steps<L: Ledger> {
     book: Book<L>,
@@ -20,8 +21,8 @@ impl<L: Ledger> Model for Steps<L> {
 }
 
 impl<L: Ledger> Steps<L> {
-    /// None yet, on a ledger that was opened for no other count. A caller that counts nothing makes its blank
-    /// with `Blank::new(1)`.
+    /// Returns the count 0, on a ledger that was opened for no other count. A caller that counts nothing makes its blank with
+    /// `Blank::new(1)`.
     pub fn of(blank: Blank) -> Steps<L>
         requires name { blank.name ≡ L.name }
         requires parts { blank.parts ≡ L.parts }
@@ -32,7 +33,7 @@ impl<L: Ledger> Steps<L> {
         Steps { book, share }
     }
 
-    /// One more.
+    /// Adds one timestep to the count.
     pub fn tick(&mut self)
         ensures { self.new ≡ self.old + 1 }
     {

@@ -1,11 +1,12 @@
+//! Lists the unit words of models and rules, each with its dimension and its factor.
 ghost use Rattle.std.specs.Prelude.{◌≡◌, pos, ◌≤ℤ◌, IfSome};
 ghost use Rattle.rw_base.specs.Dimension.{dimension, IsDimension};
 ghost use Rattle.rw_base.specs.Unit.{units, unit_in};
 
 use crate::Dim;
 
-/// The dimension of what is measured in a unit, and the unit's factor, 1 to 10^6: how many of the base units m3, mm,
-/// timestep and kWh it is. A `dam3` is 1000 m3. `None` exactly where the table of units doesn't have the word;
+/// Returns the dimension of what is measured in a unit, and the unit's factor, 1 to 10^6: how many of the base units m3, mm,
+/// timestep and kWh the unit is. A `dam3` is 1000 m3. `None` exactly where the table of units does not have the word;
 /// `docs/FORMATS.md` lists them under "Slots".
 pub fn unit_of(word: &str) -> Option<(Dim, i64)>
     ensures unit { result ≡ unit_in units word.now }

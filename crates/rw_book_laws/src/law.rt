@@ -1,4 +1,4 @@
-//! The laws. Each is the `ensures` of a function that does nothing.
+//! Proves that the water balances of every run close. Each law is the `ensures` of a function that does nothing.
 ghost use Rattle.std.specs.Prelude.{◌≤◌, ℕ, ℤ, List};
 ghost use Rattle.rw_base.specs.declared.number.Cell.{Cell};
 ghost use Rattle.rw_model.specs.Basin.{IsBasin};

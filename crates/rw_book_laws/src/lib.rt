@@ -1,4 +1,4 @@
-//! Laws of books of water, over every run.
+//! Proves laws of water balances, over every run.
 #![tactic(auto)]
 
 pub mod law;

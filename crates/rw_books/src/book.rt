@@ -1,3 +1,4 @@
+//! Adds up what flowed in and out of an object over the closed timesteps.
 ghost use Rattle.std.specs.Prelude.{◌≡◌, ◌+ℤ◌};
 ghost use Rattle.rw_model.specs.Draft.{IsObject};
 ghost use Rattle.rw_series.specs.Series.{held};
@@ -9,14 +10,14 @@ use rw_base::{ObjectNo, StepNo};
 use rw_model::{Basin, Kind};
 use rw_series::Series;
 
-/// The sums of what flowed in and out of an object, and what it holds at the end.
+/// The water balance of an object: the sums of what flowed in and out, and what it holds at the end.
 #[derive(Clone, Copy, Drop)]
 pub struct Book {
-    /// What flowed in.
+    /// The sum of what flowed in, in m3.
     pub inflow: i128,
-    /// What flowed out.
+    /// The sum of what flowed out, in m3.
     pub outflow: i128,
-    /// What it holds.
+    /// What it holds at the end, in m3.
     pub held: i128,
 }
 
@@ -53,7 +54,7 @@ fn with_turnover(book: Book, turn: Turnover) -> Book
     }
 }
 
-/// The book of an object of this kind over the first timesteps, so many of them, if all is known.
+/// Returns the water balance of an object of this kind over the first `closed` timesteps, if all is known.
 pub(crate) fn book_of(
     basin: &Basin,
     series: &Series,

@@ -1,10 +1,10 @@
-//! Worked books. Each is the `ensures` of a function that does nothing.
+//! Proves worked water balances of runs. Each law is the `ensures` of a function that does nothing.
 ghost use Rattle.std.specs.Prelude.{◌≡◌, pos, [], ◌∷◌, Some, None, codes, false, true};
 ghost use Rattle.rw_books.specs.Worked.{book, holding_dam, holding_reach};
 
-/// A routed reach that holds 1000 and lets a quarter go: 200 flow in on the first of three days, 693 out, and 507 are left.
-/// A dam of 1000 into which 300 flow and out of which 300 flow. A dam with a LocalInflow of 30 and a Diversion of 5 on its
-/// one day, and the same where the LocalInflow isn't known. No day at all.
+/// A routed reach that holds 1000 and releases a quarter: 200 flow in on the first of three days, 693 out, and 507 are left. A
+/// dam of 1000 into which 300 flow and out of which 300 flow. A dam with a LocalInflow of 30 and a Diversion of 5 on its one day,
+/// and the same where the LocalInflow is not known. No day at all.
 pub fn worked_books()
     ensures reach { book (codes "W") holding_reach 3 ((pos 200 ∷ pos 0 ∷ pos 0 ∷ [])
         ∷ (pos 300 ∷ pos 225 ∷ pos 168 ∷ []) ∷ (pos 900 ∷ pos 675 ∷ pos 507 ∷ []) ∷ [])

@@ -1,6 +1,6 @@
-//! Books of water: of each object that holds water what it held before a run, what flowed in and out in the timesteps that
-//! were closed, and what it holds at the end. `balance` answers them as a text, exactly as `specs/` defines it, and want of
-//! memory is its one other answer.
+//! Writes the water balance of a run: of each object that holds water what it held before a run, what flowed in and out in the
+//! timesteps that were closed, and what it holds at the end. `balance` returns it as a text, exactly as `specs/` defines it, and
+//! want of memory is its one error.
 #![tactic(auto)]
 
 mod book;

@@ -1,3 +1,4 @@
+//! Writes the water balance of a run, a line for each object that holds water.
 ghost use Rattle.std.specs.Prelude.{◌≡◌, ◌++◌, IfOk, OnOk, codes, string_bytes};
 ghost use Rattle.rw_model.specs.Draft.{IsObject};
 ghost use Rattle.rw_model.specs.Objects.{object_at};
@@ -117,9 +118,9 @@ fn push_lines(
     Ok(())
 }
 
-/// The books of water of a run: how it ended, and a line for each reservoir, power reservoir and routed reach with what it
-/// held before the run, what flowed in and out in the timesteps that were closed, and what it holds at the end; `unknown`
-/// where one of these isn't known. The one error is want of memory.
+/// Returns the water balance of a run: how it ended, and a line for each reservoir, power reservoir and routed reach with what it
+/// held before the run, what flowed in and out in the timesteps that were closed, and what it holds at the end; `unknown` where
+/// one of these is not known. The one error is want of memory.
 pub fn balance(alloc: Global, basin: &Basin, run: &Run) -> Result<Vec<u8>, NoMemory>
     ensures text { IfOk result
         (λ text. text.items ≡ specs.balance_of_run basin.now (outcome_of run.now)) }

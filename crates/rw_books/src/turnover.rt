@@ -1,3 +1,4 @@
+//! Finds what flowed in and out of an object in a timestep, and what it held at the end of it.
 ghost use Rattle.std.specs.Prelude.{◌≡◌, ◌+ℤ◌, pos, IfSome, Some};
 ghost use Rattle.rw_base.specs.Quantity.{IsQuantity};
 ghost use Rattle.rw_model.specs.Draft.{IsObject};
@@ -16,11 +17,11 @@ use rw_series::Series;
 /// What flowed in and out of an object in a timestep, and what it held at the end of it.
 #[derive(Clone, Copy, Drop)]
 pub struct Turnover {
-    /// What flowed in.
+    /// What flowed in, in m3.
     pub inflow: i128,
-    /// What flowed out.
+    /// What flowed out, in m3.
     pub outflow: i128,
-    /// What it held.
+    /// What it held, in m3.
     pub held: i128,
 }
 
@@ -167,7 +168,7 @@ fn plain_turnover(slots: &Slots<'_>, place: u8) -> Option<Turnover>
     made_of(inflow, outflow, value_at(slots, place))
 }
 
-/// What the timestep brings to the book of an object of this kind, if all of it is known.
+/// Returns what the timestep adds to the water balance of an object of this kind, if all of it is known.
 pub(crate) fn turnover_of(slots: &Slots<'_>, kind: &Kind) -> Option<Turnover>
     requires { IsObject slots.now.basin.now.objects slots.now.object.0 }
     ensures is { result ≡ specs.turnover_of kind.now
@@ -189,7 +190,7 @@ pub(crate) fn turnover_of(slots: &Slots<'_>, kind: &Kind) -> Option<Turnover>
     }
 }
 
-/// What an object of the kind held before the run, if it is one that holds water.
+/// Returns what an object of the kind held before the run, if it is one that holds water.
 pub(crate) fn initial_of(kind: &Kind) -> Option<i64>
     ensures { result ≡ specs.initial_of kind.now }
 {

@@ -1,6 +1,7 @@
+//! Lists why the timesteps of a run cannot be stamped.
 use rw_base::NoMemory;
 
-/// Why a run has no stamps.
+/// The reasons why a run has no stamps.
 #[derive(Clone, Copy, Debug, PartialEq, Eq)]
 pub enum CalFault {
     /// The year is not 1 to 9999, the date does not exist, or the hour is not 0 to 23.

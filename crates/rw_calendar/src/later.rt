@@ -1,3 +1,4 @@
+//! Computes the date and time that is hours, months or timesteps after the start of a run.
 ghost use Rattle.rw_calendar.specs.declared.limits.TheConstants.{STEPS_MAX};
 ghost use Rattle.std.specs.Prelude.{◌≡◌, ◌↔◌, ◌<◌, ◌≤◌, IsTrue, MatchOption};
 ghost use Rattle.rw_calendar.specs.Clock.{moment_at, IsOnTheHour, ShowsMoment};
@@ -10,7 +11,7 @@ use crate::{Moment, Start, StepLength};
 use jiff::civil::DateTime;
 use jiff::{SignedDuration, ToSpan};
 
-/// The date and time that a start names. `None` exactly where there is none.
+/// Returns the date and time that a start names. `None` exactly where there is none.
 pub(crate) fn first_moment(start: Start) -> Option<DateTime>
     ensures { MatchOption result (¬ IsStart start)
         (λ dt. IsStart start × ShowsMoment dt (moment_of start)) }
@@ -59,7 +60,7 @@ fn after_steps(start: DateTime, length: StepLength, steps: u16) -> Option<DateTi
     }
 }
 
-/// The moment that a date and time shows.
+/// Returns the moment that a date and time shows.
 pub(crate) fn moment_shown(at: DateTime) -> Moment
     requires { IsOnTheHour at }
     ensures moment { result ≡ moment_at at }
@@ -73,7 +74,7 @@ pub(crate) fn moment_shown(at: DateTime) -> Moment
     }
 }
 
-/// The moment so many step lengths later. `None` exactly where that is past year 9999.
+/// Returns the moment that is `steps` step lengths later. `None` exactly where that is past year 9999.
 pub(crate) fn after(start: DateTime, length: StepLength, steps: u16) -> Option<Moment>
     requires sharp { IsOnTheHour start }
     requires length { IsStepLength length }
@@ -88,7 +89,7 @@ pub(crate) fn after(start: DateTime, length: StepLength, steps: u16) -> Option<M
     Some(moment_shown(later))
 }
 
-/// Whether steps of that length can begin at that date and time.
+/// Returns whether steps of that length can begin at that date and time.
 pub(crate) fn can_begin(length: StepLength, at: DateTime) -> bool
     ensures { IsTrue result ↔ CanBegin length (moment_at at) }
 {

@@ -1,4 +1,4 @@
-//! Laws: what the definitions of moments amount to. Each is a function that does nothing, and its contract is the law.
+//! Proves what the definitions of moments mean. Each law is a function that does nothing, and its contract is the law.
 ghost use Rattle.std.specs.Prelude.{◌≡◌, ◌≤◌, ◌↔◌, ℕ, ◌+◌, ◌*◌, pos, ◌+ℤ◌, None, Some, Result, OnOk, IfOk, IsErrOf};
 ghost use Rattle.jiff.specs.Types.{DateTime};
 ghost use Rattle.jiff.specs.Words.{civil_nanos, epoch_day, add_months};
@@ -7,6 +7,7 @@ ghost use Rattle.rw_calendar.specs.declared.fault.CalFault.TheVariants.{BadStart
 ghost use Rattle.rw_calendar.specs.declared.step_length.StepLength.TheVariants.{Hours, Month};
 ghost use Rattle.rw_calendar.specs.Clock.{moment_at, IsOnTheHour, ShowsMoment};
 ghost use Rattle.rw_calendar.specs.declared.moment.Moment.{Moment};
+ghost use Rattle.rw_calendar.specs.declared.limits.TheConstants.{STEPS_MAX};
 ghost use Rattle.rw_calendar.specs.Moment.{IsMoment, moment_on, next_month, next_day, next_hour, hours_later, months_later};
 ghost use Rattle.rw_calendar.specs.Start.{IsStart, moment_of};
 ghost use Rattle.rw_calendar.specs.StepLength.{CanBegin, moment_after};
@@ -14,14 +15,14 @@ ghost use Rattle.rw_calendar.specs.Stamps.{AnswersStamps, AreTimesteps, CanBeSta
 ghost use Rattle.rw_calendar.specs.declared.start.Start.{Start};
 ghost use Rattle.rw_calendar.specs.declared.step_length.StepLength.{StepLength};
 
-/// The moment so many hours later is the one that the clock shows then: as many times 3,600 seconds later.
+/// The moment a number of hours later is the one that the clock shows then: as many times 3,600 seconds later.
 pub fn hours_go_by_the_clock()
     ensures { (from to : DateTime) (k : ℕ)
         → IsOnTheHour from → ShowsMoment to (hours_later (moment_at from) k)
         → civil_nanos to ≡ civil_nanos from +ℤ pos (k * 3_600_000_000_000) }
 {}
 
-/// The month so many months later begins on the day that the calendar gives for as many months later.
+/// The month a number of months later begins on the day that the calendar gives for as many months later.
 pub fn months_go_by_the_calendar()
     ensures { (from to : DateTime) (k : ℕ)
         → IsOnTheHour from → from.date.day ≡ 1 → from.time.hour ≡ 0
@@ -43,7 +44,7 @@ pub fn stamped_timesteps()
         → CanBeStamped start length steps → AreTimesteps (timesteps_of start length steps) }
 {}
 
-/// The calendar's refusals stand exactly where their words say, and steps are stamped exactly where none stands.
+/// The calendar's refusals hold exactly where their words say, and steps are stamped exactly where none holds.
 pub fn refused_timesteps()
     ensures stamped { (start : Start) (length : StepLength) (steps : ℕ)
         → (stamps_refusal start length steps ≡ None) ↔ CanBeStamped start length steps }
@@ -58,8 +59,8 @@ pub fn refused_timesteps()
         × EndsBeyondYears (timesteps_of start length steps)) }
 {}
 
-/// What the clauses of `Stamps::of` come to: it answers these timesteps where it answers any, and only where they can be
-/// stamped, and each fault of the steps exactly where its words say.
+/// The clauses of `Stamps::of` mean this: it returns these timesteps where it returns any, and only where they can be stamped,
+/// and each fault of the steps exactly where its words say.
 pub fn answered_timesteps()
     ensures ok { (start : Start) (length : StepLength) (steps : ℕ)
         (result : Result Timesteps CalFault) → AnswersStamps start length steps result
@@ -97,4 +98,9 @@ pub fn corners()
     ensures twelve_months { moment_after (moment_on 2020 1 1 0) Month 12 ≡ moment_on 2021 1 1 0 }
     ensures past_the_years { moment_after (moment_on 9999 12 31 0) (Hours 24) 1
         ≡ moment_on 10000 1 1 0 }
+{}
+
+/// How many timesteps a run that is read has at most.
+pub fn limits_of_runs()
+    ensures steps { STEPS_MAX ≡ 4096 }
 {}

@@ -1,5 +1,5 @@
-//! The stamps of timesteps: the moments at which each step of a run begins and ends, in the civil calendar. A run is
-//! stamped exactly where its start is a date, steps of its length can begin there and it ends within year 9999.
+//! Stamps timesteps: computes the moments at which each step of a run begins and ends, in the civil calendar. A run is stamped
+//! exactly where its start is a date, steps of its length can begin there and it ends within year 9999.
 #![tactic(auto)]
 
 mod fault;

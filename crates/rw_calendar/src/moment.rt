@@ -1,3 +1,5 @@
+//! Holds a moment of the calendar, to the hour.
+
 /// An hour of a day in the civil calendar.
 #[derive(Clone, Copy, Debug, PartialEq, Eq)]
 pub struct Moment {

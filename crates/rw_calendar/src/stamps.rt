@@ -1,3 +1,4 @@
+//! Computes the stamps of a run's timesteps, and the year, the month and the day on which each begins.
 ghost use Rattle.rw_calendar.specs.declared.limits.TheConstants.{STEPS_MAX};
 ghost use Rattle.std.specs.Prelude.{◌≡◌, ◌+◌, ◌≤◌, pos, unsigned_abs, IfOk, IsErrOf, string_bytes};
 ghost use Rattle.std.specs.Int.{IsInRange};
@@ -63,9 +64,9 @@ fn moments(
 }
 
 impl Stamps {
-    /// The stamps of 1 to 4096 steps of one length, of 1, 6, 12 or 24 hours or a month, from a start on. The first fault
-    /// that there is, in this order, is answered: `BadStart`, `NotFirstOfMonth`, `BeyondYears`, and `NoMemory` only where
-    /// there is none of these. `docs/DEFINITIONS.md` has stamps under "Numbers".
+    /// Returns the stamps of 1 to 4096 steps of one length, of 1, 6, 12 or 24 hours or a month, from a start on. The first fault
+    /// that there is, in this order, is returned: `BadStart`, `NotFirstOfMonth`, `BeyondYears`, and `NoMemory` only where there
+    /// is none of these. `docs/DEFINITIONS.md` has stamps under "Numbers".
     pub fn of(
         alloc: Global,
         start: Start,
@@ -96,7 +97,7 @@ impl Stamps {
         })
     }
 
-    /// How many steps there are, from 1 to 4096.
+    /// Returns the number of steps, from 1 to 4096.
     pub fn count(&self) -> u16
         ensures value { result ≡ self.now.count }
         ensures bounds { IsInRange 1 STEPS_MAX result }
@@ -113,7 +114,7 @@ impl Stamps {
         self.moments[usize::from(k)]
     }
 
-    /// The year in which step t, from 1 to `count`, begins: 1 to 9999.
+    /// Returns the year in which step t, from 1 to `count`, begins: 1 to 9999.
     pub fn year(&self, t: u16) -> i16
         requires first { 1 ≤ t }
         requires last { t ≤ self.now.count }
@@ -123,7 +124,7 @@ impl Stamps {
         self.moment(t - 1).year as i16
     }
 
-    /// The month in which step t, from 1 to `count`, begins: 1 to 12.
+    /// Returns the month in which step t, from 1 to `count`, begins: 1 to 12.
     pub fn month(&self, t: u16) -> u8
         requires first { 1 ≤ t }
         requires last { t ≤ self.now.count }
@@ -133,7 +134,7 @@ impl Stamps {
         self.moment(t - 1).month
     }
 
-    /// The day of the month on which step t, from 1 to `count`, begins: 1 to 31.
+    /// Returns the day of the month on which step t, from 1 to `count`, begins: 1 to 31.
     pub fn day(&self, t: u16) -> u8
         requires first { 1 ≤ t }
         requires last { t ≤ self.now.count }
@@ -143,8 +144,8 @@ impl Stamps {
         self.moment(t - 1).day
     }
 
-    /// The stamp of step t, from 1 to `count`: the moment at which it ends, as `YYYY-MM-DDTHH:00`. The one error is want of
-    /// memory.
+    /// Returns the stamp of step t, from 1 to `count`: the moment at which it ends, as `YYYY-MM-DDTHH:00`. The one error is want
+    /// of memory.
     pub fn text(&self, alloc: Global, t: u16) -> Result<String, NoMemory>
         requires first { 1 ≤ t }
         requires last { t ≤ self.now.count }

@@ -1,3 +1,5 @@
+//! Holds the start of a run as a model gives it, before it is known to be a moment.
+
 /// The moment at which a run starts, as it was given: there may be no such moment.
 #[derive(Clone, Copy, Debug, PartialEq, Eq)]
 pub struct Start {

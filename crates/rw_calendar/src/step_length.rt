@@ -1,8 +1,10 @@
-/// How long each timestep is.
+//! Lists the lengths that a timestep can have.
+
+/// The length of each timestep.
 #[derive(Clone, Copy, Debug, PartialEq, Eq)]
 pub enum StepLength {
-    /// So many hours: 1, 6, 12 or 24.
+    /// This many hours: 1, 6, 12 or 24.
     Hours(u8),
-    /// A month of the calendar, from its first at hour 0.
+    /// A month of the calendar, from hour 0 of its first day.
     Month,
 }

@@ -1,4 +1,4 @@
-//! Answers of quantities, dimensions and words for units.
+//! Tests what calls on quantities, dimensions and words for units return.
 use crate::shared::none_is_wrong;
 use rw_base::{ArithFault, Dim, Qty, unit_of};
 

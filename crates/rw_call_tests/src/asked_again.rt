@@ -1,5 +1,5 @@
-//! A dam over two days, and a session of batches of edits, in which a batch that is refused for want of memory is applied once more.
-//! Here none is refused. `tests/memory/session` lets each request of this test for memory fail, in turn.
+//! Tests a session of batches of edits, of a dam over two days, in which a batch that is refused for want of memory is applied
+//! once more. Here none is refused. `tests/memory/session` lets each request of this test for memory fail, in turn.
 ghost use Rattle.std.specs.Prelude.{◌≡◌, ◌<◌, ◌≤◌, All, Ok, length, map};
 ghost use Rattle.rpl_verify.specs.Verified.{verified};
 ghost use Rattle.rw_inputs.specs.Edits.{IsBatch};

@@ -1,4 +1,4 @@
-//! A lake above a reach: what a builder takes, and what the finished basin answers.
+//! Tests a lake above a reach: what a builder accepts, and what the finished basin returns.
 use crate::shared::{lasting, none_is_wrong};
 use rw_base::{ObjectNo, SlotNo};
 use rw_calendar::{Stamps, Start, StepLength};

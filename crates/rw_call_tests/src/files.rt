@@ -1,4 +1,5 @@
-//! What no clause says of files and streams: that calls succeed, which calls fail, how much is asked for at a time, and real files.
+//! Tests what no clause says of files and streams: that calls succeed, which calls fail, how much is asked for at a time, and
+//! real files.
 ghost use Rattle.std.specs.Prelude.{◌≡◌, None, OnOk, string_bytes};
 ghost use Rattle.std.specs.Option.{option_map};
 

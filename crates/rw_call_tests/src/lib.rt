@@ -1,6 +1,6 @@
-//! Worked examples of calls below the top one, lowest first: quantities, rating tables, stamps, files, a basin that is built,
-//! a series, puts, the queue of objects that wait, a run in which a rule picks who is dispatched, the record of a timestep, sections, and
-//! a session in which memory may be wanting. There is nothing here but tests: what they compare with was worked out by hand.
+//! Tests calls below the top one, lowest first: quantities, rating tables, stamps, files, a basin that is built, a series, puts,
+//! the queue of objects that wait, a run in which a rule picks who is dispatched, the record of a timestep, sections, and a
+//! session in which memory may be wanting. There is nothing here but tests: what they compare with was worked out by hand.
 #![tactic(auto)]
 
 #[cfg(test)]

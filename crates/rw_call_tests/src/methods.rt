@@ -1,4 +1,4 @@
-//! The methods of all kinds, and the predefined functions.
+//! Makes the methods of all kinds, and the predefined functions.
 use rpl_predef::{
     Predef, Predefs, absolute, clamped, greatest, least, mul_div, rounded_down, sign,
 };
@@ -26,7 +26,7 @@ fn method(alloc: Global, number: u8) -> Result<Box<dyn Method>, AllocError> {
     }
 }
 
-/// The methods of all kinds.
+/// Returns the methods of all kinds.
 pub(crate) fn all_methods(alloc: Global) -> Result<Vec<Box<dyn Method>>, AllocError> {
     let mut methods = Vec::new(alloc);
     for number in 1..10 {
@@ -35,7 +35,7 @@ pub(crate) fn all_methods(alloc: Global) -> Result<Vec<Box<dyn Method>>, AllocEr
     Ok(methods)
 }
 
-/// The predefined functions.
+/// Returns the predefined functions.
 pub(crate) fn predefs(alloc: Global) -> Result<Predefs, Fail> {
     let functions = vec![in alloc;
         Predef::of(1, least),

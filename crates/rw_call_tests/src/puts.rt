@@ -1,4 +1,5 @@
-//! What a dispatch puts: one put that is refused behind another; and what is held where there is a greatest release, and in a routed reach.
+//! Tests what a dispatch puts: one put that is refused behind another; and what is held where there is a greatest release, and in
+//! a routed reach.
 ghost use Rattle.std.specs.Prelude.{◌≡◌, ◌<◌, OnErr, Some, length, pos};
 ghost use Rattle.rw_model.specs.declared.kind.Kind.TheVariants as Kind;
 ghost use Rattle.rw_method.specs.Balanced.{IsBalanced, IsHeld, IsReleased};

@@ -1,4 +1,4 @@
-//! Two inflows meet in Join, whose outflow is the inflow of Mark, a gage. Notes only keeps data.
+//! Tests which objects wait where two inflows meet in Join, whose outflow is the inflow of Mark, a gage. Notes only keeps data.
 ghost use Rattle.rw_dispatch.specs.Queue.{IsQueueOf};
 
 use crate::shared::basin;

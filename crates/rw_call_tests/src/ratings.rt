@@ -1,4 +1,4 @@
-//! Tables of reservoirs: volumes and elevations, and which rows are no table.
+//! Tests tables of reservoirs: volumes and elevations, and which rows are no table.
 use crate::shared::{lasting, none_is_wrong};
 use rw_table::{Rating, TableFault};
 use std::alloc::{AllocError, Global};

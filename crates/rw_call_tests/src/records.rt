@@ -1,4 +1,4 @@
-//! A lake over three days, of whose first day all is given but what flows out, and the record of that day.
+//! Tests the record of the first of three days of a lake, of which all is given but what flows out.
 ghost use Rattle.std.specs.Prelude.{◌≡◌, ◌<◌, IsErr, Ok, map};
 ghost use Rattle.rpl_verify.specs.Verified.{verified};
 ghost use Rattle.rw_engine.specs.Shows.{IsEngineOf};
@@ -102,7 +102,7 @@ fn pass<L: Ledger>(
     engine.run_step(basin, methods, policy, predefs, StepNo(1), steps)
 }
 
-/// The record of a day has at what the lake looked, and what its puts reached.
+/// Tests that the record of a day has what the lake looked at, and what its puts reached.
 pub(crate) fn check_records<L: Ledger>(
     rt: &impl Abort,
     alloc: Global,

@@ -1,4 +1,4 @@
-//! Three gages over a day, of which a rule picks who is dispatched, by how many dispatches of the run there were.
+//! Tests a run of three gages over a day, of which a rule picks who is dispatched, by how many dispatches of the run there were.
 ghost use Rattle.std.specs.Prelude.{◌≡◌, ◌==◌, ◌<◌, if◌then◌else◌, map};
 ghost use Rattle.rw_dispatch.specs.Pick.{newest, oldest};
 ghost use Rattle.rw_method.specs.Catalogue.{AreInOrder};
@@ -66,7 +66,7 @@ fn run<'a, L: Ledger>(
         policy: none,
         predefs,
     };
-    match run_by_of(alloc, &setup, &inputs, &SecondIsNewest, steps) {
+    match run_by_of(alloc, &setup, &inputs, &SecondIsNewest, true, steps) {
         Ok(run) => lasting(rt, alloc, run),
         Err(NoMemory) => panic!(rt; "memory"),
     }

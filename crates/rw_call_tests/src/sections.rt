@@ -1,4 +1,4 @@
-//! The sections of two gages: the faults that no run without rules ends in, and a run with values of each length.
+//! Tests the sections of two gages: the faults that no run without rules ends in, and a run with values of each length.
 use crate::shared::{Held, TWO_GAGES, basin, lasting, none_is_wrong, series_of};
 use rw_base::{ObjectNo, RuleNo, SlotNo, StepNo};
 use rw_model::Basin;

@@ -1,4 +1,4 @@
-//! Values that are put into a series, restored, and copied.
+//! Tests values that are put into a series, restored, and copied.
 ghost use Rattle.rw_series.specs.Series.{IsSeriesOf};
 
 use crate::shared::{TWO_GAGES, basin, cell, content};

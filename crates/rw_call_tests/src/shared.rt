@@ -1,4 +1,4 @@
-//! What the tests share: basins from the texts of their models, the cells of their slots, and what cells hold.
+//! Holds what the tests share: basins from the texts of their models, the cells of their slots, and what cells hold.
 ghost use Rattle.std.specs.Prelude.{◌≡◌};
 ghost use Rattle.rw_series.specs.Series.{IsCell, IsSeriesOf};
 
@@ -26,12 +26,12 @@ kind = "gage"
 slots = ["Up.GageOutflow", "Low.GageInflow"]
 "#;
 
-/// No row of a table is wrong, of which the first would be in this place, counted from 0.
+/// Fails unless no row of a table is wrong; `first` is the place of the first wrong one, counted from 0.
 pub(crate) fn none_is_wrong(rt: &impl Abort, first: Option<usize>) {
     assert_eq!(rt; first, None);
 }
 
-/// A value that is never freed. A function that frees a basin takes long to prove, for each way out of it.
+/// Returns a value that is never freed. A function that frees a basin takes long to prove, for each way out of it.
 pub(crate) fn lasting<'a, T: Drop + 'a>(rt: &impl Abort, alloc: Global, value: T) -> &'a T
     ensures { result.now ≡ value }
 {
@@ -41,7 +41,7 @@ pub(crate) fn lasting<'a, T: Drop + 'a>(rt: &impl Abort, alloc: Global, value: T
     }
 }
 
-/// The basin of a model.
+/// Returns the basin of a model.
 pub(crate) fn basin<'a>(rt: &impl Abort, alloc: Global, model: &str) -> &'a Basin {
     match read_model(alloc, model.as_bytes()) {
         Ok(basin) => lasting(rt, alloc, basin),
@@ -49,7 +49,7 @@ pub(crate) fn basin<'a>(rt: &impl Abort, alloc: Global, model: &str) -> &'a Basi
     }
 }
 
-/// The cell of an object's slot.
+/// Returns the cell of an object's slot.
 pub(crate) fn cell(rt: &impl Abort, basin: &Basin, object: &str, slot: &str, step: u16) -> Cell
     ensures { IsCell basin.now result }
 {
@@ -60,7 +60,7 @@ pub(crate) fn cell(rt: &impl Abort, basin: &Basin, object: &str, slot: &str, ste
     }
 }
 
-/// A value with its number and its writer.
+/// Returns a value with its number and its writer.
 pub(crate) fn content(rt: &impl Abort, value: i64, number: u16, writer: Writer) -> Content {
     Content {
         value: Qty::of(value).expect(rt, "a quantity"),
@@ -69,7 +69,7 @@ pub(crate) fn content(rt: &impl Abort, value: i64, number: u16, writer: Writer) 
     }
 }
 
-/// A value of the inputs.
+/// Returns a value of the inputs.
 pub(crate) fn given(rt: &impl Abort, value: i64) -> Content {
     content(rt, value, 0, Writer::Input)
 }
@@ -77,7 +77,7 @@ pub(crate) fn given(rt: &impl Abort, value: i64) -> Content {
 /// What an object's slot holds at a timestep.
 pub(crate) type Held<'a> = (&'a str, &'a str, u16, i64);
 
-/// A series that holds these values of inputs, and no others.
+/// Returns a series that holds these values of inputs, and no others.
 pub(crate) fn series_of(rt: &impl Abort, alloc: Global, basin: &Basin, rows: &[Held<'_>]) -> Series
     ensures { IsSeriesOf basin.now result }
 {
@@ -90,7 +90,7 @@ pub(crate) fn series_of(rt: &impl Abort, alloc: Global, basin: &Basin, rows: &[H
     series
 }
 
-/// Whether the bytes are those of the text.
+/// Returns whether the bytes are those of the text.
 pub(crate) fn has_bytes(bytes: &[u8], text: &str) -> bool {
     bytes == text.as_bytes()
 }

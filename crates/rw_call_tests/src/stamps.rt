@@ -1,4 +1,4 @@
-//! Worked values: which runs have no stamps, and what the others' stamps are.
+//! Tests which runs have no stamps, and what the others' stamps are.
 ghost use Rattle.std.specs.Prelude.{IsTrue};
 ghost use Rattle.rw_calendar.specs.StepLength.{IsStepLength};
 

@@ -1,22 +1,23 @@
+//! Lists how a dispatch can end, before anything is written.
 use rw_base::SlotNo;
 
-/// How a dispatch ended.
+/// The ways in which a dispatch can end.
 #[derive(Clone, Copy, Debug, PartialEq, Eq)]
 pub enum DispatchEnd {
-    /// Too little was known. Nothing was put.
+    /// Too little was known, and nothing was put.
     Idle,
     /// The object asked for values in its slots.
     Solved,
-    /// Two values that should be one aren't. Nothing is to be written.
+    /// Two values that should be one are not. Nothing is to be written.
     Conflict {
         /// The object's slot.
         slot: SlotNo,
         /// The value that is there, in the base units of the slot's dimension.
         held: i128,
-        /// The value that the object solved.
+        /// The value that the object solved, in the same units.
         solved: i128,
     },
-    /// The object comes to a value that its slot can't have. Nothing is to be written.
+    /// The object solved a value that its slot cannot have. Nothing is to be written.
     OutOfRange {
         /// The object's slot.
         slot: SlotNo,

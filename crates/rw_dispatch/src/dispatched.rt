@@ -1,28 +1,29 @@
+//! Lists what can become of a dispatch, with what was written.
 use rw_base::SlotNo;
 use rw_method::PutList;
 
-/// What became of a dispatch.
+/// The results of a dispatch.
 #[derive(Debug, Drop)]
 pub enum Dispatched {
-    /// Too little was known. Nothing was put.
+    /// Too little was known, and nothing was put.
     Idle,
     /// The object asked for values in its slots.
     Solved {
         /// The puts that it asked for.
         asked: PutList,
-        /// Those of them that were written, in the same order. What the others ask for was there already.
+        /// Those of them that were written, in the same order. The others ask for what is there already.
         written: PutList,
     },
-    /// Two values that should be one aren't. Nothing was written.
+    /// Two values that should be one are not. Nothing was written.
     Conflict {
         /// The object's slot.
         slot: SlotNo,
         /// The value that is there, in the base units of the slot's dimension.
         held: i128,
-        /// The value that the object solved.
+        /// The value that the object solved, in the same units.
         solved: i128,
     },
-    /// The object comes to a value that its slot can't have. Nothing was written.
+    /// The object solved a value that its slot cannot have. Nothing was written.
     OutOfRange {
         /// The object's slot.
         slot: SlotNo,

@@ -1,3 +1,4 @@
+//! Judges the puts of a dispatch by the put rules, and keeps those that are written.
 ghost use Rattle.std.specs.Prelude.{◌≡◌, ℕ, [], IfOk, IfErr};
 ghost use Rattle.rw_model.specs.Put.{end_of_put};
 ghost use Rattle.rw_run.specs.Log.{Cells, Event};
@@ -42,8 +43,8 @@ fn judge_one(held: Option<Content>, asked: &Write) -> Result<bool, Clash>
     }
 }
 
-/// Adds what those of the puts write that are written, by what the object sees: that is what the cells hold before the first
-/// of them. The first that is denied is the answer.
+/// Adds what those of the puts write that are written, by what the object sees: that is what the cells hold before the first of
+/// them. The first put that is denied is the error.
 #[inline(always)]
 pub(crate) fn judge(
     view: &View,
@@ -87,7 +88,7 @@ fn is_written(held: Option<Content>, asked: Content) -> bool
     }
 }
 
-/// Those of the puts that are written, by what the object sees, where none is denied.
+/// Returns those of the puts that are written, by what the object sees, where none is denied.
 pub(crate) fn puts_made(
     view: &View,
     basin: &Basin,

@@ -1,7 +1,6 @@
-//! The dispatch of objects. `Queue` holds the objects that wait, in the order of the events since which they wait, and `Pick`
-//! says which of them is next.
-//! `dispatch` lets one of them solve what it can from what its slots hold, and leaves the cells and the queue as the event
-//! of that dispatch says. Only making a queue takes memory.
+//! Dispatches objects. `Queue` holds the objects that wait, in the order of the events since which they wait, and `Pick` says
+//! which of them is next. `dispatch` lets one of them solve what it can from what its slots hold, and leaves the cells and the
+//! queue as the event of that dispatch says. Only making a queue takes memory.
 #![tactic(auto)]
 
 mod dispatch_end;

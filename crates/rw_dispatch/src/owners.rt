@@ -1,3 +1,4 @@
+//! Collects the objects that own the slots which writes reach.
 ghost use Rattle.std.specs.Prelude.{◌≡◌, ◌≤◌, ◌<◌, ◌==◌, ◌||◌, ◌++◌, ◌∷◌, [], ℕ, Bool, All, false, List, Option, length, option_map};
 ghost use Rattle.rw_model.specs.Draft.{IsObject, IsSlot};
 ghost use Rattle.rw_model.specs.Links.{owner_of};
@@ -11,7 +12,7 @@ use rw_base::{ObjectNo, SlotNo, StepNo, has_bit, set_bit};
 use rw_model::Basin;
 use rw_run::Write;
 
-/// Whether an object only keeps data.
+/// Returns whether an object only keeps data.
 pub(crate) fn is_data(basin: &Basin, object: ObjectNo) -> bool
     requires { IsObject basin.now.objects object.0 }
     ensures { result ≡ is_data basin.now object.0 }
@@ -19,8 +20,8 @@ pub(crate) fn is_data(basin: &Basin, object: ObjectNo) -> bool
     basin.kind_code(object) == 0
 }
 
-/// Objects that are reached: a bit for each, that of object 1 first, how many objects stand before all of them, and the last one.
-/// Both have 32 bits: one of 16 would be read together with the other, and wait until both are written.
+/// The objects that are reached: a bit for each, that of object 1 first, how many objects are before all of them, and the last
+/// one. Both numbers have 32 bits: one of 16 would be read together with the other, and wait until both are written.
 #[derive(Drop)]
 pub(crate) struct Reached {
     pub(crate) marks: [u64; 8],
@@ -29,7 +30,7 @@ pub(crate) struct Reached {
 }
 
 impl Reached {
-    /// None is reached.
+    /// Returns the set of no objects.
     pub(crate) fn none() -> Reached
         ensures { (but : Option ℕ) → HasReached but (λ object. false) result }
     {
@@ -41,7 +42,7 @@ impl Reached {
     }
 }
 
-/// Whether an object is reached.
+/// Returns whether an object is reached.
 pub(crate) fn has_mark(reached: &Reached, object: u16) -> bool
     requires first { 1 ≤ object }
     requires last { object ≤ 500 }
@@ -50,7 +51,7 @@ pub(crate) fn has_mark(reached: &Reached, object: u16) -> bool
     has_bit(&reached.marks, object - 1)
 }
 
-/// The lesser of two numbers.
+/// Returns the smaller of two numbers.
 pub(crate) fn lesser(one: u32, other: u32) -> u32
     ensures one { result ≤ one }
     ensures other { result ≤ other }
@@ -66,7 +67,7 @@ fn greater(one: u32, other: u32) -> u32
     if one < other { other } else { one }
 }
 
-/// Whether this object is left out.
+/// Returns whether this object is left out.
 pub(crate) fn is_but(but: Option<ObjectNo>, object: u16) -> bool
     ensures { result ≡ is_but (option_map (λ other. other.0) but) object }
 {
@@ -118,7 +119,7 @@ fn reach_group(reached: &mut Reached, basin: &Basin, but: Option<ObjectNo>, slot
     }
 }
 
-/// The owners are reached that these slots reach.
+/// Adds the owners that these slots reach.
 pub(crate) fn reach_slots(
     reached: &mut Reached,
     basin: &Basin,
@@ -154,7 +155,7 @@ fn reach_write(
     }
 }
 
-/// The owners are reached that what is written at a timestep reaches.
+/// Adds the owners that what is written at a timestep reaches.
 #[inline(always)]
 pub(crate) fn reach_writes(
     reached: &mut Reached,

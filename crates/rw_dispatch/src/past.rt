@@ -1,3 +1,4 @@
+//! Finds the earlier value at which a dispatch looks, in the run or before it.
 ghost use Rattle.std.specs.Prelude.{◌≡◌, ◌≤◌, ℕ, length, option_map, IfSome};
 ghost use Rattle.rw_base.specs.declared.number.SlotNo.{SlotNo};
 ghost use Rattle.rw_model.specs.Draft.{IsObject, IsSlot};
@@ -28,8 +29,8 @@ fn past_of(basin: &Basin, object: ObjectNo) -> Option<(SlotNo, u16)>
     Some((slot, ago))
 }
 
-/// The cell of the earlier timestep at which a dispatch of an object looks: the storage of a reservoir or the content of a
-/// routed reach at the timestep before, or the inflow of a reach as many timesteps ago as its lag. Timesteps count from 1.
+/// Returns the cell of the earlier timestep at which a dispatch of an object looks: the storage of a reservoir or the content of
+/// a routed reach at the timestep before, or the inflow of a reach as many timesteps ago as its lag. Timesteps count from 1.
 /// `None` exactly where it looks at none, or at one that is before the run.
 pub fn past_cell(basin: &Basin, object: ObjectNo, step: StepNo) -> Option<Cell>
     requires object { IsObject basin.now.objects object.0 }
@@ -92,7 +93,7 @@ fn value_of_past(
     }
 }
 
-/// The earlier value at which a dispatch of an object looks. `None` where it looks at none, or where it is unknown.
+/// Returns the earlier value at which a dispatch of an object looks. `None` where it looks at none, or where it is unknown.
 #[inline(always)]
 #[tactic(auto, using(crate::proofs::Filling::column_there, crate::proofs::Filling::step_there))]
 pub(crate) fn past_value(

@@ -1,3 +1,4 @@
+//! Holds the objects that wait to be dispatched, in the order of the events that woke them.
 ghost use Rattle.std.specs.Prelude.{ℕ, List, length, true, cond, ◌==◌, ◌≡◌, ◌≤◌, ◌<◌, ◌+◌, ◌++◌, ◌∷◌, [], MatchOption, IfSome, IfOk, All, option_map};
 ghost use Rattle.std.specs.List.{list_any};
 ghost use Rattle.rw_model.specs.Draft.{IsObject, IsSlot};
@@ -17,8 +18,8 @@ use std::alloc::Global;
 use std::collections::VecDeque;
 use std::marker::Model;
 
-/// The objects of a basin that wait to be dispatched, seen as how many objects there are and the numbers of those that wait,
-/// the one to be dispatched next first. None of them waits twice.
+/// The objects of a basin that wait to be dispatched, seen as how many objects there are and the numbers of those that wait, the
+/// one to be dispatched next first. None of them waits twice.
 #[derive(Drop)]
 pub struct Queue {
     items: VecDeque<ObjectNo>,
@@ -39,7 +40,7 @@ impl Model for Queue {
 }
 
 impl Queue {
-    /// A queue for a basin, in which no object waits. The one error is want of memory; no other call takes any.
+    /// Returns a queue for a basin, in which no object waits. The one error is want of memory; no other call takes any.
     pub fn for_basin(alloc: Global, basin: &Basin) -> Result<Queue, NoMemory>
         ensures made { IfOk result (IsQueueOf basin.now) }
         ensures empty { IfOk result (λ queue. queue.waiting ≡ []) }
@@ -50,7 +51,7 @@ impl Queue {
         Ok(Queue { items, waits })
     }
 
-    /// Takes out the object that is to be dispatched next. `None` exactly where none waits.
+    /// Removes the object that is to be dispatched next, and returns it. `None` exactly where none waits.
     pub fn next(&mut self) -> Option<ObjectNo>
         ensures objects { self.new.objects ≡ self.old.objects }
         ensures taken { MatchOption result ((self.old.waiting ≡ []) × (self.new.waiting ≡ []))
@@ -64,7 +65,7 @@ impl Queue {
         Some(object)
     }
 
-    /// Takes out the object in a place of those that wait, counted from 0. `None` exactly where none waits there.
+    /// Removes the object in a place of those that wait, counted from 0, and returns it. `None` exactly where none waits there.
     pub fn take(&mut self, place: usize) -> Option<ObjectNo>
         ensures objects { self.new.objects ≡ self.old.objects }
         ensures taken { MatchOption result
@@ -79,7 +80,7 @@ impl Queue {
         Some(object)
     }
 
-    /// Takes out the object that is picked of those that wait, at a turn. `None` exactly where none waits.
+    /// Removes the object that is picked of those that wait, at a turn, and returns it. `None` exactly where none waits.
     pub fn next_by<P: Pick>(&mut self, pick: &P, turn: u64) -> Option<ObjectNo>
         ensures objects { self.new.objects ≡ self.old.objects }
         ensures taken { MatchOption result ((self.old.waiting ≡ []) × (self.new.waiting ≡ []))
@@ -121,9 +122,9 @@ impl Queue {
         }
     }
 
-    /// Wakes the objects that own a slot which carries one value with one of these, as one event: those that don't wait
-    /// yet, but the one that is left out and those that only keep data, wait behind all others, in order of number. The law
-    /// `waiting_after` of `rw_run` says that those are the objects that wait after the event.
+    /// Wakes the objects that own a slot which carries one value with one of these, as one event: those that do not wait yet, but
+    /// the one that is left out and those that only keep data, wait after all others, in order of number. The law `waiting_after`
+    /// of `rw_run` says that those are the objects that wait after the event.
     pub fn wake(&mut self, basin: &Basin, slots: &[SlotNo], but: Option<ObjectNo>)
         requires made { IsQueueOf basin.now self.old }
         requires slots { All (λ (slot : SlotNo). IsSlot basin.now.objects slot.0) slots.now }

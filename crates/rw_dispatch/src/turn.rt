@@ -1,3 +1,4 @@
+//! Dispatches an object: its method solves what it can, and its puts are judged and written.
 ghost use Rattle.std.specs.Prelude.{◌≡◌, [], IsTrue, List, Some, map, option_map};
 ghost use Rattle.rw_model.specs.Kind.{IsKind};
 ghost use Rattle.rw_model.specs.Objects.{object_at};
@@ -227,10 +228,10 @@ fn answer_of(end: DispatchEnd, solved: Solved, written: PutList) -> Dispatched
     }
 }
 
-/// Dispatches an object at a timestep, and makes nothing yet: its method solves what it can from what its slots hold. What it
+/// Dispatches an object at a timestep, and writes nothing yet: its method solves what it can from what its slots hold. What it
 /// asks for is judged by the put rules, all by what the cells hold before. If one put is denied, that is a conflict; otherwise
-/// those that aren't there already are to be written. The workspace has them afterwards, whatever it had before, and how the
-/// dispatch ended, and where it keeps that, all that was asked for. It takes no memory.
+/// those that are not there already are to be written. Afterwards the workspace has these, whatever it had before, and how the
+/// dispatch ended, and, if it keeps that, all that was asked for. It takes no memory.
 #[inline(always)]
 pub fn judge_dispatch(
     basin: &Basin,
@@ -270,11 +271,11 @@ pub fn judge_dispatch(
     );
 }
 
-/// Dispatches an object at a timestep: its method solves what it can from what its slots hold. What it asks for is judged by
-/// the put rules, all by what the cells hold before. If one put is denied, that is a conflict; otherwise those that aren't
-/// there already are written, and wake the objects that they reach, but not this one. Where nothing is written, cells and
-/// queue stay as they were. The law `waiting_after` of `rw_run` says that the queue then has the objects that wait after the
-/// event. It takes no memory. The rules of each kind stand in `docs/DEFINITIONS.md`.
+/// Dispatches an object at a timestep: its method solves what it can from what its slots hold. What it asks for is judged by the
+/// put rules, all by what the cells hold before. If one put is denied, that is a conflict; otherwise those that are not there
+/// already are written, and wake the objects that they reach, but not this one. Where nothing is written, cells and queue stay as
+/// they were. The law `waiting_after` of `rw_run` says that the queue then has the objects that wait after the event. It takes no
+/// memory. `docs/DEFINITIONS.md` has the rules of each kind.
 pub fn dispatch(
     basin: &Basin,
     methods: &Catalogue,

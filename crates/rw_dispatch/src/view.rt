@@ -1,3 +1,4 @@
+//! Fills in what an object sees in a dispatch.
 ghost use Rattle.std.specs.Prelude.{◌≡◌, ◌<◌, ◌≤◌, ℕ, IfSome, None, false, length, map, set, slice_index_or};
 ghost use Rattle.rw_model.specs.Draft.{IsObject, IsSlot};
 ghost use Rattle.rw_series.specs.Series.{IsSeriesOf, held};
@@ -11,7 +12,7 @@ use rw_method::View;
 use rw_model::{Basin, Content, Kind};
 use rw_series::{Series, StepCells};
 
-/// The slot that an object has in a place, and number 0 where it has none there.
+/// Returns the slot that an object has in a place, and number 0 where it has none there.
 pub fn slot_or_none(basin: &Basin, object: ObjectNo, place: u8) -> SlotNo
     requires { IsObject basin.now.objects object.0 }
     ensures { result.0 ≡ slot_or_none basin.now object.0 place }
@@ -22,7 +23,7 @@ pub fn slot_or_none(basin: &Basin, object: ObjectNo, place: u8) -> SlotNo
     }
 }
 
-/// The view of no object, in which nothing is filled in.
+/// Returns the view of no object, in which nothing is filled in.
 pub(crate) fn blank_view() -> View {
     View {
         own: ObjectNo(0),
@@ -63,7 +64,7 @@ fn see_slot(
     }
 }
 
-/// Whether objects of a kind have slots in the places from 5 on.
+/// Returns whether objects of a kind have slots in the places from 5 on.
 pub(crate) fn has_late(kind: &Kind) -> bool
     ensures { result ≡ has_late kind.now }
 {
@@ -82,8 +83,8 @@ fn number_at(numbers: &[Option<u16>], place: usize, may: bool) -> Option<u16>
     if may { numbers[place] } else { None }
 }
 
-/// Fills in what the object's slots hold and their bounds, by place, whatever stood there. The view is filled where it stands:
-/// it is large. Where it is known that the object has no slot from place 5 on, none is looked for there.
+/// Fills in what the object's slots hold and their bounds, by place, whatever was there. The view is filled where it is, since it
+/// is large. Where it is known that the object has no slot from place 5 on, none is looked for there.
 #[inline(always)]
 pub(crate) fn see_slots(
     now: &mut [Option<Content>; 12],

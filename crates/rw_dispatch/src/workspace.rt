@@ -1,3 +1,4 @@
+//! Holds what dispatches work in, one after another.
 ghost use Rattle.std.specs.Prelude.{◌≡◌};
 
 use crate::dispatch_end::DispatchEnd;
@@ -10,11 +11,11 @@ use rw_method::{Solved, View};
 pub struct Workspace {
     /// What the object sees.
     pub view: View,
-    /// What its method answers.
+    /// The result of its method.
     pub solved: Solved,
     /// How it ended.
     pub end: DispatchEnd,
-    /// What those of its puts write that are to be written.
+    /// What is to be written.
     pub writes: WriteList,
     /// Whether it keeps all that is asked for.
     pub keeps: bool,
@@ -23,7 +24,7 @@ pub struct Workspace {
 }
 
 impl Workspace {
-    /// The workspace of no dispatch. It takes no memory.
+    /// Returns the workspace of no dispatch. It takes no memory.
     pub fn new(keeps: bool) -> Workspace
         ensures { result.keeps ≡ keeps }
     {

@@ -1,10 +1,11 @@
+//! Holds the writes of one dispatch without taking memory.
 ghost use Rattle.std.specs.Prelude.{◌≡◌, ◌<◌, [], ◌∷◌, ◌++◌, length};
 
 use rw_run::Write;
 use std::marker::Model;
 
-/// What a dispatch writes: at most 8 contents, in the order in which they are put. What is taken out of it stays behind the
-/// count, so that taking all out is quick.
+/// The writes of one dispatch: at most 8 contents, in the order in which they are put. What is removed stays after the count, so
+/// that removing all is quick.
 #[derive(Debug, Drop)]
 pub struct WriteList {
     writes: [Write; 8],
@@ -23,7 +24,7 @@ impl Model for WriteList {
 }
 
 impl WriteList {
-    /// The list without writes.
+    /// Returns the list without writes.
     pub fn none() -> WriteList
         ensures { result ≡ [] }
     {
@@ -33,14 +34,14 @@ impl WriteList {
         }
     }
 
-    /// Takes all out.
+    /// Removes all writes.
     pub(crate) fn clear(&mut self)
         ensures { self.new ≡ [] }
     {
         self.count = 0;
     }
 
-    /// Adds one at the end.
+    /// Adds a write at the end.
     pub(crate) fn push(&mut self, write: Write)
         requires { length self.old < 8 }
         ensures { self.new ≡ self.old ++ write ∷ [] }
@@ -50,7 +51,7 @@ impl WriteList {
         self.count = count + 1;
     }
 
-    /// Those that are in it.
+    /// Returns the writes.
     pub fn as_slice(&self) -> &[Write]
         ensures { result.now ≡ self.now }
     {

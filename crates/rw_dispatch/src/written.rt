@@ -1,3 +1,4 @@
+//! Turns the puts of an object into writes to cells, and makes writes.
 ghost use Rattle.std.specs.Prelude.{◌≡◌, ◌<◌, ◌∷◌, [], ℕ, length, map};
 ghost use Rattle.std.specs.Option.{option_or};
 ghost use Rattle.rw_base.specs.declared.number.Cell.{Cell};
@@ -29,7 +30,7 @@ fn slot_of(row: &[Option<u16>], place: u8) -> SlotNo
     }
 }
 
-/// What a put asks for, of an object whose slots these are.
+/// Returns what a put asks for, of an object whose slots these are.
 pub(crate) fn asked_by(row: &[Option<u16>], object: ObjectNo, step: StepNo, put: &Put) -> Write
     requires few { put.now.place < 12 }
     requires all { length row.now ≡ 12 }

@@ -1,3 +1,4 @@
+//! Counts how often each object is dispatched, or each rule fires, by its number.
 ghost use Rattle.std.specs.Prelude.{◌≡◌, ◌<◌, ℕ, IfOk, length};
 ghost use Rattle.rw_engine.specs.Counts.{HasCount, count_of_number, raised};
 

@@ -1,3 +1,4 @@
+//! Holds a run on its way, and runs, repeats and takes back its timesteps.
 ghost use Rattle.std.specs.Prelude.{◌≤◌, ◌+◌, ◌↔◌, ℕ, List, map, IfOk, IfSome, ◌≡◌, IsSome, None, is_some, true};
 ghost use Rattle.rw_model.specs.Draft.{Draft};
 ghost use Rattle.rw_method.specs.Catalogue.{AreInOrder};

@@ -1,3 +1,4 @@
+//! Makes the parts of a run's state that take memory before the first timestep.
 ghost use Rattle.std.specs.Prelude.{◌≡◌, [], None, Ok, IfOk, length};
 ghost use Rattle.rpl_code.specs.declared.block.BlockHead.TheVariants.{Rule as RuleHead};
 ghost use Rattle.rpl_verify.specs.Fits.{count_alike};

@@ -1,3 +1,4 @@
+//! Runs all timesteps of a basin from its inputs.
 ghost use Rattle.std.specs.Prelude.{◌≡◌, ◌≤◌, map, Err, IfOk, IsSome, IsTrue, MatchResult, Ok};
 ghost use Rattle.rw_method.specs.Catalogue.{AreInOrder};
 ghost use Rattle.rw_rules.specs.Rules.{policy_in};
@@ -141,13 +142,14 @@ pub fn run_all_of<L: Ledger>(
     pass_all(engine, setup, &Oldest, steps)
 }
 
-/// Runs all timesteps of a setup as `run_all_of` does with a trace, but where it is picked which of the objects that wait is
-/// dispatched. The one error is want of memory.
+/// Runs all timesteps of a setup as `run_all_of` does, but where it is picked which of the objects that wait is dispatched. The
+/// one error is want of memory.
 pub fn run_by_of<L: Ledger, P: Pick>(
     alloc: Global,
     setup: &RunSetup<'_>,
     inputs: &Inputs,
     pick: &P,
+    traced: bool,
     steps: &mut Steps<L>,
 ) -> Result<Run, NoMemory>
     requires can { CanRun setup.now.basin.now setup.now.policy.now inputs.now }
@@ -156,9 +158,9 @@ pub fn run_by_of<L: Ledger, P: Pick>(
     ensures run { IfOk result (ComesToPicked setup.now.basin.now
         (policy_in setup.now.basin.now setup.now.policy.now) (P.rule pick.now) inputs.now) }
     ensures closed { IfOk result (λ run. run.closed ≤ setup.now.basin.now.control.stamps.count) }
-    ensures kept { IfOk result (λ run. IsSome run.trace) }
+    ensures kept { IsTrue traced → IfOk result (λ run. IsSome run.trace) }
     ensures counted { CountsSteps setup.now.basin.now steps.old steps.new result }
 {
-    let engine = Engine::for_run(alloc, setup.basin, setup.policy, inputs)?;
+    let engine = begin(alloc, setup, inputs, traced)?;
     pass_all(engine, setup, pick, steps)
 }

@@ -1,3 +1,4 @@
+//! Holds what a run goes by, whatever its inputs.
 use rpl_predef::Predefs;
 use rpl_verify::Verified;
 use rw_method::Catalogue;

@@ -1,3 +1,4 @@
+//! Holds what an engine works on, and lets event follow event in a timestep.
 ghost use Rattle.std.specs.Prelude.{◌≡◌, ◌<◌, [], ℕ, map, List, Option, Some, None, Ok, IfOk, IfErr, IfSome, IsSome, is_some};
 ghost use Rattle.rw_model.specs.Draft.{Draft};
 ghost use Rattle.rw_method.specs.Catalogue.{AreInOrder};

@@ -1,3 +1,4 @@
+//! Lists how a timestep can end.
 use rw_run::RunFault;
 
 /// How a timestep ended.

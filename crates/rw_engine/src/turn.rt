@@ -1,3 +1,4 @@
+//! Counts the turns of dispatches over all timesteps.
 ghost use Rattle.std.specs.Prelude.{◌≡◌, ◌≤◌, ◌+◌};
 ghost use Rattle.rw_engine.specs.Picked.{next_turn_number};
 

@@ -1,15 +1,16 @@
+//! Lists how a firing of a rule can end, and holds the values that it asks for.
 use rw_base::{Qty, SlotNo};
 
-/// How a firing of a rule ends.
+/// The ways in which a firing of a rule can end.
 #[derive(Clone, Copy, Debug, PartialEq, Eq)]
 pub enum FireEnd {
-    /// It came to its end, and asks for its puts.
+    /// It reached its end, and asks for its puts.
     Done,
-    /// It came to an unknown value, and asks for nothing.
+    /// It met an unknown value, and asks for nothing.
     Unknown,
     /// It divided by 0.
     ZeroDivisor,
-    /// It came to this value, which is no quantity, or which its slot can't have.
+    /// It computed this value, which is no quantity, or which its slot cannot have.
     OutOfRange(i128),
 }
 
@@ -20,6 +21,6 @@ pub struct RulePut {
     pub value: Qty,
     /// The slot.
     pub slot: SlotNo,
-    /// How many timesteps behind the one in which the rule fires.
+    /// How many timesteps after the one in which the rule fires.
     pub ahead: u8,
 }

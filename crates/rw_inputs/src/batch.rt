@@ -1,3 +1,4 @@
+//! Holds the edits of a batch, and decides whether one of them names a cell that another edit names.
 ghost use Rattle.std.specs.Prelude.{◌≡◌, [], ◌∷◌, ◌++◌, OnOk};
 ghost use Rattle.std.specs.List.{list_any};
 ghost use Rattle.rw_inputs.specs.EditRows.{meets};
@@ -53,7 +54,7 @@ fn meets_one(edit: &Edit, edits: &[Edit]) -> bool
 }
 
 impl Batch {
-    /// No edits.
+    /// Returns the batch of no edits.
     pub(crate) fn none(alloc: Global) -> Batch
         ensures { result ≡ [] }
     {
@@ -62,21 +63,21 @@ impl Batch {
         }
     }
 
-    /// The edits, one after another.
+    /// Returns the edits, one after another.
     pub fn edits(&self) -> &[Edit]
         ensures { result.now ≡ self.now }
     {
         self.edits.as_slice()
     }
 
-    /// Whether the edit names a cell that one of the batch names.
+    /// Returns whether the edit names a cell that one of the batch names.
     pub(crate) fn has_named(&self, edit: &Edit) -> bool
         ensures { result ≡ list_any (meets edit.now) self.now }
     {
         meets_one(edit, self.edits.as_slice())
     }
 
-    /// Takes one more edit.
+    /// Appends an edit.
     pub(crate) fn push(&mut self, edit: &Edit) -> Result<(), NoMemory>
         ensures { OnOk result (self.new ≡ self.old ++ edit.now ∷ []) }
     {

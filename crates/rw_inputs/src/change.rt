@@ -1,3 +1,4 @@
+//! Applies a batch of edits to inputs.
 ghost use Rattle.std.specs.Prelude.{◌≡◌, IfOk, OnOk};
 ghost use Rattle.std.specs.List.{All};
 ghost use Rattle.rw_inputs.specs.Edits.{IsBatch, IsEdit, after_batch};
@@ -24,9 +25,9 @@ fn set_each(inputs: &mut Inputs, basin: &Basin, edits: &[Edit]) -> Result<(), No
     Ok(())
 }
 
-/// The inputs after a batch of edits: where one of its edits names a cell, the value that it says or none, and elsewhere
-/// what was given. A removal of what isn't given changes nothing. The inputs themselves stay. The one error is want of
-/// memory. `docs/FORMATS.md` has edits under "Edits".
+/// Returns the inputs after a batch of edits: where one of its edits names a cell, the value that it says or none, and elsewhere
+/// what was given. A removal of what is not given changes nothing. The inputs themselves stay. The one error is want of memory.
+/// `docs/FORMATS.md` has edits under "Edits".
 pub fn apply(
     alloc: Global,
     basin: &Basin,

@@ -1,3 +1,4 @@
+//! Keeps the values of one slot by timestep, and takes memory only once there is a value.
 ghost use Rattle.std.specs.Prelude.{◌≡◌, ◌⊎◌, ℕ, ◌+◌, ◌≤◌, ◌<◌, [], true, false, Ok, Some, None, IfOk, OnOk, OnErr, MatchBool, length};
 ghost use Rattle.rw_inputs.specs.Column.{IsColumn, IsFree, IsSet, IsSpanIn, IsTakenWithin, TakesValue, value_in_column};
 
@@ -8,8 +9,8 @@ use rw_base::{NoMemory, Qty};
 use std::alloc::Global;
 use std::marker::Model;
 
-/// What is kept of a slot, seen as a value or none for each timestep. These count from 1, so the first place stays empty.
-/// As long as nothing is kept there are no places, and no memory is taken.
+/// What is kept of a slot, seen as a value or none for each timestep. These count from 1, so the first place stays empty. As long
+/// as nothing is kept there are no places, and no memory is taken.
 #[derive(Drop)]
 pub(crate) struct Column {
     values: Vec<KeptQty>,
@@ -111,7 +112,7 @@ fn clear(values: &mut Vec<KeptQty>, steps: u16, first: u16, last: u16)
 }
 
 impl Column {
-    /// Nothing at any timestep.
+    /// Returns the column with nothing at any timestep.
     pub(crate) fn none(alloc: Global) -> Column
         ensures { result ≡ [] }
     {
@@ -120,14 +121,15 @@ impl Column {
         }
     }
 
-    /// What is kept, in the place of its timestep.
+    /// Returns what is kept, in the place of its timestep.
     pub(crate) fn values(&self) -> &[KeptQty]
         ensures { result.now ≡ self.now }
     {
         self.values.as_slice()
     }
 
-    /// Takes what a row gives, if nothing is kept yet of its timesteps, of so many in all; `false` exactly where something is.
+    /// Keeps what a row gives, if nothing is kept yet of its timesteps, of `steps` in all. Returns `false` exactly where
+    /// something is.
     pub(crate) fn take(&mut self, steps: u16, row: &RowValue) -> Result<bool, NoMemory>
         requires column { IsColumn steps self.old }
         requires span { IsSpanIn steps row.now.first row.now.last }
@@ -144,7 +146,7 @@ impl Column {
         Ok(true)
     }
 
-    /// Sets what an edit says at its timesteps, of so many in all.
+    /// Sets what an edit says at its timesteps, of `steps` in all.
     pub(crate) fn set(&mut self, steps: u16, edit: &Edit) -> Result<(), NoMemory>
         requires column { IsColumn steps self.old }
         requires span { IsSpanIn steps edit.now.first edit.now.last }
@@ -162,7 +164,7 @@ impl Column {
         }
     }
 
-    /// The same column again.
+    /// Returns a copy of the column.
     pub(crate) fn copy(&self, alloc: Global) -> Result<Column, NoMemory>
         ensures { IfOk result (λ copy. copy ≡ self.now) }
     {

@@ -1,6 +1,7 @@
+//! Holds what a row of edits sets.
 use rw_base::Qty;
 
-/// What a row of edits sets: a value, or nothing, for a slot at each of some timesteps.
+/// An edit: the value, or none, that a row of edits sets for a slot at each of some timesteps.
 #[derive(Clone, Copy)]
 pub struct Edit {
     /// The number of the slot at which the values are kept.
@@ -9,6 +10,6 @@ pub struct Edit {
     pub first: u16,
     /// The last timestep.
     pub last: u16,
-    /// The value; `None` takes away what is given.
+    /// The value; `None` removes what is given.
     pub value: Option<Qty>,
 }

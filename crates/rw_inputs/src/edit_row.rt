@@ -1,3 +1,4 @@
+//! Reads the fields of a row of edits: batch, slot, timesteps and value.
 ghost use Rattle.rw_inputs.specs.declared.limits.TheConstants.{BATCHES_MAX};
 ghost use Rattle.std.specs.Prelude.{◌≡◌, ◌+◌, ◌≤◌, IfOk, IfSome, option_map};
 ghost use Rattle.csv.specs.Records.{fields_of};
@@ -29,7 +30,7 @@ fn follows(last: u64, batch: u64) -> bool
     }
 }
 
-/// The number of the last batch, or of the one behind it.
+/// Returns the number of the last batch, or of the one after it.
 pub(crate) fn read_batch(last: u64, text: &[u8]) -> Result<u64, Wrong>
     requires { last ≤ BATCHES_MAX }
     ensures read { result ≡ read_batch last text.now }
@@ -66,7 +67,7 @@ fn read_change(basin: &Basin, slot: u16, text: &[u8]) -> Result<Option<Qty>, Wro
     }
 }
 
-/// A slot, timesteps, and a value or nothing.
+/// Returns a slot, timesteps, and a value or nothing.
 pub(crate) fn read_edit(
     basin: &Basin,
     slot: &[u8],
@@ -87,7 +88,7 @@ pub(crate) fn read_edit(
     })
 }
 
-/// The fields of a record of four.
+/// Returns the fields of a record of four.
 pub(crate) fn four_fields(row: &ByteRecord) -> Option<(&[u8], &[u8], &[u8], &[u8])>
     ensures { option_map (λ fields. (fields.0.now, fields.1.now, fields.2.now, fields.3.now)) result
         ≡ four_fields (fields_of row.now) }

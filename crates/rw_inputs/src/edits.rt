@@ -1,3 +1,4 @@
+//! Reads batches of edits, and traces, from a text of comma-separated fields.
 ghost use Rattle.rw_inputs.specs.declared.limits.TheConstants.{BATCHES_MAX, EDITS_MAX};
 ghost use Rattle.std.specs.Prelude.{◌≡◌, ◌+◌, ◌≤◌, [], ◌∷◌, true, Some, Ok, IfErr, IfOk, OnOk, length};
 ghost use Rattle.std.specs.List.{All, list_any};
@@ -240,12 +241,12 @@ fn read_batches(
 
 /// Reads the batches of edits of a basin's inputs from a text of comma-separated fields.
 ///
-/// The first row is `batch,slot,step,value`. Each later one stands in the batch of the row before it or in the next, the
-/// first one in batch 1, and sets a value as a row of inputs does, or takes away what is given where its value is empty. The
-/// first row with which something is wrong is refused, for the first thing that is wrong with it: `Ragged` where it hasn't
-/// four fields; `NotANumber`, `BatchOrder`, or `TooMany` past batch 64; then slot, timesteps and value as in `read_inputs`;
-/// `Twice` where an earlier row of its batch names one of its cells; `TooMany` from the 10,001st row on. `NoMemory` says
-/// nothing of the text. `docs/FORMATS.md` has the rows under "Edits".
+/// The first row is `batch,slot,step,value`. Each later one is in the batch of the row before it or in the next, the first one in
+/// batch 1, and sets a value as a row of inputs does, or removes what is given where its value is empty. The first row with which
+/// something is wrong is refused, for the first thing that is wrong with it: `Ragged` where it does not have four fields;
+/// `NotANumber`, `BatchOrder`, or `TooMany` past batch 64; then slot, timesteps and value as in `read_inputs`; `Twice` where an
+/// earlier row of its batch names one of its cells; `TooMany` from the 10,001st row on. `NoMemory` says nothing of the text.
+/// `docs/FORMATS.md` has the rows under "Edits".
 pub fn read_edits(alloc: Global, basin: &Basin, text: &[u8]) -> Result<Vec<Batch>, InputFault>
     ensures answers { Answers InputFault.NoMemory input_refusal_of (λ batches. batches.items) result
         (edits_of basin.now text.now) }

@@ -1,3 +1,4 @@
+//! Holds the values that are given to cells before a run.
 ghost use Rattle.std.specs.Prelude.{◌≡◌, ◌⊎◌, [], ℕ, true, false, Ok, IfOk, OnErr, OnOk, length};
 ghost use Rattle.rw_inputs.specs.Inputs.{slot_column, value_at, kept_slot, IsInputsOf, Keeps};
 ghost use Rattle.rw_model.specs.Draft.{IsSlot};
@@ -14,8 +15,8 @@ use rw_model::Basin;
 use std::alloc::Global;
 use std::marker::Model;
 
-/// The values that are given to cells before a run, seen as a list of columns that `value_at` reads. Only a slot that a row
-/// named takes memory for its timesteps.
+/// The values that are given to cells before a run, seen as a list of columns that `value_at` reads. Only a slot that a row named
+/// takes memory for its timesteps.
 #[derive(Drop)]
 pub struct Inputs {
     columns: Vec<Column>,
@@ -29,7 +30,7 @@ impl Model for Inputs {
     ghost view = { λ i. record { columns = i.columns.items } };
 }
 
-/// The least of the slots that carry one value with the slot.
+/// Returns the least of the slots that carry one value with the slot.
 pub(crate) fn kept_slot(basin: &Basin, slot: u16) -> u16
     requires { IsSlot basin.now.objects slot }
     ensures least { result ≡ kept_slot basin.now slot }
@@ -65,7 +66,7 @@ fn copies(alloc: Global, columns: &[Column]) -> Result<Vec<Column>, NoMemory>
 }
 
 impl Inputs {
-    /// No value for any cell of the basin.
+    /// Returns inputs that give no value to any cell of the basin.
     pub(crate) fn none(alloc: Global, basin: &Basin) -> Result<Inputs, NoMemory>
         ensures { IfOk result (Keeps basin.now []) }
     {
@@ -73,7 +74,7 @@ impl Inputs {
         Ok(Inputs { columns })
     }
 
-    /// The same inputs again.
+    /// Returns a copy of the inputs.
     pub(crate) fn copy(&self, alloc: Global) -> Result<Inputs, NoMemory>
         ensures { IfOk result (λ copy. copy ≡ self.now) }
     {
@@ -81,15 +82,15 @@ impl Inputs {
         Ok(Inputs { columns })
     }
 
-    /// The value that is kept at a cell itself, in the base units of its slot's dimension: m3, mm, m3/step, mm/step or kWh.
-    /// `None` exactly where none is. Slots that carry one value have theirs at the least of them.
+    /// Returns the value that is kept at a cell itself, in the base units of its slot's dimension: m3, mm, m3/step, mm/step or
+    /// kWh. `None` exactly where none is. Slots that carry one value have theirs at the least of them.
     pub fn value(&self, c: Cell) -> Option<Qty>
         ensures { result ≡ value_at self.now c.slot.0 c.step.0 }
     {
         value_in(self.column(c.slot), c.step.0)
     }
 
-    /// What is kept of a slot, at each timestep, as `value_in` reads it. It is empty where no value was ever kept.
+    /// Returns what is kept of a slot, at each timestep, as `value_in` reads it. It is empty where no value was ever kept.
     pub fn column(&self, slot: SlotNo) -> &[KeptQty]
         ensures { result.now ≡ slot_column self.now.columns slot.0 }
     {
@@ -99,8 +100,8 @@ impl Inputs {
         }
     }
 
-    /// Takes what a row gives. `false` exactly where an earlier row gave a value to one of its cells; then, and after want of
-    /// memory, the inputs are as they were.
+    /// Keeps what a row gives. Returns `false` exactly where an earlier row gave a value to one of its cells; then, and after
+    /// want of memory, the inputs are as they were.
     pub(crate) fn take(&mut self, basin: &Basin, row_value: &RowValue) -> Result<bool, NoMemory>
         requires made { IsInputsOf basin.now self.old }
         requires row_value { IsRowValue basin.now row_value.now }

@@ -1,4 +1,4 @@
-// A value of a slot at a timestep, in eight bytes.
+//! Packs a value of a slot at a timestep, or none, into eight bytes.
 ghost use Rattle.std.specs.Prelude.{◌≡◌};
 ghost use Rattle.rw_inputs.specs.Column.{value_in_column};
 
@@ -24,7 +24,7 @@ impl Model for KeptQty {
 }
 
 impl KeptQty {
-    /// What keeps a value, or none.
+    /// Returns what keeps a value, or none.
     #[inline(always)]
     pub(crate) fn of(value: Option<Qty>) -> KeptQty
         ensures { result ≡ value }
@@ -37,7 +37,7 @@ impl KeptQty {
         }
     }
 
-    /// The same again.
+    /// Returns a copy.
     #[inline(always)]
     pub(crate) fn copy(&self) -> KeptQty
         ensures { result ≡ self.now }
@@ -47,7 +47,7 @@ impl KeptQty {
         }
     }
 
-    /// The value, if one is kept.
+    /// Returns the value, if one is kept.
     #[inline(always)]
     pub fn get(&self) -> Option<Qty>
         ensures { result ≡ self.now }
@@ -56,7 +56,7 @@ impl KeptQty {
     }
 }
 
-/// What is kept at a timestep in the column of a slot, nothing where there is no such timestep.
+/// Returns what is kept at a timestep in the column of a slot, and nothing where there is no such timestep.
 #[inline(always)]
 pub fn value_in(column: &[KeptQty], step: u16) -> Option<Qty>
     ensures { result ≡ value_in_column column.now step }

@@ -1,4 +1,4 @@
-//! The slot that the last row named, which the next row often names again.
+//! Remembers the slot that the last row named, which the next row often names again.
 ghost use Rattle.std.specs.Prelude.{◌≡◌, ◌≢◌, IfOk, Ok, OnOk, true};
 ghost use Rattle.rw_model.specs.Draft.{Draft, IsSlot};
 ghost use Rattle.rw_inputs.specs.LastSlot.{IsLastSlot};
@@ -40,7 +40,7 @@ fn keep(last: &mut LastSlot, basin: &Basin, text: &[u8], slot: u16)
 }
 
 impl LastSlot {
-    /// None is kept.
+    /// Returns the state in which none is kept.
     pub(crate) fn none(alloc: Global) -> LastSlot
         ensures { (basin : Draft) → IsLastSlot basin result }
     {
@@ -61,7 +61,7 @@ impl LastSlot {
         }
     }
 
-    /// The same as `read_slot`, and sooner where the last row named the slot too.
+    /// Returns what `read_slot` returns, and sooner where the last row named the slot too.
     pub(crate) fn read(&mut self, basin: &Basin, text: &[u8]) -> Result<u16, Wrong>
         requires last { IsLastSlot basin.now self.old }
         ensures last { IsLastSlot basin.now self.new }

@@ -1,5 +1,4 @@
-//! What the definitions of this crate come to in plain words. Each law is the `ensures` of a function that does
-//! nothing.
+//! Proves what the definitions of this crate mean in plain words. Each law is the `ensures` of a function that does nothing.
 ghost use Rattle.std.specs.Prelude.{◌≡◌, ◌≤◌, ◌+◌, ◌++◌, ◌∷◌, [], ℕ, pos, false, length, IsTrue, IsFalse, List, Option, None, Some, Ok, Err, codes};
 ghost use Rattle.std.specs.List.{list_any};
 ghost use Rattle.rw_model.specs.Draft.{Draft};
@@ -13,6 +12,7 @@ ghost use Rattle.rw_inputs.specs.Reading.{Reads, Refuses};
 ghost use Rattle.rw_inputs.specs.Records.{Fields, AreRows, records_of};
 ghost use Rattle.rw_inputs.specs.Refusal.{InputRefusal, refused_at};
 ghost use Rattle.rw_inputs.specs.Row.{slot_of_text, wrong};
+ghost use Rattle.rw_inputs.specs.declared.limits.TheConstants.{BATCHES_MAX, DIGITS_MAX, EDITS_MAX};
 
 /// The records of a text are those that `csv` states for it, and it states no others.
 pub fn text_records()
@@ -161,4 +161,11 @@ pub fn worked_scenarios()
         → read_batches basin (scenario_header ∷ rows) ≡ Err (refused_at InputKind.Header 1 0) }
     ensures same { (basin : Draft) (rows : List Fields)
         → read_scenarios basin (scenario_header ∷ rows) ≡ read_batches basin (edit_header ∷ rows) }
+{}
+
+/// How many batches and rows edits that are read have at most, and how long a number is: definitions have them by these names.
+pub fn limits_of_edits()
+    ensures batches { BATCHES_MAX ≡ 64 }
+    ensures edits { EDITS_MAX ≡ 10000 }
+    ensures digits { DIGITS_MAX ≡ 18 }
 {}

@@ -1,10 +1,10 @@
-//! Inputs of a run: the values that are given to cells before it. `read_inputs` reads a text of rows, each with a slot, a
-//! timestep or a range of timesteps, and a value, and answers what they give or the first refusal with its row and column;
-//! what that is, `specs/Reading.antt` says of the records that `csv` states for the text. `Inputs::value` answers what is
-//! kept at a cell: slots that carry one value have one cell at a timestep, that of the least of them.
+//! Reads the inputs of a run: the values that are given to cells before it. `read_inputs` reads a text of rows, each with a slot,
+//! a timestep or a range of timesteps, and a value, and returns what they give or the first refusal with its row and column;
+//! `specs/Reading.antt` says what that is for the records that `csv` states for the text. `Inputs::value` returns what is kept at
+//! a cell: slots that carry one value have one cell at a timestep, that of the least of them.
 //!
-//! Edits of inputs: `read_edits` reads a text of rows, each in a batch, that set values or take them away, and answers the
-//! batches or the first refusal (`specs/EditRows.antt`). `apply` makes inputs of inputs and a batch (`specs/Edits.antt`).
+//! Also reads edits of inputs: `read_edits` reads a text of rows, each in a batch, that set values or remove them, and returns
+//! the batches or the first refusal (`specs/EditRows.antt`). `apply` makes inputs of inputs and a batch (`specs/Edits.antt`).
 #![tactic(auto)]
 
 mod batch;

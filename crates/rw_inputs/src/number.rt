@@ -1,3 +1,4 @@
+//! Reads whole numbers from digits, and finds a byte in a text.
 ghost use Rattle.std.specs.Prelude.{◌≡◌, ◌<◌, ◌^◌, length};
 ghost use Rattle.std.specs.Option.{ForSome};
 ghost use Rattle.rw_inputs.specs.Number.{read_number, read_signed, byte_position};
@@ -5,7 +6,7 @@ ghost use Rattle.rw_inputs.specs.Number.{read_number, read_signed, byte_position
 use crate::limits::DIGITS_MAX;
 use rw_base::read_digits;
 
-/// The number that a text of 1 to 18 digits spells. `None` exactly where it is no such text.
+/// Returns the number that a text of 1 to 18 digits spells. `None` exactly where it is no such text.
 pub fn read_number(text: &[u8]) -> Option<u64>
     ensures number { result ≡ read_number text.now }
     ensures small { ForSome result (λ number. number < 10 ^ 18) }
@@ -13,7 +14,7 @@ pub fn read_number(text: &[u8]) -> Option<u64>
     read_digits(text, DIGITS_MAX)
 }
 
-/// The same, and behind a `-` the number below 0.
+/// Returns the number that the text spells, below 0 after a `-`.
 pub(crate) fn read_signed(text: &[u8]) -> Option<i64>
     ensures { result ≡ read_signed text.now }
 {
@@ -30,7 +31,7 @@ pub(crate) fn read_signed(text: &[u8]) -> Option<i64>
     }
 }
 
-/// The first place of the byte, counted from 0.
+/// Returns the first place of the byte, counted from 0.
 pub(crate) fn position_of(byte: u8, text: &[u8]) -> Option<usize>
     ensures place { result ≡ byte_position byte text.now }
     ensures within { ForSome result (λ place. place < length text.now) }

@@ -1,3 +1,4 @@
+//! Reads the inputs of a basin from a text of comma-separated fields.
 ghost use Rattle.std.specs.Prelude.{◌≡◌, [], ◌∷◌, true, None, IfOk, IfErr, OnOk};
 ghost use Rattle.rw_base.specs.Answers.{Answers, IsWhy};
 ghost use Rattle.csv.specs.Records.{fields_of};
@@ -22,7 +23,7 @@ use rw_base::NoMemory;
 use rw_model::Basin;
 use std::alloc::Global;
 
-/// The fault of a text whose first row doesn't name the columns.
+/// Returns the fault of a text whose first row does not name the columns.
 pub(crate) fn no_header() -> InputFault
     ensures { result ≡ InputFault.Refused InputKind.Header 1 0 }
 {
@@ -165,12 +166,12 @@ fn read_records(
 
 /// Reads the inputs of a basin from a text of comma-separated fields.
 ///
-/// The first row is `slot,step,value`. Each later one gives a value, a whole number in the base units of the slot's
-/// dimension, to a slot, `Object.Slot`, at a timestep, `a`, or at each of a range of timesteps, `a-b`, counted from 1. The
-/// first row with which something is wrong is refused, for the first thing that is wrong with it: `Ragged` where it hasn't
-/// three fields; `UnknownSlot` or `NotSettable`; `NotANumber` or `StepOutside`; `NotANumber` or `OutOfBounds`; `Twice` where
-/// an earlier row gives a value to one of its cells, or to one of a slot that carries one value with its slot. `NoMemory`
-/// says nothing of the text. `docs/FORMATS.md` has the rows under "Inputs".
+/// The first row is `slot,step,value`. Each later one gives a value, a whole number in the base units of the slot's dimension, to
+/// a slot, `Object.Slot`, at a timestep, `a`, or at each of a range of timesteps, `a-b`, counted from 1. The first row with which
+/// something is wrong is refused, for the first thing that is wrong with it: `Ragged` where it does not have three fields;
+/// `UnknownSlot` or `NotSettable`; `NotANumber` or `StepOutside`; `NotANumber` or `OutOfBounds`; `Twice` where an earlier row
+/// gives a value to one of its cells, or to one of a slot that carries one value with its slot. `NoMemory` says nothing of the
+/// text. `docs/FORMATS.md` has the rows under "Inputs".
 pub fn read_inputs(alloc: Global, basin: &Basin, text: &[u8]) -> Result<Inputs, InputFault>
     ensures answers { Answers InputFault.NoMemory input_refusal_of value_at result
         (inputs_of basin.now text.now) }

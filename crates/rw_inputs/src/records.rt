@@ -1,3 +1,4 @@
+//! Reads the records of a text with `csv`, one after another.
 ghost use Rattle.std.specs.Prelude.{◌≡◌, [], ◌∷◌, true, false, Ok};
 ghost use Rattle.csv.specs.Records.{fields_of};
 ghost use Rattle.rw_inputs.specs.Records.{records_of};
@@ -25,7 +26,7 @@ impl<'a> Model for Records<'a> {
 }
 
 impl<'a> Records<'a> {
-    /// All records of a text, behind its byte order mark if it has one. They may have any numbers of fields, and the first
+    /// Returns all records of a text, after its byte order mark if it has one. They may have any numbers of fields, and the first
     /// one is like the others.
     pub(crate) fn of(alloc: Global, text: &'a [u8]) -> Records<'a>
         ensures { result ≡ records_of text.now }
@@ -38,7 +39,7 @@ impl<'a> Records<'a> {
         }
     }
 
-    /// Reads the next record into `row`, and answers whether there was one.
+    /// Reads the next record into `row`, and returns whether there was one.
     pub(crate) fn read(&mut self, row: &mut ByteRecord) -> Result<bool, NoMemory>
         ensures next { result ≡ Ok true → self.old ≡ fields_of row.new ∷ self.new }
         ensures end { result ≡ Ok false → self.old ≡ [] }

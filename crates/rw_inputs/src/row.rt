@@ -1,3 +1,4 @@
+//! Reads the fields of a row of inputs: slot, timesteps and value.
 ghost use Rattle.std.specs.Prelude.{◌≡◌, ◌&&◌, true, false, int_le, if◌then◌else◌, Some, None, IfOk, MatchOption, option_map};
 ghost use Rattle.std.specs.Str.{is_utf8};
 ghost use Rattle.std.specs.Option.{ForSome};
@@ -20,7 +21,7 @@ use csv::ByteRecord;
 use rw_base::{Qty, SlotNo};
 use rw_model::Basin;
 
-/// What is wrong, with a part of a row.
+/// Names what is wrong, with a part of a row.
 pub(crate) fn wrong(kind: InputKind, part: Part) -> Wrong
     ensures { result ≡ record { kind = kind; part = part } }
 {
@@ -49,7 +50,7 @@ fn slot_of_names(basin: &Basin, object: &[u8], slot: &[u8]) -> Option<SlotNo>
     basin.find_slot(object, slot)
 }
 
-/// The slot that a text names, as `Object.Slot`. `None` exactly where it names none.
+/// Returns the slot that a text names, as `Object.Slot`. `None` exactly where it names none.
 pub fn slot_of_text(basin: &Basin, text: &[u8]) -> Option<SlotNo>
     ensures number { option_map (λ number. number.0) result ≡ slot_of_text basin.now text.now }
     ensures known { ForSome result (λ number. IsSlot basin.now.objects number.0) }
@@ -58,7 +59,7 @@ pub fn slot_of_text(basin: &Basin, text: &[u8]) -> Option<SlotNo>
     slot_of_names(basin, &text[..dot], &text[dot + 1..])
 }
 
-/// A slot of the model that inputs can set.
+/// Returns the slot of the model that a text names, which inputs can set.
 pub(crate) fn read_slot(basin: &Basin, text: &[u8]) -> Result<u16, Wrong>
     ensures read { result ≡ read_slot basin.now text.now }
     ensures known { IfOk result (IsSlot basin.now.objects) }
@@ -103,7 +104,7 @@ fn span_in(text: &[u8]) -> Option<(u64, u64)>
     }
 }
 
-/// A timestep of the run, or a range of timesteps of the run.
+/// Returns a timestep of the run, or a range of timesteps of the run.
 pub(crate) fn read_span(basin: &Basin, text: &[u8]) -> Result<Span, Wrong>
     ensures { result ≡ read_span basin.now text.now }
 {
@@ -134,7 +135,7 @@ fn within_bounds(bounds: (i64, i64), value: i64) -> Option<Qty>
     }
 }
 
-/// A value that the slot can have.
+/// Returns a value that the slot can have.
 pub(crate) fn read_value(basin: &Basin, slot: u16, text: &[u8]) -> Result<Qty, Wrong>
     requires { IsSlot basin.now.objects slot }
     ensures read { result ≡ read_value basin.now slot text.now }
@@ -174,7 +175,7 @@ fn read_fields(
     })
 }
 
-/// The fields of a record of three.
+/// Returns the fields of a record of three.
 pub(crate) fn three_fields(row: &ByteRecord) -> Option<(&[u8], &[u8], &[u8])>
     ensures { option_map (λ fields. (fields.0.now, fields.1.now, fields.2.now)) result
         ≡ three_fields (fields_of row.now) }
@@ -194,7 +195,7 @@ pub(crate) fn three_fields(row: &ByteRecord) -> Option<(&[u8], &[u8], &[u8])>
     }
 }
 
-/// What a row gives: three fields, a slot, timesteps and a value.
+/// Returns what a row gives: three fields, a slot, timesteps and a value.
 pub(crate) fn read_row(
     last: &mut LastSlot,
     basin: &Basin,

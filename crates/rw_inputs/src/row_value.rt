@@ -1,6 +1,7 @@
+//! Holds what a row of inputs gives.
 use rw_base::Qty;
 
-/// What a row says: a value of a slot at each of some timesteps.
+/// A value of a slot at each of some timesteps, as a row says it.
 #[derive(Clone, Copy)]
 pub(crate) struct RowValue {
     /// The number of the slot.

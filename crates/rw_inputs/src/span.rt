@@ -1,4 +1,6 @@
-/// Some timesteps, one after another.
+//! Holds a range of timesteps.
+
+/// A range of timesteps.
 #[derive(Clone, Copy)]
 pub(crate) struct Span {
     /// The first one.

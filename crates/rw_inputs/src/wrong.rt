@@ -1,6 +1,7 @@
+//! Names what is wrong with a row, and with which part of it.
 use crate::InputKind;
 
-/// A part of a row.
+/// The parts of a row.
 #[derive(Clone, Copy)]
 pub(crate) enum Part {
     /// The row as a whole.
@@ -20,6 +21,6 @@ pub(crate) enum Part {
 pub struct Wrong {
     /// What is wrong.
     pub kind: InputKind,
-    /// With what.
+    /// The part that it is wrong with.
     pub part: Part,
 }

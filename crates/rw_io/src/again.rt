@@ -1,16 +1,16 @@
-// A call that the system interrupts did nothing, and is made again.
+//! Repeats a call that the system interrupted, and which therefore did nothing.
 ghost use Rattle.std.specs.Io.{ReadsAtMost, WritesAtMost};
 
 use std::io::{Error, ErrorKind, Read, Write};
 
-/// How often at most.
+/// The maximum number of attempts.
 const TIMES: u32 = 1000;
 
 fn is_interrupted(error: &Error) -> bool {
     error.kind() == ErrorKind::Interrupted
 }
 
-/// Reads, again and again where that is interrupted.
+/// Reads, and repeats the call as long as it is interrupted.
 pub(crate) fn read_again<R: Read>(source: &mut R, buf: &mut [u8]) -> Result<usize, Error>
     ensures bound { ReadsAtMost result buf.new }
 {
@@ -23,7 +23,7 @@ pub(crate) fn read_again<R: Read>(source: &mut R, buf: &mut [u8]) -> Result<usiz
     source.read(buf)
 }
 
-/// Writes, again and again where that is interrupted.
+/// Writes, and repeats the call as long as it is interrupted.
 pub(crate) fn write_again<W: Write>(stream: &mut W, piece: &[u8]) -> Result<usize, Error>
     ensures bound { WritesAtMost result piece.now }
 {
@@ -36,7 +36,7 @@ pub(crate) fn write_again<W: Write>(stream: &mut W, piece: &[u8]) -> Result<usiz
     stream.write(piece)
 }
 
-/// Hands on what was written, again and again where that is interrupted.
+/// Flushes what was written, and repeats the call as long as it is interrupted. Returns whether it succeeded.
 pub(crate) fn flush_again<W: Write>(stream: &mut W) -> bool {
     for _ in 0..TIMES {
         match stream.flush() {

@@ -1,3 +1,4 @@
+//! Reads files through the runtime. Contracts say nothing of the bytes of such files.
 ghost use Rattle.std.specs.Prelude.{◌≡◌, ℕ, List, None, OnOk, is_some, string_bytes};
 ghost use Rattle.std.specs.Option.{option_map};
 ghost use Rattle.rw_io.specs.Calls.{GivesRead, SameFaults, Starts};
@@ -8,7 +9,8 @@ use crate::{Shelf, ShelfFault};
 use std::fs;
 use std::rt::Files;
 
-/// The runtime's files, of whose bytes nothing is told. It has one count of faults, which is that of every path.
+/// The files of the runtime, of whose bytes contracts say nothing. The shelf has one count of faults, which is that of every
+/// path.
 #[derive(Drop)]
 pub struct FileShelf<R: Files + Drop> {
     files: R,
@@ -20,7 +22,7 @@ pub struct FileShelf<R: Files + Drop> {
 }
 
 impl<R: Files + Drop> FileShelf<R> {
-    /// A shelf of the runtime's files.
+    /// Returns a shelf of the runtime's files.
     pub fn of(files: R) -> FileShelf<R>
         ensures no_faults { (p : List ℕ) → (⟦<FileShelf<R> as Shelf>⟧.seen result).faults p ≡ 0 }
         ensures not_started { (⟦<FileShelf<R> as Shelf>⟧.seen result).started ≡ None }

@@ -1,3 +1,4 @@
+//! Gathers short pieces of text, so that a sink gets a few long writes.
 ghost use Rattle.std.specs.Prelude.{◌≡◌, ◌≤◌, ◌+◌, ◌++◌, [], IfOk, IsTrue, length, OnOk, vec_capacity};
 ghost use Rattle.rw_io.specs.Handed.{PassesOn};
 
@@ -27,7 +28,7 @@ impl Model for Gathered {
 }
 
 impl Gathered {
-    /// No bytes. The one error is want of memory.
+    /// Returns a gatherer of no bytes. The one error is want of memory.
     pub fn with_room(alloc: Global) -> Result<Gathered, NoMemory>
         ensures { IfOk result (λ gathered. gathered ≡ []) }
     {
@@ -35,8 +36,8 @@ impl Gathered {
         Ok(Gathered { bytes })
     }
 
-    /// Adds a piece, and hands over what was gathered where there is no room for both. The one error is a write that failed:
-    /// then a front of the text was handed over.
+    /// Adds a piece, and hands over what was gathered where there is no room for both. The one error is a write that failed: then
+    /// a front of the text was handed over.
     pub fn put<K: Sink>(&mut self, piece: &[u8], out: &mut K) -> Result<(), WriteFault>
         ensures { PassesOn (K.seen out.old) (K.seen out.new) self.old self.new piece.now result }
     {

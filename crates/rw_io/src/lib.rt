@@ -1,10 +1,11 @@
-//! The outside: a shelf of files that are read by path, and a sink that text is written to. Whatever the outside
-//! does, a whole file is read or a whole text is written, or a count of faults has risen and says whose fault it was.
+//! Connects the program with the outside: a shelf of files that are read by path, and a sink that text is written to. Whatever
+//! the outside does, a whole file is read or a whole text is written, or a count of faults has risen and says whose fault it was.
 #![tactic(auto)]
 
 mod again;
 mod file_shelf;
 mod gathered;
+pub mod law;
 mod mem_shelf;
 mod mem_sink;
 mod pieces;

@@ -1,3 +1,4 @@
+//! Serves files from memory as a shelf, and lets given calls fail.
 ghost use Rattle.std.specs.Prelude.{◌≡◌, ◌≢◌, ◌↔◌, ◌⊎◌, ℕ, ◌+◌, ◌-◌, ◌^◌, ◌<◌, ◌≤◌, List, [], ◌++◌, Some, None, min, max, length, take, drop, slice_index, Contains, IsErr, IsSome, IfOk, OnOk, OnErr, string_bytes};
 ghost use Rattle.std.specs.Option.{option_map, ForSome};
 ghost use Rattle.rw_io.specs.Causes.{Rose};
@@ -8,9 +9,9 @@ use crate::{Shelf, ShelfFault};
 use rw_base::NoMemory;
 use std::alloc::Global;
 
-/// Files in memory, which are told. Of two files of one path the first is held. The calls of `start` and `read`
-/// together are counted from 1, and those with given numbers fail. There is a count of faults for each path that is
-/// held, and one for all other paths.
+/// Files in memory, whose bytes contracts know. Of two files of one path the first is held. The calls of `start` and `read`
+/// together are counted from 1, and those with given numbers fail. There is a count of faults for each path that is held, and one
+/// for all other paths.
 #[derive(Drop)]
 pub struct MemShelf {
     files: Vec<(String, Vec<u8>)>,
@@ -71,8 +72,8 @@ pub(crate) fn copy_from(bytes: &[u8], at: usize, buf: &mut [u8]) -> usize
 impl MemShelf {
     ghost use Rattle.rw_io.specs.MemShelf.{calls_of, failing_of, seen_of};
 
-    /// A shelf of these files by path, of which the calls with the given numbers, counted from 1, are to fail. The one error
-    /// is want of memory, with which the files are dropped.
+    /// Returns a shelf of these files by path, of which the calls with the given numbers, counted from 1, are to fail. The one
+    /// error is want of memory, with which the files are dropped.
     pub fn of(
         alloc: Global,
         files: Vec<(String, Vec<u8>)>,

@@ -1,11 +1,12 @@
+//! Keeps written text in memory as a sink, and lets given calls fail.
 ghost use Rattle.std.specs.Prelude.{◌≡◌, ◌+◌, ◌-◌, ◌^◌, ◌<◌, ◌≤◌, [], Some, length, min, Contains, IsErr, IfOk, OnOk, OnErr};
 
 use crate::plan::Plan;
 use crate::{Sink, SinkFault};
 use std::alloc::Global;
 
-/// Text in memory, which is told. Each piece is taken whole. The calls of `write` are counted from 1, and those with
-/// given numbers fail, unless the piece is empty. Where there is no memory for a piece, that is a fault.
+/// Text in memory, which contracts know. Each piece is taken whole. The calls of `write` are counted from 1, and those with given
+/// numbers fail, unless the piece is empty. Where there is no memory for a piece, that is a fault.
 #[derive(Drop)]
 pub struct MemSink {
     bytes: Vec<u8>,
@@ -16,7 +17,7 @@ pub struct MemSink {
 impl MemSink {
     ghost use Rattle.rw_io.specs.MemSink.{calls_of, failing_of, seen_of};
 
-    /// An empty sink, of which the calls with the given numbers, counted from 1, are to fail.
+    /// Returns an empty sink, of which the calls with the given numbers, counted from 1, are to fail.
     pub fn of(alloc: Global, failing: Vec<u64>) -> MemSink
         ensures empty { (seen_of result).contents ≡ Some [] }
         ensures no_faults { (seen_of result).faults ≡ 0 }
@@ -30,7 +31,7 @@ impl MemSink {
         }
     }
 
-    /// What was kept.
+    /// Returns the text that was kept.
     pub fn held(&self) -> &[u8]
         ensures { (seen_of self.now).contents ≡ Some result.now }
     {

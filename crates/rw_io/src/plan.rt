@@ -1,3 +1,4 @@
+//! Decides which calls of a shelf or a sink in memory fail.
 ghost use Rattle.std.specs.Prelude.{◌≡◌, ◌+◌, ◌-◌, ◌^◌, ◌↔◌, min, IsTrue, Contains};
 
 /// Calls, counted from 1, of which those with given numbers are to fail.
@@ -8,7 +9,7 @@ pub(crate) struct Plan {
 }
 
 impl Plan {
-    /// Counts one more call, up to 2^64 - 1, and says whether it is to fail.
+    /// Counts one more call, up to 2^64 - 1, and returns whether it is to fail.
     pub(crate) fn next_fails(&mut self) -> bool
         ensures failing { self.new.failing ≡ self.old.failing }
         ensures calls { self.new.calls ≡ min (self.old.calls + 1) (2 ^ 64 - 1) }

@@ -1,3 +1,4 @@
+//! Writes text to a standard stream as a sink.
 ghost use Rattle.std.specs.Prelude.{◌≡◌, None, OnOk};
 ghost use Rattle.rw_io.specs.Calls.{TakesWrite};
 ghost use Rattle.rw_io.specs.Outside.{change};
@@ -6,8 +7,8 @@ use crate::again::{flush_again, write_again};
 use crate::{Sink, SinkFault};
 use std::io::Write;
 
-/// A standard stream, of whose bytes nothing is told. What was written is flushed, and a flush that fails is a fault;
-/// so is a write that takes no byte of a piece that isn't empty.
+/// A standard stream, of whose bytes contracts say nothing. What was written is flushed, and a flush that fails is a fault; so is
+/// a write that takes no byte of a piece that is not empty.
 #[derive(Drop)]
 pub struct StdSink<W: Write + Drop> {
     stream: W,
@@ -15,7 +16,7 @@ pub struct StdSink<W: Write + Drop> {
 }
 
 impl<W: Write + Drop> StdSink<W> {
-    /// A sink that writes to that stream.
+    /// Returns a sink that writes to that stream.
     pub fn of(stream: W) -> StdSink<W>
         ensures no_faults { (⟦<StdSink<W> as Sink>⟧.seen result).faults ≡ 0 }
         ensures untold { (⟦<StdSink<W> as Sink>⟧.seen result).contents ≡ None }

@@ -1,3 +1,4 @@
+//! Serves files from memory as a shelf of which no call fails.
 ghost use Rattle.std.specs.Prelude.{◌≡◌, ℕ, List, [], Some, None, IsOk, unwrap_or, string_bytes};
 ghost use Rattle.rw_io.specs.Files.{bytes_at};
 ghost use Rattle.rw_io.specs.Sure.{bytes_in_place};
@@ -5,8 +6,8 @@ ghost use Rattle.rw_io.specs.Sure.{bytes_in_place};
 use crate::mem_shelf::{copy_from, place_in};
 use crate::{Shelf, ShelfFault};
 
-/// Files in memory, which are told, and of which no call fails. Of two files of one path the first is held, and a path that
-/// isn't held is an empty file.
+/// Files in memory, whose bytes contracts know, and of which no call fails. Of two files of one path the first is held, and a
+/// path that is not held is an empty file.
 #[derive(Drop)]
 pub struct SureShelf {
     files: Vec<(String, Vec<u8>)>,
@@ -29,7 +30,7 @@ fn bytes_in_place(files: &[(String, Vec<u8>)], place: usize) -> &[u8]
 impl SureShelf {
     ghost use Rattle.rw_io.specs.Sure.{shelf_seen};
 
-    /// A shelf of these files by path. It takes no memory.
+    /// Returns a shelf of these files by path. It takes no memory.
     pub fn of(files: Vec<(String, Vec<u8>)>) -> SureShelf
         ensures held { (path : List ℕ) → (shelf_seen result).holds path
             ≡ Some (unwrap_or (bytes_at files.items path) []) }

@@ -1,11 +1,12 @@
+//! Keeps written text in memory as a sink of which no call fails. All of its memory is taken at the beginning.
 ghost use Rattle.std.specs.Prelude.{◌≡◌, ◌+◌, ◌++◌, ◌≤◌, ◌<◌, ℕ, List, [], Ok, Some, None, length, IfOk, IfSome, IsOk};
 
 use crate::{Sink, SinkFault};
 use rw_base::NoMemory;
 use std::alloc::Global;
 
-/// Text in memory, which is told, for which there is room from the beginning on. Each piece is taken whole. From the first
-/// piece on that doesn't fit, nothing more is kept, and what is held isn't told any more.
+/// Text in memory, which contracts know, for which there is room from the beginning on. Each piece is taken whole. From the first
+/// piece on that does not fit, nothing more is kept, and what is held is not told any more.
 #[derive(Drop)]
 pub struct SureSink {
     bytes: Vec<u8>,
@@ -30,7 +31,7 @@ fn add(bytes: &mut Vec<u8>, piece: &[u8])
 impl SureSink {
     ghost use Rattle.rw_io.specs.Sure.{sink_kept, sink_room, sink_seen};
 
-    /// An empty sink with room for so many bytes. The one error is want of memory.
+    /// Returns an empty sink with room for `room` bytes. The one error is want of memory.
     pub fn of(alloc: Global, room: usize) -> Result<SureSink, NoMemory>
         ensures empty { IfOk result (λ sink. (sink_seen sink).contents ≡ Some []) }
         ensures room { IfOk result (λ sink. sink_room sink ≡ room) }
@@ -43,7 +44,7 @@ impl SureSink {
         })
     }
 
-    /// What was kept.
+    /// Returns the text that was kept.
     pub fn held(&self) -> &[u8]
         ensures kept { result.now ≡ sink_kept self.now }
         ensures told { IfSome (sink_seen self.now).contents (λ held. held ≡ result.now) }

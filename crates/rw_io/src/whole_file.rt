@@ -1,3 +1,4 @@
+//! Reads a whole file from a shelf, up to the greatest length of a file.
 ghost use Rattle.std.specs.Prelude.{◌≡◌, ℕ, ◌+◌, ◌<◌, ◌≤◌, List, ◌++◌, length, OnOk, IfOk, IsErrOf};
 ghost use Rattle.rw_io.specs.Calls.{ReadsTooLong, ReadsWhole};
 ghost use Rattle.rw_io.specs.Causes.{Rose, NoneFell};
@@ -7,13 +8,13 @@ use crate::Shelf;
 use rw_base::limits::TEXT_MAX;
 use std::alloc::Global;
 
-/// The greatest length of a file, in bytes.
+/// The maximum length of a file, in bytes.
 pub const FILE_MAX: usize = TEXT_MAX;
 
-/// How many bytes are asked for at a time, at most.
+/// The maximum number of bytes that are asked for at a time.
 pub const PIECE_MAX: usize = 65_536;
 
-/// Why a file isn't read whole.
+/// The reasons why a file is not read whole.
 #[derive(Clone, Copy, Debug, PartialEq, Eq)]
 pub enum ReadEnd {
     /// The count of faults of the path rose in this call.
@@ -42,8 +43,8 @@ fn keep(bytes: &mut Vec<u8>, piece: &[u8]) -> Result<(), ReadEnd>
     Ok(())
 }
 
-/// Reads the whole file of that path, of `FILE_MAX` bytes at most, in pieces of `PIECE_MAX` bytes. After a refusal the file
-/// is left partly read. `NoMemory` says nothing of the file.
+/// Reads the whole file of that path, of `FILE_MAX` bytes at most, in pieces of at most `PIECE_MAX` bytes. After a refusal the
+/// file is left partly read. `NoMemory` says nothing of the file.
 pub fn read_all<S: Shelf>(alloc: Global, shelf: &mut S, path: &str) -> Result<Vec<u8>, ReadEnd>
     ensures whole { IfOk result
         (λ bytes. ReadsWhole path.now bytes.items (change (S.seen shelf.old) (S.seen shelf.new))) }

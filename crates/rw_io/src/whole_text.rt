@@ -1,10 +1,11 @@
+//! Writes a whole text to a sink, however few bytes each of its writes takes.
 ghost use Rattle.std.specs.Prelude.{◌≤◌, OnOk, OnErr};
 ghost use Rattle.rw_io.specs.Causes.{Rose};
 ghost use Rattle.rw_io.specs.Known.{GrowsBy, PrefixGrew};
 
 use crate::Sink;
 
-/// A write failed, and the sink's count of faults has risen. A front of the text was appended.
+/// The error of a write that failed: the sink's count of faults has risen, and a front of the text was appended.
 #[derive(Clone, Copy, Debug, PartialEq, Eq)]
 pub struct WriteFault;
 

@@ -1,4 +1,4 @@
-//! What the definitions say that laws and calls conclude, fact by fact, so that none of them can say less.
+//! Proves what the conclusions of laws and calls say, fact by fact, so that none of them can say less.
 ghost use Rattle.std.specs.Prelude.{◌≡◌, ◌≤◌, ◌<◌, ◌+◌, ◌≤ℤ◌, ◌<ℤ◌, ℕ, ℤ, pos, Contains, List, ◌∷◌, length, Option, Some, Ok, Err, Result};
 ghost use Rattle.rw_base.specs.declared.memory.NoMemory.{NoMemory};
 ghost use Rattle.rw_base.specs.declared.number.Cell.{Cell};
@@ -36,8 +36,8 @@ ghost use Rattle.rw_laws.specs.Links.{HoldAsLinked};
 ghost use Rattle.rw_laws.specs.Priority.{KeepPriority};
 ghost use Rattle.rw_laws.specs.Rules.{AllStandBy};
 
-/// What it is that a run keeps the laws: links hold in its table and priorities in its log. Of each timestep that it closed each
-/// rule's last firing stood just before the closing, what the cells held then stayed, and the table's balances are true.
+/// The meaning of keeping the laws: links hold in the table of a run and priorities in its log. Of each timestep that it closed
+/// each rule's last firing stood just before the closing, what the cells held then stayed, and the table's balances are true.
 pub fn kept_laws()
     ensures links { (basin : Draft) (policy : Policy) (log : Log) (run : Run)
         → KeepsLaws basin policy log run → HoldAsLinked basin (held run.series) }
@@ -54,8 +54,8 @@ pub fn kept_laws()
         → AllBalanced basin step (held run.series) }
 {}
 
-/// Where a request puts the outflow, that is a release from 0 to the greatest one which gives the energy; no lesser one does; and
-/// what it gives is put as the energy.
+/// Where a request puts the outflow, that is a release from 0 to the maximum one which gives the energy; no smaller one does; and
+/// the energy that it gives is put.
 pub fn requested_energy()
     ensures { (of : Plant) (view : View) (request : Content) (puts : List Put)
         → GivesRequest of view request puts
@@ -68,7 +68,7 @@ pub fn requested_energy()
         (put ENERGY (energy_of of.power (head_of of view) (pos release)) number) }
 {}
 
-/// In a log whose firings are verified each one is, be it told of or ended by a fault, whatever came after it.
+/// In a log whose firings are verified each one is, whether a line reports it or a fault ended the run, whatever came after it.
 pub fn verified_firings()
     ensures told { (basin : Draft) (code : List Block) (budgets : List Budget) (log : Log)
         (firing : Firing) → AreVerified basin code budgets (fired firing ∷ log)

@@ -1,4 +1,5 @@
-//! The laws. Each is the `ensures` of a function that does nothing.
+//! Proves what every run keeps, and that it is not true of any cells and any log. Each law is the `ensures` of a function that
+//! does nothing.
 ghost use Rattle.std.specs.Prelude.{◌≡◌, ◌≤◌, ℕ, ℤ, pos, false, List, [], ◌∷◌, ◌++◌, Ok, None, Some};
 ghost use Rattle.rw_base.specs.declared.number.Cell.{Cell};
 ghost use Rattle.rw_model.specs.Basin.{IsBasin};
@@ -34,8 +35,8 @@ use rpl_policy::law::code_keeps_promises;
 use rpl_verify::law::answered_code_is_safe;
 use rw_run::law::choices;
 
-/// What every run keeps, of the table that it comes to: linked slots agree; no value gave way to one of lower priority; and
-/// of each timestep that was closed balances are true of what the table has, and each rule's last firing stood.
+/// Every run keeps these laws, in its table: linked slots agree; no value gave way to one of lower priority; and of each timestep
+/// that was closed balances are true of what the table has, and each rule's last firing stood.
 pub fn every_run()
     ensures { (basin : Draft) (policy : Policy) (inputs : List (Cell × ℤ)) (log : Log) (run : Run)
         → IsBasin basin → IsPolicyOf basin policy → IsRun basin policy inputs log
@@ -62,7 +63,7 @@ pub fn every_pick()
     every_order();
 }
 
-/// So does what `run_all` comes to, by verified code and whatever the inputs, of the very log that it comes to.
+/// The result of `run_all`, by verified code and whatever the inputs, keeps them, too, of the very log that it is the result of.
 pub fn every_run_of_code()
     ensures { (basin : Draft) (policy : Accepted) (inputs : Inputs) (run : Run)
         → IsBasin basin → verified basin policy.blocks ≡ Ok policy
@@ -121,7 +122,7 @@ pub fn closed_timesteps_stay()
     choices();
 }
 
-/// A dam on one day, into which 100 flow. It comes to hold 1020, of 1000 and 100 less 80; the 50 that rule 2 put gave way to what
+/// A dam on one day, into which 100 flow. It then holds 1020, of 1000 and 100 less 80; the 50 that rule 2 put gave way to what
 /// the dam solved from rule 1's storage, at priority 1.
 pub fn a_dam()
     ensures run { IsRun dam_alone held_low inflow (closed 1 ∷ dam_log) }
@@ -144,9 +145,9 @@ pub fn a_link()
         ≡ Some (by_rule 1 2 (pos 10)).content }
 {}
 
-/// The laws aren't true of any cells and any log. In cells that no log leaves linked slots differ. In logs that are of no run a
-/// gage lets out more than flows in, a rule writes over one of a higher priority, an object over an input, a rule never fired, and
-/// a timestep changes that was closed.
+/// The laws are not true of any cells and any log. In cells that no log leaves linked slots differ. In logs that are of no run
+/// more flows out of a gage than flows in, a rule writes over one of a higher priority, an object over an input, a rule never
+/// fired, and a timestep changes that was closed.
 pub fn no_runs()
     ensures links { ¬ HoldAsLinked linked_basin apart }
     ensures balance { ¬ AllBalanced gage 1 (cells_of gage torn) }
@@ -157,8 +158,8 @@ pub fn no_runs()
         → cells_of gage changed_after cell ≡ cells_of gage torn cell) }
 {}
 
-/// A rule that lets 50 out stands by just that. It doesn't where it let nothing out, wasn't done, looked at the storage, or
-/// counted 3.
+/// The firing of a rule that releases 50 stands by just that. It does not where it released nothing, was not done, looked at the
+/// storage, or counted 3.
 pub fn firings_stood_by()
     ensures stands { StandsBy dam_alone held_low 1 (day_of_firing fifty_out) 2 }
     ensures asked { ¬ StandsBy dam_alone held_low 1
@@ -171,7 +172,7 @@ pub fn firings_stood_by()
         (day_of_firing (record fifty_out { count = 3 })) 2 }
 {}
 
-/// Nor does it where its put doesn't stand: the cell is unknown, holds 50 of a lower priority, or 40 of the rule itself.
+/// Nor does it where its put does not stand: the cell is unknown, holds 50 of a lower priority, or 40 of the rule itself.
 pub fn puts_stood_by()
     ensures unknown { ¬ StandsBy dam_alone held_low 1
         (day_of_firing (record fifty_out { written = [] })) 2 }

@@ -1,4 +1,4 @@
-//! Laws of runs: what holds of every timestep that was closed, and of what was put on the way, whatever the policy and the
+//! Proves laws of runs: what holds of every timestep that was closed, and of what was put on the way, whatever the policy and the
 //! inputs. They are over the definitions of a run alone.
 #![tactic(auto)]
 

@@ -1,3 +1,4 @@
+//! Adds the puts of a reservoir to those of its dispatch: a storage has to be one that the table has.
 ghost use Rattle.std.specs.Prelude.{◌≡◌, ◌<◌, ◌+◌, ◌≤◌, ◌∷◌, [], ◌++◌, length, option_map, IsTrue, OnOk, IfErr};
 ghost use Rattle.rw_model.specs.Slot.{all_quantities};
 ghost use Rattle.rw_method.specs.View.{is_between};
@@ -10,7 +11,7 @@ use crate::places::STORAGE;
 use crate::{Balanced, PutList, Solved, View, add_put};
 use rw_table::Rating;
 
-/// The same quantity in 64 bits.
+/// Returns the same quantity in 64 bits.
 pub(crate) fn narrow(quantity: i128) -> i64
     requires { IsTrue (is_between all_quantities quantity) }
     ensures { result ≡ quantity }
@@ -18,8 +19,8 @@ pub(crate) fn narrow(quantity: i128) -> i64
     quantity as i64
 }
 
-/// Adds a put to the slot in a place, of a value in the base units of its dimension and of a priority. `OutOfRange` where
-/// the slot can't have the value, or where it is a storage that the table doesn't have.
+/// Adds a put to the slot in a place, of a value in the base units of its dimension and of a priority. The error is `OutOfRange`,
+/// where the slot cannot have the value, or where it is a storage that the table does not have.
 #[inline(always)]
 pub fn ask(
     view: &View,
@@ -65,7 +66,7 @@ pub(crate) fn ask_found(
     }
 }
 
-/// Puts the term that was solved, if one was, in the base units of its slot's dimension. `OutOfRange` as of `ask`.
+/// Puts the term that was solved, if one was, in the base units of its slot's dimension. The error is `OutOfRange`, as of `ask`.
 #[inline(always)]
 pub fn ask_solved(
     view: &View,

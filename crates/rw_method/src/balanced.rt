@@ -1,4 +1,6 @@
-/// What the terms of a balance come to.
+//! Lists what can follow from the terms of a balance.
+
+/// The results of a balance.
 #[derive(Clone, Copy, Debug, PartialEq, Eq)]
 pub enum Balanced {
     /// Too little is known.
@@ -20,7 +22,7 @@ pub enum Balanced {
         place: u8,
         /// The value that is given there, in the base units of its slot's dimension.
         held: i128,
-        /// The value that makes the balance true.
+        /// The value that makes the balance true, in the same units.
         solved: i128,
     },
 }

@@ -1,9 +1,10 @@
+//! Lists by which slot the contents of a reservoir can be given.
 use crate::Given;
 
-/// By what a reservoir's contents are given.
+/// The slots by which a reservoir's contents can be given.
 #[derive(Clone, Copy, Debug, PartialEq, Eq)]
 pub enum Basis {
-    /// By nothing.
+    /// By neither of the two.
     Nothing,
     /// By its storage.
     Storage(Given),

@@ -1,3 +1,4 @@
+//! Computes how much a term brings to a balance, and which value of a term brings a given amount.
 ghost use Rattle.std.specs.Prelude.{◌≡◌, ◌≤◌, ◌-◌, pos, neg_ℤ, ◌+ℤ◌, ◌-ℤ◌, ◌*ℤ◌, ◌≤ℤ◌};
 ghost use Rattle.rw_base.specs.Quotient.{floor_div};
 ghost use Rattle.rw_method.specs.Term.{per_mille, least_inflow, least_routed, brought, bringing, brought_by, IsWithin};
@@ -23,8 +24,8 @@ fn parts_of(amount: i128, share: u16) -> i128
     times_share(amount, share).div_euclid(1000)
 }
 
-/// So many of a thousand parts of an amount, rounded down, in the amount's own unit. What fits 64 bits is divided there: that
-/// is quicker.
+/// Returns `share` of a thousand parts of an amount, rounded down, in the amount's own unit. What fits 64 bits is divided there:
+/// that is quicker.
 pub fn per_mille(amount: i64, share: u16) -> i128
     ensures amount { result ≡ per_mille amount share }
     ensures bound { IsWithin 1 result }
@@ -130,7 +131,7 @@ fn brought(share: Share, value: i64) -> i128
     }
 }
 
-/// How much a term brings that is given so.
+/// Returns how much a term that is given in this way brings.
 #[inline(always)]
 pub(crate) fn brought_by(share: Share, given: Option<Given>) -> i128
     ensures amount { result ≡ brought_by share given }
@@ -142,7 +143,7 @@ pub(crate) fn brought_by(share: Share, given: Option<Given>) -> i128
     }
 }
 
-/// The value of a term that brings so much.
+/// Returns the value of a term that brings this amount.
 #[inline(always)]
 pub(crate) fn bringing(share: Share, amount: i128) -> i128
     requires { IsWithin 10 amount }

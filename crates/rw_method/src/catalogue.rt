@@ -1,3 +1,4 @@
+//! Holds one method for each kind of object, and solves an object by the method of its kind.
 ghost use Rattle.std.specs.Prelude.{◌≡◌, ◌≢◌, ◌↔◌, ◌≤◌, ℕ, map, length, IfOk, IsOk, Err, Some};
 ghost use Rattle.rw_method.specs.declared.catalogue.CatalogueFault.TheVariants as CatalogueFault;
 ghost use Rattle.rw_model.specs.Code.{code_of};
@@ -11,10 +12,10 @@ use rw_model::Kind;
 // How many kinds have a method.
 const KINDS: usize = 9;
 
-/// Why methods are no catalogue.
+/// The reasons why methods are no catalogue.
 #[derive(Clone, Copy, Debug, PartialEq, Eq)]
 pub enum CatalogueFault {
-    /// There aren't 9 methods, but so many.
+    /// There are not 9 methods, but this many.
     WrongCount(usize),
     /// The method in this place, counted from 1, is of another kind.
     WrongPlace(u8),
@@ -50,7 +51,7 @@ fn first_wrong(methods: &[Box<dyn Method>]) -> Option<u8>
 }
 
 impl Catalogue {
-    /// The catalogue of these methods: gage, confluence, bifurcation, reach, reservoir, water user, canal, power
+    /// Returns the catalogue of these methods: gage, confluence, bifurcation, reach, reservoir, water user, canal, power
     /// reservoir, routed reach.
     ///
     /// Their count is judged first. `WrongPlace` names the first method of another kind.
@@ -75,7 +76,8 @@ impl Catalogue {
         Ok(Catalogue { methods })
     }
 
-    /// The method of a kind with a balance. Whoever asks it itself has its answer, which is large, in one place alone.
+    /// Returns the method of a kind with a balance. A caller that asks it directly has its answer, which is large, in one place
+    /// alone.
     pub fn method(&self, kind: &Kind) -> &Box<dyn Method>
         requires order { AreInOrder (map (λ b. code b) self.now.methods.items) }
         requires balance { 1 ≤ code_of kind.now }
@@ -85,8 +87,8 @@ impl Catalogue {
         &self.methods[place]
     }
 
-    /// What a dispatch of an object answers: what the method of its kind does. It takes no memory. `docs/DEFINITIONS.md` has
-    /// it under "How an object solves".
+    /// Returns what a dispatch of an object returns: what the method of its kind does. It takes no memory. `docs/DEFINITIONS.md`
+    /// has it under "How an object solves".
     pub fn solve(&self, kind: &Kind, view: &View) -> Solved
         requires order { AreInOrder (map (λ b. code b) self.now.methods.items) }
         requires balance { 1 ≤ code_of kind.now }

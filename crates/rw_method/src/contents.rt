@@ -1,3 +1,4 @@
+//! Finds the contents of a reservoir from the storage or the elevation that is given.
 ghost use Rattle.std.specs.Prelude.{◌≡◌, Some, option_map};
 ghost use Rattle.rw_method.specs.declared.basis.Basis.TheVariants as Basis;
 ghost use Rattle.rw_method.specs.declared.places.TheConstants.{POOL_ELEVATION, STORAGE};
@@ -9,7 +10,7 @@ use crate::places::{POOL_ELEVATION, STORAGE};
 use crate::{Basis, Given, Share, Term, View};
 use rw_table::Rating;
 
-/// Of a storage and an elevation that are both given, the one of the lesser number, and in a tie the storage.
+/// Returns the one of the smaller number of a storage and an elevation that are both given, and in a tie the storage.
 #[inline(always)]
 pub(crate) fn basis_of(storage: Option<Given>, elevation: Option<Given>) -> Basis
     ensures { result ≡ basis_of storage elevation }
@@ -28,7 +29,7 @@ pub(crate) fn basis_of(storage: Option<Given>, elevation: Option<Given>) -> Basi
     }
 }
 
-/// Whether both are given with priority 0.
+/// Returns whether both are given with priority 0.
 #[inline(always)]
 pub(crate) fn are_both_zero(storage: Option<Given>, elevation: Option<Given>) -> bool
     ensures { result ≡ are_both_zero storage elevation }
@@ -39,7 +40,7 @@ pub(crate) fn are_both_zero(storage: Option<Given>, elevation: Option<Given>) ->
     }
 }
 
-/// The elevation at a storage, where there is a table that has it.
+/// Returns the elevation at a storage, where there is a table that has it.
 #[inline(always)]
 pub(crate) fn elevation_of(table: Option<&Rating>, storage: i64) -> Option<i64>
     ensures { result ≡ elevation_of (option_map (λ rating. rating.now) table.entry) storage }
@@ -50,7 +51,7 @@ pub(crate) fn elevation_of(table: Option<&Rating>, storage: i64) -> Option<i64>
     }
 }
 
-/// The volume at an elevation, where there is a table that has it.
+/// Returns the volume at an elevation, where there is a table that has it.
 #[inline(always)]
 pub(crate) fn volume_of(table: Option<&Rating>, elevation: i64) -> Option<i64>
     ensures { result ≡ volume_of (option_map (λ rating. rating.now) table.entry) elevation }
@@ -61,7 +62,7 @@ pub(crate) fn volume_of(table: Option<&Rating>, elevation: i64) -> Option<i64>
     }
 }
 
-/// Whether the reservoir can hold so much: the table, if there is one, has an elevation for it.
+/// Returns whether the reservoir can hold this storage: the table, if there is one, has an elevation for it.
 #[inline(always)]
 pub(crate) fn can_hold(table: Option<&Rating>, storage: i64) -> bool
     ensures { result ≡ can_hold (option_map (λ rating. rating.now) table.entry) storage }
@@ -96,8 +97,8 @@ fn contents_by(table: Option<&Rating>, basis: Basis) -> Option<Given>
     }
 }
 
-/// The contents in m3 as a term, which takes water and is put as the storage: what a storage in m3 or an elevation in mm
-/// that is given gives. `docs/DEFINITIONS.md` has it under "What a reservoir holds".
+/// Returns the contents in m3 as a term, which takes water and is put as the storage: what a given storage in m3 or a given
+/// elevation in mm gives. `docs/DEFINITIONS.md` has it under "What a reservoir holds".
 #[inline(always)]
 pub fn stores(view: &View, table: Option<&Rating>) -> Term
     ensures { result ≡ stores (contents_by (option_map (λ rating. rating.now) table.entry)

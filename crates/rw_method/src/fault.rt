@@ -1,3 +1,4 @@
+//! Finds what is wrong with the storage and the elevation that a reservoir has now or had before.
 ghost use Rattle.std.specs.Prelude.{◌≡◌, option_map};
 ghost use Rattle.rw_method.specs.Contents.{fault_of_basis, is_this, agree, disagreement};
 ghost use Rattle.rw_method.specs.Solve.{fault_of_past, fault_of_level};
@@ -8,7 +9,8 @@ use crate::{Basis, Given, Solved, View};
 use rw_base::Qty;
 use rw_table::Rating;
 
-/// What is wrong with the storage before, in m3: `OutOfRange` where evaporation is chosen and the table hasn't that storage.
+/// Returns what is wrong with the storage before, in m3: `OutOfRange` where evaporation is chosen and the table does not have
+/// that storage; `None` elsewhere.
 pub fn fault_of_past(evaporation: bool, table: Option<&Rating>, past: Option<Qty>) -> Option<Solved>
     ensures { result
         ≡ fault_of_past evaporation (option_map (λ rating. rating.now) table.entry) past }
@@ -87,7 +89,7 @@ fn disagreement(
     }
 }
 
-/// What is wrong with a storage in m3 and an elevation in mm that are given: with the slot that gives the contents,
+/// Returns what is wrong with a storage in m3 and an elevation in mm that are given: with the slot that gives the contents,
 /// `OutOfRange`, or with both together, `Conflict`. `docs/DEFINITIONS.md` has it under "What a reservoir holds".
 #[inline(always)]
 pub fn fault_of_level(view: &View, table: Option<&Rating>) -> Option<Solved>

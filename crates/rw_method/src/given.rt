@@ -1,3 +1,5 @@
+//! Holds the value and the priority of a term that is given.
+
 /// What a term of a balance is given as.
 #[derive(Clone, Copy, Debug, PartialEq, Eq)]
 pub struct Given {

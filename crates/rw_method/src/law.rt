@@ -1,4 +1,4 @@
-//! What the definitions of this crate come to. Each law is the `ensures` of a function that does nothing.
+//! Proves what the definitions of this crate mean. Each law is the `ensures` of a function that does nothing.
 ghost use Rattle.std.specs.Prelude.{◌≡◌, ◌≢◌, ◌≤◌, ◌<ℤ◌, ◌≤ℤ◌, ◌+ℤ◌, ℕ, ℤ, pos, neg_ℤ, List, [], ◌∷◌, All, Option, true, false, Some, None};
 ghost use Rattle.rw_base.specs.declared.number.ObjectNo.{ObjectNo};
 ghost use Rattle.rw_base.specs.declared.number.RuleNo.{RuleNo};
@@ -21,7 +21,7 @@ ghost use Rattle.rw_method.specs.declared.places.TheConstants.{INFLOW, OUTFLOW};
 ghost use Rattle.rw_method.specs.declared.view.View.{View};
 ghost use Rattle.rw_method.specs.Worked.{input, set_by_rule, view_with, worked_rows};
 
-/// The term that gives way is one that isn't given, or else one of the lowest priority, and of several such the last.
+/// The term that gives way is one that is not given, or else one of the lowest priority, and of several such the last.
 #[tactic(auto, using(crate::proofs::GivingWay::gives_way))]
 pub fn term_that_gives_way()
     ensures { (first : Term) (rest : List Term) → GivesWay (first ∷ rest) (weakest first rest) }
@@ -65,7 +65,8 @@ pub fn least_inflow_of_a_routed_reach()
         → brought (Share.Routes content release) inflow <ℤ outflow }
 {}
 
-/// Where the inflow of a routed reach is solved, exactly the outflow that is given is let go, and with each lesser inflow less.
+/// Where the inflow of a routed reach is solved, exactly the outflow that is given is released, and with each smaller inflow
+/// less.
 #[tactic(auto, using(crate::proofs::SolvedInflow::solved_exactly, crate::proofs::SolvedInflow::solved_least_of_all))]
 pub fn solved_inflow_of_a_routed_reach()
     ensures exact { (initial_content : ℤ) (release : ℕ) (view : View) (content : ℤ)
@@ -110,7 +111,7 @@ pub fn reach_values()
         ≡ Solved.Puts (put 1 (pos 1) 0 ∷ []) }
 {}
 
-/// A canal of which 100 parts of a thousand seep away, and a user who uses up 333 of a thousand.
+/// A canal of which 100 parts of a thousand seep away, and a user who consumes 333 of a thousand.
 pub fn canal_and_user_values()
     ensures upstream { (own : ObjectNo)
         → solve_of (Kind.Canal 100)
@@ -129,7 +130,7 @@ pub fn canal_and_user_values()
         ≡ Solved.Puts (put 1 (pos 105) 0 ∷ put 2 (pos 34) 0 ∷ put 3 (pos 71) 0 ∷ []) }
 {}
 
-/// A routed reach that held 1000 m3 at first and lets a quarter go in each timestep. What is rounded off stays.
+/// A routed reach that held 1000 m3 at first and releases a quarter in each timestep. What is rounded off stays.
 pub fn routed_values()
     ensures first { (own : ObjectNo)
         → solve_of (Kind.RoutedReach (pos 1000) 250)
@@ -228,7 +229,7 @@ pub fn elevation_values()
         ≡ Solved.OutOfRange 2 (pos 9999) }
 {}
 
-/// A table gives what evaporates of each storage that it has, at a rate that isn't below 0.
+/// A table gives what evaporates of each storage that it has, at a rate that is not below 0.
 pub fn tables_give_evaporation()
     ensures { (rows : List Row) (storage rate elevation : ℤ)
         → IsTable rows → elev_of rows storage ≡ Some elevation → pos 0 ≤ℤ rate

@@ -1,3 +1,4 @@
+//! Puts the elevation that belongs to a storage, and the storage that belongs to an elevation.
 ghost use Rattle.std.specs.Prelude.{◌≡◌, option_map, ◌<◌, ◌+◌, ◌≤◌, ◌++◌, length, OnOk, IfErr};
 ghost use Rattle.rw_method.specs.Contents.{basis_of};
 ghost use Rattle.rw_method.specs.Puts.{solved_put, beside_basis, beside_given, level_puts};
@@ -58,8 +59,8 @@ fn ask_beside_given(
     ask_beside(view, table, puts, basis_of(storage, elevation))
 }
 
-/// Puts the elevation of a solved storage, in mm, or what stands beside given contents: an elevation in mm or a storage in
-/// m3. `OutOfRange` as of `ask`.
+/// Puts the elevation of a solved storage, in mm, or what belongs to given contents: an elevation in mm or a storage in m3. The
+/// error is `OutOfRange`, as of `ask`.
 #[inline(always)]
 pub fn ask_level(
     view: &View,

@@ -1,7 +1,7 @@
-//! How an object solves what it doesn't know. One definition, `specs/Solve.antt`, says for every kind of object what a
-//! dispatch of it answers, from what stands in its slots. `Method` is the interface of whoever computes that, and a
-//! `Catalogue` has one method for each kind: each answers what the definition says. `solve_balance` is the one solver of
-//! balances that the methods share. No call takes memory. Laws say what dispatches leave in an object's slots.
+//! Defines how an object solves what it does not know. One definition, `specs/Solve.antt`, says for every kind of object what a
+//! dispatch of it returns, from what its slots hold. `Method` is the interface of the code that computes that, and a `Catalogue`
+//! has one method for each kind: each returns what the definition says. `solve_balance` is the one solver of balances that the
+//! methods share. No call takes memory. Laws say what dispatches leave in an object's slots.
 #![tactic(auto)]
 
 mod asking;

@@ -1,20 +1,20 @@
-//! Where the slots that a balance speaks of stand among those of their kind (`docs/DEFINITIONS.md`, "Slots").
+//! Lists the places of the slots that a balance speaks of, kind by kind (`docs/DEFINITIONS.md`, "Slots").
 
-/// What flows into a gage, a bifurcation, a reach, a reservoir, a canal or a routed reach.
+/// The Inflow of a gage, a bifurcation, a reach, a reservoir, a canal or a routed reach.
 pub const INFLOW: u8 = 0;
-/// What flows out of a gage, a reach, a reservoir, a canal or a routed reach.
+/// The Outflow of a gage, a reach, a reservoir, a canal or a routed reach.
 pub const OUTFLOW: u8 = 1;
 
-/// The two that flow into a confluence.
+/// The first inflow of a confluence.
 pub const INFLOW_1: u8 = 0;
-/// The second of them.
+/// The second inflow of a confluence.
 pub const INFLOW_2: u8 = 1;
-/// What flows out of a confluence.
+/// The outflow of a confluence.
 pub const JOINED_OUTFLOW: u8 = 2;
 
-/// The two that flow out of a bifurcation.
+/// The first outflow of a bifurcation.
 pub const OUTFLOW_1: u8 = 1;
-/// The second of them.
+/// The second outflow of a bifurcation.
 pub const OUTFLOW_2: u8 = 2;
 
 /// A reach's LocalInflow, with its Diversion and ReturnFlow in the next two places.
@@ -22,9 +22,9 @@ pub const REACH_SIDE: u8 = 2;
 /// A reservoir's LocalInflow, with its Diversion and ReturnFlow in the next two places.
 pub const RESERVOIR_SIDE: u8 = 4;
 
-/// A reservoir's Storage, and a power reservoir's.
+/// The Storage of a reservoir, and of a power reservoir.
 pub const STORAGE: u8 = 2;
-/// A reservoir's PoolElevation, and a power reservoir's.
+/// The PoolElevation of a reservoir, and of a power reservoir.
 pub const POOL_ELEVATION: u8 = 3;
 /// A reservoir's EvaporationRate.
 pub const EVAPORATION_RATE: u8 = 7;

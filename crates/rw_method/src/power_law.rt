@@ -1,4 +1,4 @@
-//! What the definitions of a power reservoir come to. Each law is the `ensures` of a function that does nothing.
+//! Proves what the definitions of a power reservoir mean. Each law is the `ensures` of a function that does nothing.
 ghost use Rattle.std.specs.Prelude.{◌≡◌, ◌≤◌, ◌≤ℤ◌, ℕ, ℤ, pos, List, [], ◌∷◌, Some, None, true, MatchOption, option_map};
 ghost use Rattle.rw_base.specs.declared.number.ObjectNo.{ObjectNo};
 ghost use Rattle.rw_base.specs.declared.number.RuleNo.{RuleNo};
@@ -14,8 +14,8 @@ ghost use Rattle.rw_method.specs.Puts.{put, is_put_by_request, GivesRequest};
 ghost use Rattle.rw_method.specs.Solve.{balanced_of, solve_of};
 ghost use Rattle.rw_method.specs.Worked.{input, set_by_rule, by_object, object, view_with, high_dam, low_dam};
 
-/// The least release is from 0 to the greatest one, gives the energy, and no lesser one does. There is none exactly where none of
-/// these gives it.
+/// The minimum release is from 0 to the maximum one, gives the energy, and no smaller one does. There is none exactly where none
+/// of these gives it.
 #[tactic(auto, using(crate::proofs::LeastRelease::least_is))]
 pub fn least_release_is_the_least()
     ensures { (power : ℕ) (head max_release energy : ℤ) → pos 0 ≤ℤ max_release
@@ -24,7 +24,7 @@ pub fn least_release_is_the_least()
         (IsLeastRelease power head max_release energy) }
 {}
 
-/// The least release is a quotient.
+/// The minimum release is a quotient.
 #[tactic(auto, using(crate::proofs::LeastRelease::quotient_is))]
 pub fn least_release_by_a_quotient()
     ensures { (power : ℕ) (max_release head energy : ℤ) → 1 ≤ power → pos 0 ≤ℤ head
@@ -33,8 +33,8 @@ pub fn least_release_by_a_quotient()
         ≡ quotient_release power head max_release energy }
 {}
 
-/// Where a request counts and puts the outflow, that is the least release from 0 to the greatest one that gives the energy
-/// which is requested, and the energy is what it gives.
+/// Where a request counts and puts the outflow, that is the minimum release from 0 to the maximum one that gives the energy which
+/// is requested, and the energy is what it gives.
 pub fn energy_of_a_request()
     ensures { (initial_storage : ℤ) (table : List Row) (max_release tailwater : ℤ) (power : ℕ)
         (view : View) (request : Content) (puts : List Put)
@@ -48,7 +48,7 @@ pub fn energy_of_a_request()
         → GivesRequest (plant table max_release tailwater power) view request puts }
 {}
 
-/// A power reservoir at 50 m, 40 m above its tailwater. 1205 m3/step are let out, of which it can release 1000; 57 kWh are
+/// A power reservoir at 50 m, 40 m above its tailwater. 1205 m3/step flow out, of which it can release 1000; 57 kWh are
 /// requested; and 101 kWh, which no release gives.
 pub fn high_dam_values()
     ensures outflow { (own : ObjectNo)
@@ -103,8 +103,8 @@ pub fn low_dam_values()
         ≡ Solved.Conflict 2 (pos 3000) (pos 2600) }
 {}
 
-/// What ends a run before all else: a request that no release gives, also where the inflow isn't known, and before that a
-/// storage before that the table doesn't have. Where the storage before isn't known, nothing is put.
+/// Faults that end a run before all else: a request that no release gives, also where the inflow is not known, and before that a
+/// storage before that the table does not have. Where the storage before is not known, nothing is put.
 pub fn low_dam_faults()
     ensures too_much { (own : ObjectNo)
         → solve_of low_dam

@@ -1,3 +1,4 @@
+//! Holds a put of an object: the value, its priority and the place of the slot.
 use rw_base::Qty;
 
 /// A value that an object asks for in one of its slots.

@@ -1,10 +1,10 @@
+//! Holds the puts of one dispatch without taking memory.
 ghost use Rattle.std.specs.Prelude.{◌≡◌, ◌<◌, [], ◌∷◌, ◌++◌, length};
 
 use crate::Put;
 use std::marker::Model;
 
-/// What an object asks for in one dispatch: at most 8 puts, in order of place. What is taken out stays behind the count, so that
-/// taking all out is quick.
+/// The puts of one dispatch: at most 8, in order of place. What is removed stays after the count, so that removing all is quick.
 #[derive(Debug, Drop)]
 pub struct PutList {
     puts: [Put; 8],
@@ -23,7 +23,7 @@ impl Model for PutList {
 }
 
 impl PutList {
-    /// The list without puts.
+    /// Returns the list without puts.
     pub fn none() -> PutList
         ensures { result ≡ [] }
     {
@@ -43,14 +43,14 @@ impl PutList {
         self.count = count + 1;
     }
 
-    /// Takes all puts out.
+    /// Removes all puts.
     pub fn clear(&mut self)
         ensures { self.new ≡ [] }
     {
         self.count = 0;
     }
 
-    /// Its puts.
+    /// Returns the puts.
     pub fn as_slice(&self) -> &[Put]
         ensures { result.now ≡ self.now }
     {

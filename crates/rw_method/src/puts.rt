@@ -1,3 +1,4 @@
+//! Adds puts that a slot can have to those of a dispatch, and finds what a slot holds after them.
 ghost use Rattle.std.specs.Prelude.{◌≡◌, ◌<◌, MatchOption, Bool, List, [], ◌∷◌, ◌++◌, length, None, IsTrue, IsOk, ◌↔◌, OnOk, OnErr, IfOk, IfErr};
 ghost use Rattle.rw_method.specs.declared.solved.Solved.TheVariants as Solved;
 ghost use Rattle.rw_model.specs.Slot.{all_quantities};
@@ -55,8 +56,8 @@ fn quantity(value: i128) -> Qty
     }
 }
 
-/// Adds a put to the slot in a place, of a value in the base units of its dimension and of a priority. `OutOfRange` exactly
-/// where the slot can't have the value; then the puts stay as they were.
+/// Adds a put to the slot in a place, of a value in the base units of its dimension and of a priority. The error is `OutOfRange`,
+/// exactly where the slot cannot have the value; then the puts are as they were.
 #[inline(always)]
 pub fn add_put(
     view: &View,
@@ -83,7 +84,7 @@ pub fn add_put(
     Ok(())
 }
 
-/// The puts that an answer begins with, in an empty list: as of `begin_puts`, where the list stands, since it is large.
+/// Adds the puts that an answer begins with to an empty list: as `begin_puts` does, where the list already is, since it is large.
 #[inline(always)]
 pub fn begin_asking(view: &View, puts: &mut PutList, balanced: Balanced) -> Result<(), Solved>
     requires { puts.old ≡ [] }
@@ -123,9 +124,9 @@ pub fn begin_asking(view: &View, puts: &mut PutList, balanced: Balanced) -> Resu
     Ok(())
 }
 
-/// The puts that an answer begins with: the solved term, if one is solved, in the base units of its slot's dimension. The
-/// error is the answer otherwise: `Idle` where too little is known, `Conflict` where the terms conflict, `OutOfRange` where
-/// the slot of the solved term can't have its value.
+/// Returns the puts that an answer begins with: the solved term, if one is solved, in the base units of its slot's dimension. The
+/// error is the answer otherwise: `Idle` where too little is known, `Conflict` where the terms conflict, `OutOfRange` where the
+/// slot of the solved term cannot have its value.
 #[inline(always)]
 pub fn begin_puts(view: &View, balanced: Balanced) -> Result<PutList, Solved>
     ensures ok { IfOk result (λ puts. puts ≡ solved_put balanced) }
@@ -143,8 +144,8 @@ pub fn begin_puts(view: &View, balanced: Balanced) -> Result<PutList, Solved>
     }
 }
 
-/// What is answered before puts are judged, if anything is: `Idle` where too little is known, else what is wrong with what
-/// is held, else the conflict of the terms, with its values in the base units of the slot.
+/// Returns what a dispatch returns before puts are judged, if anything: `Idle` where too little is known, else what is wrong with
+/// what is held, else the conflict of the terms, with its values in the base units of the slot.
 pub fn ended(balanced: Balanced, fault: Option<Solved>) -> Option<Solved>
     ensures { MatchOption result
         ((fit : Put → Bool) (puts : List Put)
@@ -170,7 +171,7 @@ pub fn ended(balanced: Balanced, fault: Option<Solved>) -> Option<Solved>
     }
 }
 
-/// What an object answers that puts the solved term and nothing else, in the base units of its slot's dimension.
+/// Returns the answer of an object that puts the solved term and nothing else, in the base units of its slot's dimension.
 #[inline(always)]
 pub fn put_solved(view: &View, balanced: Balanced) -> Solved
     ensures { result ≡ answer (is_bounded view.entry.now) (solved_put balanced) balanced None }
@@ -196,7 +197,7 @@ fn held_by(content: Option<Content>) -> Given
     }
 }
 
-/// What a place holds once the balance is solved: what was just solved, or what is known, in the base units of its slot's
+/// Returns what a place holds once the balance is solved: what was just solved, or what is known, in the base units of its slot's
 /// dimension, and 0 where nothing is.
 pub fn known_after(view: &View, balanced: Balanced, place: u8) -> Given
     requires { AllFit (is_bounded view.now) (solved_put balanced) }
@@ -225,7 +226,7 @@ fn given_by(put: Put) -> Given
     }
 }
 
-/// What a place holds after these puts: what one of them puts there, or what is known, in the base units of its slot's
+/// Returns what a place holds after these puts: what one of them puts there, or what is known, in the base units of its slot's
 /// dimension, and 0 where nothing is.
 pub fn held_after(view: &View, puts: &[Put], place: u8) -> Given
     ensures { result ≡ held_after_puts view.entry.now puts.now place }

@@ -1,3 +1,4 @@
+//! Divides an outflow into its release and its spill.
 ghost use Rattle.std.specs.Prelude.{◌≡◌, ◌<◌, ◌++◌, ◌∷◌, [], length, pos, ◌-ℤ◌, OnOk, IfErr, option_map};
 ghost use Rattle.std.specs.Int.{int_min};
 ghost use Rattle.rw_method.specs.Puts.{put, released_puts};
@@ -8,7 +9,7 @@ use crate::asking::ask;
 use crate::{Given, PutList, Solved, View};
 use rw_table::Rating;
 
-/// What is released of an outflow, in m3/step: all of it up to the greatest release, `most`.
+/// Returns what is released of an outflow, in m3/step: all of it up to the maximum release, `most`.
 pub fn released(outflow: i64, most: i64) -> i64
     ensures { result ≡ int_min outflow most }
 {
@@ -44,8 +45,8 @@ fn ask_parts(
     }
 }
 
-/// Puts the release and the spill of an outflow, in m3/step, in these two places, where `most` is the greatest release.
-/// `OutOfRange` as of `ask`.
+/// Puts the release and the spill of an outflow, in m3/step, in these two places, where `most` is the maximum release. The error
+/// is `OutOfRange`, as of `ask`.
 #[inline(always)]
 pub fn ask_released(
     view: &View,

@@ -1,9 +1,10 @@
+//! Lists how a term can count in the balance of its object, and holds shares in parts of a thousand.
 ghost use Rattle.std.specs.Prelude.{◌≡◌, ◌≤◌};
 ghost use Rattle.rw_model.specs.declared.limits.TheConstants.{PARTS, SEEPAGE_MAX};
 
 use std::marker::Model;
 
-/// How much of what is conveyed seeps away: 0 to 999 of a thousand parts.
+/// The share of what is conveyed that seeps away: 0 to 999 of a thousand parts.
 #[derive(Clone, Copy, Debug, PartialEq, Eq, Drop)]
 pub struct Seepage {
     parts: u16,
@@ -23,7 +24,7 @@ impl Model for Seepage {
 }
 
 impl Seepage {
-    /// So many of a thousand parts, 0 to 999.
+    /// Returns the share of this many of a thousand parts, 0 to 999.
     pub fn of(parts: u16) -> Seepage
         requires { parts ≤ SEEPAGE_MAX }
         ensures { result ≡ parts }
@@ -31,7 +32,7 @@ impl Seepage {
         Seepage { parts }
     }
 
-    /// How many of a thousand parts, 0 to 999.
+    /// Returns how many of a thousand parts it is, 0 to 999.
     pub fn get(self) -> u16
         ensures value { result ≡ self }
         ensures bound { result ≤ SEEPAGE_MAX }
@@ -40,7 +41,7 @@ impl Seepage {
     }
 }
 
-/// How much of what is held is let go: 1 to 1000 of a thousand parts.
+/// The share of what is held that is released: 1 to 1000 of a thousand parts.
 #[derive(Clone, Copy, Debug, PartialEq, Eq, Drop)]
 pub struct Release {
     parts: u16,
@@ -60,7 +61,7 @@ impl Model for Release {
 }
 
 impl Release {
-    /// So many of a thousand parts, 1 to 1000.
+    /// Returns the share of this many of a thousand parts, 1 to 1000.
     pub fn of(parts: u16) -> Release
         requires some { 1 ≤ parts }
         requires most { parts ≤ PARTS }
@@ -69,7 +70,7 @@ impl Release {
         Release { parts }
     }
 
-    /// How many of a thousand parts, 1 to 1000.
+    /// Returns how many of a thousand parts it is, 1 to 1000.
     pub fn get(self) -> u16
         ensures value { result ≡ self }
         ensures some { 1 ≤ result }
@@ -79,20 +80,20 @@ impl Release {
     }
 }
 
-/// How a term counts in its object's balance.
+/// The ways in which a term can count in its object's balance.
 #[derive(Clone, Copy, Debug, PartialEq, Eq)]
 pub enum Share {
     /// It brings water.
     Brings,
     /// It takes water.
     Takes,
-    /// It brings water, of which so much of a thousand parts seeps away, rounded down.
+    /// It brings water, of which this share seeps away, rounded down.
     Conveys(Seepage),
-    /// It joins what is held, and of both so much of a thousand parts is let go, rounded down.
+    /// It joins what is held, and of both a share is released, rounded down.
     Routes {
         /// What is held without it, in m3.
         content: i64,
-        /// How much is let go.
+        /// The share that is released.
         release: Release,
     },
 }

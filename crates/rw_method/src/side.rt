@@ -1,3 +1,4 @@
+//! Adds up the side flows of an object: local inflow, diversion and return flow.
 ghost use Rattle.std.specs.Prelude.{◌≡◌, ◌≤◌, ◌+ℤ◌, ◌-ℤ◌};
 ghost use Rattle.std.specs.Option.{ForSome};
 ghost use Rattle.rw_method.specs.Term.{IsWithin};
@@ -31,8 +32,8 @@ fn side_inflow(local_inflow: i64, return_flow: i64) -> i128
     i128::from(local_inflow) + i128::from(return_flow)
 }
 
-/// The local inflow and the return flow less the diversion, in m3/step. `None` where one of them is chosen and unknown.
-/// They stand in places one after the other: local inflow, diversion, return flow.
+/// Returns the local inflow and the return flow less the diversion, in m3/step. `None` where one of them is chosen and unknown.
+/// They are in places one after the other: local inflow, diversion, return flow.
 pub fn side_flows(
     view: &View,
     place: u8,

@@ -1,4 +1,4 @@
-//! What events leave in an object's slots, whatever its kind. Each law is the `ensures` of a function that does nothing.
+//! Proves what events leave in an object's slots, whatever its kind. Each law is the `ensures` of a function that does nothing.
 ghost use Rattle.std.specs.Prelude.{◌≡◌, ℕ, pos, List, [], ◌∷◌, Contains, None, Some, false, true};
 ghost use Rattle.std.specs.List.{AllByRecursion};
 ghost use Rattle.rw_model.specs.Kind.{IsKind};
@@ -38,7 +38,7 @@ pub fn own_puts_fall()
         → Contains puts other → one.place ≡ other.place → one ≡ other }
 {}
 
-/// What an object's slots hold is balanced once its dispatch has put what it answers, and where it is idle.
+/// The slots of an object are balanced once its dispatch has put what it answers, and where it is idle.
 pub fn slots_are_balanced()
     ensures puts { (kind : Kind) (old new : View) (puts : List Put) → IsKind kind
         → solve_of kind old ≡ Solved.Puts puts → IsAfterOwn old new puts → IsBalanced kind new }

@@ -1,25 +1,26 @@
+//! Lists what a dispatch of an object can return.
 ghost use Rattle.std.specs.Prelude.{◌≡◌, []};
 ghost use Rattle.rw_method.specs.declared.solved.Solved.TheVariants as Solved;
 
 use crate::PutList;
 
-/// What a dispatch of an object answers.
+/// The results of a dispatch of an object.
 #[derive(Debug, Drop)]
 pub enum Solved {
-    /// Too little is known. Nothing is put.
+    /// Too little is known, and nothing is put.
     Idle,
-    /// It puts these.
+    /// The object puts these values.
     Puts(PutList),
-    /// What is given doesn't agree.
+    /// What is given does not agree.
     Conflict {
         /// The slot's place.
         place: u8,
         /// The value that is there, in the base units of the slot's dimension.
         held: i128,
-        /// The value that the other slots give.
+        /// The value that the other slots give, in the same units.
         solved: i128,
     },
-    /// A value that a slot can't have.
+    /// A slot would get a value that it cannot have.
     OutOfRange {
         /// The slot's place.
         place: u8,
@@ -29,7 +30,7 @@ pub enum Solved {
 }
 
 impl Solved {
-    /// Puts nothing, whatever it was. The puts are taken out where they stand: a list of them is large.
+    /// Makes it a result that puts nothing, whatever it was. The puts are removed where they are, since a list of them is large.
     #[inline(always)]
     pub fn clear(&mut self)
         ensures { self.new ≡ Solved.Puts [] }

@@ -1,3 +1,4 @@
+//! Solves a balance for the term that gives way.
 ghost use Rattle.std.specs.Prelude.{◌≡◌, ◌≤◌, pos, neg_ℤ, ◌+ℤ◌, ◌-ℤ◌, length};
 ghost use Rattle.std.specs.Ordering.{int_eq};
 ghost use Rattle.std.specs.Option.{ForSome};
@@ -52,7 +53,7 @@ fn number_of(given: Option<Given>) -> u16
     }
 }
 
-/// The lowest priority of the given terms but the one of this place, 0 where there is none.
+/// Returns the lowest priority of the given terms but the one of this place, and 0 where there is none.
 #[inline(always)]
 pub fn greatest_beside(place: u8, terms: &[Term]) -> u16
     ensures { result ≡ greatest_beside place terms.now }
@@ -157,13 +158,13 @@ fn solve_at(steady: i128, terms: &[Term], term: &Term) -> Balanced
     solves(steady, terms, term)
 }
 
-/// What the terms of a balance come to, at most three, beside what else is brought, in m3/step, where that is known: within
-/// 6 x 10^23.
+/// Returns what follows from the terms of a balance, at most three, and from what else is brought, in m3/step, where that is
+/// known: within 6 x 10^23.
 ///
-/// `Idle` where it isn't known, or where more than one term isn't given. A term that isn't given is solved from the others.
-/// Where all are given and the balance is false, the one of the lowest priority is solved from the others, the last one in a
-/// tie; with priority 0 the last one conflicts. A solved term has the lowest priority of the others. `docs/DEFINITIONS.md` has
-/// this under "The rules, in their order".
+/// `Idle` where that is not known, or where more than one term is not given. A term that is not given is solved from the others.
+/// Where all are given and the balance is false, the one of the lowest priority is solved from the others, the last one in a tie;
+/// with priority 0 the last one conflicts. A solved term has the lowest priority of the others. `docs/DEFINITIONS.md` has this
+/// under "The rules, in their order".
 #[inline(always)]
 pub fn solve_balance(steady: Option<i128>, terms: &[Term]) -> Balanced
     requires few { length terms.now ≤ 3 }

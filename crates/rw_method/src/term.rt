@@ -1,3 +1,4 @@
+//! Holds a term of a balance that can be solved for.
 use crate::{Given, Share};
 
 /// A term of a balance that can be solved for.
@@ -5,8 +6,8 @@ use crate::{Given, Share};
 pub struct Term {
     /// The place of its slot.
     pub place: u8,
-    /// How it counts.
+    /// How the term counts.
     pub share: Share,
-    /// What it is given as, if it is given.
+    /// The value and the priority that it is given; `None` where it is not given.
     pub given: Option<Given>,
 }

@@ -30,7 +30,7 @@ module _ (basin : Draft) (most : ℕ) where
   placed_same None = refl
   placed_same (Some placed) = refl
 
-  slot_same : (slot : ℕ) → slot_words far slot ≡ slot_words basin slot
+  pub slot_same : (slot : ℕ) → slot_words far slot ≡ slot_words basin slot
   slot_same slot =
       ap (λ words. if nat_le 1 slot && nat_le slot (length (all_slots basin.objects)) then words else [])
       (placed_same (slot_at basin.objects slot))
@@ -51,14 +51,14 @@ module _ (basin : Draft) (most : ℕ) where
   fault_same (ObjectLimit object step count) = refl
   fault_same (RuleLimit rule step count) = refl
 
-  end_same : (end : RunEnd) → end_words far end ≡ end_words basin end
+  pub end_same : (end : RunEnd) → end_words far end ≡ end_words basin end
   end_same Settled = refl
   end_same (Fault fault) = ap (λ words. codes "fault " ++ words) (fault_same fault)
 
-  heading_same : (number : ℕ) (end : RunEnd) → heading far number end ≡ heading basin number end
+  pub heading_same : (number : ℕ) (end : RunEnd) → heading far number end ≡ heading basin number end
   heading_same number end = ap (λ words. codes "# batch " ++ (decimal number ++ (codes " " ++ (words ++ codes "\n")))) (end_same end)
 
-  names_same : for_slots far (λ slot. codes "," ++ slot_words far slot) ≡ for_slots basin (λ slot. codes "," ++ slot_words basin slot)
+  pub names_same : for_slots far (λ slot. codes "," ++ slot_words far slot) ≡ for_slots basin (λ slot. codes "," ++ slot_words basin slot)
   names_same = ap (for_slots basin) (λ i slot. codes "," ++ (slot_same slot) i)
 
   line_same : (line : TraceEvent) → line_words far line ≡ line_words basin line

@@ -1,3 +1,3 @@
 mod NewFormat
 mod FarInputs
-mod FarTables
+pub mod FarTables

@@ -1,4 +1,4 @@
-//! What becomes of a model's file that is made one of format 2.
+//! Proves what becomes of a model's file that is made one of format 2.
 ghost use Rattle.std.specs.Prelude.{◌≡◌, ◌≢◌, ℕ, Bool, pos, List, Ok, Option, Some, codes};
 ghost use Rattle.toml.specs.Data.{Data, Members, get_member, integer};
 ghost use Rattle.rw_base.specs.declared.number.StepNo.{StepNo};
@@ -38,7 +38,7 @@ pub fn inputs_read_alike()
         → Reads (ahead_to most basin) text inputs }
 {}
 
-/// The section of a run doesn't go by how far ahead rules may put.
+/// The section of a run does not go by how far ahead rules may put.
 #[tactic(auto, using(crate::proofs::FarTables::text_same))]
 pub fn sections_are_alike()
     ensures { (basin : Draft) (most number : ℕ) (log : Log) (reran : Option (List StepNo))

@@ -1,3 +1,4 @@
+//! Holds a valid basin, and returns what it has of objects, slots, links and bounds.
 ghost use Rattle.std.specs.Prelude.{◌≡◌, ◌≤◌, length, map, None, Some, All, Contains, not, option_map};
 ghost use Rattle.std.specs.List.{range_with_len};
 ghost use Rattle.std.specs.Option.{ForSome};
@@ -20,9 +21,9 @@ use crate::{Kind, Role, RunControl};
 use rw_base::{Dim, ObjectNo, Qty, SlotNo};
 use std::marker::Model;
 
-/// A valid basin, seen as what its builder was told. Objects are numbered from 1 in the order in which they were added, and
-/// slots from 1, object by object, in the order of their places. All values are in the base units m3, mm, timestep and kWh.
-/// No call takes memory. `docs/DEFINITIONS.md` says under "Slots" when a basin is valid.
+/// A valid basin, seen as what its builder was told. Objects are numbered from 1 in the order in which they were added, and slots
+/// from 1, object by object, in the order of their places. All values are in the base units m3, mm, timestep and kWh. No call
+/// takes memory. `docs/DEFINITIONS.md` says under "Slots" when a basin is valid.
 #[derive(Drop)]
 pub struct Basin {
     pub(crate) control: RunControl,
@@ -49,7 +50,7 @@ impl Model for Basin {
 }
 
 impl Basin {
-    /// How many objects there are, 1 to 500.
+    /// Returns the number of objects, 1 to 500.
     pub fn object_count(&self) -> u16
         ensures count { result ≡ length self.now.objects }
         ensures valid { IsBasin self.now }
@@ -57,7 +58,7 @@ impl Basin {
         self.objects.count()
     }
 
-    /// How many slots there are, at most 4000.
+    /// Returns the number of slots, at most 4000.
     pub fn slot_count(&self) -> u16
         ensures count { result ≡ length (all_slots self.now.objects) }
         ensures valid { IsBasin self.now }
@@ -65,14 +66,14 @@ impl Basin {
         self.objects.slot_count()
     }
 
-    /// How a run goes: its timesteps, the order of its rules, and its limits.
+    /// Returns how a run goes: its timesteps, the order of its rules, and its limits.
     pub fn control(&self) -> &RunControl
         ensures { result.now ≡ self.now.control }
     {
         &self.control
     }
 
-    /// What an object is called.
+    /// Returns the name of an object.
     pub fn object_name(&self, o: ObjectNo) -> &str
         requires { IsObject self.now.objects o.0 }
         ensures { option_map (λ object. object.name) (object_at self.now.objects o.0)
@@ -81,7 +82,7 @@ impl Basin {
         self.objects.name(o.0)
     }
 
-    /// The kind of an object, with its parameters, which are in range.
+    /// Returns the kind of an object, with its parameters, which are in range.
     pub fn kind(&self, o: ObjectNo) -> &Kind
         requires { IsObject self.now.objects o.0 }
         ensures kind { option_map (λ object. object.kind) (object_at self.now.objects o.0)
@@ -91,7 +92,7 @@ impl Basin {
         self.objects.kind(o.0)
     }
 
-    /// The number of an object's kind, 0 to 9, as `Kind::code` has them.
+    /// Returns the number of an object's kind, 0 to 9, as `Kind::code` has them.
     pub fn kind_code(&self, o: ObjectNo) -> u8
         requires { IsObject self.now.objects o.0 }
         ensures { option_map (λ object. code_of object.kind)
@@ -100,7 +101,7 @@ impl Basin {
         self.objects.kind(o.0).code()
     }
 
-    /// An object's slot in a place, counted from 0. `None` exactly where it has none there.
+    /// Returns the slot of an object in a place, counted from 0. `None` exactly where the object has no slot there.
     #[tactic(auto, using(crate::proofs::Bounding::known_in_place))]
     pub fn slot_at(&self, o: ObjectNo, place: u8) -> Option<SlotNo>
         requires { IsObject self.now.objects o.0 }
@@ -114,7 +115,8 @@ impl Basin {
         }
     }
 
-    /// The numbers of an object's slots by place, for the first 12 places. `None` exactly where it has none there.
+    /// Returns the numbers of an object's slots by place, for the first 12 places. `None` exactly where the object has no slot
+    /// there.
     pub fn row(&self, o: ObjectNo) -> &[Option<u16>]
         requires { IsObject self.now.objects o.0 }
         ensures { result.now ≡ map (slot_in_place self.now.objects o.0) (range_with_len 0 12) }
@@ -135,7 +137,7 @@ impl Basin {
         }
     }
 
-    /// The object that owns a slot.
+    /// Returns the object that owns a slot.
     pub fn owner(&self, s: SlotNo) -> ObjectNo
         requires { IsSlot self.now.objects s.0 }
         ensures owner { option_map (λ placed. placed.owner) (slot_at self.now.objects s.0)
@@ -145,7 +147,7 @@ impl Basin {
         ObjectNo(self.objects.place(s.0).owner)
     }
 
-    /// What a slot is called.
+    /// Returns the name of a slot.
     pub fn slot_name(&self, s: SlotNo) -> &str
         requires { IsSlot self.now.objects s.0 }
         ensures { option_map (λ placed. placed.slot.name) (slot_at self.now.objects s.0)
@@ -154,7 +156,7 @@ impl Basin {
         self.objects.slot(s.0).name()
     }
 
-    /// What a slot measures: the exponents of m3, mm, timestep and kWh.
+    /// Returns what a slot measures: the exponents of m3, mm, timestep and kWh.
     pub fn dim(&self, s: SlotNo) -> Dim
         requires { IsSlot self.now.objects s.0 }
         ensures { option_map (λ placed. placed.slot.dim)
@@ -163,7 +165,7 @@ impl Basin {
         self.objects.slot(s.0).dim()
     }
 
-    /// Whether inputs and rules can set a slot: all but those that a method derives. `docs/DEFINITIONS.md` has the roles
+    /// Returns whether inputs and rules can set a slot: all but those that a method derives. `docs/DEFINITIONS.md` has the roles
     /// under "Slots".
     pub fn settable(&self, s: SlotNo) -> bool
         requires { IsSlot self.now.objects s.0 }
@@ -173,8 +175,8 @@ impl Basin {
         self.objects.slot(s.0).role() != Role::Derived
     }
 
-    /// The least and the greatest value of a slot, in the base units of its dimension: what the bounds of all slots of its
-    /// link leave. They are ordered, and within the widest that the slot can have.
+    /// Returns the minimum and the maximum of a slot, in the base units of its dimension: what the bounds of all slots of its
+    /// link leave. They are ordered, and within the widest bounds that the slot can have.
     pub fn bounds(&self, s: SlotNo) -> (i64, i64)
         requires { IsSlot self.now.objects s.0 }
         ensures bounds { result ≡ bounds_in self.now.objects self.now.links self.now.bounds s.0 }
@@ -184,7 +186,7 @@ impl Basin {
         self.tables.bounds[usize::from(s.0) - 1]
     }
 
-    /// The slots that carry one value with a slot, rising, itself included.
+    /// Returns the slots that carry one value with a slot, rising, itself included.
     pub fn group(&self, s: SlotNo) -> &[SlotNo]
         requires { IsSlot self.now.objects s.0 }
         ensures group { numbers_of result.now ≡ group_of self.now.objects self.now.links s.0 }
@@ -196,7 +198,7 @@ impl Basin {
         }
     }
 
-    /// The slot with this name, of the object with that name. `None` exactly where there is no such object, or where it
+    /// Returns the slot with this name, of the object with that name. `None` exactly where there is no such object, or where it
     /// has no such slot.
     #[tactic(auto, using(crate::proofs::Bounding::known_by_name))]
     pub fn find_slot(&self, object: &str, slot: &str) -> Option<SlotNo>
@@ -210,8 +212,8 @@ impl Basin {
         }
     }
 
-    /// The value of a slot at a timestep before the run, of which step 0 is the last one: Storage and Content at step 0, in
-    /// m3; PoolElevation at step 0, in mm; and the Inflow of a lagged reach at the steps of its history, in m3/step. `None`
+    /// Returns the value of a slot at a timestep before the run, of which step 0 is the last one: Storage and Content at step 0,
+    /// in m3; PoolElevation at step 0, in mm; and the Inflow of a lagged reach at the steps of its history, in m3/step. `None`
     /// elsewhere. `docs/DEFINITIONS.md` has it under "Slots".
     pub fn before(&self, s: SlotNo, step: i64) -> Option<Qty>
         requires { IsSlot self.now.objects s.0 }

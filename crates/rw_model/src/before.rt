@@ -1,3 +1,4 @@
+//! Returns the values of slots at timesteps before the run, as the parameters of their objects give them.
 ghost use Rattle.std.specs.Prelude.{◌≡◌, option_map};
 ghost use Rattle.std.specs.Option.{ForSome};
 ghost use Rattle.rw_base.specs.Quantity.{IsQuantity};
@@ -59,7 +60,7 @@ fn past_content(initial_content: i64, place: u8) -> Option<i64>
     }
 }
 
-/// The value of a kind's slot in a place at a timestep before the run.
+/// Returns the value of a kind's slot in a place at a timestep before the run.
 pub(crate) fn before_in(kind: &Kind, place: u8, step: i64) -> Option<i64>
     requires { IsKind kind.now }
     ensures value { result ≡ initial_of_kind kind.now place step }

@@ -1,3 +1,4 @@
+//! Computes the bounds of each slot, as those of all slots of its link leave them.
 ghost use Rattle.std.specs.Prelude.{◌≡◌, All, map, IfOk};
 ghost use Rattle.std.specs.List.{list_any};
 ghost use Rattle.rw_model.specs.Draft.{IsSlot};
@@ -57,7 +58,7 @@ fn is_crossed(bounds: (i64, i64)) -> bool
     bounds.1 < bounds.0
 }
 
-/// Whether there is a slot that can have no value.
+/// Returns whether there is a slot that can have no value.
 pub(crate) fn has_crossed_bounds(objects: &Objects, links: &Links, own: &OwnBounds) -> bool
     requires { All (IsLink objects.now) links.now }
     ensures { result
@@ -73,7 +74,7 @@ pub(crate) fn has_crossed_bounds(objects: &Objects, links: &Links, own: &OwnBoun
     false
 }
 
-/// The values that each slot can have, in the order of the slots.
+/// Returns the bounds between which the values of each slot are, in the order of the slots.
 pub(crate) fn all_bounds(
     alloc: Global,
     objects: &Objects,

@@ -1,3 +1,4 @@
+//! Builds a basin from objects, links and bounds, and refuses those that a basin cannot have.
 ghost use Rattle.std.specs.Prelude.{◌≡◌, ◌+◌, [], ◌∷◌, ◌++◌, length, None, OnOk, OnErr, IfOk, IfErr, IsOk, IsErrOf, option_map};
 ghost use Rattle.rw_base.specs.Answers.{Answers, Finds};
 ghost use Rattle.rw_model.specs.Objects.{slot_named};
@@ -45,8 +46,8 @@ impl Model for BasinBuilder {
 }
 
 impl BasinBuilder {
-    /// A basin with no object yet. `BadParameter` exactly where an object's limit isn't 16 to 100, a rule's not 1 to 100, or
-    /// rules may put neither 0 nor 30 timesteps ahead. No other fault comes.
+    /// Returns a builder of a basin with no object yet. `BadParameter` exactly where the limit of an object is not 16 to 100,
+    /// that of a rule not 1 to 100, or rules may put neither 0 nor 30 timesteps ahead. No other fault comes.
     pub fn begin(alloc: Global, control: RunControl) -> Result<BasinBuilder, BuildFault>
         ensures begun { IfOk result
             (λ builder.
@@ -73,11 +74,11 @@ impl BasinBuilder {
         })
     }
 
-    /// Adds an object, and answers its number. Its slots are numbered after those of the objects before it.
+    /// Adds an object, and returns its number. Its slots are numbered after those of the objects before it.
     ///
-    /// `BadParameter` comes where the name or a parameter of the kind is out of range, else `DuplicateName` where another
-    /// object has the name or two slots of a data object have the same, else `TooMany` with 500 for objects and 4000 for
-    /// slots. `NoMemory` comes only where none of these holds. After each of them the builder is as it was.
+    /// `BadParameter` comes where the name or a parameter of the kind is out of range, else `DuplicateName` where another object
+    /// has the name or two slots of a data object have the same, else `TooMany` with 500 for objects and 4000 for slots.
+    /// `NoMemory` comes only where none of these holds. After each of them the builder is as it was.
     pub fn object(&mut self, name: &str, kind: Kind) -> Result<ObjectNo, BuildFault>
         ensures number { IfOk result (λ object. object.0 ≡ length self.new.objects) }
         ensures answers { Answers BuildFault.NoMemory build_refusal_of (λ _. self.new) result
@@ -98,10 +99,10 @@ impl BasinBuilder {
 
     /// Links slots, which then carry one value: 2 to 8 slots of different objects, which all measure the same.
     ///
-    /// `BadParameter` comes where there are fewer than 2 slots or more than 8. Then slot by slot, `UnknownSlot` comes where
-    /// no slot has the number, else `LinkedTwice` where an earlier link has the slot, else `LinkWithinObject` where an
-    /// earlier slot of this link is of the same object, else `LinkDimension` where it doesn't measure what the first one
-    /// does. `NoMemory` comes only where none of these holds. After each of them the builder is as it was.
+    /// `BadParameter` comes where there are fewer than 2 slots or more than 8. Then slot by slot, `UnknownSlot` comes where no
+    /// slot has the number, else `LinkedTwice` where an earlier link has the slot, else `LinkWithinObject` where an earlier slot
+    /// of this link is of the same object, else `LinkDimension` where it does not measure what the first one does. `NoMemory`
+    /// comes only where none of these holds. After each of them the builder is as it was.
     pub fn link(&mut self, slots: &[SlotNo]) -> Result<(), BuildFault>
         ensures answers { Answers BuildFault.NoMemory build_refusal_of (λ _. self.new) result
             (with_link self.old (numbers_of slots.now)) }
@@ -121,8 +122,8 @@ impl BasinBuilder {
     /// Gives a slot bounds of its own, in the base units of its dimension.
     ///
     /// `UnknownSlot` comes where no slot has the number, else `DuplicateName` where the slot has bounds already, else
-    /// `BadParameter` where the least is above the greatest or one is outside the widest that the slot can have. `NoMemory`
-    /// comes only where none of these holds. After each of them the builder is as it was.
+    /// `BadParameter` where the minimum is above the maximum or one is outside the widest bounds that the slot can have.
+    /// `NoMemory` comes only where none of these holds. After each of them the builder is as it was.
     pub fn bound(&mut self, slot: SlotNo, min: i64, max: i64) -> Result<(), BuildFault>
         ensures answers { Answers BuildFault.NoMemory build_refusal_of (λ _. self.new) result
             (with_bound self.old slot.0 (min, max)) }
@@ -150,12 +151,11 @@ impl BasinBuilder {
         }
     }
 
-    /// The basin of what was told.
+    /// Returns the basin of what was told.
     ///
     /// `BadParameter` comes where there is no object, else `TooMany` with 1000000 where the slots have more values over all
-    /// timesteps, else `LinkBounds` where the bounds of linked slots leave them no value. `NoMemory` comes only where none
-    /// of these holds. After each of them what was told is dropped. `docs/FORMATS.md` has all that is refused under "What is
-    /// wrong".
+    /// timesteps, else `LinkBounds` where the bounds of linked slots leave them no value. `NoMemory` comes only where none of
+    /// these holds. After each of them what was told is dropped. `docs/FORMATS.md` has all that is refused under "What is wrong".
     pub fn finish(self) -> Result<Basin, BuildFault>
         ensures answers { Answers BuildFault.NoMemory build_refusal_of (λ basin. basin) result
             (finished self) }
@@ -209,7 +209,7 @@ impl BasinBuilder {
         }
     }
 
-    /// The slot with this name, of the object with that name. `None` exactly where there is no such object, or where it
+    /// Returns the slot with this name, of the object with that name. `None` exactly where there is no such object, or where it
     /// has no such slot.
     pub fn find_slot(&self, object: &str, slot: &str) -> Option<SlotNo>
         ensures { option_map (λ number. number.0) result

@@ -1,6 +1,7 @@
+//! Holds how a run of a basin goes: its timesteps, the order of its rules, and its limits.
 use rw_calendar::Stamps;
 
-/// In which order rules are taken.
+/// The order in which rules are taken.
 #[derive(Clone, Copy, Debug, PartialEq, Eq)]
 pub enum AgendaOrder {
     /// The rule of highest priority first: 1, 2, 3.
@@ -12,14 +13,14 @@ pub enum AgendaOrder {
 /// How a run goes.
 #[derive(Debug, Drop)]
 pub struct RunControl {
-    /// Its timesteps.
+    /// The timesteps of the run.
     pub stamps: Stamps,
-    /// In which order rules are taken.
+    /// The order in which rules are taken.
     pub agenda: AgendaOrder,
-    /// How often one object may be solved at one timestep, 16 to 100.
+    /// The maximum number of times that one object may be solved at one timestep, 16 to 100.
     pub object_limit: u8,
-    /// How often one rule may be run at one timestep, 1 to 100.
+    /// The maximum number of times that one rule may be run at one timestep, 1 to 100.
     pub rule_limit: u8,
-    /// How many timesteps ahead a rule may put, 0 or 30.
+    /// The maximum number of timesteps ahead at which a rule may put, 0 or 30.
     pub ahead: u8,
 }

@@ -1,3 +1,4 @@
+//! Holds the slots of a data object, with their names and dimensions.
 ghost use Rattle.std.specs.Prelude.{◌≡◌};
 
 use crate::Name;
@@ -7,9 +8,9 @@ use std::marker::Model;
 /// A slot of a data object.
 #[derive(Debug, Drop)]
 pub struct DataSlot {
-    /// What it is called.
+    /// The name of the slot.
     pub name: Name,
-    /// What it measures.
+    /// The dimension of its values.
     pub dim: Dim,
 }
 
@@ -29,14 +30,14 @@ impl Model for DataSlots {
 }
 
 impl DataSlots {
-    /// The list of these slots.
+    /// Returns the list of these slots.
     pub fn of(slots: Vec<DataSlot>) -> DataSlots
         ensures { result ≡ slots.items }
     {
         DataSlots { slots }
     }
 
-    /// Its slots.
+    /// Returns the slots, in order of place.
     pub fn as_slice(&self) -> &[DataSlot]
         ensures { result.now ≡ self.now }
     {

@@ -1,17 +1,19 @@
-/// Why a builder refuses what it is told.
+//! Lists why a builder refuses an object, a link, bounds or a whole basin.
+
+/// The reasons why a builder refuses what it is told.
 #[derive(Clone, Copy, Debug, PartialEq, Eq)]
 pub enum BuildFault {
     /// The name is taken, or the slot has a bound already.
     DuplicateName,
     /// No slot has that number.
     UnknownSlot,
-    /// The slot is in a group already.
+    /// The slot is in a link already.
     LinkedTwice,
-    /// Two slots of one object can't be linked.
+    /// Two slots of the link are of one object.
     LinkWithinObject,
-    /// Linked slots measure the same.
+    /// The linked slots do not measure the same.
     LinkDimension,
-    /// Linked slots have no value that all their bounds allow.
+    /// The linked slots have no value that all their bounds allow.
     LinkBounds,
     /// A name, a parameter or a number of things is out of range.
     BadParameter,

@@ -1,3 +1,4 @@
+//! Collects the slots of each link in the order of their numbers.
 ghost use Rattle.rw_model.specs.declared.limits.TheConstants.{SLOTS_MAX};
 ghost use Rattle.std.specs.Prelude.{◌≡◌, ◌+◌, ◌<◌, ◌≤◌, length, [], ◌∷◌, ◌++◌, IfOk, OnOk, slice_index_or, slice_set, vec_len};
 ghost use Rattle.std.specs.List.{range_with_len};
@@ -7,7 +8,7 @@ use crate::links::Links;
 use rw_base::{NoMemory, SlotNo};
 use std::alloc::Global;
 
-/// The numbers of so many slots, rising.
+/// Returns the numbers of the first `count` slots, rising.
 pub(crate) fn slots_up_to(alloc: Global, count: u16) -> Result<Vec<SlotNo>, NoMemory>
     ensures { IfOk result (λ slots. numbers_of slots.items ≡ range_with_len 1 count) }
 {
@@ -51,7 +52,7 @@ fn join_link(groups: &mut Vec<Vec<SlotNo>>, links: &Links, before: u16) -> Resul
     }
 }
 
-/// The slots of each link, rising, of a basin with so many slots.
+/// Returns the slots of each link, rising, of a basin with `count` slots.
 pub(crate) fn groups_of(
     alloc: Global,
     links: &Links,

@@ -1,3 +1,4 @@
+//! Holds the inflows of a reach with a lag before the run.
 ghost use Rattle.std.specs.Prelude.{◌≡◌};
 
 use std::marker::Model;
@@ -17,14 +18,14 @@ impl Model for History {
 }
 
 impl History {
-    /// The history of these inflows, in m3/step, oldest first.
+    /// Returns the history of these inflows, in m3/step, oldest first.
     pub fn of(inflows: Vec<i64>) -> History
         ensures { result ≡ inflows.items }
     {
         History { inflows }
     }
 
-    /// Its inflows, in m3/step, oldest first.
+    /// Returns the inflows, in m3/step, oldest first.
     pub fn as_slice(&self) -> &[i64]
         ensures { result.now ≡ self.now }
     {

@@ -1,3 +1,4 @@
+//! Decides whether an object, a link or bounds can be added to a basin, and finds the first fault.
 ghost use Rattle.std.specs.Prelude.{◌≡◌, ◌↔◌, ◌≤◌, ◌&&◌, ℕ, List, [], ◌∷◌, ◌++◌, length, All, None};
 ghost use Rattle.std.specs.Ordering.{int_eq};
 ghost use Rattle.rw_base.specs.Answers.{Finds};
@@ -65,7 +66,7 @@ fn judge_size(objects: &Objects, kind: &Kind) -> Option<BuildFault>
     None
 }
 
-/// What is wrong with an object that is to be added, if something is.
+/// Returns what is wrong with an object that is to be added; `None` where nothing is.
 pub(crate) fn judge_object(objects: &Objects, name: &str, kind: &Kind) -> Option<BuildFault>
     ensures fault { Finds build_refusal_of result
         (object_refusal objects.now (record { name = name.now; kind = kind.now })) }
@@ -89,7 +90,7 @@ fn is_within_widest(objects: &Objects, slot: u16, bounds: (i64, i64)) -> bool
     objects.slot(slot).allows(bounds)
 }
 
-/// What is wrong with bounds that a slot is to have as its own, if something is.
+/// Returns what is wrong with bounds that a slot is to have as its own; `None` where nothing is.
 pub(crate) fn judge_bound(
     objects: &Objects,
     own: &OwnBounds,
@@ -173,7 +174,7 @@ fn join_fault(objects: &Objects, links: &Links, before: &[SlotNo], slot: u16) ->
     }
 }
 
-/// What is wrong with a link, if something is.
+/// Returns what is wrong with a link; `None` where nothing is.
 pub(crate) fn judge_link(objects: &Objects, links: &Links, slots: &[SlotNo]) -> Option<BuildFault>
     ensures fault { Finds build_refusal_of result
         (link_refusal objects.now links.now (numbers_of slots.now)) }

@@ -1,3 +1,4 @@
+//! Lists the kinds of objects with their parameters, and decides whether these are in range.
 ghost use Rattle.std.specs.Prelude.{◌≡◌, ◌↔◌, ◌≤◌, IsTrue, All, IsSome};
 ghost use Rattle.rw_model.specs.Code.{code_of};
 ghost use Rattle.std.specs.Option.{ForSome};
@@ -13,32 +14,32 @@ use rw_base::QUANTITY_MAX;
 use rw_table::law::elevation_is_greatest;
 use rw_table::{ELEVATION_MAX, Rating};
 
-/// Who sets what a water user asks for.
+/// The ways in which a water user's diversion is set.
 #[derive(Clone, Copy, Debug, PartialEq, Eq)]
 pub enum Supply {
-    /// It asks for its request, which is an input, and diverts what it gets.
+    /// The user asks for its request, which is an input, and diverts what it gets.
     Request,
-    /// A rule sets what it diverts.
+    /// A rule sets what the user diverts.
     Rule,
 }
 
 /// A kind of object, with its parameters.
 #[derive(Debug, Drop)]
 pub enum Kind {
-    /// Slots that no equation ties together.
+    /// A data object: slots that no equation ties together.
     DataObject {
         /// Its 1 to 8 slots.
         slots: DataSlots,
     },
-    /// What flows in flows out, and is measured.
+    /// A gage: what flows in flows out, and is measured.
     Gage,
-    /// Two flows become one.
+    /// A confluence: two flows become one.
     Confluence,
-    /// One flow becomes two.
+    /// A bifurcation: one flow becomes two.
     Bifurcation,
-    /// Water that flows in flows out so many timesteps later.
+    /// A reach: water that flows in flows out a number of timesteps later.
     Reach {
-        /// After how many timesteps, 0 to 30.
+        /// The lag: after how many timesteps, 0 to 30.
         lag: u8,
         /// The inflows of the steps 1 - lag to 0, in m3/step.
         history: History,
@@ -49,11 +50,11 @@ pub enum Kind {
         /// Whether it has a slot for a return flow.
         return_flow: bool,
     },
-    /// Water is stored.
+    /// A reservoir: water is stored.
     Reservoir {
         /// The storage at the start of the run, in m3.
         initial_storage: i64,
-        /// Which elevation has which volume.
+        /// The elevation-volume table, if there is one.
         table: Option<Rating>,
         /// Whether it has a slot for a local inflow.
         local_inflow: bool,
@@ -61,47 +62,47 @@ pub enum Kind {
         diversion: bool,
         /// Whether it has a slot for a return flow.
         return_flow: bool,
-        /// Whether water evaporates from it. Only with a table.
+        /// Whether water evaporates from the reservoir, which needs a table.
         evaporation: bool,
-        /// The greatest release in m3/step, above which water spills.
+        /// The maximum release in m3/step, above which water spills.
         max_release: Option<i64>,
     },
-    /// Water is diverted, and part of it used up.
+    /// A water user: water is diverted, and part of it consumed.
     WaterUser {
-        /// How much of a thousand parts diverted is used up, 0 to 1000.
+        /// The depletion: how many of a thousand parts diverted are consumed, 0 to 1000.
         depletion: u16,
-        /// Who sets what it diverts.
+        /// Who sets the diversion.
         supply: Supply,
     },
-    /// Water is conveyed, and part of it seeps away.
+    /// A canal: water is conveyed, and part of it seeps away.
     Canal {
-        /// How much of a thousand parts seeps away, 0 to 999.
+        /// How many of a thousand parts seep away, 0 to 999.
         seepage: u16,
     },
-    /// Water is stored, and what is released drives turbines.
+    /// A power reservoir: water is stored, and what is released drives turbines.
     PowerReservoir {
         /// The storage at the start of the run, in m3.
         initial_storage: i64,
-        /// Which elevation has which volume.
+        /// The elevation-volume table.
         table: Rating,
-        /// The greatest release in m3/step, above which water spills past the turbines.
+        /// The maximum release in m3/step, above which water spills past the turbines.
         max_release: i64,
-        /// The elevation of the water below the plant, in mm.
+        /// The tailwater: the elevation of the water below the plant, in mm.
         tailwater: i64,
-        /// How much energy 10^9 m3 give that fall by 1 mm, in kWh, 1 to 10,000.
+        /// The power: how many kWh 10^9 m3 give that fall by 1 mm, 1 to 10,000.
         power: u16,
     },
-    /// Water is held back, and a share of it flows out in each timestep.
+    /// A routed reach: water is held back, and a share of it flows out in each timestep.
     RoutedReach {
-        /// What it holds at the start of the run, in m3.
+        /// The content at the start of the run, in m3.
         initial_content: i64,
-        /// How much of a thousand parts flows out in a timestep, 1 to 1000.
+        /// How many of a thousand parts flow out in a timestep, 1 to 1000.
         release: u16,
     },
 }
 
 impl Kind {
-    /// The kind's number: data object 0, gage 1, confluence 2, bifurcation 3, reach 4, reservoir 5, water user 6,
+    /// Returns the number of the kind: data object 0, gage 1, confluence 2, bifurcation 3, reach 4, reservoir 5, water user 6,
     /// canal 7, power reservoir 8, routed reach 9.
     pub fn code(&self) -> u8
         ensures { result ≡ code_of self.now }
@@ -218,8 +219,8 @@ fn is_routed(initial_content: i64, release: u16) -> bool
     is_amount(initial_content) && 1 <= release && release <= PARTS
 }
 
-/// Whether the kind's parameters are in range, in their base units; evaporation wants a table, and an initial storage is one
-/// that the table has. `docs/FORMATS.md` has the ranges under "`object`".
+/// Returns whether the parameters of the kind are in range, in their base units. Evaporation needs a table, and an initial
+/// storage has to be one that the table has. `docs/FORMATS.md` has the ranges under "`object`".
 pub fn is_kind(kind: &Kind) -> bool
     ensures kind { IsTrue result ↔ IsKind kind.now }
     ensures test { result ≡ is_kind kind.now }

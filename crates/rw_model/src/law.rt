@@ -1,5 +1,4 @@
-//! What the definitions of this crate come to in plain words. Each law is the `ensures` of a function that does
-//! nothing.
+//! Proves what the definitions of this crate mean in plain words. Each law is the `ensures` of a function that does nothing.
 ghost use Rattle.std.specs.Prelude.{◌≡◌, ◌<◌, ◌≤◌, ◌↔◌, IsTrue, ℕ, ℤ, List, [], ◌∷◌, All, Contains, IsSome, None, Some};
 ghost use Rattle.rw_model.specs.declared.content.Content.{Content};
 ghost use Rattle.rw_model.specs.declared.put.PutEnd.TheVariants as PutEnd;
@@ -14,6 +13,7 @@ ghost use Rattle.rw_model.specs.Name.{IsName, IsPlain, is_name, is_plain};
 ghost use Rattle.rw_model.specs.Kind.{IsKind, is_kind};
 ghost use Rattle.rw_model.specs.Build.{is_sound, is_fresh, is_allowed, object_refusal, bound_refusal};
 ghost use Rattle.rw_model.specs.Put.{end_of_put, IsSameObject};
+ghost use Rattle.rw_model.specs.declared.limits.TheConstants.{CELLS_MAX, DATA_SLOTS_MAX, LAG_MAX, LINK_MAX, NAME_MAX, OBJECTS_MAX, PARTS, POWER_MAX, SEEPAGE_MAX, SLOTS_MAX};
 
 /// The put rules, in their order. An unknown cell is written. The held value of a priority that isn't higher is
 /// kept. Another put to a value of priority 0 is written where the object that wrote the value puts it, and otherwise
@@ -99,4 +99,19 @@ pub fn bounds_of_a_group()
         ↔ (IsBetween (own_bounds objects own slot) value
         × All (λ other. IsBetween (own_bounds objects own other) value)
         (linked_with links slot)) }
+{}
+
+/// The limits of a model that is read, in numbers: definitions have them by these names. What is to take more has a constant of its
+/// own beside these.
+pub fn limits_of_models()
+    ensures objects { OBJECTS_MAX ≡ 500 }
+    ensures slots { SLOTS_MAX ≡ 4000 }
+    ensures cells { CELLS_MAX ≡ 1000000 }
+    ensures link { LINK_MAX ≡ 8 }
+    ensures name { NAME_MAX ≡ 32 }
+    ensures data { DATA_SLOTS_MAX ≡ 8 }
+    ensures lag { LAG_MAX ≡ 30 }
+    ensures parts { PARTS ≡ 1000 }
+    ensures seepage { SEEPAGE_MAX ≡ 999 }
+    ensures power { POWER_MAX ≡ 10000 }
 {}

@@ -1,9 +1,9 @@
-//! The parts of a model of a river basin. `Kind` says what kinds of objects there are, and `Kind::slot` answers the one
+//! Defines the parts of a model of a river basin. `Kind` lists the kinds of objects, and `Kind::slot` returns the rows of the one
 //! table of slots in `specs/Slots.antt`: which slots a kind has, in which places, with their dimensions, roles and bounds.
-//! `is_name` and `is_kind` say which names and parameters a model may have, and `is_plain` how any name is spelt. `put_end`
-//! answers what becomes of a put to a cell. `BasinBuilder` takes objects, links and the bounds of slots, refuses those that a
-//! basin can't have, by their first fault, and finds slots by name. A finished `Basin` is valid and holds what was added, in
-//! order; its readers take no memory.
+//! `is_name` and `is_kind` decide which names and parameters a model may have, and `is_plain` how any name is spelt. `put_end`
+//! decides what becomes of a put to a cell. `BasinBuilder` accepts objects, links and the bounds of slots, refuses those that a
+//! basin cannot have, by their first fault, and finds slots by name. A finished `Basin` is valid and holds what was added, in
+//! order; reading it takes no memory.
 #![tactic(auto)]
 
 mod basin;

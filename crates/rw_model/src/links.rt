@@ -1,3 +1,4 @@
+//! Holds the links between slots, and finds the link of a slot without a search.
 ghost use Rattle.std.specs.Prelude.{◌≡◌, ◌+◌, ◌≤◌, ℕ, [], ◌∷◌, ◌++◌, length, map, All, if◌then◌else◌, None, Some, OnOk, OnErr, IfOk, vec_len, vec_capacity, slice_index_or};
 ghost use Rattle.std.specs.Option.{ForSome};
 ghost use Rattle.rw_model.specs.Links.{is_among, link_of, linked_with};
@@ -65,7 +66,7 @@ fn append(links: &mut Vec<Vec<SlotNo>>, link: Vec<SlotNo>)
 }
 
 impl Links {
-    /// No slot is linked yet.
+    /// Returns the list of no links.
     pub(crate) fn new(alloc: Global) -> Links
         ensures { result ≡ [] }
     {
@@ -76,14 +77,14 @@ impl Links {
         }
     }
 
-    /// How many links there are.
+    /// Returns the number of links.
     pub(crate) fn count(&self) -> usize
         ensures { result ≡ length self.now }
     {
         self.links.len()
     }
 
-    /// The place of the link that has the slot.
+    /// Returns the place of the link that has the slot.
     pub(crate) fn place(&self, slot: u16) -> Option<usize>
         requires { 1 ≤ slot }
         ensures place { result ≡ link_of self.now slot }
@@ -95,7 +96,7 @@ impl Links {
         }
     }
 
-    /// The slots of the link that has the slot, and none where none has it.
+    /// Returns the slots of the link that has the slot, and none where no link has it.
     pub(crate) fn with(&self, slot: u16) -> &[SlotNo]
         requires { 1 ≤ slot }
         ensures { numbers_of result.now ≡ linked_with self.now slot }
@@ -106,7 +107,7 @@ impl Links {
         }
     }
 
-    /// Adds a link. No slot of a basin of so many slots is in two.
+    /// Adds a link. No slot of a basin of `count` slots is in two links.
     pub(crate) fn add(&mut self, slots: &[SlotNo], count: u16) -> Result<(), NoMemory>
         requires known { All (λ (slot : SlotNo). (1 ≤ slot.0) × (slot.0 ≤ count)) slots.now }
         requires free { All (λ (slot : SlotNo). link_of self.old slot.0 ≡ None) slots.now }

@@ -1,3 +1,4 @@
+//! Holds the tables of a finished basin, so that slots, groups and bounds are not computed again.
 ghost use Rattle.std.specs.Prelude.{◌≡◌, ◌*◌, All, IfOk, length, map};
 ghost use Rattle.rw_model.specs.Kept.{numbers_of, links_of, KeepsGroups, numbers_up_to};
 ghost use Rattle.rw_model.specs.Links.{bounds_in, slot_numbers};
@@ -23,7 +24,7 @@ pub(crate) struct Tables {
 }
 
 impl Tables {
-    /// The tables of these objects, links and bounds.
+    /// Returns the tables of these objects, links and bounds.
     pub(crate) fn of(
         alloc: Global,
         objects: &Objects,

@@ -1,3 +1,4 @@
+//! Decides which texts are names of objects and slots, and holds such a name.
 ghost use Rattle.std.specs.Prelude.{◌≡◌, string_bytes, ◌↔◌, ◌||◌, IsTrue, Contains, map};
 ghost use Rattle.std.specs.List.{list_all};
 ghost use Rattle.rw_base.specs.Byte.{is_letter, is_digit};
@@ -21,14 +22,14 @@ impl Model for Name {
 }
 
 impl Name {
-    /// The name with this text.
+    /// Returns the name with this text.
     pub fn of(text: String) -> Name
         ensures { result ≡ string_bytes text }
     {
         Name { text }
     }
 
-    /// Its text.
+    /// Returns the text of the name.
     pub fn as_str(&self) -> &str
         ensures { result.now ≡ self.now }
     {
@@ -98,7 +99,7 @@ fn all_go_on(bytes: &[u8]) -> bool
     bytes.iter().all(|byte| goes_on(*byte))
 }
 
-/// Whether the bytes are a plain name: a letter or `_`, then letters, digits and `_`, at most 32 bytes.
+/// Returns whether the bytes are a plain name: a letter or `_`, then letters, digits and `_`, at most 32 bytes.
 pub fn is_plain(bytes: &[u8]) -> bool
     ensures { result ≡ is_plain bytes.now }
 {
@@ -127,7 +128,7 @@ fn is_reserved(text: &str) -> bool
     is_among(&RESERVED_WORDS, text)
 }
 
-/// Whether it is a name: a plain name that is no reserved word.
+/// Returns whether the text is a name: a plain name that is no reserved word.
 pub fn is_name(text: &str) -> bool
     ensures name { IsTrue result ↔ IsName text.now }
     ensures test { result ≡ is_name text.now }

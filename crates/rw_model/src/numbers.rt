@@ -1,3 +1,4 @@
+//! Lists the slots of each object by place, so that a slot is found without a search.
 ghost use Rattle.rw_model.specs.declared.limits.TheConstants.{OBJECTS_MAX};
 ghost use Rattle.std.specs.Prelude.{◌≡◌, ◌+◌, ◌*◌, ◌<◌, IfOk, OnOk, length};
 ghost use Rattle.rw_model.specs.Kept.{numbers_up_to};
@@ -19,7 +20,7 @@ fn push_numbers(all: &mut Vec<Option<u16>>, objects: &Objects, before: u16) -> R
     Ok(())
 }
 
-/// The slots in the places of all objects, twelve places for each object.
+/// Returns the slots in the places of all objects, twelve places for each object.
 pub(crate) fn all_numbers(alloc: Global, objects: &Objects) -> Result<Vec<Option<u16>>, NoMemory>
     ensures { IfOk result
         (λ numbers. numbers.items ≡ numbers_up_to objects.now (length objects.now * 12)) }

@@ -1,3 +1,4 @@
+//! Holds the objects of a basin, and finds objects and slots by number, place and name.
 ghost use Rattle.rw_model.specs.declared.limits.TheConstants.{OBJECTS_MAX, SLOTS_MAX};
 ghost use Rattle.std.specs.Prelude.{◌≡◌, ◌+◌, ◌-◌, ◌<◌, ◌≤◌, [], ◌∷◌, ◌++◌, length, take, None, Some, option_map, option_and_then, IfSome, OnOk, OnErr};
 ghost use Rattle.rw_model.specs.Slots.{slots_of, slot_in};
@@ -39,7 +40,7 @@ impl Model for Objects {
 }
 
 impl Objects {
-    /// No object yet.
+    /// Returns the list of no objects.
     pub(crate) fn new(alloc: Global) -> Objects
         ensures { result ≡ [] }
     {
@@ -51,7 +52,7 @@ impl Objects {
         }
     }
 
-    /// How many objects there are.
+    /// Returns the number of objects.
     pub(crate) fn count(&self) -> u16
         ensures count { result ≡ length self.now }
         ensures few { result ≤ OBJECTS_MAX }
@@ -59,7 +60,7 @@ impl Objects {
         self.kinds.len() as u16
     }
 
-    /// How many slots there are.
+    /// Returns the number of slots.
     pub(crate) fn slot_count(&self) -> u16
         ensures count { result ≡ length (all_slots self.now) }
         ensures few { result ≤ SLOTS_MAX }
@@ -67,7 +68,7 @@ impl Objects {
         self.places.len() as u16
     }
 
-    /// The number of the object with this name.
+    /// Returns the number of the object with this name.
     pub(crate) fn find(&self, name: &str) -> Option<u16>
         ensures number { result ≡ object_named self.now name.now }
         ensures within { IfSome result (λ o. (1 ≤ o) × (o ≤ length self.now)) }
@@ -103,7 +104,7 @@ impl Objects {
         Ok(())
     }
 
-    /// What the object of this number is called.
+    /// Returns the name of the object of this number.
     pub(crate) fn name(&self, o: u16) -> &str
         requires first { 1 ≤ o }
         requires last { o ≤ length self.now }
@@ -115,7 +116,7 @@ impl Objects {
         name.as_str()
     }
 
-    /// The kind of the object of this number.
+    /// Returns the kind of the object of this number.
     pub(crate) fn kind(&self, o: u16) -> &Kind
         requires first { 1 ≤ o }
         requires last { o ≤ length self.now }
@@ -128,7 +129,7 @@ impl Objects {
         kind
     }
 
-    /// Where the slot of this number stands.
+    /// Returns the object and the place of the slot of this number.
     pub(crate) fn place(&self, s: u16) -> Place
         requires first { 1 ≤ s }
         requires last { s ≤ length (all_slots self.now) }
@@ -142,7 +143,7 @@ impl Objects {
         self.places[usize::from(s) - 1]
     }
 
-    /// What the slot of this number is.
+    /// Returns what the slot of this number is.
     pub(crate) fn slot(&self, s: u16) -> Slot<'_>
         requires first { 1 ≤ s }
         requires last { s ≤ length (all_slots self.now) }
@@ -165,7 +166,7 @@ impl Objects {
         self.firsts[usize::from(o) - 1]
     }
 
-    /// The object that owns the slot of this number.
+    /// Returns the object that owns the slot of this number.
     pub(crate) fn owner(&self, s: u16) -> u16
         requires { IsSlot self.now s }
         ensures owner { result ≡ owner_of self.now s }
@@ -175,7 +176,7 @@ impl Objects {
         self.place(s).owner
     }
 
-    /// What the slot of this number measures.
+    /// Returns what the slot of this number measures.
     pub(crate) fn dim(&self, s: u16) -> Dim
         requires { IsSlot self.now s }
         ensures { result ≡ dim_of self.now s }
@@ -183,7 +184,7 @@ impl Objects {
         self.slot(s).dim()
     }
 
-    /// The number of an object's slot in a place.
+    /// Returns the number of an object's slot in a place.
     pub(crate) fn slot_in_place(&self, o: u16, place: u8) -> Option<u16>
         requires first { 1 ≤ o }
         requires last { o ≤ length self.now }
@@ -192,7 +193,7 @@ impl Objects {
         number_in_place(self.kind(o), o, self.slots_before(o) + 1, place)
     }
 
-    /// The number of the slot with this name, of the object with that name.
+    /// Returns the number of the slot with this name, of the object with that name.
     pub(crate) fn find_slot(&self, object: &str, name: &str) -> Option<u16>
         ensures { result ≡ slot_named self.now object.now name.now }
     {

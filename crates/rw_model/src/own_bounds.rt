@@ -1,3 +1,4 @@
+//! Holds the bounds that a model gives to its slots.
 ghost use Rattle.std.specs.Prelude.{◌≡◌, [], ◌∷◌, ◌++◌, None, OnOk, OnErr};
 ghost use Rattle.rw_model.specs.Draft.{bound_of};
 
@@ -23,7 +24,7 @@ impl Model for OwnBounds {
 }
 
 impl OwnBounds {
-    /// No slot has bounds yet.
+    /// Returns the list in which no slot has bounds.
     pub(crate) fn new(alloc: Global) -> OwnBounds
         ensures { result ≡ [] }
     {
@@ -32,7 +33,7 @@ impl OwnBounds {
         }
     }
 
-    /// The bounds of its own that the slot has, if it has any.
+    /// Returns the bounds of its own that the slot has, if it has any.
     pub(crate) fn get(&self, slot: u16) -> Option<(i64, i64)>
         ensures { result ≡ bound_of self.now slot }
     {

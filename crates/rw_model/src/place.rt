@@ -1,3 +1,4 @@
+//! Holds the object and the place of a slot, and finds the number of a slot by its place or its name.
 ghost use Rattle.std.specs.Prelude.{◌≡◌, ◌+◌, ◌≤◌, length, map, ◌++◌, vec_len, vec_capacity};
 ghost use Rattle.rw_model.specs.Slots.{slots_of};
 ghost use Rattle.rw_model.specs.Objects.{placed_from, first_from, is_in_place, is_named};
@@ -5,12 +6,12 @@ ghost use Rattle.rw_model.specs.Kept.{place_of};
 
 use crate::Kind;
 
-/// Where a slot stands: with which object, and in which place.
+/// The object of a slot, and its place there.
 #[derive(Clone, Copy, Drop)]
 pub(crate) struct Place {
     /// The number of the object.
     pub(crate) owner: u16,
-    /// The place with that object.
+    /// The place of the slot in that object.
     pub(crate) place: u8,
 }
 
@@ -69,7 +70,7 @@ pub(crate) fn number_of_name(kind: &Kind, owner: u16, first: u16, name: &str) ->
     None
 }
 
-/// How many slots an object has.
+/// Counts the slots of an object.
 pub(crate) fn count_places(kind: &Kind, owner: u16) -> u16
     requires { length (slots_of kind.now) ≤ 11 }
     ensures count { result ≡ length (placed_from owner 0 (slots_of kind.now)) }

@@ -1,16 +1,17 @@
+//! Decides what becomes of a put to a cell: it is written, kept or denied.
 ghost use Rattle.std.specs.Prelude.{◌≡◌};
 ghost use Rattle.rw_model.specs.Put.{is_same_object, is_value_kept, gives_way, end_of_put};
 
 use crate::{Content, Writer};
 
-/// What became of a put.
+/// The outcomes of a put.
 #[derive(Clone, Copy, Debug, PartialEq, Eq)]
 pub enum PutEnd {
     /// The cell holds the new content.
     Written,
-    /// The cell holds the value already, and stays as it was.
+    /// The cell holds the value already, and is as it was.
     Kept,
-    /// The held content, which is this one, stands.
+    /// The held content, which is this one, remains.
     Denied(Content),
 }
 
@@ -24,7 +25,7 @@ fn is_same_object(held: Writer, new: Writer) -> bool
     }
 }
 
-/// What becomes of a put of a content to a cell, by what the cell holds; both values are in the base units of one slot.
+/// Returns what becomes of a put of a content to a cell, by what the cell holds; both values are in the base units of one slot.
 /// `docs/DEFINITIONS.md` has the table under "Contents, and the put rules".
 pub fn put_end(held: Option<Content>, new: Content) -> PutEnd
     ensures { result ≡ end_of_put held new }

@@ -1,4 +1,6 @@
-/// Who gives a slot its values.
+//! Lists who can give a slot its values.
+
+/// The roles of slots: who gives a slot its values.
 #[derive(Clone, Copy, Debug, PartialEq, Eq)]
 pub enum Role {
     /// An input, a rule, or the object's own equation.

@@ -1,3 +1,4 @@
+//! Describes a slot: its name, its dimension, its role, and the bounds that it can have.
 ghost use Rattle.std.specs.Prelude.{◌≡◌, ◌↔◌, IsTrue, pos};
 ghost use Rattle.rw_base.specs.Dimension.{dimension, IsDimension};
 ghost use Rattle.rw_base.specs.Unit.{volume, length, energy};
@@ -8,7 +9,7 @@ use rw_base::{Dim, QUANTITY_MAX};
 use rw_table::ELEVATION_MAX;
 use std::marker::Model;
 
-/// A slot that a kind has: its name, what it measures, who gives it its values, and between which it lies.
+/// A slot that a kind has: its name, what it measures, who gives it its values, and its bounds.
 #[derive(Drop)]
 pub struct Slot<'a> {
     name: &'a str,
@@ -42,7 +43,7 @@ fn dim(volume: i8, length: i8, step: i8) -> Dim
 }
 
 impl<'a> Slot<'a> {
-    /// A flow, in m3/step.
+    /// Returns a flow, in m3/step.
     pub(crate) fn flow(name: &'a str, role: Role) -> Slot<'a>
         ensures { result ≡ flow name.now role }
     {
@@ -55,21 +56,21 @@ impl<'a> Slot<'a> {
         }
     }
 
-    /// A slot of a data object, bound to -Q to Q in the base units of its dimension.
+    /// Returns a slot of a data object, bound to -Q to Q in the base units of its dimension.
     pub fn data(name: &'a str, dim: Dim) -> Slot<'a>
         ensures { result ≡ of_range name.now dim Role.Neither all_quantities }
     {
         Slot::of_range(name, dim, Role::Neither, (-QUANTITY_MAX, QUANTITY_MAX))
     }
 
-    /// A volume of water that is held, in m3.
+    /// Returns a volume of water that is held, in m3.
     pub(crate) fn volume(name: &'a str, role: Role) -> Slot<'a>
         ensures { result ≡ of_range name.now volume role from_zero }
     {
         Slot::of_range(name, dim(1, 0, 0), role, (0, QUANTITY_MAX))
     }
 
-    /// An amount of energy, in kWh, bound to 0 to Q.
+    /// Returns an amount of energy, in kWh, bound to 0 to Q.
     pub fn energy(name: &'a str, role: Role) -> Slot<'a>
         ensures { result ≡ of_range name.now energy role from_zero }
     {
@@ -82,14 +83,14 @@ impl<'a> Slot<'a> {
         Slot::of_range(name, kilowatt_hour, role, (0, QUANTITY_MAX))
     }
 
-    /// An elevation, in mm.
+    /// Returns an elevation, in mm.
     pub(crate) fn elevation(name: &'a str) -> Slot<'a>
         ensures { result ≡ of_range name.now length Role.Neither lengths }
     {
         Slot::of_range(name, dim(0, 1, 0), Role::Neither, (0, ELEVATION_MAX))
     }
 
-    /// A rate of evaporation, in mm/step: as great as an elevation at most.
+    /// Returns a rate of evaporation, in mm/step: at most as great as an elevation.
     pub(crate) fn rate(name: &'a str) -> Slot<'a>
         ensures { result ≡ of_range name.now rate_unit Role.Fixed lengths }
     {
@@ -109,42 +110,42 @@ impl<'a> Slot<'a> {
         }
     }
 
-    /// What it is called.
+    /// Returns the name of the slot.
     pub fn name(&self) -> &'a str
         ensures { result.now ≡ self.now.name }
     {
         self.name
     }
 
-    /// What it measures: the exponents of m3, mm, timestep and kWh.
+    /// Returns what it measures: the exponents of m3, mm, timestep and kWh.
     pub fn dim(&self) -> Dim
         ensures { result ≡ self.now.dim }
     {
         self.dim
     }
 
-    /// Who gives it its values.
+    /// Returns who gives it its values.
     pub fn role(&self) -> Role
         ensures { result ≡ self.now.role }
     {
         self.role
     }
 
-    /// The least and the greatest value that it can be bound to, in the base units of its dimension.
+    /// Returns the widest bounds that it can have: a minimum and a maximum, in the base units of its dimension.
     pub fn widest(&self) -> (i64, i64)
         ensures { result ≡ self.now.widest }
     {
         self.widest
     }
 
-    /// The least and the greatest value of one that has no bound of its own, in the base units of its dimension.
+    /// Returns the bounds that it has where a model gives it none: a minimum and a maximum, in the base units of its dimension.
     pub fn usual(&self) -> (i64, i64)
         ensures { result ≡ self.now.usual }
     {
         self.usual
     }
 
-    /// Whether it can have these bounds, in the base units of its dimension: ordered, and within its widest.
+    /// Returns whether it can have these bounds, in the base units of its dimension: ordered, and within its widest.
     pub fn allows(&self, bounds: (i64, i64)) -> bool
         ensures { IsTrue result ↔ IsInside bounds self.now.widest }
     {

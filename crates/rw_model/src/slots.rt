@@ -1,3 +1,4 @@
+//! Lists the slots of each kind of object, place by place.
 ghost use Rattle.std.specs.Prelude.{◌≡◌, pos, [], None};
 ghost use Rattle.rw_model.specs.declared.kind.Kind.TheVariants as Kind;
 ghost use Rattle.rw_model.specs.Slots.{slot_in, where_chosen};
@@ -166,8 +167,8 @@ fn of_routed_reach<'a>(place: u8) -> Option<Slot<'a>>
 }
 
 impl Kind {
-    /// Its slot in a place, counted from 0. `None` exactly where it has none there. `docs/DEFINITIONS.md` has the table of
-    /// slots under "Slots".
+    /// Returns the kind's slot in a place, counted from 0. `None` exactly where the kind has none there. `docs/DEFINITIONS.md`
+    /// has the table of slots under "Slots".
     pub fn slot(&self, place: u8) -> Option<Slot<'_>>
         ensures { result ≡ slot_in self.now place }
     {

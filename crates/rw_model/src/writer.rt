@@ -1,12 +1,13 @@
+//! Lists who can write the value of a cell.
 use rw_base::{ObjectNo, RuleNo};
 
-/// Who wrote a value.
+/// The writers of values.
 #[derive(Clone, Copy, Debug, PartialEq, Eq)]
 pub enum Writer {
-    /// It was given.
+    /// An input gave the value.
     Input,
-    /// This rule assigned it.
+    /// This rule set it.
     Rule(RuleNo),
-    /// This object's equation gave it.
+    /// This object solved it.
     Object(ObjectNo),
 }

@@ -1,3 +1,4 @@
+//! Reads the bounds of slots from a model's file, and gives them to a builder.
 ghost use Rattle.std.specs.Prelude.{codes};
 ghost use Rattle.toml.specs.View.{view, items_view, table_view};
 ghost use Rattle.rw_model_toml.specs.Fault.{Gives};

@@ -1,3 +1,4 @@
+//! Reads the slots of a data object.
 ghost use Rattle.std.specs.Prelude.{◌≤◌, length, string_bytes};
 ghost use Rattle.toml.specs.View.{view, items_view, table_view};
 ghost use Rattle.rw_model_toml.specs.Fault.{Gives};
@@ -52,7 +53,7 @@ fn read_slots(alloc: Global, path: &str, items: &[Value]) -> Result<Vec<DataSlot
     Ok(slots)
 }
 
-/// What the table at the path says of a data object.
+/// Returns what the table at the path says of a data object.
 #[tactic(auto, unfolding(crate::specs::Kinds::data_of))]
 pub(crate) fn read_data(alloc: Global, at: &str, table: &Table) -> Result<Kind, ModelFault>
     ensures { Gives (λ kind. kind) result (data_of at.now (table_view table.now)) }

@@ -1,3 +1,4 @@
+//! Decides whether a table is nested no deeper than a given depth.
 ghost use Rattle.std.specs.Prelude.{◌≡◌, nat_le};
 ghost use Rattle.toml.specs.Data.{depth, items_depth, members_depth};
 ghost use Rattle.toml.specs.View.{view, items_view, table_view};
@@ -28,7 +29,7 @@ fn items_nest_within(items: &[Value], deepest: u8) -> bool
     true
 }
 
-/// Whether arrays and tables nest no deeper than this in the table.
+/// Returns whether arrays and tables are nested no deeper than this in the table.
 #[cycle(depth)]
 pub(crate) fn table_nests_within(table: &Table, deepest: u8) -> bool
     ensures { result ≡ nat_le (members_depth (table_view table.now)) deepest }

@@ -1,3 +1,4 @@
+//! Lists why a model's file is refused, each reason with the path of its key.
 use rw_base::NoMemory;
 use rw_calendar::CalFault;
 use rw_model::BuildFault;
@@ -5,13 +6,13 @@ use rw_table::TableFault;
 use std::alloc::{AllocError, AllocFailed};
 use thiserror::Error;
 
-/// Why a model is refused: the path of the key, as `object[2].table[3]`, and what is wrong there.
+/// The reasons why a model is refused, each with the path of the key, such as `object[2].table[3]`.
 #[derive(Debug, Drop, Error)]
 pub enum ModelFault {
     /// The bytes are no TOML.
     #[error("not TOML")]
     NotToml,
-    /// A key that has to be there is not.
+    /// A key that has to be there is missing.
     #[error("missing {0}")]
     Missing(String),
     /// The value is of another type.
@@ -23,7 +24,7 @@ pub enum ModelFault {
     /// There is no such kind of object.
     #[error("unknown kind {0}")]
     UnknownKind(String),
-    /// The value is out of range, or the basin can't have what stands there.
+    /// The value is out of range, or the basin cannot have what the file says there.
     #[error("build {0}: {1:?}")]
     Build(String, BuildFault),
     /// The rows are no table.

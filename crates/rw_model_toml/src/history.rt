@@ -1,3 +1,4 @@
+//! Reads the inflows of a reach before the run.
 ghost use Rattle.toml.specs.View.{items_view, table_view};
 ghost use Rattle.rw_base.specs.Quantity.{quantity_max};
 ghost use Rattle.rw_model_toml.specs.Fault.{Gives};
@@ -43,7 +44,7 @@ fn read_inflows(alloc: Global, path: &str, items: &[Value]) -> Result<Vec<i64>, 
     Ok(inflows)
 }
 
-/// The past inflows, one for each timestep of the lag.
+/// Returns the past inflows, one for each timestep of the lag.
 pub(crate) fn read_history(
     alloc: Global,
     at: &str,

@@ -1,3 +1,4 @@
+//! Reads the value at a key of a table as a text, a truth value, a number, an array or a table.
 ghost use Rattle.std.specs.Prelude.{◌≡◌, ◌≤◌, ◌≤ℤ◌, false, IfOk, None, option_map};
 ghost use Rattle.toml.specs.Data.{get_member, no_items};
 ghost use Rattle.toml.specs.View.{view, items_view, table_view};
@@ -11,7 +12,7 @@ use crate::value::{count, integer, items, number, table, text, truth};
 use std::alloc::Global;
 use toml::{Table, Value};
 
-/// What stands at a key.
+/// Returns the value at a key.
 pub(crate) fn member<'a>(members: &'a Table, key: &str) -> Option<&'a Value>
     ensures { option_map (λ value. view value.now) result
         ≡ get_member key.now (table_view members.now) }
@@ -19,7 +20,7 @@ pub(crate) fn member<'a>(members: &'a Table, key: &str) -> Option<&'a Value>
     members.get(key)
 }
 
-/// The text at a key that has to be there.
+/// Returns the text at a key that has to be there.
 pub(crate) fn required_text<'a>(
     alloc: Global,
     at: &str,
@@ -36,7 +37,7 @@ pub(crate) fn required_text<'a>(
     }
 }
 
-/// The text at a key, or the default.
+/// Returns the text at a key, or the default.
 pub(crate) fn optional_text<'a>(
     alloc: Global,
     at: &str,
@@ -53,7 +54,7 @@ pub(crate) fn optional_text<'a>(
     }
 }
 
-/// The truth value at a key, false where it isn't there.
+/// Returns the truth value at a key, and false where the key is not there.
 pub(crate) fn choice(
     alloc: Global,
     at: &str,
@@ -69,7 +70,7 @@ pub(crate) fn choice(
     }
 }
 
-/// The items of the array at a key that has to be there.
+/// Returns the items of the array at a key that has to be there.
 pub(crate) fn required_items<'a>(
     alloc: Global,
     at: &str,
@@ -86,7 +87,7 @@ pub(crate) fn required_items<'a>(
     }
 }
 
-/// The items of the array at a key, or none.
+/// Returns the items of the array at a key, or none.
 pub(crate) fn optional_items<'a>(
     alloc: Global,
     at: &str,
@@ -102,7 +103,7 @@ pub(crate) fn optional_items<'a>(
     }
 }
 
-/// The table at a key that has to be there.
+/// Returns the table at a key that has to be there.
 pub(crate) fn required_table<'a>(
     alloc: Global,
     at: &str,
@@ -119,7 +120,7 @@ pub(crate) fn required_table<'a>(
     }
 }
 
-/// The integer at a key that has to be there.
+/// Returns the integer at a key that has to be there.
 pub(crate) fn required_integer(
     alloc: Global,
     at: &str,
@@ -135,7 +136,7 @@ pub(crate) fn required_integer(
     }
 }
 
-/// The whole number from low to high at a key that has to be there.
+/// Returns the whole number from low to high at a key that has to be there.
 pub(crate) fn required_number(
     alloc: Global,
     at: &str,
@@ -156,7 +157,7 @@ pub(crate) fn required_number(
     }
 }
 
-/// The whole number from low to high at a key, or the default.
+/// Returns the whole number from low to high at a key, or the default.
 pub(crate) fn optional_number(
     alloc: Global,
     at: &str,
@@ -175,7 +176,7 @@ pub(crate) fn optional_number(
     }
 }
 
-/// The count from low to high at a key that has to be there.
+/// Returns the count from low to high at a key that has to be there.
 pub(crate) fn required_count(
     alloc: Global,
     at: &str,
@@ -196,7 +197,7 @@ pub(crate) fn required_count(
     }
 }
 
-/// The count from low to high at a key, or the default.
+/// Returns the count from low to high at a key, or the default.
 pub(crate) fn optional_count(
     alloc: Global,
     at: &str,
@@ -219,7 +220,7 @@ pub(crate) fn optional_count(
     }
 }
 
-/// The whole number from low to high at a key, if there is one.
+/// Returns the whole number from low to high at a key, if there is one.
 pub(crate) fn number_if_given(
     alloc: Global,
     at: &str,

@@ -1,5 +1,4 @@
-//! What the definitions of this crate come to in plain words. Each law is the `ensures` of a function that does
-//! nothing.
+//! Proves what the definitions of this crate mean in plain words. Each law is the `ensures` of a function that does nothing.
 ghost use Rattle.std.specs.Prelude.{ℕ, List, IfOk};
 ghost use Rattle.rw_model.specs.Basin.{IsBasin};
 ghost use Rattle.rw_model_toml.specs.Model.{model_of};

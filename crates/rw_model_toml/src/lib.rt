@@ -1,7 +1,7 @@
-//! Reads a model from the bytes of its file. `read_model` answers the basin that `specs/Model.antt` gives for the bytes,
-//! or the first thing that it finds wrong, with the path of its key. Which keys there are, in which order they are
-//! judged, their ranges and defaults are said there, of a finished table. The answer is exact in both directions, want of
-//! memory apart; a basin is valid, and no refusal carries a want of memory inside.
+//! Reads a model from the bytes of its file. `read_model` returns the basin that `specs/Model.antt` gives for the bytes, or the
+//! first thing that it finds wrong, with the path of its key. That file also says which keys there are, in which order they are
+//! judged, and their ranges and defaults, for a finished table. The result is exact in both directions, want of memory apart; a
+//! basin is valid, and no refusal carries a want of memory inside.
 #![tactic(auto)]
 
 mod bound_table;

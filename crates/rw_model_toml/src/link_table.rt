@@ -1,3 +1,4 @@
+//! Reads the links between slots from a model's file, and adds them to a builder.
 ghost use Rattle.std.specs.Prelude.{string_bytes, ◌≤◌, codes, length};
 ghost use Rattle.toml.specs.View.{view, items_view, table_view};
 ghost use Rattle.rw_model.specs.Kept.{numbers_of};

@@ -1,3 +1,4 @@
+//! Refuses a table that has a key which its kind of table does not have.
 ghost use Rattle.std.specs.Prelude.{◌≡◌, map};
 ghost use Rattle.toml.specs.View.{table_view};
 ghost use Rattle.rw_model_toml.specs.Fault.{Gives};
@@ -20,7 +21,7 @@ fn is_listed(keys: &[&str], key: &str) -> bool
     false
 }
 
-/// Refuses the first key of the table at a path that isn't listed.
+/// Refuses the first key of the table at a path that is not listed.
 pub(crate) fn only_listed(
     alloc: Global,
     keys: &[&str],

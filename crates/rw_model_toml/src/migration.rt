@@ -1,3 +1,4 @@
+//! Writes a model's file as the same table in format 2.
 ghost use Rattle.std.specs.Prelude.{◌≡◌, Ok, IfErr, IfOk, OnOk, Some};
 ghost use Rattle.toml.specs.View.{table_view};
 ghost use Rattle.rw_base.specs.Answers.{IsWhy};
@@ -52,7 +53,7 @@ fn judge(alloc: Global, table: &Table) -> Result<(), ModelFault>
     }
 }
 
-/// The bytes of a model's file as one of format 2: they are read to the same table but for its `format`.
+/// Returns the bytes of a model's file as one of format 2: they are read to the same table but for its `format`.
 ///
 /// A file is refused where `read_model` refuses it, for the same reason. `NoMemory` says nothing of the file.
 pub fn migrate(alloc: Global, text: &[u8]) -> Result<Vec<u8>, ModelFault>

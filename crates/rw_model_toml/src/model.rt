@@ -1,3 +1,4 @@
+//! Reads a model's file as a whole, in the order in which the format judges its parts.
 ghost use Rattle.std.specs.Prelude.{◌≡◌, codes, IfOk};
 ghost use Rattle.rw_base.specs.Answers.{Answers};
 ghost use Rattle.rw_model_toml.specs.declared.fault.ModelFault.TheVariants as ModelFault;
@@ -78,7 +79,7 @@ fn finish(alloc: Global, builder: BasinBuilder) -> Result<Basin, ModelFault>
     }
 }
 
-/// The table that the bytes are.
+/// Returns the table that the bytes are.
 pub(crate) fn read_table(alloc: Global, text: &[u8]) -> Result<Table, ModelFault>
     ensures { Gives (λ table. table_view table) result (table_or (toml_of text.now)) }
 {
@@ -102,11 +103,10 @@ pub(crate) fn read_basin(alloc: Global, table: &Table) -> Result<Basin, ModelFau
     finish(alloc, builder)
 }
 
-/// The basin that the bytes of a model's file say, whose values are whole numbers of m3, mm, m3/step and kWh.
+/// Returns the basin that the bytes of a model's file say, whose values are whole numbers of m3, mm, m3/step and kWh.
 ///
-/// A refusal is the first thing that is wrong, in the order in which the format judges, with the path of its key. Its inner
-/// fault is never a want of memory. `NoMemory` says nothing of the file. `docs/FORMATS.md` has the keys and their ranges
-/// under "Model".
+/// A refusal is the first thing that is wrong, in the order in which the format judges, with the path of its key. Its inner fault
+/// is never a want of memory. `NoMemory` says nothing of the file. `docs/FORMATS.md` has the keys and their ranges under "Model".
 pub fn read_model(alloc: Global, text: &[u8]) -> Result<Basin, ModelFault>
     ensures answers { Answers ModelFault.NoMemory model_refusal_of (λ basin. basin) result
         (model_of text.now) }

@@ -1,3 +1,4 @@
+//! Reads the name of an object or a slot.
 ghost use Rattle.toml.specs.View.{table_view};
 ghost use Rattle.rw_model_toml.specs.Fault.{Gives};
 ghost use Rattle.rw_model_toml.specs.Names.{name_of};
@@ -9,7 +10,7 @@ use rw_model::{BuildFault, is_name};
 use std::alloc::Global;
 use toml::Table;
 
-/// The name of an object or a slot, in the table at a path.
+/// Returns the name of an object or a slot, in the table at a path.
 pub(crate) fn read_name<'a>(
     alloc: Global,
     at: &str,

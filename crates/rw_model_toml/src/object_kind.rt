@@ -1,3 +1,4 @@
+//! Reads the kind of an object with its parameters.
 ghost use Rattle.std.specs.Prelude.{pos};
 ghost use Rattle.toml.specs.View.{table_view};
 ghost use Rattle.rw_model.specs.declared.kind.Kind.TheVariants as Kind;
@@ -172,7 +173,7 @@ fn read_canal(alloc: Global, at: &str, table: &Table) -> Result<Kind, ModelFault
     Ok(Kind::Canal { seepage })
 }
 
-/// The kind that the word names, with the keys of the table at the path.
+/// Returns the kind that the word names, with the keys of the table at the path.
 #[tactic(auto, unfolding(crate::specs::Kinds::kind_read))]
 pub(crate) fn read_kind(
     alloc: Global,

@@ -1,3 +1,4 @@
+//! Reads the objects from a model's file, and adds them to a builder.
 ghost use Rattle.std.specs.Prelude.{codes};
 ghost use Rattle.toml.specs.View.{view, items_view, table_view};
 ghost use Rattle.rw_model_toml.specs.Fault.{Gives};

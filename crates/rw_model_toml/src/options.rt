@@ -1,3 +1,4 @@
+//! Reads which side flows a reach or a reservoir has.
 ghost use Rattle.toml.specs.View.{table_view};
 ghost use Rattle.rw_model_toml.specs.Fault.{Gives};
 ghost use Rattle.rw_model_toml.specs.Kinds.{options_of};
@@ -7,7 +8,7 @@ use crate::key::choice;
 use std::alloc::Global;
 use toml::Table;
 
-/// Which slots a reach or a reservoir has besides.
+/// The side flows that a reach or a reservoir has.
 #[derive(Clone, Copy, Drop)]
 pub(crate) struct Options {
     /// A local inflow.
@@ -18,7 +19,7 @@ pub(crate) struct Options {
     pub(crate) return_flow: bool,
 }
 
-/// Which of them the table says.
+/// Returns which of them the table says.
 pub(crate) fn read_options(alloc: Global, at: &str, table: &Table) -> Result<Options, ModelFault>
     ensures { Gives (λ options. options) result (options_of at.now (table_view table.now)) }
 {

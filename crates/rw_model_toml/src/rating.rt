@@ -1,3 +1,4 @@
+//! Reads the elevation-volume table of a reservoir.
 ghost use Rattle.std.specs.Prelude.{◌≡◌, codes, None, string_bytes};
 ghost use Rattle.toml.specs.View.{view, items_view, table_view};
 ghost use Rattle.rw_model_toml.specs.Fault.{Gives};
@@ -74,7 +75,7 @@ fn rating(alloc: Global, path: String, value: &Value) -> Result<Rating, ModelFau
     rate(alloc, path, rows.as_slice())
 }
 
-/// The table of elevations and volumes, which has to be there.
+/// Returns the elevation-volume table, which has to be there.
 pub(crate) fn required_rating(alloc: Global, at: &str, table: &Table) -> Result<Rating, ModelFault>
     ensures { Gives (λ rating. rating) result
         (required rating_of at.now (codes "table") (table_view table.now)) }
@@ -86,7 +87,7 @@ pub(crate) fn required_rating(alloc: Global, at: &str, table: &Table) -> Result<
     }
 }
 
-/// The table of elevations and volumes, if there is one.
+/// Returns the elevation-volume table, if there is one.
 pub(crate) fn rating_if_given(
     alloc: Global,
     at: &str,

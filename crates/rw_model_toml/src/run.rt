@@ -1,3 +1,4 @@
+//! Reads the table `run` of a model's file.
 ghost use Rattle.std.specs.Prelude.{IfOk};
 ghost use Rattle.rw_calendar.specs.StepLength.{IsStepLength};
 ghost use Rattle.toml.specs.View.{table_view};
@@ -15,20 +16,20 @@ use rw_model::{AgendaOrder, BuildFault};
 use std::alloc::Global;
 use toml::Table;
 
-/// What the table `run` says.
+/// The content of the table `run`.
 #[derive(Clone, Copy, Drop)]
 pub(crate) struct Run {
     /// The start of the run, which may be no moment.
     pub(crate) start: Start,
-    /// How long each timestep is.
+    /// The length of each timestep.
     pub(crate) step_length: StepLength,
-    /// How many timesteps there are.
+    /// The number of timesteps.
     pub(crate) steps: u16,
-    /// In which order rules are taken.
+    /// The order in which rules are taken.
     pub(crate) agenda: AgendaOrder,
-    /// How often one object may be solved at one timestep.
+    /// The maximum number of times that one object may be solved at one timestep.
     pub(crate) object_limit: u8,
-    /// How often one rule may be run at one timestep.
+    /// The maximum number of times that one rule may be run at one timestep.
     pub(crate) rule_limit: u8,
 }
 
@@ -73,7 +74,7 @@ fn read_agenda(alloc: Global, table: &Table) -> Result<AgendaOrder, ModelFault>
     }
 }
 
-/// What the table says.
+/// Returns what the table says.
 #[tactic(auto, unfolding(crate::specs::Run::run_of))]
 pub(crate) fn read_run(alloc: Global, table: &Table) -> Result<Run, ModelFault>
     ensures read { Gives (λ run. run) result (run_of (table_view table.now)) }

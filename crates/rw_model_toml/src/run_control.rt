@@ -1,3 +1,4 @@
+//! Turns what the table `run` says into the control of a run, with its stamps.
 ghost use Rattle.std.specs.Prelude.{◌≡◌, ◌⊎◌, IfOk};
 ghost use Rattle.rw_model.specs.Draft.{IsControl};
 ghost use Rattle.rw_model_toml.specs.Fault.{Gives};
@@ -10,7 +11,7 @@ use rw_calendar::{CalFault, Stamps};
 use rw_model::RunControl;
 use std::alloc::Global;
 
-/// How many timesteps ahead rules may put in a model of this format.
+/// Returns how many timesteps ahead rules may put in a model of this format.
 pub(crate) fn ahead_in(format: u16) -> u8
     ensures value { result ≡ ahead_in format }
     ensures in_range { (result ≡ 0) ⊎ (result ≡ 30) }
@@ -18,7 +19,7 @@ pub(crate) fn ahead_in(format: u16) -> u8
     if format == 1 { 0 } else { 30 }
 }
 
-/// How the run goes, with its stamps, where rules may put so many timesteps ahead.
+/// Returns how the run goes, with its stamps, where rules may put `ahead` timesteps ahead.
 pub(crate) fn stamp_run(alloc: Global, ahead: u8, run: Run) -> Result<RunControl, ModelFault>
     requires run { IsRunInRange run }
     requires ahead { (ahead ≡ 0) ⊎ (ahead ≡ 30) }

@@ -1,10 +1,11 @@
+//! Finds the slot that a text `Object.Slot` names.
 ghost use Rattle.std.specs.Prelude.{◌≡◌};
 ghost use Rattle.rw_model_toml.specs.Told.{slot_number};
 
 use rw_base::SlotNo;
 use rw_model::BasinBuilder;
 
-/// The slot that a text `Object.Slot` names. No slot has the number 0, which is answered where it names none.
+/// Returns the slot that a text `Object.Slot` names. No slot has the number 0, which is returned where it names none.
 pub(crate) fn slot_number(builder: &BasinBuilder, text: &str) -> SlotNo
     ensures { result.0 ≡ slot_number builder.now.objects text.now }
 {

@@ -1,3 +1,4 @@
+//! Reads the start of a run from its text.
 ghost use Rattle.std.specs.Prelude.{◌≡◌, ◌+◌, ◌<◌, ◌≤◌, IsTrue, length, slice_index};
 ghost use Rattle.rw_base.specs.Byte.{is_digit};
 ghost use Rattle.rw_model_toml.specs.StartText.{is_open, fits_byte, fits_forms, two_digits, start_in};
@@ -40,7 +41,7 @@ fn two_digits(text: &[u8], place: usize) -> u8
     (text[place] - 48) * 10 + (text[place + 1] - 48)
 }
 
-/// The start that the text names. `None` exactly where it has another form than `YYYY-MM-DDTHH:00`.
+/// Returns the start that the text names. `None` exactly where the text has another form than `YYYY-MM-DDTHH:00`.
 pub(crate) fn start_in(text: &str) -> Option<Start>
     ensures { result ≡ start_in text.now }
 {

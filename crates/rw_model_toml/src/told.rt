@@ -1,3 +1,4 @@
+//! Turns the fault of a builder into that of the model's file.
 ghost use Rattle.std.specs.Prelude.{Result};
 ghost use Rattle.rw_base.specs.Answers.{IsWhy as IsWhyOf};
 ghost use Rattle.rw_model.specs.declared.fault.BuildFault.TheVariants as BuildFault;
@@ -10,7 +11,7 @@ use crate::ModelFault;
 use rw_model::BuildFault;
 use std::alloc::Global;
 
-/// What a builder's fault at the path tells of the model.
+/// Returns the fault of the model for a builder's fault at the path.
 pub(crate) fn told(alloc: Global, path: &str, fault: BuildFault) -> ModelFault
     ensures { (given : Result Draft BuildRefusal)
         → IsWhyOf BuildFault.NoMemory build_refusal_of given fault

@@ -1,3 +1,4 @@
+//! Reads a value as the type that is asked for, or refuses it by its path.
 ghost use Rattle.std.specs.Prelude.{◌≤◌, ◌≤ℤ◌, IfOk, string_bytes};
 ghost use Rattle.toml.specs.View.{view, items_view, table_view};
 ghost use Rattle.rw_model_toml.specs.Fault.{Gives};
@@ -8,7 +9,7 @@ use rw_model::BuildFault;
 use std::alloc::Global;
 use toml::{Table, Value};
 
-/// The integer that the value at the path is.
+/// Returns the integer that the value at the path is.
 pub(crate) fn integer(path: String, value: &Value) -> Result<i64, ModelFault>
     ensures { Gives (λ z. z) result (integer_of (string_bytes path) (view value.now)) }
 {
@@ -18,7 +19,7 @@ pub(crate) fn integer(path: String, value: &Value) -> Result<i64, ModelFault>
     }
 }
 
-/// The text that it is.
+/// Returns the text that it is.
 pub(crate) fn text(path: String, value: &Value) -> Result<&str, ModelFault>
     ensures { Gives (λ text. text.now) result (text_of (string_bytes path) (view value.now)) }
 {
@@ -28,7 +29,7 @@ pub(crate) fn text(path: String, value: &Value) -> Result<&str, ModelFault>
     }
 }
 
-/// The truth value that it is.
+/// Returns the truth value that it is.
 pub(crate) fn truth(path: String, value: &Value) -> Result<bool, ModelFault>
     ensures { Gives (λ b. b) result (truth_of (string_bytes path) (view value.now)) }
 {
@@ -38,7 +39,7 @@ pub(crate) fn truth(path: String, value: &Value) -> Result<bool, ModelFault>
     }
 }
 
-/// The items of the array that it is.
+/// Returns the items of the array that it is.
 pub(crate) fn items(path: String, value: &Value) -> Result<&[Value], ModelFault>
     ensures { Gives (λ items. items_view items.now) result
         (items_of (string_bytes path) (view value.now)) }
@@ -49,7 +50,7 @@ pub(crate) fn items(path: String, value: &Value) -> Result<&[Value], ModelFault>
     }
 }
 
-/// The table that it is.
+/// Returns the table that it is.
 pub(crate) fn table<'a>(
     alloc: Global,
     path: &str,
@@ -63,7 +64,7 @@ pub(crate) fn table<'a>(
     }
 }
 
-/// The whole number from low to high that it is.
+/// Returns the whole number from low to high that it is.
 pub(crate) fn number(path: String, value: &Value, low: i64, high: i64) -> Result<i64, ModelFault>
     ensures read { Gives (λ z. z) result
         (number_read low high (string_bytes path) (view value.now)) }
@@ -81,7 +82,7 @@ pub(crate) fn number(path: String, value: &Value, low: i64, high: i64) -> Result
     }
 }
 
-/// The whole number from low to high that it is, where these are counts.
+/// Returns the whole number from low to high that it is, where these are counts.
 pub(crate) fn count(path: String, value: &Value, low: u16, high: u16) -> Result<u16, ModelFault>
     ensures read { Gives (λ n. n) result
         (count_read low high (string_bytes path) (view value.now)) }

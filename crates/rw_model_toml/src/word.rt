@@ -1,3 +1,4 @@
+//! Reads the words for the length of a timestep, the order of rules and the supply of a water user.
 ghost use Rattle.std.specs.Prelude.{◌≡◌, IfSome};
 ghost use Rattle.rw_calendar.specs.StepLength.{IsStepLength};
 ghost use Rattle.rw_model_toml.specs.Word.{step_length_in, agenda_in, supply_in};
@@ -5,7 +6,7 @@ ghost use Rattle.rw_model_toml.specs.Word.{step_length_in, agenda_in, supply_in}
 use rw_calendar::StepLength;
 use rw_model::{AgendaOrder, Supply};
 
-/// The step length that the word stands for.
+/// Returns the step length that the word stands for.
 pub(crate) fn step_length_in(word: &str) -> Option<StepLength>
     ensures length { result ≡ step_length_in word.now }
     ensures known { IfSome result IsStepLength }
@@ -20,7 +21,7 @@ pub(crate) fn step_length_in(word: &str) -> Option<StepLength>
     }
 }
 
-/// The order of the agenda that the word stands for.
+/// Returns the order of the agenda that the word stands for.
 pub(crate) fn agenda_in(word: &str) -> Option<AgendaOrder>
     ensures { result ≡ agenda_in word.now }
 {
@@ -31,7 +32,7 @@ pub(crate) fn agenda_in(word: &str) -> Option<AgendaOrder>
     }
 }
 
-/// The supply that the word stands for.
+/// Returns the supply that the word stands for.
 pub(crate) fn supply_in(word: &str) -> Option<Supply>
     ensures { result ≡ supply_in word.now }
 {

@@ -1,7 +1,7 @@
-//! Statistics of many runs of one basin. A `Tally` keeps what the cells held at the end of each run that settled; its
-//! `summary` tells of each cell in how many of them it is known, and the least, the median and the greatest of its values. Of
-//! a list of values the median is its least one for which at least half of the list is at most it; it is selected, and no
-//! list is sorted.
+//! Computes statistics of many runs of one basin. A `Tally` keeps what the cells held at the end of each run that settled. Its
+//! `summary` has, for each cell, in how many of these runs it is known, and the minimum, the median and the maximum of its
+//! values. The median of a list of values is the least one for which at least half of the list is at most it; it is selected, and
+//! no list is sorted.
 #![tactic(auto)]
 
 pub mod law;
@@ -9,6 +9,5 @@ mod statistics;
 mod summary;
 mod tally;
 mod text;
-mod value;
 
 pub use tally::Tally;

@@ -1,7 +1,8 @@
+//! Finds the minimum, the median and the maximum of values.
 ghost use Rattle.std.specs.Prelude.{◌≡◌, None, Some};
 ghost use Rattle.rw_mrm.specs.Statistics as specs;
 
-/// The least of values, if there are any.
+/// Returns the minimum of values, if there are any.
 pub(crate) fn least(values: &[i64]) -> Option<i64>
     ensures { result ≡ specs.least_value values.now }
 {
@@ -15,7 +16,7 @@ pub(crate) fn least(values: &[i64]) -> Option<i64>
     Some(least)
 }
 
-/// The greatest of values, if there are any.
+/// Returns the maximum of values, if there are any.
 pub(crate) fn greatest(values: &[i64]) -> Option<i64>
     ensures { result ≡ specs.greatest_value values.now }
 {
@@ -29,8 +30,8 @@ pub(crate) fn greatest(values: &[i64]) -> Option<i64>
     Some(greatest)
 }
 
-/// The median of values, if there are any: the least of them for which at least half of them are at most it. It leaves them in
-/// another order.
+/// Returns the median of values, if there are any: the least of them for which at least half of them are at most it. It leaves
+/// them in another order.
 pub(crate) fn median(values: &mut [i64]) -> Option<i64>
     ensures { result ≡ specs.median values.old }
 {

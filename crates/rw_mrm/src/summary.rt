@@ -1,3 +1,4 @@
+//! Writes the summary of a tally.
 ghost use Rattle.std.specs.Prelude.{◌≡◌, ◌<◌, ◌≤◌, ◌*◌, ◌++◌, OnOk, Some, string_bytes};
 ghost use Rattle.rw_report.specs.Section.{for_each};
 ghost use Rattle.rw_mrm.specs.Summary as specs;

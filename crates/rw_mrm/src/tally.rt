@@ -1,3 +1,4 @@
+//! Holds what the cells held at the end of each run that settled.
 ghost use Rattle.std.specs.Prelude.{true, false, ◌≡◌, ◌<◌, ◌≤◌, ◌+◌, ◌*◌, ◌++◌, [], ◌∷◌, IfOk, Some, length, option_map, slice_get, vec_capacity};
 ghost use Rattle.rw_model.specs.Draft.{Draft};
 ghost use Rattle.rw_model.specs.declared.content.Content.{Content};
@@ -7,9 +8,9 @@ ghost use Rattle.rw_mrm.specs.Summary.{summary_by};
 ghost use Rattle.rw_mrm.specs.Tally as specs;
 
 use crate::summary::push_summary;
-use crate::value::KeptValue;
 use rw_base::{Cell, NoMemory, SlotNo, StepNo};
 use rw_model::{Basin, Content};
+use rw_report::KeptValue;
 use rw_run::{Run, RunEnd};
 use rw_series::Series;
 use std::alloc::Global;
@@ -90,7 +91,7 @@ fn value_at(values: &[KeptValue], place: usize) -> Option<i64>
 }
 
 impl Tally {
-    /// A tally to which no run was added, with room for so many runs of a basin. The one error is want of memory.
+    /// Returns a tally to which no run was added, with room for `traces` runs of a basin. The one error is want of memory.
     pub fn for_basin(alloc: Global, basin: &Basin, traces: u8) -> Result<Tally, NoMemory>
         ensures { IfOk result (λ tally. tally ≡ specs.no_runs basin.now traces) }
     {
@@ -142,8 +143,8 @@ impl Tally {
         }
     }
 
-    /// The summary of the runs that were added: in how many of those that settled each cell is known, and the least, the
-    /// median and the greatest of its values there. The one error is want of memory.
+    /// Returns the summary of the runs that were added: in how many of those that settled each cell is known, and the minimum,
+    /// the median and the maximum of its values there. The one error is want of memory.
     pub fn summary(&self, alloc: Global, basin: &Basin) -> Result<Vec<u8>, NoMemory>
         ensures { IfOk result (λ text. text.items ≡ summary_by basin.now self.now) }
     {
@@ -152,35 +153,35 @@ impl Tally {
         Ok(text.into_bytes())
     }
 
-    /// How many slots there are.
+    /// Returns the number of slots.
     pub(crate) fn slots(&self) -> u16
         ensures { result ≡ self.now.slots }
     {
         self.slots
     }
 
-    /// How many timesteps there are.
+    /// Returns the number of timesteps.
     pub(crate) fn steps(&self) -> u16
         ensures { result ≡ self.now.steps }
     {
         self.steps
     }
 
-    /// How many runs settled.
+    /// Returns the number of runs that settled.
     pub(crate) fn settled(&self) -> u8
         ensures { result ≡ self.now.settled }
     {
         self.settled
     }
 
-    /// How many runs were added.
+    /// Returns the number of runs that were added.
     pub(crate) fn runs(&self) -> u8
         ensures { result ≡ self.now.runs }
     {
         self.runs
     }
 
-    /// What stands in a place of the table of this number, which count from 0.
+    /// Returns what is in a place of the table of this number; both count from 0.
     pub(crate) fn value(&self, table: u8, place: usize) -> Option<i64>
         requires table { table < self.now.settled }
         requires place { place < self.now.slots * self.now.steps }

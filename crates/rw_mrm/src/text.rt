@@ -1,3 +1,4 @@
+//! Writes the counts and the values of a summary.
 ghost use Rattle.std.specs.Prelude.{◌≡◌, ◌++◌, OnOk, string_bytes, codes};
 ghost use Rattle.std.specs.Fmt.{decimal};
 ghost use Rattle.rw_report.specs.Section.{value_words};

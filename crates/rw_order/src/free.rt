@@ -1,3 +1,4 @@
+//! Decides whether the order of dispatches is free in a basin.
 ghost use Rattle.std.specs.Prelude.{◌≡◌, ◌==◌, ◌&&◌, ◌||◌, not};
 ghost use Rattle.std.specs.List.{list_all};
 ghost use Rattle.rw_model.specs.Draft.{IsObject, IsSlot};
@@ -9,8 +10,9 @@ use rw_base::{ObjectNo, SlotNo};
 use rw_method::places::{POOL_ELEVATION, STORAGE};
 use rw_model::{Basin, Kind};
 
-/// Whether the order of dispatches is free in a basin: no canal loses water, there is no power reservoir and no routed reach, and
-/// no link joins a Storage or a PoolElevation of two reservoirs. Where it is, every order settles where one does, with the same values (law `any_order`). No memory is taken.
+/// Returns whether the order of dispatches is free in a basin: no canal loses water, there is no power reservoir and no routed
+/// reach, and no link joins a Storage or a PoolElevation of two reservoirs. Where it is, every order settles where one does, with
+/// the same values (law `any_order`). No memory is taken.
 pub fn order_free(basin: &Basin) -> bool
     ensures { result ≡ order_free basin.now }
 {

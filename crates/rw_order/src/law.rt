@@ -1,4 +1,5 @@
-//! The laws. Each is the `ensures` of a function that does nothing.
+//! Proves that in a free basin every order of dispatches settles where one does, with the same values, and that each premise is
+//! needed. Each law is the `ensures` of a function that does nothing.
 ghost use Rattle.std.specs.Prelude.{◌≡◌, ◌⊎◌, ℕ, ℤ, pos, List, [], Contains, Some, true, false, ◌∷◌};
 ghost use Rattle.rw_base.specs.declared.number.Cell.{Cell};
 ghost use Rattle.rw_model.specs.Basin.{IsBasin};
@@ -33,14 +34,14 @@ pub fn any_order()
         → value_in (cells_of basin log) cell ≡ value_in (cells_of basin other) cell) }
 {}
 
-/// What is read as inputs is of values that their slots can have.
+/// Text that is read as inputs gives values that their slots can have.
 pub fn inputs_are_inside()
     ensures { (basin : Draft) (inputs : Inputs) → IsInputsOf basin inputs
         → AreInside basin (placings basin inputs) }
 {}
 
-/// So where the run of inputs settles without rules, in a basin of which the order is free, every order of dispatches closes
-/// as many timesteps, and comes to the values of its table.
+/// So where the run of inputs settles without rules, in a basin of which the order is free, every order of dispatches closes as
+/// many timesteps, and gives the values of its table.
 pub fn any_order_of_a_run()
     ensures { (basin : Draft) (inputs : Inputs) (log other : Log) (run : Run)
         → IsBasin basin → order_free basin ≡ true → IsInputsOf basin inputs
@@ -55,7 +56,7 @@ pub fn any_order_of_a_run()
     orders();
 }
 
-/// What `run_any` says of a free basin: the run ended in no fault, with the values of the log.
+/// The clauses of `run_any` say of a free basin: the run ended in no fault, with the values of the log.
 pub fn settled_values()
     ensures end { (basin : Draft) (log : Log) (run : Run) → SettlesAs basin log run
         → run.end ≡ Settled }
@@ -92,8 +93,8 @@ pub fn newest_is_last()
         → (other ≡ object) ⊎ WaitsBefore basin log other object }
 {}
 
-/// A confluence and the gage below it: dispatched newest first, the gage has nothing to put at first, and is woken. Both
-/// orders come to 7.
+/// A confluence and the gage below it: dispatched newest first, the gage has nothing to put at first, and is woken. Both orders
+/// give 7.
 pub fn a_chain()
     ensures free { order_free chain ≡ true }
     ensures oldest { IsPickedRun chain no_rules oldest chain_inputs
@@ -110,8 +111,9 @@ pub fn a_chain()
         ≡ Some (pos 7) }
 {}
 
-/// Which basins are free: one with a canal is where nothing seeps away, and one with a level that a link joins to what is no
-/// level. A valley is, and isn't with a canal that loses a tenth, with a power reservoir, or with a routed reach.
+/// Basins that are free and basins that are not: one with a canal is where nothing seeps away, and one with a level that a link
+/// joins to what is no level. A valley is, and is not with a canal that loses a tenth, with a power reservoir, or with a routed
+/// reach.
 pub fn free_basins()
     ensures dry { order_free dry ≡ true }
     ensures gauged { order_free gauged ≡ true }

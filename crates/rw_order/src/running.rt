@@ -1,4 +1,5 @@
-ghost use Rattle.std.specs.Prelude.{◌≡◌, ◌≤◌, ◌<◌, map, true, IfOk, IsSome};
+//! Runs a basin without rules in the order of dispatches that the caller picks.
+ghost use Rattle.std.specs.Prelude.{◌≡◌, ◌≤◌, ◌<◌, map, true, IfOk, IsSome, IsTrue};
 ghost use Rattle.rw_model.specs.Basin.{IsBasin};
 ghost use Rattle.rw_method.specs.Catalogue.{AreInOrder};
 ghost use Rattle.rw_inputs.specs.Placings.{placings};
@@ -32,6 +33,7 @@ fn run_counted<L: Ledger, P: Pick>(
     methods: &Catalogue,
     inputs: &Inputs,
     pick: &P,
+    traced: bool,
 ) -> Result<Run, NoMemory>
     requires name { blank.name ≡ L.name }
     requires parts { blank.parts ≡ L.parts }
@@ -40,7 +42,7 @@ fn run_counted<L: Ledger, P: Pick>(
     requires inputs { IsInputsOf basin.now inputs.now }
     ensures run { IfOk result (ComesToPicked basin.now no_rules (P.rule pick.now) inputs.now) }
     ensures closed { IfOk result (λ run. run.closed ≤ basin.now.control.stamps.count) }
-    ensures kept { IfOk result (λ run. IsSome run.trace) }
+    ensures kept { IsTrue traced → IfOk result (λ run. IsSome run.trace) }
 {
     let mut steps = Steps::<L>::of(blank);
     let mut functions = Vec::new(alloc);
@@ -61,7 +63,7 @@ fn run_counted<L: Ledger, P: Pick>(
         policy: &empty,
         predefs: &predefs,
     };
-    run_by_of(alloc, &setup, inputs, pick, &mut steps)
+    run_by_of(alloc, &setup, inputs, pick, traced, &mut steps)
 }
 
 // What a basin is, it always is.
@@ -71,9 +73,9 @@ fn is_valid(basin: &Basin)
     let _count = basin.object_count();
 }
 
-/// Runs all timesteps of a basin from its inputs, without rules, where it is picked which of the objects that wait is
-/// dispatched, and answers what the run comes to: that of the log in which each dispatch is of the object in the place of
-/// the rule, one of those that wait. Where the order of dispatches is free in the basin and one order settles, this one
+/// Runs all timesteps of a basin from its inputs, without rules, with a trace where one is asked for, and lets `pick` decide
+/// which of the objects that wait is dispatched. Returns the run: that of the log in which each dispatch is of the object in the
+/// place of the rule, one of those that wait. Where the order of dispatches is free in the basin and one order settles, this one
 /// does, with the same values. The one error is want of memory. `docs/DEFINITIONS.md` has it under "Any order".
 pub fn run_any<P: Pick>(
     alloc: Global,
@@ -81,6 +83,7 @@ pub fn run_any<P: Pick>(
     methods: &Catalogue,
     inputs: &Inputs,
     pick: &P,
+    traced: bool,
 ) -> Result<Run, NoMemory>
     requires order { AreInOrder (map (λ b. code (b.vtable, b.value)) methods.now.methods.items) }
     requires inputs { IsInputsOf basin.now inputs.now }
@@ -89,10 +92,10 @@ pub fn run_any<P: Pick>(
         → IsAnyRun basin.now (placings basin.now inputs.now) log → IsSettledLog log
         → IfOk result (SettlesAs basin.now log) }
     ensures closed { IfOk result (λ run. run.closed ≤ basin.now.control.stamps.count) }
-    ensures told { IfOk result (λ run. IsSome run.trace) }
+    ensures told { IsTrue traced → IfOk result (λ run. IsSome run.trace) }
 {
     any_order();
     inputs_are_inside();
     is_valid(basin);
-    run_counted::<Brand, P>(alloc, Blank::new(1), basin, methods, inputs, pick)
+    run_counted::<Brand, P>(alloc, Blank::new(1), basin, methods, inputs, pick, traced)
 }

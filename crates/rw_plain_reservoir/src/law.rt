@@ -1,5 +1,5 @@
-//! What the run of any basin comes to where the basin is one plain reservoir. The law is the `ensures` of a function that
-//! does nothing.
+//! Proves what the run of any basin is where the basin is one plain reservoir. The law is the `ensures` of a function that does
+//! nothing.
 ghost use Rattle.std.specs.Prelude.{◌≡◌, ◌↔◌, ℕ, ℤ, pos, negsuc, List, [], ◌∷◌, Option, None, Some, codes};
 ghost use Rattle.rw_model.specs.Basin.{IsBasin};
 ghost use Rattle.rw_model.specs.Draft.{Draft};

@@ -1,3 +1,4 @@
+//! Computes the energy of a release, and the minimum release that gives an energy.
 ghost use Rattle.std.specs.Prelude.{◌≡◌, ◌≤◌, pos, option_map, option_and_then, unwrap_or, ◌+ℤ◌, ◌-ℤ◌, ◌*ℤ◌, ◌≤ℤ◌, ◌<ℤ◌, ℤ, Some};
 ghost use Rattle.std.specs.Int.{int_max, int_min};
 ghost use Rattle.rw_base.specs.Quotient.{floor_div};
@@ -38,7 +39,7 @@ fn elevation_of(rating: &Rating, storage: i64) -> Option<i64>
     rating.elev(storage)
 }
 
-/// How far water falls from where the pool stood the timestep before, in mm: 0 where that isn't known.
+/// Returns the head: how far water falls from the pool elevation of the timestep before, in mm, and 0 where that is not known.
 pub(crate) fn head_of(rating: &Rating, tailwater: i64, past: Option<Qty>) -> i64
     requires { pos 0 ≤ℤ tailwater }
     ensures fall { result ≡ unwrap_or (option_map (λ elevation. head_from elevation tailwater)
@@ -78,7 +79,7 @@ fn energy_of(power: u16, head: i64, release: i64) -> i128
     product(release, powered(head, power)).div_euclid(1_000_000_000)
 }
 
-/// The energy of what is released of an outflow.
+/// Returns the energy in kWh of what is released of an outflow.
 pub(crate) fn energy_released(power: u16, head: i64, max_release: i64, outflow: i64) -> i128
     requires { IsFall head }
     ensures { result ≡ energy_of power head (int_min outflow max_release) }
@@ -152,7 +153,7 @@ fn quotient_release(power: u16, head: i64, max_release: i64, energy: i64) -> Opt
     up_to(max_release, release_quotient(power, head, energy))
 }
 
-/// The least release up to the greatest one that gives so much energy, where there is one.
+/// Returns the minimum release, up to the maximum one, that gives this much energy, where there is one.
 pub(crate) fn least_release(power: u16, head: i64, max_release: i64, energy: i64) -> Option<i64>
     requires head { IsFall head }
     requires power { 1 ≤ power }

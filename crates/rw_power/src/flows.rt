@@ -1,3 +1,4 @@
+//! Puts the flow that was solved, and the outflow that an energy request asks for.
 ghost use Rattle.std.specs.Prelude.{◌≡◌, ◌<◌, ◌+◌, ◌≤◌, ◌∷◌, [], ◌++◌, length, option_map, OnOk, IfErr};
 ghost use Rattle.rw_method.specs.Puts.{put, asked_number, beside_flow, flow_puts};
 ghost use Rattle.rw_method.specs.Solve.{AllFit};
@@ -69,7 +70,7 @@ fn ask_beside(
     ask_two(view, table, puts, asked, solved)
 }
 
-/// Puts what was solved, and beside it the outflow that a request asks for, unless the outflow itself was solved.
+/// Puts what was solved, and next to it the outflow that a request asks for, unless the outflow itself was solved.
 pub(crate) fn ask_flows(
     view: &View,
     table: Option<&Rating>,

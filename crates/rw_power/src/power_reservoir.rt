@@ -1,3 +1,4 @@
+//! Solves a power reservoir in a dispatch.
 ghost use Rattle.std.specs.Prelude.{◌≡◌, ◌≤◌, ◌≤ℤ◌, ℤ, pos};
 ghost use Rattle.rw_model.specs.declared.kind.Kind.TheVariants as Kind;
 ghost use Rattle.rw_method.specs.declared.places.TheConstants.{OUTFLOW};
@@ -20,7 +21,7 @@ use rw_method::{
 use rw_model::Kind;
 use rw_table::Rating;
 
-/// The method of a power reservoir: what flows in and doesn't flow out is stored, and what flows out makes energy.
+/// The method of power reservoirs: what flows in and does not flow out is stored, and what flows out makes energy.
 #[derive(Debug, Drop)]
 pub struct PowerReservoirMethod;
 

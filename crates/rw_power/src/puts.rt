@@ -1,3 +1,4 @@
+//! Puts all that a power reservoir solves and derives once its balance is solved.
 ghost use Rattle.std.specs.Prelude.{◌≡◌, ◌<◌, ◌+◌, ◌≤◌, ◌∷◌, ℤ, [], length, OnOk, IfOk, Some};
 ghost use Rattle.std.specs.Int.{int_min};
 ghost use Rattle.rw_method.specs.declared.places.TheConstants.{ENERGY, OUTFLOW};
@@ -90,7 +91,7 @@ fn ask_front(
     }
 }
 
-/// What is answered once the balance is solved: all that is put, or the first put that its slot can't get.
+/// Returns the answer once the balance is solved: all that is put, or the first put that its slot cannot get.
 pub(crate) fn put_all(
     view: &View,
     rating: &Rating,

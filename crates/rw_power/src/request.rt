@@ -1,3 +1,4 @@
+//! Finds the outflow that an energy request asks for, where the request counts.
 ghost use Rattle.std.specs.Prelude.{◌≡◌, ◌≤◌, ◌≤ℤ◌, pos, IfOk, IfErr, None, Some};
 ghost use Rattle.rw_method.specs.Power.{plant, head_of, request_of, requested, asked_of};
 ghost use Rattle.rw_method.specs.Solve.{fault_of_request, fault_of_power};
@@ -54,8 +55,8 @@ fn requested(
     }
 }
 
-/// The outflow that is asked for, where a request counts. Otherwise that is the answer: the storage before has no elevation,
-/// or no release gives what is requested.
+/// Returns the outflow that is asked for, where a request counts. The error is the answer otherwise: the storage before has no
+/// elevation, or no release gives what is requested.
 pub(crate) fn asked(
     view: &View,
     rating: &Rating,

@@ -1,3 +1,4 @@
+//! Decides whether cells hold again what they held when they were noted.
 ghost use Rattle.std.specs.Prelude.{◌≡◌, ◌↔◌, true};
 ghost use Rattle.rw_series.specs.Series.{held};
 ghost use Rattle.rw_record.specs.Noted.{AreHeld};
@@ -6,7 +7,7 @@ use crate::HeldList;
 use rw_run::Held;
 use rw_series::Series;
 
-/// Whether each of the cells holds what it held then.
+/// Returns whether each of the cells holds what it held then.
 pub fn is_alike(series: &Series, looked: &[Held]) -> bool
     ensures { (result ≡ true) ↔ AreHeld (held series.now) looked.now }
 {
@@ -18,7 +19,7 @@ pub fn is_alike(series: &Series, looked: &[Held]) -> bool
     true
 }
 
-/// So of a list that is kept.
+/// Returns whether each of the cells of a kept list holds what it held then.
 pub fn is_kept_alike(series: &Series, looked: &HeldList) -> bool
     ensures { (result ≡ true) ↔ AreHeld (held series.now) looked.now }
 {

@@ -1,3 +1,4 @@
+//! Puts back what cells held when they were noted.
 ghost use Rattle.std.specs.Prelude.{◌≡◌, IsFalse, IsTrue};
 ghost use Rattle.rw_base.specs.declared.number.Cell.{Cell};
 ghost use Rattle.rw_series.specs.Series.{Series, IsSeriesOf, Sets, held};
@@ -33,7 +34,7 @@ pub fn take_back(basin: &Basin, series: &mut Series, noted: &Noted)
     put_back(basin, series, noted.as_slice());
 }
 
-/// Puts back what these cells held, in the same way.
+/// Puts back what these cells held, as `take_back` does.
 pub fn put_back(basin: &Basin, series: &mut Series, items: &[Held])
     requires made { IsSeriesOf basin.now series.old }
     ensures made { IsSeriesOf basin.now series.new }
@@ -46,7 +47,7 @@ pub fn put_back(basin: &Basin, series: &mut Series, items: &[Held])
     }
 }
 
-/// So of a list that is kept.
+/// Puts back what the cells of a kept list held, as `take_back` does.
 pub fn put_back_kept(basin: &Basin, series: &mut Series, items: &HeldList)
     requires made { IsSeriesOf basin.now series.old }
     ensures made { IsSeriesOf basin.now series.new }

@@ -1,3 +1,4 @@
+//! Keeps noted cells, each once, with what they held.
 ghost use Rattle.std.specs.Prelude.{◌≡◌, ◌*◌, ◌++◌, ◌∷◌, [], IfOk, IfErr, Some, map};
 ghost use Rattle.std.specs.List.{list_all};
 ghost use Rattle.rw_model.specs.Kept.{numbers_of};
@@ -14,8 +15,8 @@ use rw_series::Series;
 use std::alloc::Global;
 use std::marker::Model;
 
-/// Cells that are noted, each once, with what it held then, in the order of noting, seen as that list. A cell of so many slots and
-/// timesteps has a mark, which tells whether it is noted.
+/// The cells that are noted, each once, with what it held then, in the order of noting, seen as that list. Each cell of the slots
+/// and timesteps has a mark, which says whether it is noted.
 #[derive(Drop)]
 pub(crate) struct CellNotes {
     slots: u16,
@@ -37,8 +38,8 @@ impl Model for CellNotes {
 }
 
 impl CellNotes {
-    /// No cell is noted. This takes room for a mark of each cell of so many slots and timesteps; the one error is want of
-    /// memory.
+    /// Returns the list in which no cell is noted. It takes room for a mark of each cell of these slots and timesteps; the one
+    /// error is want of memory.
     pub(crate) fn of(alloc: Global, slots: u16, steps: u16) -> Result<CellNotes, NoMemory>
         ensures { IfOk result (λ notes. notes ≡ []) }
     {
@@ -51,7 +52,7 @@ impl CellNotes {
         })
     }
 
-    /// No cell is noted, and none has a mark.
+    /// Returns the list in which no cell is noted, and none has a mark.
     pub(crate) fn unmarked(alloc: Global) -> CellNotes
         ensures { result ≡ [] }
     {
@@ -63,7 +64,7 @@ impl CellNotes {
         }
     }
 
-    /// What is noted.
+    /// Returns what is noted.
     #[inline(always)]
     pub(crate) fn as_slice(&self) -> &[Held]
         ensures noted { result.now ≡ self.now }
@@ -110,7 +111,7 @@ impl CellNotes {
         true
     }
 
-    /// Whether the cells of these slots at a timestep are all noted.
+    /// Returns whether the cells of these slots at a timestep are all noted.
     #[inline(always)]
     pub(crate) fn are_slots_noted(&self, slots: &[SlotNo], step: StepNo) -> bool
         ensures { result ≡ list_all (is_noted self.now)
@@ -199,7 +200,7 @@ impl CellNotes {
         Ok(())
     }
 
-    /// Takes all cells out, with their marks. This takes as long as there are noted ones.
+    /// Removes all cells, with their marks. This takes as long as there are noted ones.
     pub(crate) fn clear(&mut self)
         ensures { self.new ≡ [] }
     {

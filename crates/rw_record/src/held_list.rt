@@ -1,3 +1,4 @@
+//! Packs a list of cells with what they held.
 ghost use Rattle.std.specs.Prelude.{◌≡◌, ◌<◌, ◌≤◌, ◌++◌, ◌∷◌, [], IfOk, IfSome, List, Some, length, map, slice_get, true, vec_len};
 ghost use Rattle.rw_run.specs.Reuse.{most_kept};
 ghost use Rattle.rw_run.specs.declared.held.Held.{Held as WasHeld};
@@ -18,7 +19,7 @@ pub(crate) struct PlacedCell {
     pub(crate) place: u16,
 }
 
-/// Cells and what they held, seen as their list. It keeps six bytes for a cell that held nothing.
+/// A list of cells and what they held, seen as that list. It keeps six bytes for a cell that held nothing.
 #[derive(Drop)]
 pub struct HeldList {
     cells: Vec<PlacedCell>,
@@ -36,7 +37,7 @@ impl Model for HeldList {
 }
 
 impl HeldList {
-    /// The cells that stand in these places. The one error is want of memory.
+    /// Returns the list of the cells in these places. The one error is want of memory.
     pub(crate) fn of(alloc: Global, items: &[Held], order: &[u16]) -> Result<HeldList, NoMemory>
         requires { length order.now ≤ most_kept }
         ensures { IfOk result (λ list. list ≡ picked_out items.now order.now) }
@@ -47,7 +48,7 @@ impl HeldList {
         Ok(HeldList { cells, contents })
     }
 
-    /// The same where the cells rise so, and `None` where they don't.
+    /// Returns the list of the cells in these places where they rise in that order, and `None` where they do not.
     pub(crate) fn rising(
         alloc: Global,
         items: &[Held],
@@ -68,7 +69,7 @@ impl HeldList {
         Ok(None)
     }
 
-    /// How many there are.
+    /// Returns the number of cells.
     #[inline(always)]
     pub fn len(&self) -> usize
         ensures { result ≡ length self.now }
@@ -76,7 +77,7 @@ impl HeldList {
         self.cells.len()
     }
 
-    /// The cell in a place, counted from 0, and what it held.
+    /// Returns the cell in a place, counted from 0, and what it held.
     #[inline(always)]
     pub fn get(&self, place: usize) -> Held
         requires { place < length self.now }

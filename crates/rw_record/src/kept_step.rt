@@ -1,3 +1,4 @@
+//! Holds the record of a closed timestep: the cells at which it looked or which it reached, and its lines.
 ghost use Rattle.std.specs.Prelude.{◌≡◌, ◌||◌, nat_lt, IfOk, MatchOption, is_some, length};
 ghost use Rattle.rw_run.specs.Reuse.{most_kept};
 ghost use Rattle.rw_run.specs.Trace.{lines_in};
@@ -11,8 +12,8 @@ use rw_run::{MOST_KEPT, Trace};
 use std::alloc::Global;
 use std::marker::Model;
 
-/// A closed timestep: the cells at which it looked or which its puts reached, with what they held before it, rising by slot and
-/// then by timestep, and its lines.
+/// The record of a closed timestep: the cells at which it looked or which its puts reached, with what they held before it, rising
+/// by slot and then by timestep, and its lines.
 #[derive(Drop)]
 pub struct KeptStep {
     step: StepNo,
@@ -38,10 +39,10 @@ impl Model for KeptStep {
 }
 
 impl KeptStep {
-    /// The record of a timestep of which this is noted, to which these lines are handed over. `None` exactly where it has more
-    /// than `MOST_KEPT` cells or lines. The one error is want of memory. `docs/DEFINITIONS.md` says under "Reuse" what is kept.
-    /// `order` is that in which the noted cells of another timestep rose, or any other: where these rise so too they need no
-    /// sorting.
+    /// Returns the record of a timestep of which this is noted, to which these lines are handed over. `None` exactly where it has
+    /// more than `MOST_KEPT` cells or lines. The one error is want of memory. `docs/DEFINITIONS.md` says under "Reuse" what is
+    /// kept. `order` is that in which the noted cells of another timestep rose, or any other: where these rise in it, too, they
+    /// need no sorting.
     pub fn of(
         alloc: Global,
         step: StepNo,
@@ -68,35 +69,35 @@ impl KeptStep {
         }))
     }
 
-    /// Which timestep it is.
+    /// Returns the timestep.
     pub fn step(&self) -> StepNo
         ensures { result.0 ≡ self.now.step }
     {
         self.step
     }
 
-    /// The cells at which it looked or which its puts reached, with what they held before it.
+    /// Returns the cells at which it looked or which its puts reached, with what they held before it.
     pub fn looked(&self) -> &HeldList
         ensures { result.now ≡ self.now.looked }
     {
         &self.looked
     }
 
-    /// The least timestep at which one of these cells is, and 65,535 where there is none.
+    /// Returns the least timestep at which one of these cells is, and 65,535 where there is none.
     pub fn first(&self) -> StepNo
         ensures { result.0 ≡ least_step self.now.looked }
     {
         self.first
     }
 
-    /// The greatest timestep at which one of these cells is, and 0 where there is none.
+    /// Returns the greatest timestep at which one of these cells is, and 0 where there is none.
     pub fn last(&self) -> StepNo
         ensures { result.0 ≡ greatest_step self.now.looked }
     {
         self.last
     }
 
-    /// Its lines.
+    /// Returns its lines.
     pub fn lines(&self) -> &Trace
         ensures { result.now ≡ Some self.now.lines }
     {

@@ -1,4 +1,4 @@
-//! What is noted, in plain words. Each law is the `ensures` of a function that does nothing.
+//! Proves what is noted, in plain words. Each law is the `ensures` of a function that does nothing.
 ghost use Rattle.std.specs.List.{flat_map};
 ghost use Rattle.std.specs.Option.{option_or};
 ghost use Rattle.std.specs.Prelude.{◌≡◌, ◌↔◌, ◌⊎◌, ℕ, IsTrue, IsFalse, List, [], ◌∷◌, ◌++◌, Contains, Option, length, pos};
@@ -16,8 +16,8 @@ ghost use Rattle.rw_record.specs.Worked.{each_holds, held_at, none_holds, unknow
 ghost use Rattle.rw_run.specs.Dispatch.{cell_at};
 ghost use Rattle.rw_run.specs.Worked.{linked_basin, one_end_run};
 
-/// What is noted after some cells: what was noted before, and each of them that was new, with what it holds. Each cell stands
-/// there once, and it is one whether cells are noted together or one after the other.
+/// What is noted after some cells is what was noted before, and each of them that was new, with what it holds. Each cell is there
+/// once, and the result is the same whether cells are noted together or one after the other.
 pub fn noting()
     ensures members { (cells : Cells) (noted : List Held) (more : List Cell) (one : Held)
         → Contains (noted_after cells noted more) one ↔ (Contains noted one
@@ -33,7 +33,7 @@ pub fn noting()
         ≡ noted_after cells noted (first ++ next) }
 {}
 
-/// What can be taken back still can where any cells are noted, and where puts are made all of whose cells are noted.
+/// What can be taken back still can be where any cells are noted, and where puts are made all of whose cells are noted.
 pub fn revocable()
     ensures fresh { (before : Cells) → CanTakeBack before before [] }
     ensures noted { (before now : Cells) (noted : List Held) (more : List Cell)
@@ -75,8 +75,8 @@ pub fn recorded()
         → AreLooked basin before events kept.looked }
 {}
 
-/// Small lists of cells, worked out by hand. A cell that is named again isn't noted again, and keeps what it held first. A put to
-/// one end of a link reaches the other. Cells rise by slot, and of one slot by timestep.
+/// Small lists of cells, worked out by hand. A cell that is named again is not noted again, and keeps what it held first. A put
+/// to one end of a link reaches the other. Cells rise by slot, and of one slot by timestep.
 pub fn worked_notes()
     ensures again { noted_after (each_holds (pos 5)) []
         (cell_at 1 1 ∷ cell_at 2 1 ∷ cell_at 1 1 ∷ [])

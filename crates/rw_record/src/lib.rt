@@ -1,7 +1,7 @@
-//! What a timestep looks at and reaches, each cell once, with what that held before it. `Noted` is the list of an open timestep,
-//! from which `take_back` puts back what its cells held; `KeptStep` is that of a closed one, with its lines: where each of
-//! its cells is held alike again (`is_kept_alike`), the timestep need not be run again. A `StepRecord` has a list of the
-//! cells beside it.
+//! Records what a timestep looks at and reaches, each cell once, with what that held before it. `Noted` is the list of an open
+//! timestep, from which `take_back` puts back what its cells held. `KeptStep` is the list of a closed one, with its lines: where
+//! each of its cells is held alike again (`is_kept_alike`), the timestep need not be run again. A `StepRecord` also has a plain
+//! list of the cells.
 #![tactic(auto)]
 
 mod alike;

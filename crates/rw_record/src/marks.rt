@@ -1,3 +1,4 @@
+//! Keeps a mark for each cell of a basin.
 ghost use Rattle.std.specs.Prelude.{◌≡◌, ◌≤◌, ◌*◌, ◌-◌, IsTrue, drop, if◌then◌else◌, length, take, vec_len};
 ghost use Rattle.rw_base.specs.declared.number.Cell.{Cell};
 ghost use Rattle.rw_run.specs.Step.{is_same_cell};
@@ -6,7 +7,7 @@ ghost use Rattle.rw_record.specs.Marks.{has_mark, is_cell_marked};
 
 use rw_base::Cell;
 
-/// Whether there is a mark for a cell, of so many slots and timesteps.
+/// Returns whether there is a mark for a cell, of these slots and timesteps.
 #[inline(always)]
 pub(crate) fn has_mark(slots: u16, steps: u16, cell: Cell) -> bool
     ensures { result ≡ has_mark slots steps cell }
@@ -24,7 +25,7 @@ fn position(slots: u16, cell: Cell) -> usize
     usize::from(cell.step.0 - 1) * usize::from(slots) + usize::from(cell.slot.0 - 1)
 }
 
-/// Whether a cell is marked.
+/// Returns whether a cell is marked.
 #[inline(always)]
 pub(crate) fn is_marked(marks: &[bool], slots: u16, steps: u16, cell: Cell) -> bool
     requires many { length marks.now ≡ slots * steps }
@@ -34,7 +35,7 @@ pub(crate) fn is_marked(marks: &[bool], slots: u16, steps: u16, cell: Cell) -> b
     marks[position(slots, cell)]
 }
 
-/// Marks a cell, or takes its mark away.
+/// Marks a cell, or removes its mark.
 #[inline(always)]
 pub(crate) fn set_mark(marks: &mut Vec<bool>, slots: u16, steps: u16, cell: Cell, mark: bool)
     requires many { vec_len marks.old ≡ slots * steps }
@@ -47,7 +48,7 @@ pub(crate) fn set_mark(marks: &mut Vec<bool>, slots: u16, steps: u16, cell: Cell
     marks[position(slots, cell)] = mark;
 }
 
-/// Marks a cell, or takes its mark away, if there is a mark for it.
+/// Marks a cell, or removes its mark, if there is a mark for it.
 #[inline(always)]
 pub(crate) fn mark_if(marks: &mut Vec<bool>, slots: u16, steps: u16, cell: Cell, mark: bool)
     requires { vec_len marks.old ≡ slots * steps }
@@ -61,7 +62,7 @@ pub(crate) fn mark_if(marks: &mut Vec<bool>, slots: u16, steps: u16, cell: Cell,
     }
 }
 
-/// The marks of the cells at a timestep, by slot.
+/// Returns the marks of the cells at a timestep, by slot.
 #[inline(always)]
 pub(crate) fn row_of(marks: &[bool], slots: u16, step: u16) -> &[bool]
     requires first { 1 ≤ step }

@@ -1,3 +1,4 @@
+//! Notes the cells at which an open timestep looks or which it reaches.
 ghost use Rattle.std.specs.Prelude.{◌≡◌, ◌∷◌, [], All, IfOk, IfErr, Some, None, is_some, map, option_map};
 ghost use Rattle.rw_model.specs.Draft.{IsSlot};
 ghost use Rattle.rw_model.specs.Kept.{numbers_of};
@@ -17,8 +18,8 @@ use rw_series::Series;
 use std::alloc::Global;
 use std::marker::Model;
 
-/// The cells that were noted since a timestep was opened, each once, with what it held then, in the order of noting. Seen as
-/// that list, and as none where nothing is kept. That a cell is noted already is told by its mark.
+/// The cells that were noted since a timestep was opened, each once, with what it held then, in the order of noting, seen as that
+/// list, and as none where nothing is kept. The mark of a cell says whether it is noted already.
 #[derive(Drop)]
 pub struct Noted {
     kept: bool,
@@ -37,7 +38,8 @@ impl Model for Noted {
 }
 
 impl Noted {
-    /// No cell is noted. This takes room for a mark of each cell of the basin; the one error is want of memory.
+    /// Returns a list in which no cell is noted. It takes room for a mark of each cell of the basin; the one error is want of
+    /// memory.
     pub fn for_basin(alloc: Global, basin: &Basin) -> Result<Noted, NoMemory>
         ensures { IfOk result (λ noted. noted ≡ Some []) }
     {
@@ -46,7 +48,7 @@ impl Noted {
         Ok(Noted { kept: true, notes })
     }
 
-    /// A list that keeps no cell that is noted, and so never takes memory.
+    /// Returns a list that keeps no cell that is noted, and so never takes memory.
     pub fn unkept(alloc: Global) -> Noted
         ensures { result ≡ None }
     {
@@ -56,14 +58,14 @@ impl Noted {
         }
     }
 
-    /// Whether anything is kept.
+    /// Returns whether anything is kept.
     pub fn is_kept(&self) -> bool
         ensures { result ≡ is_some self.now }
     {
         self.kept
     }
 
-    /// What is noted.
+    /// Returns what is noted.
     pub fn as_slice(&self) -> &[Held]
         ensures noted { result.now ≡ noted_in self.now }
         ensures once { AreOnce result.now }
@@ -71,14 +73,14 @@ impl Noted {
         self.notes.as_slice()
     }
 
-    /// No cell is noted any more. This takes as long as there are noted ones.
+    /// Removes all noted cells. This takes as long as there are noted ones.
     pub fn begin_step(&mut self)
         ensures { self.new ≡ option_map (λ _. []) self.old }
     {
         self.notes.clear();
     }
 
-    /// Notes a cell with what it holds, unless it is noted already. After want of memory it isn't noted.
+    /// Notes a cell with what it holds, unless it is noted already. After want of memory it is not noted.
     #[inline(always)]
     pub fn note(&mut self, series: &Series, cell: Cell) -> Result<(), NoMemory>
         ensures noted { AddsNotes (held series.now) (cell ∷ []) self.old self.new result }
@@ -101,8 +103,9 @@ impl Noted {
         Ok(())
     }
 
-    /// Notes the cells that slots have at a timestep, in the order in which their numbers stand. Where all of them are noted, as
-    /// those of an object that is dispatched again, that is told at once. After want of memory some first ones of them are noted.
+    /// Notes the cells that slots have at a timestep, in the order of these numbers. Where all of them are noted, as those of an
+    /// object that is dispatched again, this takes one pass over their marks. After want of memory some first ones of them are
+    /// noted.
     pub fn note_row(
         &mut self,
         series: &Series,

@@ -1,4 +1,4 @@
-// The cells of a timestep, rising.
+//! Sorts the cells of a timestep by slot, and then by timestep.
 ghost use Rattle.std.specs.Prelude.{◌≡◌, ◌≤◌, ◌↔◌, [], IfOk, IfSome, Contains, length, true};
 ghost use Rattle.std.specs.List.{range_with_len};
 ghost use Rattle.rw_run.specs.Reuse.{most_kept};
@@ -12,8 +12,8 @@ use rw_base::{Cell, NoMemory};
 use rw_run::Held;
 use std::alloc::Global;
 
-/// The cells, rising. Most timesteps note theirs in one order: where they rise by that of another one, they are taken so, and are
-/// sorted otherwise, and the order is theirs from then on.
+/// Returns the cells, rising. Most timesteps note theirs in one order: where they rise by that of another one, they are taken in
+/// it, and are sorted otherwise, and the order is theirs from then on.
 pub(crate) fn risen(
     alloc: Global,
     items: &[Held],
@@ -46,7 +46,7 @@ fn sorted(alloc: Global, items: &[Held], order: &mut Vec<u16>) -> Result<HeldLis
     HeldList::of(alloc, items, order.as_slice())
 }
 
-/// What stands in a place, if its cell is above this one.
+/// Returns what is in a place, if its cell is above this one.
 #[inline(always)]
 pub(crate) fn above(items: &[Held], place: u16, last: Cell) -> Option<&Held>
     ensures { IfSome result (λ one. RisesAbove items.entry.now place last one.now) }

@@ -1,3 +1,4 @@
+//! Holds the record of a closed timestep with a plain list of its cells beside it.
 ghost use Rattle.std.specs.Prelude.{◌≡◌, IfOk, MatchOption, Some, drop};
 ghost use Rattle.rw_run.specs.Trace.{lines_in};
 ghost use Rattle.rw_record.specs.Noted.{noted_in};
@@ -9,7 +10,7 @@ use rw_run::{Held, Trace};
 use std::alloc::Global;
 use std::marker::Model;
 
-/// A closed timestep, as it is kept, with a list of its cells beside it.
+/// The record of a closed timestep with a plain list of its cells.
 #[derive(Drop)]
 pub struct StepRecord {
     kept: KeptStep,
@@ -28,9 +29,9 @@ impl Model for StepRecord {
 }
 
 impl StepRecord {
-    /// The record of a timestep of which this is noted, and whose lines stand in the trace from this place on. `None`
-    /// exactly where it has more than `MOST_KEPT` cells or lines. The one error is want of memory. `docs/DEFINITIONS.md`
-    /// says under "Reuse" what is kept.
+    /// Returns the record of a timestep of which this is noted, and whose lines are in the trace from this place on. `None`
+    /// exactly where it has more than `MOST_KEPT` cells or lines. The one error is want of memory. `docs/DEFINITIONS.md` says
+    /// under "Reuse" what is kept.
     pub fn of(
         alloc: Global,
         step: StepNo,
@@ -48,42 +49,42 @@ impl StepRecord {
         listed(alloc, kept)
     }
 
-    /// The same as it is kept.
+    /// Returns the record as it is kept.
     pub fn kept(&self) -> &KeptStep
         ensures { result.now ≡ self.now }
     {
         &self.kept
     }
 
-    /// Which timestep it is.
+    /// Returns the timestep.
     pub fn step(&self) -> StepNo
         ensures { result.0 ≡ self.now.step }
     {
         self.kept.step()
     }
 
-    /// The cells at which it looked or which its puts reached, with what they held before it.
+    /// Returns the cells at which it looked or which its puts reached, with what they held before it.
     pub fn looked(&self) -> &[Held]
         ensures { result.now ≡ self.now.looked }
     {
         self.looked.as_slice()
     }
 
-    /// The least timestep at which one of these cells is, and 65,535 where there is none.
+    /// Returns the least timestep at which one of these cells is, and 65,535 where there is none.
     pub fn first(&self) -> StepNo
         ensures { result.0 ≡ least_step self.now.looked }
     {
         self.kept.first()
     }
 
-    /// The greatest timestep at which one of these cells is, and 0 where there is none.
+    /// Returns the greatest timestep at which one of these cells is, and 0 where there is none.
     pub fn last(&self) -> StepNo
         ensures { result.0 ≡ greatest_step self.now.looked }
     {
         self.kept.last()
     }
 
-    /// Its lines.
+    /// Returns its lines.
     pub fn lines(&self) -> &Trace
         ensures { result.now ≡ Some self.now.lines }
     {
@@ -91,7 +92,7 @@ impl StepRecord {
     }
 }
 
-/// What is kept of a timestep, if anything, with a list of its cells.
+/// Returns what is kept of a timestep, if anything, with a plain list of its cells.
 pub fn listed(alloc: Global, kept: Option<KeptStep>) -> Result<Option<StepRecord>, NoMemory>
     ensures { IfOk result (λ found. found ≡ kept) }
 {

@@ -1,3 +1,4 @@
+//! Writes how a cell came to what it holds: the text of `why`.
 ghost use Rattle.std.specs.Prelude.{◌≡◌, ◌++◌, IfOk, OnOk, string_bytes, codes, if◌then◌else◌, []};
 ghost use Rattle.std.specs.Fmt.{decimal, signed_decimal};
 ghost use Rattle.rw_model.specs.Draft.{IsSlot};
@@ -207,10 +208,10 @@ fn push_holds(text: &mut String, content: Option<Content>) -> Result<(), NoMemor
     Ok(())
 }
 
-/// How a cell came to what it holds in the run of these inputs: a line `given` where they give its value, else a line for
-/// each put that was written to it or to a cell that shares its value with it, in order, with the timestep and who wrote it;
-/// and a last line on what it holds at the end. Values are in the base units of the slot's dimension. Of a trace that wasn't
-/// kept no put is told. The one error is want of memory. `docs/FORMATS.md` has the lines under "Why".
+/// Returns how a cell came to what it holds in the run of these inputs: a line `given` where they give its value, else a line for
+/// each put that was written to it or to a cell that shares its value with it, in order, with the timestep and who wrote it; and
+/// a last line on what it holds at the end. Values are in the base units of the slot's dimension. A trace that was not kept has
+/// no put. The one error is want of memory. `docs/FORMATS.md` has the lines under "Why".
 pub fn why(
     alloc: Global,
     basin: &Basin,

@@ -1,3 +1,4 @@
+//! Writes flags: who wrote each value, and its priority.
 ghost use Rattle.std.specs.Prelude.{◌≡◌, ◌≤◌, ◌<◌, ◌+◌, ◌∷◌, ◌++◌, [], ℕ, List, IsAscii, OnOk, string_bytes, codes, drop};
 ghost use Rattle.rw_series.specs.Series.{held};
 ghost use Rattle.rw_run.specs.Dispatch.{cell_at};
@@ -35,7 +36,7 @@ fn write_flag(buffer: &mut [u8; ROOM], content: Content, end: usize) -> usize
     write_byte(buffer, letter_of(content.writer), start)
 }
 
-/// Writes the value and the flag of a content so that they end where it is said, and answers where they begin.
+/// Writes the value and the flag of a content so that they end at `end`, and returns where they begin.
 #[inline(always)]
 pub(crate) fn write_content(buffer: &mut [u8; ROOM], content: Content, end: usize) -> usize
     requires room { (27 ≤ end) × (end ≤ 672) }
@@ -62,7 +63,7 @@ pub fn push_content_by(
     Ok(())
 }
 
-/// The same, with a buffer of its own.
+/// Appends the value and the flag of a content, with a buffer of its own.
 pub(crate) fn push_content(text: &mut String, content: Content) -> Result<(), NoMemory>
     ensures { OnOk result (string_bytes text.new ≡ string_bytes text.old ++ content_words content) }
 {
@@ -196,7 +197,7 @@ fn push_columns(text: &mut String, basin: &Basin) -> Result<(), NoMemory>
     Ok(())
 }
 
-/// Appends the flags of the first timesteps, so many of them.
+/// Appends the flags of the first `closed` timesteps.
 pub(crate) fn push_flags(
     text: &mut String,
     basin: &Basin,

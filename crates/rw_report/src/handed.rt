@@ -1,5 +1,5 @@
-// A section that is handed over to a sink in pieces, so that no text holds its table. What wants memory is made before the first
-// piece: where there is none, nothing was written.
+//! Writes a section to a sink in pieces, so that no text holds its table. What wants memory is made before the first piece: where
+//! there is none, nothing was written.
 ghost use Rattle.std.specs.Prelude.{◌≡◌, ◌≤◌, ◌+◌, ◌++◌, ℕ, List, [], IfOk, codes, drop, length, MatchResult, option_map, string_bytes};
 ghost use Rattle.rw_io.specs.Handed.{BrokeOff, PassesOn, IsOnItsWay};
 ghost use Rattle.rw_io.specs.Outside.{SinkView};
@@ -20,7 +20,7 @@ use rw_run::Run;
 use rw_series::{Series, StepCells};
 use std::alloc::Global;
 
-/// Why a section isn't written whole.
+/// The reasons why a section is not written whole.
 #[derive(Clone, Copy, Debug, PartialEq, Eq)]
 pub enum Unwritten {
     /// There was no memory, and nothing was written.
@@ -236,8 +236,8 @@ fn hand_section<K: Sink>(
     }
 }
 
-/// Writes the text of `section` to a sink, in pieces of up to 65,536 bytes and what is told besides the table in one of its
-/// own. What wants memory is made before the first piece.
+/// Writes the text of `section` to a sink, in pieces of up to 65,536 bytes, and what comes before and after the table in one of
+/// its own. What needs memory is made before the first piece.
 pub fn write_section<K: Sink>(
     alloc: Global,
     basin: &Basin,

@@ -1,3 +1,4 @@
+//! Writes how a run ended: the first line of a section, and the words of a fault.
 ghost use Rattle.std.specs.Prelude.{◌≡◌, ◌++◌, OnOk, string_bytes, codes};
 ghost use Rattle.std.specs.Fmt.{decimal};
 ghost use Rattle.rw_run.specs.declared.fault.RunFault.TheVariants as RunFault;
@@ -126,7 +127,7 @@ fn push_rule_limit(
     Ok(())
 }
 
-/// Appends what happened.
+/// Appends the words of a fault.
 pub(crate) fn push_fault(text: &mut String, basin: &Basin, fault: RunFault) -> Result<(), NoMemory>
     ensures { OnOk result
         (string_bytes text.new ≡ string_bytes text.old ++ fault_words basin.now fault) }

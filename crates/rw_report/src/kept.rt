@@ -1,4 +1,4 @@
-// The lines of a table, each kept beside the values from which it was told.
+//! Keeps the lines of a table, each with the values that it shows, and writes only those anew of which a value changed.
 ghost use Rattle.std.specs.Prelude.{◌≡◌, ◌≤◌, ◌<◌, ◌+◌, ◌-◌, ◌++◌, ℕ, List, OnOk, string_bytes, length, true, vec_len};
 ghost use Rattle.std.specs.List.{All};
 ghost use Rattle.rw_model.specs.Objects.{all_slots};
@@ -15,12 +15,12 @@ use rw_model::Basin;
 use rw_series::Series;
 use std::alloc::Global;
 
-/// A line of a table, beside the values from which it was told.
+/// A line of a table, with the values that it shows.
 #[derive(Drop)]
 pub(crate) struct KeptLine {
-    /// The timestep of which it tells, which is 0 while it is made.
+    /// The timestep of the line, which is 0 while it is made.
     pub(crate) step: u16,
-    /// The values of all slots at it.
+    /// The values of all slots at that timestep.
     pub(crate) values: Vec<KeptValue>,
     /// Its text.
     pub(crate) text: String,
@@ -29,9 +29,9 @@ pub(crate) struct KeptLine {
 /// How many of the first lines stay as they are, and how many are kept.
 #[derive(Clone, Copy, Drop)]
 pub(crate) struct Extent {
-    /// The lines that tell what they told.
+    /// The first lines, which show what they showed.
     pub(crate) first: u16,
-    /// The lines that are kept, those among them.
+    /// The lines that are kept, these among them.
     pub(crate) kept: u16,
 }
 
@@ -192,7 +192,7 @@ fn push_line(
     Ok(())
 }
 
-/// How many of the first lines tell what is held, of so many at most, where the first ones are known to.
+/// Counts the first lines that show what is held, of `most` at most, where the first ones are known to.
 pub(crate) fn count_current(
     lines: &[KeptLine],
     basin: &Basin,
@@ -225,7 +225,7 @@ fn cut_last(text: &mut Vec<u8>, line: &KeptLine)
     text.truncate(rest);
 }
 
-/// Leaves of the texts of lines those of the first ones.
+/// Keeps, of the texts of lines, those of the first ones.
 pub(crate) fn cut(text: &mut Vec<u8>, lines: &[KeptLine], first: u16, told: u16)
     requires told { told ≤ length lines.now }
     requires text { text.old.items ≡ first_texts told lines.now }
@@ -239,8 +239,8 @@ pub(crate) fn cut(text: &mut Vec<u8>, lines: &[KeptLine], first: u16, told: u16)
     }
 }
 
-/// Appends the lines behind the first ones, of so many timesteps, and keeps them. Those alone are told anew of which a value isn't
-/// as it was.
+/// Appends the lines after the first ones, of these timesteps, and keeps them. Those alone are written anew of which a value is
+/// not as it was.
 pub(crate) fn push_kept(
     alloc: Global,
     text: &mut Vec<u8>,

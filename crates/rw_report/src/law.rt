@@ -1,5 +1,5 @@
-//! What the texts of a run come to by its events, and texts that are worked out by hand. Each law is the `ensures` of a
-//! function that does nothing.
+//! Proves what the texts of a run are by its events, and what worked texts are. Each law is the `ensures` of a function that does
+//! nothing.
 ghost use Rattle.std.specs.Prelude.{◌≡◌, ◌++◌, ℕ, Bool, false, IsSome, IsTrue, List, Option, [], ◌∷◌, codes, None, Some};
 ghost use Rattle.rw_base.specs.declared.number.Cell.{Cell};
 ghost use Rattle.rw_base.specs.declared.number.StepNo.{StepNo};
@@ -19,8 +19,8 @@ ghost use Rattle.rw_report.specs.Whole.{reran_words, whole_of};
 ghost use Rattle.rw_report.specs.Why.{why_of};
 ghost use Rattle.rw_report.specs.Worked.{asked, five_given, no_inputs, solved_twice, traced};
 
-/// What is told of a run, and so its texts, are those of its events, where its trace is kept if it is asked for; and a section
-/// of which nothing more is asked is the heading and the table.
+/// The outcome of a run, and so its texts, are those of its events, where its trace is kept if it is asked for; and a section of
+/// which nothing more is asked is the heading and the table.
 #[tactic(auto, using(crate::proofs::Runs::same_outcome, crate::proofs::Runs::same_reason, crate::proofs::Runs::plain_section))]
 pub fn texts_of_runs()
     ensures outcome { (basin : Draft) (log : Log) (run : Run)
@@ -52,7 +52,7 @@ pub fn worked_traces()
         ≡ codes "# trace\nopen 1\nidle D\nsolve D\n  D.Y 1 -5 O2\nclose 1\n" }
 {}
 
-/// Why a cell holds what it holds: puts to linked slots, in the order in which they were written; a put of an earlier
+/// Worked reasons for what a cell holds: puts to linked slots, in the order in which they were written; a put of an earlier
 /// timestep; an unknown value; and a value that was given.
 pub fn worked_reasons()
     ensures linked { asked linked_basin no_inputs [] across_run 1 1

@@ -1,9 +1,9 @@
-//! The texts of a run. `section` answers how the run of a batch ended, and a table of what every slot held at each timestep
-//! that was closed, and which timesteps were run again, who wrote each value, and what happened, where it is asked. A `Sheet`
-//! tells such texts of a basin's runs one after another, and tells again those lines of the table alone of which a value
-//! changed. `why` answers how one cell came to what it holds. Each answers exactly the text that `specs/` defines, for any run
-//! that closed no more timesteps than the basin has, and want of memory is its one other answer. Each cell and each line of a
-//! trace is read once. Names, numbers and a heading are told alone, too, for texts of other crates.
+//! Writes the texts of a run. `section` returns how the run of a batch ended, and a table of what every slot held at each
+//! timestep that was closed; and, where that is asked for, which timesteps were run again, who wrote each value, and what
+//! happened. A `Sheet` writes such texts of a basin's runs one after another, and of the table only those lines anew of which a
+//! value changed. `why` returns how one cell came to what it holds. Each returns exactly the text that `specs/` defines, for any
+//! run that closed no more timesteps than the basin has, and want of memory is its one error. Each cell and each line of a trace
+//! is read once. Names, numbers and a heading are also written alone, for texts of other crates.
 #![tactic(auto)]
 
 mod cell;
@@ -35,4 +35,5 @@ pub use pieces::ROOM;
 pub use sheet::Sheet;
 pub use teller::Teller;
 pub use texts::{section, section_text, trace_section};
+pub use value::KeptValue;
 pub use whole::Telling;

@@ -1,3 +1,4 @@
+//! Writes the lines of a trace.
 ghost use Rattle.std.specs.Prelude.{◌≡◌, ◌≤◌, ◌<◌, ◌+◌, ◌++◌, IsAscii, OnOk, Some, slice_get, string_bytes, codes, drop, length};
 ghost use Rattle.std.specs.Fmt.{decimal};
 ghost use Rattle.rw_run.specs.declared.trace.TraceEvent.TheVariants as TraceEvent;
@@ -18,7 +19,7 @@ use rw_model::{Basin, Content};
 use rw_run::{RunFault, Trace, TraceEvent, Write};
 use std::alloc::Global;
 
-/// The line of a trace in a place, counted from 0.
+/// Returns the line of a trace in a place, counted from 0.
 #[inline(always)]
 pub fn line_at(trace: &Trace, place: usize) -> TraceEvent
     requires within { place < length (lines_in trace.now) }
@@ -146,7 +147,7 @@ fn push_listed(
     }
 }
 
-/// Appends a slot between a text and a space, of which there may be a text.
+/// Appends a slot between a text and a space; the text of the slot may be made already.
 #[inline(always)]
 pub(crate) fn push_front(
     text: &mut String,
@@ -247,7 +248,7 @@ fn push_dispatch(
     }
 }
 
-/// Appends a line of a trace, by its text where there is one.
+/// Appends a line of a trace, by its text where one is made already.
 #[inline(always)]
 pub(crate) fn push_told(
     text: &mut String,

@@ -1,3 +1,4 @@
+//! Writes the names of objects and slots.
 ghost use Rattle.std.specs.Prelude.{◌≡◌, ◌++◌, OnOk, string_bytes, nat_le, ◌&&◌, length};
 ghost use Rattle.rw_model.specs.Objects.{all_slots};
 ghost use Rattle.rw_report.specs.Section.{object_words, slot_words};
@@ -17,7 +18,7 @@ fn is_slot(basin: &Basin, slot: SlotNo) -> bool
     1 <= slot.0 && slot.0 <= basin.slot_count()
 }
 
-/// The name of an object, and nothing where there is none of its number.
+/// Returns the name of an object, and nothing where there is none of its number.
 pub fn object_words(basin: &Basin, object: ObjectNo) -> &str
     ensures { result.now ≡ object_words basin.now object.0 }
 {
@@ -43,7 +44,7 @@ pub(crate) fn push_object(
     Ok(())
 }
 
-/// Appends the name of a slot behind that of its object, and nothing where there is none of its number.
+/// Appends the name of a slot after that of its object, and nothing where there is none of its number.
 pub fn push_slot(text: &mut String, basin: &Basin, slot: SlotNo) -> Result<(), NoMemory>
     ensures { OnOk result
         (string_bytes text.new ≡ string_bytes text.old ++ slot_words basin.now slot.0) }

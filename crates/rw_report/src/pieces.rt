@@ -1,4 +1,4 @@
-// Texts that are written in an array, each in front of the one that is there, and appended in one piece.
+//! Writes texts in an array, each in front of the one that is there, so that they are appended in one piece.
 ghost use Rattle.std.specs.Prelude.{◌≡◌, ◌≤◌, ◌<◌, ◌+◌, ◌∷◌, ◌++◌, IsAscii, OnOk, string_bytes, drop};
 ghost use Rattle.std.specs.Fmt.{decimal, signed_decimal};
 
@@ -6,11 +6,11 @@ use itoa::write_digits;
 use rw_base::NoMemory;
 use std::str::from_utf8_unchecked;
 
-/// The bytes of the array that is lent to a call which writes the end of a line there before it is appended. What it held
-/// doesn't matter, nor what is left in it.
+/// The bytes of the array that is lent to a call which writes the end of a line there before it is appended. What the array held
+/// does not matter, nor what is left in it.
 pub const ROOM: usize = 672;
 
-/// Writes a byte so that it ends where it is said, and answers where it begins.
+/// Writes a byte so that it ends at `end`, and returns where it begins.
 #[inline(always)]
 pub(crate) fn write_byte(buffer: &mut [u8; ROOM], byte: u8, end: usize) -> usize
     requires room { (1 ≤ end) × (end ≤ 672) }
@@ -22,7 +22,7 @@ pub(crate) fn write_byte(buffer: &mut [u8; ROOM], byte: u8, end: usize) -> usize
     start
 }
 
-/// Writes a number.
+/// Writes a number so that it ends at `end`, and returns where it begins.
 #[inline(always)]
 pub(crate) fn write_number(buffer: &mut [u8; ROOM], number: i64, end: usize) -> usize
     requires room { (20 ≤ end) × (end ≤ 672) }
@@ -38,7 +38,7 @@ pub(crate) fn write_number(buffer: &mut [u8; ROOM], number: i64, end: usize) -> 
     start - 1
 }
 
-/// Writes a count.
+/// Writes a count so that it ends at `end`, and returns where it begins.
 #[inline(always)]
 pub(crate) fn write_count(buffer: &mut [u8; ROOM], count: u16, end: usize) -> usize
     requires room { (5 ≤ end) × (end ≤ 672) }

@@ -1,3 +1,4 @@
+//! Holds the text of the section that was written last, and writes the next one from it.
 ghost use Rattle.std.specs.Prelude.{◌≡◌, ◌≤◌, ◌<◌, ◌+◌, ◌++◌, ℕ, IfErr, IfOk, OnOk, option_map, string_bytes, []};
 ghost use Rattle.std.specs.List.{All};
 ghost use Rattle.rw_series.specs.Series.{held};
@@ -15,8 +16,8 @@ use rw_run::Run;
 use std::alloc::Global;
 use std::marker::Model;
 
-/// What was told last of a basin's runs, seen as the basin, the text and the values of the lines that it keeps. A sheet that is to
-/// keep them keeps those of the table, and tells anew those alone of which a value isn't as it was.
+/// The section that was written last of a basin's runs, seen as the basin, the text and the values of the lines that it keeps. A
+/// sheet that is to keep lines keeps those of the table, and writes only those anew of which a value is not as it was.
 #[derive(Drop)]
 pub struct Sheet<'a> {
     alloc: Global,
@@ -111,8 +112,8 @@ fn push_pieces(
 }
 
 impl<'a> Sheet<'a> {
-    /// A sheet on which nothing is told of the basin's runs. Whether it keeps lines goes by `keeps`: for a sheet that tells one
-    /// section they are of no use. It takes no memory.
+    /// Returns a sheet on which nothing is written yet. It keeps lines where `keeps` is true: for a sheet of one section they are
+    /// of no use. It takes no memory.
     pub fn new(alloc: Global, basin: &'a Basin, keeps: bool) -> Sheet<'a>
         ensures { result ≡ record { basin = basin.now; text = []; values = [] } }
     {
@@ -128,8 +129,8 @@ impl<'a> Sheet<'a> {
         }
     }
 
-    /// Tells the section of a batch, as `section` does, in the place of what was told: of timesteps before `same` the values are
-    /// those that it told last. After want of memory nothing is told.
+    /// Writes the section of a batch, as `section` does, in the place of what was written: at timesteps before `same` the values
+    /// are those that it wrote last. After want of memory nothing is written on it.
     pub fn tell(&mut self, run: &Run, telling: &Telling<'_>, same: u16) -> Result<(), NoMemory>
         requires closed { run.now.closed ≤ self.old.basin.control.stamps.count }
         requires same { AreToldBefore self.old.basin (held run.now.series) same self.old.values }
@@ -175,7 +176,7 @@ impl<'a> Sheet<'a> {
         }
     }
 
-    /// What was told last: the bytes of that section, as they lie. It takes no memory.
+    /// Returns the bytes of the section that was written last, as they lie. It takes no memory.
     pub fn text(&self) -> Pieces<'_>
         ensures { result ≡ self.now.text }
     {

@@ -1,3 +1,4 @@
+//! Writes the table of a section: the line of names, and a line for each closed timestep.
 ghost use Rattle.std.specs.Prelude.{◌≡◌, ◌≤◌, ◌<◌, ◌+◌, ◌++◌, ℕ, List, IsAscii, OnOk, string_bytes, codes, drop, option_map, length};
 ghost use Rattle.std.specs.Fmt.{decimal, signed_decimal};
 ghost use Rattle.rw_calendar.specs.Stamps.{end_of_step, stamp_text};
@@ -126,7 +127,7 @@ fn push_block(
     Ok(())
 }
 
-/// The last of the slots that are written in one piece behind the first ones.
+/// Returns the last of the slots that are written in one piece after the first ones.
 pub(crate) fn last_of_block(first: u16, count: u16) -> u16
     requires { first < count }
     ensures more { first < result }
@@ -218,7 +219,7 @@ pub(crate) fn push_row(
     Ok(())
 }
 
-/// Appends the lines of the first timesteps, so many of them, to a text that has the first ones already.
+/// Appends the lines of the first `closed` timesteps to a text that has the first `first` ones already.
 pub(crate) fn push_rows(
     alloc: Global,
     text: &mut String,

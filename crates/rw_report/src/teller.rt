@@ -1,3 +1,4 @@
+//! Writes lines of a trace for callers outside this crate, by texts that are made once.
 ghost use Rattle.std.specs.Prelude.{◌≡◌, ◌++◌, IfOk, OnOk, codes, string_bytes};
 ghost use Rattle.rw_run.specs.RunOf.{line_of};
 ghost use Rattle.rw_report.specs.Lines.{line_words};
@@ -12,7 +13,7 @@ use rw_run::{TraceEvent, Write};
 use std::alloc::Global;
 use std::marker::Model;
 
-/// Tells lines of the traces of a basin, and is seen as the basin. It keeps the texts that many lines have in common, each made
+/// A writer of lines of the traces of a basin, seen as the basin. It keeps the texts that many lines have in common, each made
 /// once.
 #[derive(Drop)]
 pub struct Teller<'a> {
@@ -36,7 +37,7 @@ impl<'a> Model for Teller<'a> {
 }
 
 impl<'a> Teller<'a> {
-    /// A teller of a basin. The one error is want of memory, as of each of its calls.
+    /// Returns a teller of a basin. The one error is want of memory, as of each of its calls.
     pub fn new(alloc: Global, basin: &'a Basin) -> Result<Teller<'a>, NoMemory>
         ensures { IfOk result (λ teller. teller ≡ basin.now) }
     {
@@ -49,7 +50,7 @@ impl<'a> Teller<'a> {
         })
     }
 
-    /// The basin.
+    /// Returns the basin.
     pub fn basin(&self) -> &Basin
         ensures { result.now ≡ self.now }
     {

@@ -1,3 +1,4 @@
+//! Returns the section of a run as a text.
 ghost use Rattle.std.specs.Prelude.{◌≡◌, ◌≤◌, IfOk, option_map, string_bytes};
 ghost use Rattle.rw_report.specs.Outcome.{outcome_of};
 ghost use Rattle.rw_report.specs.Whole.{trace_of_run, whole_of};
@@ -9,13 +10,13 @@ use rw_model::Basin;
 use rw_run::Run;
 use std::alloc::Global;
 
-/// The text of the section of the batch of this number: a line on how its run ended; where timesteps are given that were run
-/// again, a line on them; a line of column names, and a line for each closed timestep with its number, the moment at which
-/// it ends and the values of all slots, in the base units of their dimensions and in the order of their numbers; with
-/// `flags` a table of who wrote each value and its priority; with `trace` what happened, line by line. What isn't asked for
-/// isn't made, and of a trace that wasn't kept no line is told. Every line ends in a line feed, and an unknown value is
-/// nothing. An object or a slot that a fault names and the basin doesn't have is written as nothing. The one error is want
-/// of memory. `docs/FORMATS.md` has it under "Table" and "Reruns, flags and trace".
+/// Returns the text of the section of the batch of this number: a line on how its run ended; where timesteps are given that were
+/// run again, a line on them; a line of column names, and a line for each closed timestep with its number, the moment at which it
+/// ends and the values of all slots, in the base units of their dimensions and in the order of their numbers; with `flags` a
+/// table of who wrote each value and its priority; with `trace` what happened, line by line. What is not asked for is not made,
+/// and a trace that was not kept has no line. Every line ends in a line feed, and an unknown value is nothing. An object or a
+/// slot that a fault names and the basin does not have is written as nothing. The one error is want of memory. `docs/FORMATS.md`
+/// has it under "Table" and "Reruns, flags and trace".
 pub fn section(
     alloc: Global,
     basin: &Basin,
@@ -40,7 +41,7 @@ pub fn section(
     Ok(text.into_bytes())
 }
 
-/// The same, as a text to which more can be appended.
+/// Returns that text, so that more can be appended.
 pub fn section_text(
     alloc: Global,
     basin: &Basin,
@@ -57,8 +58,8 @@ pub fn section_text(
     Ok(text)
 }
 
-/// The text of the section of the trace of this number: a line on how its run ended, and the table, as `section` writes them.
-/// The one error is want of memory.
+/// Returns the text of the section of the trace of this number: a line on how its run ended, and the table, as `section` writes
+/// them. The one error is want of memory.
 pub fn trace_section(
     alloc: Global,
     basin: &Basin,

@@ -1,4 +1,4 @@
-// Texts that many lines of a trace have in common, each made once.
+//! Makes the texts that many lines of a trace have in common, each once.
 ghost use Rattle.std.specs.Prelude.{◌≡◌, ◌+◌, ◌++◌, ℕ, List, IfOk, IfSome, OnOk, string_bytes, codes};
 ghost use Rattle.rw_report.specs.Pieces.{AreLineTexts, AreTexts, object_line, slot_behind};
 
@@ -7,7 +7,7 @@ use rw_base::{NoMemory, ObjectNo, SlotNo};
 use rw_model::Basin;
 use std::alloc::Global;
 
-/// Such texts, by the numbers of objects and of slots.
+/// The texts, by the numbers of objects and of slots.
 #[derive(Drop)]
 pub(crate) struct LineTexts {
     /// The line of an object that put nothing.
@@ -81,7 +81,7 @@ fn object_texts(alloc: Global, basin: &Basin, word: &str) -> Result<Vec<String>,
     Ok(texts)
 }
 
-/// All slots, each between a text and a space.
+/// Returns all slots, each between a text and a space.
 pub(crate) fn slot_texts(alloc: Global, basin: &Basin, front: &str) -> Result<Vec<String>, NoMemory>
     ensures { IfOk result (λ texts. AreTexts (slot_behind basin.now front.now) texts.items) }
 {
@@ -92,7 +92,7 @@ pub(crate) fn slot_texts(alloc: Global, basin: &Basin, front: &str) -> Result<Ve
     Ok(texts)
 }
 
-/// The texts of a basin's lines.
+/// Returns the texts of a basin's lines.
 pub(crate) fn line_texts(alloc: Global, basin: &Basin) -> Result<LineTexts, NoMemory>
     ensures { IfOk result (λ texts. AreLineTexts basin.now texts) }
 {
@@ -103,7 +103,7 @@ pub(crate) fn line_texts(alloc: Global, basin: &Basin) -> Result<LineTexts, NoMe
     })
 }
 
-/// The text of a number, where there is one.
+/// Returns the text of a number, where there is one.
 #[inline(always)]
 pub(crate) fn text_of(texts: &[String], number: u16) -> Option<&str>
     ensures { (words : ℕ → List ℕ) → AreTexts words texts.entry.now

@@ -1,16 +1,17 @@
-// A value of a kept line, in eight bytes.
-ghost use Rattle.std.specs.Prelude.{◌≡◌, option_map, true};
+//! Packs the value of a cell, or none, into eight bytes.
+ghost use Rattle.std.specs.Prelude.{◌≡◌, option_map, None, true};
 ghost use Rattle.rw_model.specs.declared.content.Content.{Content};
 
+use rw_base::QUANTITY_MAX;
 use rw_model::Content;
 use std::marker::Model;
 
 // As what no value is kept, which is no quantity.
 const NONE: i64 = i64::MAX;
 
-/// A value from which a line was told, seen as a value or none.
+/// What a cell holds, seen as a value in the base unit of its slot or none.
 #[derive(Drop)]
-pub(crate) struct KeptValue {
+pub struct KeptValue {
     number: i64,
 }
 
@@ -24,9 +25,9 @@ impl Model for KeptValue {
 }
 
 impl KeptValue {
-    /// The value that a cell holds.
+    /// Returns the value of a content, or none.
     #[inline(always)]
-    pub(crate) fn of(content: Option<Content>) -> KeptValue
+    pub fn of(content: Option<Content>) -> KeptValue
         ensures { result ≡ option_map (λ (content : Content). content.value) content }
     {
         match content {
@@ -37,7 +38,19 @@ impl KeptValue {
         }
     }
 
-    /// Whether a cell holds this value.
+    /// Returns the value, if there is one.
+    #[inline(always)]
+    pub fn get(&self) -> Option<i64>
+        ensures { result ≡ self.now }
+    {
+        if self.number <= QUANTITY_MAX {
+            Some(self.number)
+        } else {
+            None
+        }
+    }
+
+    // Returns whether a content has this value.
     #[inline(always)]
     pub(crate) fn is_in(&self, content: Option<Content>) -> bool
         ensures { result ≡ true

@@ -1,3 +1,4 @@
+//! Writes a whole section from its parts: heading, table, flags and trace.
 ghost use Rattle.std.specs.Prelude.{◌≡◌, ◌≤◌, ◌++◌, ℕ, List, OnOk, option_map, string_bytes, codes};
 ghost use Rattle.std.specs.Fmt.{decimal};
 ghost use Rattle.rw_series.specs.Series.{held};
@@ -18,16 +19,16 @@ use rw_model::Basin;
 use rw_run::Run;
 use std::alloc::Global;
 
-/// What is told of a run in the section of a batch, besides how it ended and its table.
+/// What the section of a batch says of a run besides how it ended and its table.
 #[derive(Clone, Copy, Drop)]
 pub struct Telling<'a> {
     /// The number of the batch.
     pub batch: u32,
-    /// The timesteps that were run again, where that is told.
+    /// The timesteps that were run again, where the section has a line on them.
     pub reran: Option<&'a [StepNo]>,
-    /// Whether a table tells who wrote each value and its priority.
+    /// Whether the section has a table of who wrote each value and its priority.
     pub flags: bool,
-    /// Whether what happened is told line by line.
+    /// Whether the section has what happened, line by line.
     pub trace: bool,
 }
 
@@ -129,7 +130,7 @@ pub(crate) fn push_trace_if(
     }
 }
 
-/// Appends what stands before the first line of the table.
+/// Appends what comes before the first line of the table.
 pub(crate) fn push_head(
     text: &mut String,
     basin: &Basin,
@@ -144,7 +145,7 @@ pub(crate) fn push_head(
     push_columns(text, basin)
 }
 
-/// Appends the lines of the table behind the first ones, so many of them, and what stands behind the last one.
+/// Appends the lines of the table after the first `first` ones, and what comes after the last one.
 pub(crate) fn push_rest(
     alloc: Global,
     text: &mut String,

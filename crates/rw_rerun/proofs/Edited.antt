@@ -89,13 +89,13 @@ module _ (basin : Draft) (old new : Inputs) (cell : Cell)
       ∙ sym (ap (λ log. cells_of basin log cell) (placed-append other (placings_to new slot steps) (placings_of new (suc slot) steps)))
 
 -- other cells are given what they were given before the batch
-pub given_alike : (basin : Draft) (batch : Batch) (old new : Inputs) (cells : List Cell) → IsInputsOf basin old
-    → value_at new ≡ after_batch batch (value_at old) → AreEdited basin batch cells → (cell : Cell) → is_edited basin cells cell ≡ false
+pub given_alike : (basin : Draft) (batch : Batch) (old new : Inputs) (cells : List Cell)
+    → value_at new ≡ after_batch batch (value_at old) → AreEdited basin batch old cells → (cell : Cell) → is_edited basin cells cell ≡ false
     → cells_of basin (with_inputs [] (placings basin old)) cell ≡ cells_of basin (with_inputs [] (placings basin new)) cell
-given_alike basin batch old new cells made values edited cell apart =
+given_alike basin batch old new cells values edited cell apart =
     to_alike basin old new cell
     (λ slot step shared.
-    sym (edited.same old (cell_at slot step) made (unnamed slot step shared (list_any (is_same_cell (cell_at slot step)) cells) refl))
+    sym (edited.same (cell_at slot step) (unnamed slot step shared (list_any (is_same_cell (cell_at slot step)) cells) refl))
     ∙ sym (ap (λ (v : Values). v slot step) values))
     (length (all_slots basin.objects)) basin.control.stamps.count [] [] refl
   where
@@ -262,10 +262,11 @@ module _ (basin : Draft) (inputs : Inputs) (cell kept : Cell) (made : IsInputsOf
           ∙ ap (option_map input_content) (same_kept basin inputs cell kept made shared least first (alike first (first_of first cells)) here)
 
 -- given anew, they hold what they hold where the inputs are placed
-pub given_anew : (basin : Draft) (batch : Batch) (inputs : Inputs) (cells : List Cell) → IsInputsOf basin inputs → AreEdited basin batch cells
+pub given_anew : (basin : Draft) (batch : Batch) (old inputs : Inputs) (cells : List Cell) → IsInputsOf basin inputs
+    → AreEdited basin batch old cells
     → (was : Cells) (cell : Cell) → is_edited basin cells cell ≡ true
     → given_all basin inputs cells was cell ≡ cells_of basin (with_inputs [] (placings basin inputs)) cell
-given_anew basin batch inputs cells made edited was cell shared =
+given_anew basin batch old inputs cells made edited was cell shared =
     let found = Any-from_list_any (λ one. is_shared basin one cell) cells shared in
     let has : Contains cells found.1 = (found.0, found.2, found.3) in
     let known : IsCell basin found.1 = All-contains (IsCell basin) cells found.1 edited.known has in

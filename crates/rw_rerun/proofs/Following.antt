@@ -192,13 +192,13 @@ passes_next basin policy session inputs cells behind was spare before after (Ok 
 pub leaves_first : (basin : Draft) (policy : Accepted) (session : Session) (batch : Batch) (inputs : Inputs) (given cells : List Cell) (behind : ℕ)
     (was : List (Option StepRecord)) → IsSessionOf basin policy session → value_at inputs ≡ after_batch batch (value_at session.inputs)
     → IsInputsOf basin inputs
-    → AreEdited basin batch given → given ≡ cells → session.kept ≡ was → CountsUntouched basin cells was behind
+    → AreEdited basin batch session.inputs given → given ≡ cells → session.kept ≡ was → CountsUntouched basin cells was behind
     → LeavesFirst basin batch cells session.inputs inputs session.kept behind
 leaves_first basin policy session batch inputs given cells behind was is values made edited same lent untouched = record {
   old_made = is.given;
   new_made = made;
   values = values;
-  edited = subst (AreEdited basin batch) same edited;
+  edited = subst (AreEdited basin batch session.inputs) same edited;
   many = is.many;
   untouched = subst (λ kept. CountsUntouched basin cells kept behind) (sym lent) untouched;
 }

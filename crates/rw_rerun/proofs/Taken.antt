@@ -143,7 +143,7 @@ told_in basin policy inputs records end linked =
 
 module _ (basin : Draft) (policy : Policy) (old new : Inputs) (batch : Batch) (cells : List Cell) (earlier end : Log)
     (was : List (Option StepRecord)) (behind : ℕ) (old_made : IsInputsOf basin old) (new_made : IsInputsOf basin new)
-    (values : value_at new ≡ after_batch batch (value_at old)) (edited : AreEdited basin batch cells)
+    (values : value_at new ≡ after_batch batch (value_at old)) (edited : AreEdited basin batch old cells)
     (are : AreUntouched basin cells (with_inputs [] (placings basin old)) (with_inputs [] (placings basin new)) (take behind was) behind) where
   abbrev start : Log
   start = with_inputs [] (placings basin new)
@@ -156,11 +156,11 @@ module _ (basin : Draft) (policy : Policy) (old new : Inputs) (batch : Batch) (c
     module _ (before after : Engine) (showed : Shows basin before end) (gives : GivesAll basin new cells before after) where
       cell_shown : (cell : Cell) (shared : Bool) → is_edited basin cells cell ≡ shared → held after.series cell ≡ cells_of basin over.log cell
       cell_shown cell true shared =
-          gives.holds cell ∙ given_anew basin batch new cells new_made edited (held before.series) cell shared
+          gives.holds cell ∙ given_anew basin batch old new cells new_made edited (held before.series) cell shared
           ∙ sym (unmoved_in basin policy are.records 1 start over.log cell over.taken.linked (are.without cell shared))
       cell_shown cell false apart =
           gives.holds cell ∙ not_given basin new cells (held before.series) cell apart ∙ showed.cells cell
-          ∙ over.alike cell (given_alike basin batch old new cells old_made values edited cell apart)
+          ∙ over.alike cell (given_alike basin batch old new cells values edited cell apart)
 
       same_trace : trace_of end ≡ trace_of over.log
       same_trace = told_in basin policy old are.records end own.linked ∙ sym (told_in basin policy new are.records over.log over.taken.linked)
@@ -183,13 +183,13 @@ module _ (basin : Draft) (policy : Policy) (old new : Inputs) (batch : Batch) (c
       log = over.log;
       taken = subst (λ ks. HasTakenOver basin policy new earlier ks over.log behind) (sym are.are)
           (subst (HasTakenOver basin policy new earlier those over.log) are.many over.taken);
-      alike = λ cell apart. over.alike cell (given_alike basin batch old new cells old_made values edited cell apart);
+      alike = λ cell apart. over.alike cell (given_alike basin batch old new cells values edited cell apart);
       shows = λ before after showed gives. shown_given before after showed gives;
     }
 
 pub takes_first : (basin : Draft) (policy : Policy) (old new : Inputs) (batch : Batch) (cells : List Cell) (earlier end : Log)
     (was : List (Option StepRecord)) (behind : ℕ) → IsFramed policy → IsInputsOf basin old → IsInputsOf basin new
-    → value_at new ≡ after_batch batch (value_at old) → AreEdited basin batch cells → length was ≡ basin.control.stamps.count
+    → value_at new ≡ after_batch batch (value_at old) → AreEdited basin batch old cells → length was ≡ basin.control.stamps.count
     → CountsUntouched basin cells was behind → AreKept basin policy earlier 1 was
     → AreStepLinks basin policy 1 (with_inputs [] (placings basin old)) (take behind was) end
     → TakesFirst basin policy new cells earlier end was behind
@@ -198,7 +198,7 @@ takes_first basin policy old new batch cells earlier end was behind framed old_m
     let other : Log = with_inputs [] (placings basin new) in
     let are : AreUntouched basin cells one other (take behind was) behind =
     untouched_first basin cells was behind one other untouched
-    (λ cell apart. given_alike basin batch old new cells old_made values edited cell apart) in
+    (λ cell apart. given_alike basin batch old new cells values edited cell apart) in
     let near : length are.records ≤ basin.control.stamps.count = let same = are.many in let few = untouched.few in omega (arith, same, few, many) in
     let kept_here = subst (AreKept basin policy earlier 1) are.are (first_kept basin policy earlier 1 behind was kept) in
     let linked_here = subst (λ ks. AreStepLinks basin policy 1 one ks end) are.are linked in

@@ -1,6 +1,6 @@
 -- Within the crate: the cells of a batch, and the timesteps that it doesn't touch.
-use Rattle.std.specs.Prelude.{◌≡◌, Bool, IsFalse, List, [], Contains, Option, IsSome, ℕ, ◌+◌, ◌-◌, length, map, take}
-use Rattle.std.specs.List.{All, list_any, range_with_len}
+use Rattle.std.specs.Prelude.{◌≡◌, Bool, not, IsFalse, List, [], Contains, Option, IsSome, ℕ, ℤ, ◌+◌, ◌-◌, length, map, take}
+use Rattle.std.specs.List.{All, filter, list_any, range_with_len}
 use Rattle.rw_base.specs.declared.number.Cell.{Cell}
 use Rattle.rw_model.specs.Draft.{Draft}
 use Rattle.rw_inputs.specs.Edits.{Batch, after_batch}
@@ -10,7 +10,7 @@ use Rattle.rw_inputs.specs.declared.edit.Edit.{Edit}
 use Rattle.rw_series.specs.Series.{IsCell, is_shared}
 use Rattle.rw_run.specs.Dispatch.{cell_at}
 use Rattle.rw_run.specs.Log.{Log, cells_of}
-use Rattle.rw_run.specs.Next.{Policy}
+use Rattle.rw_run.specs.Next.{Policy, is_same_value}
 use Rattle.rw_run.specs.Runs.{with_inputs}
 use Rattle.rw_run.specs.Step.{is_same_cell}
 use Rattle.rw_record.specs.Record.{StepRecord}
@@ -28,15 +28,23 @@ use Rattle.rw_rerun.specs.declared.spare.Spare.{Spare}
 abbrev pub cells_named : Draft → Edit → List Cell
 cells_named basin edit = map (cell_at (kept_slot basin edit.slot)) (range_with_len edit.first (edit.last - edit.first + 1))
 
+-- inputs don't give the cell this value
+abbrev pub gives_another : Inputs → Option ℤ → Cell → Bool
+gives_another inputs value cell = not (is_same_value (value_at inputs cell.slot.0 cell.step.0) value)
+
+-- those of the cells that an edit names to which it gives another value than inputs do
+abbrev pub cells_changed : Draft → Inputs → Edit → List Cell
+cells_changed basin inputs edit = filter (gives_another inputs edit.value) (cells_named basin edit)
+
 -- the cell shares its value with one of these
 abbrev pub is_edited : Draft → List Cell → Cell → Bool
 is_edited basin cells cell = list_any (λ edited. is_shared basin edited cell) cells
 
--- these are cells at which inputs are kept, and no input changes elsewhere
-pub record AreEdited (basin : Draft) (batch : Batch) (cells : List Cell) : Type 0 where
+-- these are cells at which inputs are kept, and none of these inputs changes elsewhere
+pub record AreEdited (basin : Draft) (batch : Batch) (inputs : Inputs) (cells : List Cell) : Type 0 where
   pub known : All (IsCell basin) cells
   pub least : (cell : Cell) → Contains cells cell → kept_slot basin cell.slot.0 ≡ cell.slot.0
-  pub same : (inputs : Inputs) (cell : Cell) → IsInputsOf basin inputs → IsFalse (list_any (is_same_cell cell) cells)
+  pub same : (cell : Cell) → IsFalse (list_any (is_same_cell cell) cells)
       → after_batch batch (value_at inputs) cell.slot.0 cell.step.0 ≡ value_at inputs cell.slot.0 cell.step.0
 
 -- the run of these inputs takes so many first timesteps over: cells that aren't given anew hold there what they held in the earlier
@@ -54,7 +62,7 @@ pub record LeavesFirst (basin : Draft) (batch : Batch) (cells : List Cell) (old 
   pub old_made : IsInputsOf basin old
   pub new_made : IsInputsOf basin new
   pub values : value_at new ≡ after_batch batch (value_at old)
-  pub edited : AreEdited basin batch cells
+  pub edited : AreEdited basin batch old cells
   pub many : length was ≡ basin.control.stamps.count
   pub untouched : CountsUntouched basin cells was behind
 

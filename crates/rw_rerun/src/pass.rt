@@ -1,3 +1,4 @@
+//! Holds a run on its way, of which timesteps are taken over or run.
 use crate::orders::Orders;
 use rw_base::StepNo;
 use rw_engine::{Engine, KeptStep};

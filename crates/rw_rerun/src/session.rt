@@ -1,3 +1,4 @@
+//! Runs a basin from its inputs, and after each batch of edits again, as a session.
 ghost use Rattle.std.specs.Prelude.{◌≡◌, ◌≤◌, map, IfErr, IfOk, is_some};
 ghost use Rattle.rpl_verify.specs.Verified.{Accepted};
 ghost use Rattle.rw_engine.specs.Passing.{CanRun, ComesTo};

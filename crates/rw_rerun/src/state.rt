@@ -1,3 +1,4 @@
+//! Holds how far a session has come, and makes the run after the next batch of edits.
 ghost use Rattle.std.specs.Prelude.{◌≡◌, ◌≤◌, All, length, map, IfErr, IfOk, is_some};
 ghost use Rattle.rpl_verify.specs.Verified.{Accepted};
 ghost use Rattle.rw_engine.specs.Passing.{CanRun, ComesTo};
@@ -209,7 +210,7 @@ impl<'a> State<'a> {
         ensures counted { CountsRuns setup.now.basin.now steps.old steps.new result
             (λ done. self.new.reran) }
     {
-        let cells = edited(alloc, setup.basin, batch)?;
+        let cells = edited(alloc, setup.basin, &self.inputs, batch)?;
         let inputs = apply(alloc, setup.basin, &self.inputs, batch)?;
         let behind = left(setup.basin, &self.kept, &cells);
         let pass = self.pass_next(alloc, setup, &inputs, &cells, behind, steps)?;

@@ -1,19 +1,20 @@
 // Which timesteps a batch touches.
-ghost use Rattle.std.specs.Prelude.{◌≡◌, ◌≤◌, ◌+◌, ◌^◌, ◌++◌, ◌↔◌, All, IfOk, IfSome, OnOk, length, map, true};
-ghost use Rattle.std.specs.List.{flat_map, list_any, range_with_len};
+ghost use Rattle.std.specs.Prelude.{◌≡◌, ◌≤◌, ◌+◌, ◌^◌, ◌++◌, ◌∷◌, [], ◌↔◌, All, IfOk, IfSome, OnOk, length, map, true};
+ghost use Rattle.std.specs.List.{filter, flat_map, list_any, range_with_len};
 ghost use Rattle.rw_inputs.specs.Edits.{IsBatch, IsEdit};
-ghost use Rattle.rw_inputs.specs.Inputs.{kept_slot};
+ghost use Rattle.rw_inputs.specs.Inputs.{IsInputsOf, kept_slot};
 ghost use Rattle.rw_model.specs.Draft.{IsSlot};
 ghost use Rattle.rw_run.specs.Dispatch.{cell_at};
+ghost use Rattle.rw_run.specs.Next.{is_same_value};
 ghost use Rattle.rw_run.specs.Step.{is_same_cell};
 ghost use Rattle.rw_record.specs.Noted.{is_noted};
 ghost use Rattle.rw_record.specs.Record.{AreRisingCells, IsBelow};
-ghost use Rattle.rw_rerun.specs.Edited.{AreEdited, cells_named};
+ghost use Rattle.rw_rerun.specs.Edited.{AreEdited, cells_changed, gives_another};
 ghost use Rattle.rw_rerun.specs.Touched.{AreRisingIn, CountsBelow, CountsUntouched, is_reached, is_untouched, spans};
 
-use rw_base::{Cell, NoMemory, SlotNo, StepNo};
+use rw_base::{Cell, NoMemory, Qty, SlotNo, StepNo};
 use rw_engine::{HeldList, KeptStep};
-use rw_inputs::{Batch, Edit};
+use rw_inputs::{Batch, Edit, Inputs};
 use rw_model::Basin;
 use std::alloc::Global;
 
@@ -28,47 +29,101 @@ fn least_of(basin: &Basin, slot: SlotNo) -> SlotNo
     }
 }
 
-// Adds the cells of a slot at so many timesteps, from this one on.
-fn add_cells(cells: &mut Vec<Cell>, slot: SlotNo, first: u16, count: u16) -> Result<(), NoMemory>
-    requires few { first + count ≤ 2 ^ 16 }
+// Whether both are the same value, or both none.
+fn is_same_value(one: Option<Qty>, other: &Option<Qty>) -> bool
+    ensures { result ≡ is_same_value one other.now }
+{
+    match one {
+        None => other.is_none(),
+        Some(one) => match other {
+            None => false,
+            Some(other) => one.get() == other.get(),
+        },
+    }
+}
+
+// Adds a cell, unless the inputs give it this value already.
+fn add_cell(
+    cells: &mut Vec<Cell>,
+    inputs: &Inputs,
+    cell: Cell,
+    value: &Option<Qty>,
+) -> Result<(), NoMemory>
     ensures { OnOk result (cells.new.items
-        ≡ cells.old.items ++ map (cell_at slot.0) (range_with_len first count)) }
+        ≡ cells.old.items ++ filter (gives_another inputs.now value.now) (cell ∷ [])) }
+{
+    if !is_same_value(inputs.value(cell), value) {
+        cells.push(cell)?;
+    }
+    Ok(())
+}
+
+// Adds those cells of a slot at so many timesteps, from this one on, to which the inputs don't give this value.
+fn add_cells(
+    cells: &mut Vec<Cell>,
+    inputs: &Inputs,
+    slot: SlotNo,
+    first: u16,
+    count: u16,
+    value: &Option<Qty>,
+) -> Result<(), NoMemory>
+    requires few { first + count ≤ 2 ^ 16 }
+    ensures { OnOk result (cells.new.items ≡ cells.old.items
+        ++ filter (gives_another inputs.now value.now) (map (cell_at slot.0) (range_with_len first count))) }
 {
     for behind in 0..count {
         let step = StepNo(first + behind);
-        cells.push(Cell { slot, step })?;
+        add_cell(cells, inputs, Cell { slot, step }, value)?;
     }
     Ok(())
 }
 
-// Adds the cells that an edit names.
-fn add_edit(cells: &mut Vec<Cell>, basin: &Basin, edit: &Edit) -> Result<(), NoMemory>
+// Adds the cells that an edit changes.
+fn add_edit(
+    cells: &mut Vec<Cell>,
+    basin: &Basin,
+    inputs: &Inputs,
+    edit: &Edit,
+) -> Result<(), NoMemory>
     requires { IsEdit basin.now edit.now }
-    ensures { OnOk result (cells.new.items ≡ cells.old.items ++ cells_named basin.now edit.now) }
+    ensures { OnOk result (cells.new.items
+        ≡ cells.old.items ++ cells_changed basin.now inputs.now edit.now) }
 {
     let slot = least_of(basin, SlotNo(edit.slot));
-    add_cells(cells, slot, edit.first, edit.last - edit.first + 1)
+    let count = edit.last - edit.first + 1;
+    add_cells(cells, inputs, slot, edit.first, count, &edit.value)
 }
 
-// Adds the cells that edits name.
-fn add_edits(cells: &mut Vec<Cell>, basin: &Basin, edits: &[Edit]) -> Result<(), NoMemory>
+// Adds the cells that edits change.
+fn add_edits(
+    cells: &mut Vec<Cell>,
+    basin: &Basin,
+    inputs: &Inputs,
+    edits: &[Edit],
+) -> Result<(), NoMemory>
     requires { All (IsEdit basin.now) edits.now }
     ensures { OnOk result (cells.new.items
-        ≡ cells.old.items ++ flat_map (cells_named basin.now) edits.now) }
+        ≡ cells.old.items ++ flat_map (cells_changed basin.now inputs.now) edits.now) }
 {
     for edit in edits {
-        add_edit(cells, basin, edit)?;
+        add_edit(cells, basin, inputs, edit)?;
     }
     Ok(())
 }
 
-/// The cells that the edits of a batch name.
-pub(crate) fn edited(alloc: Global, basin: &Basin, batch: &Batch) -> Result<Vec<Cell>, NoMemory>
+/// The cells to which the edits of a batch give another value than the inputs do.
+pub(crate) fn edited(
+    alloc: Global,
+    basin: &Basin,
+    inputs: &Inputs,
+    batch: &Batch,
+) -> Result<Vec<Cell>, NoMemory>
+    requires inputs { IsInputsOf basin.now inputs.now }
     requires batch { IsBatch basin.now batch.now }
-    ensures { IfOk result (λ cells. AreEdited basin.now batch.now cells.items) }
+    ensures { IfOk result (λ cells. AreEdited basin.now batch.now inputs.now cells.items) }
 {
     let mut cells = Vec::new(alloc);
-    add_edits(&mut cells, basin, batch.edits())?;
+    add_edits(&mut cells, basin, inputs, batch.edits())?;
     Ok(cells)
 }
 

@@ -1,3 +1,4 @@
+//! Solves the balance of a reservoir, and finds out early where too little is known for that.
 ghost use Rattle.std.specs.Prelude.{◌≡◌, ◌+ℤ◌, ◌-ℤ◌, ◌∷◌, [], ℤ, List, Option, None, nat_le, true};
 ghost use Rattle.std.specs.Option.{ForSome};
 ghost use Rattle.rw_table.specs.Table.{Row};
@@ -46,7 +47,7 @@ fn steady(past: Option<Qty>, side: Option<i128>, evaporation: Option<i128>) -> O
     }
 }
 
-/// Whether neither the storage nor the elevation is given. Its clauses are of `true` alone, as that of `is_short`.
+/// Returns whether neither the storage nor the elevation is given. Its clauses are of `true` alone, as that of `is_short`.
 pub(crate) fn is_empty(view: &View) -> bool
     ensures storage { result ≡ true → given view.entry.now STORAGE ≡ None }
     ensures elevation { result ≡ true → given view.entry.now POOL_ELEVATION ≡ None }
@@ -67,8 +68,8 @@ fn are_two_missing(view: &View) -> bool
     }
 }
 
-/// Whether too little is known, whatever flows by the side and evaporates. It only spares time, since the balance comes to the
-/// same: so its clause is of `true` alone, and a body that always says `false` would be proved, too.
+/// Returns whether too little is known, whatever the side flows and the evaporation are. It only saves time, since the balance
+/// gives the same: so its clause is of `true` alone, and a body that always says `false` would be proved, too.
 #[inline(always)]
 pub(crate) fn is_short(view: &View) -> bool
     ensures { result ≡ true → (table : Option (List Row)) (steady : Option ℤ)
@@ -77,7 +78,7 @@ pub(crate) fn is_short(view: &View) -> bool
     are_two_missing(view)
 }
 
-/// What the balance comes to, beside what flows by the side and what evaporates.
+/// Returns what follows from the balance, with the side flows and the evaporation.
 #[inline(always)]
 pub(crate) fn balance(
     view: &View,

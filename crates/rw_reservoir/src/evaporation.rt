@@ -1,3 +1,4 @@
+//! Computes how much evaporates from a reservoir in a timestep.
 ghost use Rattle.std.specs.Prelude.{◌≡◌, option_map, pos, ◌-ℤ◌, ◌≤ℤ◌};
 ghost use Rattle.std.specs.Int.{int_max};
 ghost use Rattle.std.specs.Option.{ForSome};
@@ -77,8 +78,8 @@ fn rate(view: &View) -> Option<Qty>
     }
 }
 
-/// How much evaporates, in m3/step, which is 0 where evaporation isn't chosen. `None` where the rate or the storage before
-/// is unknown.
+/// Returns how much evaporates, in m3/step, which is 0 where evaporation is not chosen. `None` where the rate or the storage
+/// before is unknown.
 pub(crate) fn evaporation_of(evaporation: bool, table: Option<&Rating>, view: &View) -> Option<i128>
     ensures amount { result
         ≡ evaporation_of evaporation (option_map (λ rating. rating.now) table.entry)

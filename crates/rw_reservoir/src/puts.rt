@@ -1,3 +1,4 @@
+//! Puts all that a reservoir solves and derives once its balance is solved.
 ghost use Rattle.std.specs.Prelude.{◌≡◌, option_map, ◌<◌, ◌+◌, ◌≤◌, ◌++◌, [], length, OnOk, IfErr};
 ghost use Rattle.rw_method.specs.Puts.{solved_put, contents_puts, evaporation_put, release_puts, puts_or_answer, is_bounded};
 ghost use Rattle.rw_method.specs.Solve.{AllFit};
@@ -89,8 +90,8 @@ fn ask_all(
     }
 }
 
-/// What is answered once the balance is solved: all that is put, or the first put that its slot can't get. Where all fit,
-/// `put_all` answers the same sooner.
+/// Returns the answer once the balance is solved: all that is put, or the first put that its slot cannot get. Where all fit,
+/// `put_all` gives the same answer sooner.
 #[inline(never)]
 pub(crate) fn puts_or_misfit(
     view: &View,
@@ -119,8 +120,8 @@ pub(crate) fn puts_or_misfit(
     }
 }
 
-/// What is answered once the balance is solved, in the place of another answer. A put that its slot can't get is seldom: what
-/// it answers isn't handed about, since it is large, but found anew.
+/// Writes the answer once the balance is solved, in the place of another answer. A put that its slot cannot get is rare: what it
+/// answers is not handed about, since it is large, but found anew.
 #[inline(always)]
 pub(crate) fn put_all(
     view: &View,

@@ -1,3 +1,4 @@
+//! Puts the evaporation of a reservoir, and the release and the spill of its outflow.
 ghost use Rattle.std.specs.Prelude.{◌≡◌, option_map, ◌<◌, ◌+◌, ◌≤◌, ◌++◌, length, OnOk, IfErr};
 ghost use Rattle.rw_method.specs.Puts.{evaporation_put, release_puts};
 ghost use Rattle.rw_method.specs.Solve.{AllFit};
@@ -7,7 +8,7 @@ use rw_method::places::{EVAPORATION, RELEASE, SPILL};
 use rw_method::{Given, PutList, Solved, View, ask, ask_released};
 use rw_table::Rating;
 
-/// Where evaporation is chosen, puts how much evaporates, with priority 0.
+/// Puts how much evaporates, with priority 0, where evaporation is chosen.
 #[inline(always)]
 pub(crate) fn ask_evaporation(
     view: &View,
@@ -29,7 +30,7 @@ pub(crate) fn ask_evaporation(
     }
 }
 
-/// Where there is a greatest release, puts the release and the spill of an outflow.
+/// Puts the release and the spill of an outflow, where there is a maximum release.
 #[inline(always)]
 pub(crate) fn ask_release(
     view: &View,

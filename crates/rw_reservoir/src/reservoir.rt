@@ -1,3 +1,4 @@
+//! Solves a reservoir in a dispatch, faults first.
 ghost use Rattle.std.specs.Prelude.{◌≡◌, option_map, ℤ, Bool, List, None, Some, true};
 ghost use Rattle.std.specs.Option.{ForSome};
 ghost use Rattle.rw_model.specs.declared.kind.Kind.TheVariants as Kind;
@@ -19,7 +20,7 @@ use rw_method::{
 use rw_model::Kind;
 use rw_table::Rating;
 
-/// The method of a reservoir: what flows in and doesn't flow out is stored.
+/// The method of reservoirs: what flows in and does not flow out is stored.
 #[derive(Debug, Drop)]
 pub struct ReservoirMethod;
 

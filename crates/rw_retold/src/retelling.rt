@@ -1,3 +1,4 @@
+//! Writes the trace of a run with what became of each put that was asked for.
 ghost use Rattle.std.specs.Prelude.{◌≡◌, ◌<◌, ◌+◌, [], ◌∷◌, ◌++◌, ℕ, List, OnOk, Ok, drop, length, map, string_bytes};
 ghost use Rattle.rw_method.specs.Catalogue.{AreInOrder};
 ghost use Rattle.rw_inputs.specs.Placings.{placings};

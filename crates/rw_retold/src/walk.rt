@@ -1,3 +1,4 @@
+//! Walks through the lines of a trace, and lets objects solve and rules fire again to find what they asked for.
 ghost use Rattle.std.specs.Prelude.{◌≡◌, [], ◌∷◌, ◌++◌, ◌≤◌, ℕ, IfOk, IsSome, List, OnOk, Ok, Some, if◌then◌else◌, map, codes, string_bytes};
 ghost use Rattle.std.specs.Option.{option_or};
 ghost use Rattle.rw_calendar.specs.declared.limits.TheConstants.{STEPS_MAX};
@@ -27,15 +28,16 @@ use crate::checks::{can_write, has_method, is_rule, is_step};
 use rpl_machine::Machine;
 use rpl_verify::Verified;
 use rw_asked::{push_dispatched, push_fired};
-use rw_base::{Cell, NoMemory, ObjectNo, RuleNo, StepNo};
+use rw_base::{NoMemory, ObjectNo, RuleNo, StepNo};
 use rw_dispatch::{Workspace, judge_dispatch, make};
 use rw_engine::{Engine, RunSetup};
 use rw_firing::RulePut;
 use rw_inputs::Inputs;
-use rw_model::{Basin, Content, Writer};
+use rw_model::Basin;
 use rw_report::{ROOM, Teller};
 use rw_run::{TraceEvent, Write};
 use rw_series::Series;
+use rw_writes::asked_by;
 use std::alloc::Global;
 
 /// The cells as they were at a line of a trace, the open timestep, and what is wanted to have objects solve and rules fire again. The
@@ -97,24 +99,6 @@ fn push_wanted(
         (lines_of_asks (fates_of basin.now (held series.now) puts.now))) }
 {
     push_fired(text, buffer, teller, series, puts)
-}
-
-// What a put asks for.
-fn asked_by(rule: RuleNo, step: StepNo, put: RulePut) -> Write
-    requires { step.0 ≤ STEPS_MAX }
-    ensures { result ≡ asked_by_rule rule.0 step.0 put }
-{
-    Write {
-        cell: Cell {
-            slot: put.slot,
-            step: StepNo(step.0 + u16::from(put.ahead)),
-        },
-        content: Content {
-            value: put.value,
-            number: rule.0,
-            writer: Writer::Rule(rule),
-        },
-    }
 }
 
 // Has what all these ask for.

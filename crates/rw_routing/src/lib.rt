@@ -1,4 +1,4 @@
-//! The method of what water is held back in on its way: routed reaches. It answers what the definition of a dispatch says
+//! Solves the objects that hold water back on its way: routed reaches. The method returns what the definition of a dispatch says
 //! of its kind. No call takes memory.
 #![tactic(auto)]
 

@@ -1,3 +1,4 @@
+//! Solves routed reaches.
 ghost use Rattle.std.specs.Prelude.{◌≡◌, ◌≤◌, ◌+ℤ◌, ◌-ℤ◌, ◌++◌, ℤ, pos, None, option_map};
 ghost use Rattle.std.specs.Option.{ForSome};
 ghost use Rattle.rw_model.specs.declared.limits.TheConstants.{PARTS};
@@ -16,7 +17,7 @@ use rw_method::{
 };
 use rw_model::Kind;
 
-/// The method of a routed reach: of what it holds and of what flows in, a share is let go. What is rounded off stays.
+/// The method of routed reaches: of what the reach holds and of what flows in, a share is released. What is rounded off stays.
 #[derive(Debug, Drop)]
 pub struct RoutedReachMethod;
 

@@ -1,3 +1,4 @@
+//! Lets a rule of verified code fire, and judges what it asks for.
 ghost use Rattle.std.specs.Prelude.{◌≡◌, ◌≤◌, Some, length};
 ghost use Rattle.rw_run.specs.Dispatch.{looks_at};
 ghost use Rattle.rw_series.specs.Series.{held};

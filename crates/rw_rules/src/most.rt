@@ -1,3 +1,4 @@
+//! Finds how often each rule of a policy looks at most.
 ghost use Rattle.std.specs.Prelude.{◌≡◌, ◌≤◌, Ok, IfOk};
 ghost use Rattle.rpl_code.specs.declared.block.BlockHead.TheVariants.{Rule as RuleHead};
 ghost use Rattle.rpl_verify.specs.Fits.{count_alike};

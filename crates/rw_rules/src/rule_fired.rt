@@ -1,3 +1,4 @@
+//! Holds how a firing ended, and how much it counted.
 use rw_firing::FireEnd;
 
 /// How a firing ended, and how much it counted.

@@ -1,3 +1,4 @@
+//! Holds the rules of verified code in a run, finds the one that is due, lets it fire and writes its puts.
 ghost use Rattle.std.specs.Prelude.{◌≡◌, ◌≤◌, [], ◌∷◌, ℕ, IfOk, IfSome, IsSome, Ok, option_map, unwrap_or};
 ghost use Rattle.rw_model.specs.Draft.{Draft};
 ghost use Rattle.rw_series.specs.Series.{held};

@@ -1,3 +1,4 @@
+//! Holds what rules fire by, whatever the cells hold.
 use rpl_predef::Predefs;
 use rpl_verify::Verified;
 use rw_model::Basin;

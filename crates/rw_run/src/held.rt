@@ -1,3 +1,4 @@
+//! Holds a cell with what it held.
 use rw_base::Cell;
 use rw_model::Content;
 
@@ -6,6 +7,6 @@ use rw_model::Content;
 pub struct Held {
     /// The cell.
     pub cell: Cell,
-    /// What it held, if it was known.
+    /// What it held; `None` where it was unknown.
     pub content: Option<Content>,
 }

@@ -1,5 +1,4 @@
-//! What the definitions of this crate come to in plain words. Each law is the `ensures` of a function that does
-//! nothing.
+//! Proves what the definitions of this crate mean in plain words. Each law is the `ensures` of a function that does nothing.
 ghost use Rattle.std.specs.Option.{option_or};
 ghost use Rattle.std.specs.Prelude.{◌≡◌, ◌↔◌, ◌<◌, ◌≤◌, ◌+◌, ℕ, ℤ, pos, Bool, IsTrue, IsFalse, List, [], ◌∷◌, ◌++◌, Option, None, Some, IsSome, Contains, length};
 ghost use Rattle.rw_base.specs.declared.number.Cell.{Cell};
@@ -42,8 +41,7 @@ pub fn cells_after()
         → cells_of basin (event ∷ log) cell ≡ cells_of basin log cell }
 {}
 
-/// One timestep after another is opened, the first one after the inputs. After the last one nothing follows, nor after a
-/// fault.
+/// Timesteps are opened one after another, the first one after the inputs. After the last one nothing follows, nor after a fault.
 #[tactic(auto, using(crate::proofs::Lasts::opens_first, crate::proofs::Lasts::opens_next, crate::proofs::Lasts::opens_none))]
 pub fn timesteps()
     ensures first { (basin : Draft) (policy : Policy) (log : Log) (cell : Cell) (value : ℤ)
@@ -88,8 +86,8 @@ pub fn same_runs()
     ensures no_rules { (other : Policy) → other.rules ≡ 0 → FireAlike no_rules other }
 {}
 
-/// Where any object that waits may be dispatched next, the one that has waited longest is such a one.
-/// Where one object waits at most, there is no choice.
+/// Where any object that waits may be dispatched next, the one that has waited longest is such an object. Where at most one
+/// object waits, there is no choice.
 #[tactic(auto, using(crate::proofs::Choices::may_follow, crate::proofs::Choices::may_lead, crate::proofs::Choices::no_choice))]
 pub fn choices()
     ensures event { (basin : Draft) (policy : Policy) (log : Log) (event : Event)
@@ -127,8 +125,8 @@ pub fn linked_runs()
     ensures reached { cell_count (looked_at linked_basin 1 (log_after one_end_run [])) ≡ 2 }
 {}
 
-/// What is said of a timestep within a log comes to this in some of them: which events are its own, what stood before it, how
-/// many cells it looked at or reached, and how many lines it has.
+/// Worked timesteps within a log: which events are their own, what was before them, how many cells they looked at or reached, and
+/// how many lines they have.
 pub fn worked_timesteps()
     ensures each { events_of 2 (one_of_each 2 ++ one_of_each 1) ≡ one_of_each 2 }
     ensures opening { before_opening 1 (log_after raised_run []) ≡ Some [] }
@@ -144,9 +142,9 @@ pub fn worked_timesteps()
     ensures lines { line_count 1 (log_after raised_run []) ≡ 8 }
 {}
 
-/// Which timesteps of a later run are run again comes to this in runs of two days. The second day is reused where nothing
-/// differs but the first. It isn't where a cell holds the same value with another number and writer, nor where the earlier run
-/// didn't open it. A day that the earlier run didn't close isn't either.
+/// Worked runs of two days, and which timesteps of a later run are run again. The second day is reused where nothing differs but
+/// the first. It is not where a cell holds the same value with another number and writer, nor where the earlier run did not open
+/// it. A day that the earlier run did not close is not reused either.
 pub fn worked_reruns()
     ensures earlier { IsRun (data_object_basin HighFirst 2) raises_x []
         (log_after raised_twice []) }
@@ -167,22 +165,22 @@ pub fn worked_reruns()
     ensures rising { (first later : ℕ) → AreRising (first ∷ later ∷ []) → first < later }
 {}
 
-/// What a rule may put: up to so far ahead as the model says and no further, and no value that the slot can't have.
+/// A rule may put as far ahead as the model says and no further, and no value that the slot cannot have.
 pub fn worked_puts()
     ensures furthest { CanAsk (data_object_basin HighFirst 1) (rule_put 1 30 (pos 5)) }
     ensures further { ¬ CanAsk (data_object_basin HighFirst 1) (rule_put 1 31 (pos 5)) }
     ensures nowhere { ¬ CanAsk (data_object_basin HighFirst 1) (rule_put 3 0 (pos 5)) }
 {}
 
-/// Which timesteps a run opened, and how large one is that is kept.
+/// Worked openings: which timesteps a run opened, and how large a timestep is whose record is kept.
 pub fn worked_openings()
     ensures first_alone { ¬ AreOpened (log_after raised_twice []) (1 ∷ []) }
     ensures most { most_kept ≡ 6000 }
 {}
 
-/// Which objects wait after an event, by those that waited before it. A timestep begins with all but the data objects. A
-/// dispatch takes its object out, wherever that stands. What is written puts others at the end, in order of number: each
-/// that owns a slot which it reaches and doesn't wait already, but no data object and not the one that wrote it.
+/// The objects that wait after an event, by those that waited before it. A timestep begins with all but the data objects. A
+/// dispatch removes its object, wherever that is. What is written adds others at the end, in order of number: each that owns a
+/// slot which it reaches and does not wait already, but no data object and not the one that wrote it.
 #[tactic(auto, using(crate::proofs::Waits::opens, crate::proofs::Waits::idles, crate::proofs::Waits::solves, crate::proofs::Waits::fires, crate::proofs::Waits::closes, crate::proofs::Waits::gives, crate::proofs::Waits::faults))]
 pub fn waiting_after()
     ensures opened { (basin : Draft) (log : Log) (step : ℕ)
@@ -262,8 +260,8 @@ pub fn reused()
         → (cell_count (looked_at basin step earlier) ≤ 6000) × (line_count step earlier ≤ 6000) }
 {}
 
-/// A timestep that was passed, and the log behind it. The log before it is found there, of each other timestep the log has what it
-/// had, and a timestep that was closed has its own events; it can be closed in one way. One that a fault ended isn't closed.
+/// A timestep that was passed, and the log after it. The log before it is found there, of each other timestep the log has what it
+/// had, and a timestep that was closed has its own events; it can be closed in one way. One that a fault ended is not closed.
 pub fn timesteps_behind()
     ensures closed { (basin : Draft) (policy : Policy) (step : ℕ) (old : Log)
         (first : Event) (events : List Event)
@@ -289,7 +287,7 @@ pub fn timesteps_behind()
         → (before_opening step log ≡ None) × (before_closing step log ≡ None) }
 {}
 
-/// Where each rule is marked whose last looks the puts touch, a rule without a mark still isn't due.
+/// Where each rule is marked whose last looks the puts touch, a rule without a mark is still not due.
 pub fn index()
     ensures { (basin : Draft) (cells : Cells) (puts : List Asked)
         (looked : ℕ → Option (List Look)) (was_marked is_marked : ℕ → Bool)

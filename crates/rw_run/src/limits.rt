@@ -1,2 +1,4 @@
-/// The most cells, and the most lines, of a timestep that is kept.
+//! Limits how large a timestep may be whose record is kept.
+
+/// The maximum number of cells, and of lines, of a timestep whose record is kept.
 pub const MOST_KEPT: usize = 6_000;

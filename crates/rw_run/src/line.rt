@@ -1,3 +1,4 @@
+//! Packs the lines of a trace, since a run has some for each of its cells.
 ghost use Rattle.std.specs.Prelude.{◌≡◌, IfOk};
 ghost use Rattle.rw_run.specs.Line.{line_event};
 ghost use Rattle.rw_run.specs.RunOf.{line_of};
@@ -8,7 +9,7 @@ use rw_base::{Cell, NoMemory, ObjectNo, Qty, RuleNo, SlotNo, StepNo};
 use rw_model::{Content, Writer};
 use std::alloc::Global;
 
-/// How a line of a trace is kept: small, since a run has some lines for each of its cells, and one fault at most.
+/// A line of a trace as it is kept: small, since a run has some lines for each of its cells, and one fault at most.
 #[derive(Drop)]
 pub(crate) enum Line {
     Opened(StepNo),
@@ -30,7 +31,7 @@ pub(crate) enum Line {
     Fault(Box<RunFault>),
 }
 
-/// The line of an event.
+/// Returns the line of an event.
 #[inline(always)]
 pub(crate) fn line_of(alloc: Global, event: TraceEvent) -> Result<Line, NoMemory>
     ensures { IfOk result (λ line. line_event line ≡ event) }
@@ -56,7 +57,7 @@ pub(crate) fn line_of(alloc: Global, event: TraceEvent) -> Result<Line, NoMemory
     })
 }
 
-/// The line of what is written.
+/// Returns the line of what is written.
 #[inline(always)]
 pub(crate) fn line_of_write(write: &Write) -> Line
     ensures { line_event result ≡ line_of write.now }
@@ -70,7 +71,7 @@ pub(crate) fn line_of_write(write: &Write) -> Line
     }
 }
 
-/// A copy of a line, with a box of its own where it has one.
+/// Returns a copy of a line, with a box of its own where it has one.
 pub(crate) fn copy_of(alloc: Global, line: &Line) -> Result<Line, NoMemory>
     ensures { IfOk result (λ copy. line_event copy ≡ line_event line.now) }
 {
@@ -101,7 +102,7 @@ pub(crate) fn copy_of(alloc: Global, line: &Line) -> Result<Line, NoMemory>
     })
 }
 
-/// The event that a line tells.
+/// Returns the event that a line reports.
 #[inline(always)]
 pub(crate) fn event_of(line: &Line) -> TraceEvent
     ensures { result ≡ line_event line.now }
@@ -135,7 +136,7 @@ pub(crate) fn event_of(line: &Line) -> TraceEvent
     }
 }
 
-/// What a line says to be written, if it says that.
+/// Returns what a line reports as written; `None` where it reports something else.
 #[inline(always)]
 pub(crate) fn write_of(line: &Line) -> Option<Write>
     ensures { result ≡ write_of (line_event line.now) }
@@ -162,7 +163,7 @@ pub(crate) fn write_of(line: &Line) -> Option<Write>
     }
 }
 
-/// Whose dispatch a line tells, and whether it put something, if it tells one.
+/// Returns whose dispatch a line reports, and whether it put something; `None` where it reports something else.
 #[inline(always)]
 pub(crate) fn dispatch_of(line: &Line) -> Option<(ObjectNo, bool)>
     ensures { result ≡ dispatch_told (line_event line.now) }

@@ -1,3 +1,4 @@
+//! Keeps what happens in a run, line by line.
 ghost use Rattle.std.specs.Prelude.{◌≡◌, [], ◌∷◌, ◌++◌, length, map, take, drop, slice_get, option_and_then, option_map, is_some, Some, None, IsSome, IfOk, IfErr};
 ghost use Rattle.rw_run.specs.Line.{line_event};
 ghost use Rattle.rw_run.specs.declared.line.Line.{Line as LineKept};
@@ -11,22 +12,22 @@ use rw_model::Content;
 use std::alloc::Global;
 use std::marker::Model;
 
-/// One line of a trace.
+/// The lines of a trace.
 #[derive(Clone, Copy, Debug, PartialEq, Eq)]
 pub enum TraceEvent {
     /// A timestep was opened.
     Opened(StepNo),
     /// An object was dispatched and put nothing.
     Idle(ObjectNo),
-    /// An object was dispatched; what it wrote stands below.
+    /// An object was dispatched; the lines after this one say what it wrote.
     Solve(ObjectNo),
-    /// A rule fired; what it wrote stands below.
+    /// A rule fired; the lines after this one say what it wrote.
     Fire {
         /// The rule.
         rule: RuleNo,
-        /// Whether it came to its end, and not to an unknown value.
+        /// Whether it reached its end, and not an unknown value.
         done: bool,
-        /// How many instructions it took.
+        /// The number of instructions that it took.
         count: u64,
     },
     /// A put was written.
@@ -35,17 +36,17 @@ pub enum TraceEvent {
         slot: SlotNo,
         /// The timestep of its cell.
         step: StepNo,
-        /// What the cell holds from then on.
+        /// The content of the cell from then on.
         content: Content,
     },
     /// A timestep was closed.
     Closed(StepNo),
-    /// The run ended by this fault.
+    /// The run ended with this fault.
     Fault(RunFault),
 }
 
-/// What happened in a run, line by line, seen as the list of its lines, and as none where they aren't kept. It keeps 24 bytes for
-/// a line.
+/// The record of what happens in a run, line by line, seen as the list of its lines, and as none where they are not kept. It
+/// keeps 24 bytes for a line.
 #[derive(Drop)]
 pub struct Trace {
     kept: bool,
@@ -64,7 +65,7 @@ impl Model for Trace {
 }
 
 impl Trace {
-    /// The trace without lines. It takes no memory.
+    /// Returns the trace without lines. It takes no memory.
     pub fn new(alloc: Global) -> Trace
         ensures { result ≡ Some [] }
     {
@@ -75,7 +76,7 @@ impl Trace {
         }
     }
 
-    /// A trace that keeps no line that is told to it, and so never takes memory.
+    /// Returns a trace that keeps no line that is added to it, and so never takes memory.
     pub fn unkept(alloc: Global) -> Trace
         ensures { result ≡ None }
     {
@@ -100,7 +101,7 @@ impl Trace {
         }
     }
 
-    /// Adds the line of what is written, in the same way.
+    /// Adds the line of what is written, in the same way as `push`.
     #[inline(always)]
     pub fn push_write(&mut self, write: &Write) -> Result<(), NoMemory>
         ensures pushed { IfOk result (λ _. self.new ≡ told self.old (line_of write.now ∷ [])) }
@@ -129,8 +130,8 @@ impl Trace {
         }
     }
 
-    /// Hands its lines over as a trace of their own, in room of their size, and keeps the room that it has. After want of memory
-    /// the trace is as it was.
+    /// Returns its lines as a trace of their own, in room of their size, and keeps the room that it has. After want of memory the
+    /// trace is as it was.
     pub fn take(&mut self) -> Result<Trace, NoMemory>
         ensures taken { IfOk result (λ lines. lines ≡ Some (lines_in self.old)) }
         ensures left { IfOk result (λ _. self.new ≡ option_map (λ _. []) self.old) }
@@ -155,14 +156,14 @@ impl Trace {
         }
     }
 
-    /// Whether lines are kept.
+    /// Returns whether lines are kept.
     pub fn is_kept(&self) -> bool
         ensures { result ≡ is_some self.now }
     {
         self.kept
     }
 
-    /// The line in a place, counted from 0. `None` exactly where there is none.
+    /// Returns the line in a place, counted from 0. `None` exactly where there is none.
     #[inline(always)]
     pub fn line(&self, place: usize) -> Option<TraceEvent>
         ensures { result ≡ slice_get (lines_in self.now) place }
@@ -174,7 +175,8 @@ impl Trace {
         }
     }
 
-    /// What the line in a place says to be written. `None` where there is no such line, and where it says something else.
+    /// Returns what the line in a place reports as written. `None` where there is no such line, and where it reports something
+    /// else.
     pub fn written(&self, place: usize) -> Option<Write>
         ensures { result ≡ option_and_then write_of (slice_get (lines_in self.now) place) }
     {
@@ -185,8 +187,8 @@ impl Trace {
         }
     }
 
-    /// Whose dispatch the line in a place tells, and whether it put something. `None` where there is no such line, and where it
-    /// tells something else.
+    /// Returns whose dispatch the line in a place reports, and whether it put something. `None` where there is no such line, and
+    /// where it reports something else.
     #[inline(always)]
     pub fn dispatched(&self, place: usize) -> Option<(ObjectNo, bool)>
         ensures { result ≡ option_and_then dispatch_told (slice_get (lines_in self.now) place) }
@@ -198,14 +200,14 @@ impl Trace {
         }
     }
 
-    /// How many lines there are.
+    /// Returns the number of lines.
     pub fn len(&self) -> usize
         ensures { result ≡ length (lines_in self.now) }
     {
         if self.kept { self.lines.len() } else { 0 }
     }
 
-    /// Leaves the first lines alone, so many of them.
+    /// Keeps the first `count` lines alone.
     pub fn truncate(&mut self, count: usize)
         ensures { self.new ≡ option_map (take count) self.old }
     {

@@ -1,3 +1,4 @@
+//! Holds what is asked for in a cell.
 use rw_base::{Cell, Qty, SlotNo, StepNo};
 use rw_model::{Content, Writer};
 
@@ -6,7 +7,7 @@ use rw_model::{Content, Writer};
 pub struct Write {
     /// The cell.
     pub cell: Cell,
-    /// What it is to hold.
+    /// The content that the cell is to hold.
     pub content: Content,
 }
 

@@ -1,4 +1,4 @@
-// How often something happened in a run, by its trace.
+//! Counts the dispatches or the firings of a run by its trace.
 ghost use Rattle.std.specs.Prelude.{◌≡◌, ◌≤◌, ◌+◌};
 ghost use Rattle.rw_run.specs.Trace.{lines_in};
 ghost use Rattle.rw_sample.specs.Line.{lines_counted, is_dispatch, is_firing, one_if_told, tells};
@@ -6,7 +6,7 @@ ghost use Rattle.rw_sample.specs.Line.{lines_counted, is_dispatch, is_firing, on
 use rw_report::line_at;
 use rw_run::{Trace, TraceEvent};
 
-/// What is counted.
+/// The events that are counted.
 #[derive(Clone, Copy)]
 pub(crate) enum Counted {
     Dispatches,
@@ -54,7 +54,7 @@ fn count_behind(count: u64, counted: Counted, line: &TraceEvent) -> u64
     }
 }
 
-/// How many of them the trace tells.
+/// Counts these events in the trace.
 pub(crate) fn count_in(counted: Counted, trace: &Trace) -> u64
     ensures { result ≡ lines_counted counted (lines_in trace.now) }
 {

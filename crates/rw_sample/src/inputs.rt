@@ -1,4 +1,4 @@
-// The inputs of the sample.
+//! Writes the inputs of the sample.
 ghost use Rattle.std.specs.Prelude.{◌≡◌, ◌++◌, IfOk, OnOk, string_bytes, codes};
 ghost use Rattle.std.specs.Fmt.{decimal};
 ghost use Rattle.rw_sample.specs.Texts.{seeded_inflow, inflow_rows, next_number, sample_inputs};
@@ -45,7 +45,7 @@ fn push_inflows(text: &mut String, seed: u64, count: u16) -> Result<(), NoMemory
     Ok(())
 }
 
-/// The text of the inputs that the seed gives: the inflow of D1 at each timestep, from 0 to 999 m3/step. The one error is
+/// Returns the text of the inputs that the seed gives: the inflow of D1 at each timestep, from 0 to 999 m3/step. The one error is
 /// want of memory. `docs/FORMATS.md` has the sample under "Sample".
 #[tactic(auto, unfolding(crate::specs::Texts::sample_inputs))]
 pub fn sample_inputs(alloc: Global, seed: u64) -> Result<Vec<u8>, NoMemory>

@@ -1,4 +1,4 @@
-//! Parts of the sample that are worked out by hand. The law is the `ensures` of a function that does nothing.
+//! Proves parts of the sample that are worked out by hand. The law is the `ensures` of a function that does nothing.
 ghost use Rattle.std.specs.Prelude.{◌≡◌, ◌++◌, codes, pos};
 ghost use Rattle.rw_report.specs.Worked.{solved_twice};
 ghost use Rattle.rw_sample.specs.Line.{lines_counted, line_with};

@@ -1,7 +1,7 @@
-//! The sample of a seed: a cascade of twenty reservoirs with a reach between each two, a rule for each of them, and a year of
-//! inflows that the seed gives. `sample_model`, `sample_rules` and `sample_inputs` answer the texts of its files, and
-//! `sample_line` the line that is written of its run. Each answers exactly what `specs/` defines, and want of memory is its one
-//! other answer.
+//! Makes the sample of a seed: a cascade of twenty reservoirs with a reach between each two, a rule for each of them, and a year
+//! of inflows that the seed gives. `sample_model`, `sample_rules` and `sample_inputs` return the texts of its files, and
+//! `sample_line` returns the line that is written of its run. Each returns exactly what `specs/` defines, and want of memory is
+//! its one error.
 #![tactic(auto)]
 
 mod counted;

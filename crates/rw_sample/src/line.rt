@@ -1,4 +1,4 @@
-// The line on the run of the sample.
+//! Writes the line on the run of the sample.
 ghost use Rattle.std.specs.Prelude.{◌≡◌, ◌++◌, IfOk, OnOk, string_bytes};
 ghost use Rattle.rw_report.specs.Outcome.{outcome_of};
 ghost use Rattle.rw_sample.specs.Line.{end_word, line_with, sample_line};
@@ -38,8 +38,8 @@ fn push_line(
     Ok(())
 }
 
-/// The line on the run of the sample of a seed: how it ended, how many timesteps there are, how many dispatches and firings
-/// its trace tells, and the sum of the storages that are known at the last timestep, in m3. Of a trace that wasn't kept
+/// Returns the line on the run of the sample of a seed: how it ended, how many timesteps there are, how many dispatches and
+/// firings its trace has, and the sum of the storages that are known at the last timestep, in m3. In a trace that was not kept
 /// nothing is counted. The one error is want of memory.
 pub fn sample_line(alloc: Global, basin: &Basin, seed: u64, run: &Run) -> Result<Vec<u8>, NoMemory>
     ensures text { IfOk result (λ text. text.items

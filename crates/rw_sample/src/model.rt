@@ -1,4 +1,4 @@
-// The model of the sample.
+//! Writes the model of the sample.
 ghost use Rattle.std.specs.Prelude.{◌≡◌, ◌≤◌, ◌++◌, IfOk, OnOk, string_bytes};
 ghost use Rattle.rw_report.specs.Section.{for_each};
 ghost use Rattle.rw_sample.specs.Texts.{link_words, model_words, reach_words, reservoir_words, sample_model};
@@ -83,9 +83,9 @@ fn model_words(alloc: Global) -> Result<Vec<u8>, NoMemory>
     Ok(text.into_bytes())
 }
 
-/// The text of the model: 365 timesteps of a day from the beginning of 2020 on, reservoirs D1 to D20, which hold 100,000 m3
-/// at first, and reaches R1 to R19 with a lag of a day, which lead from each reservoir to the next one. The one error is
-/// want of memory.
+/// Returns the text of the model: 365 timesteps of a day from the beginning of 2020 on, reservoirs D1 to D20, which hold 100,000
+/// m3 at first, and reaches R1 to R19 with a lag of a day, which lead from each reservoir to the next one. The one error is want
+/// of memory.
 #[tactic(auto, unfolding(crate::specs::Texts::sample_model))]
 pub fn sample_model(alloc: Global) -> Result<Vec<u8>, NoMemory>
     ensures text { IfOk result (λ text. text.items ≡ sample_model) }

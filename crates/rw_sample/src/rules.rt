@@ -1,4 +1,4 @@
-// The ruleset of the sample.
+//! Writes the ruleset of the sample.
 ghost use Rattle.std.specs.Prelude.{◌≡◌, ◌++◌, IfOk, OnOk, string_bytes};
 ghost use Rattle.rw_report.specs.Section.{for_each};
 ghost use Rattle.rw_sample.specs.Texts.{rule_words, sample_rules};
@@ -27,7 +27,7 @@ fn push_rules(text: &mut String) -> Result<(), NoMemory>
     Ok(())
 }
 
-/// The text of the ruleset: a rule for each reservoir, by which it lets out what flows in, and 500 m3/step at most. The one
+/// Returns the text of the ruleset: a rule for each reservoir, by which it releases what flows in, at most 500 m3/step. The one
 /// error is want of memory.
 #[tactic(auto, unfolding(crate::specs::Texts::sample_rules))]
 pub fn sample_rules(alloc: Global) -> Result<Vec<u8>, NoMemory>

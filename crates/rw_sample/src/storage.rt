@@ -1,4 +1,4 @@
-// What reservoirs store, all together.
+//! Adds up what all reservoirs store at a timestep.
 ghost use Rattle.std.specs.Prelude.{◌≡◌, ◌+ℤ◌, option_map};
 ghost use Rattle.rw_model.specs.Draft.{IsSlot};
 ghost use Rattle.rw_model.specs.declared.content.Content.{Content};
@@ -48,7 +48,7 @@ fn plus(sum: i128, more: i128) -> i128
     sum + more
 }
 
-/// What all reservoirs store at a timestep, where it is known, in m3.
+/// Returns the sum of what reservoirs store at a timestep, where it is known, in m3.
 pub(crate) fn storage_in(basin: &Basin, series: &Series, step: StepNo) -> i128
     ensures { result ≡ storage_in basin.now (held series.now) step.0 }
 {

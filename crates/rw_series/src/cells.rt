@@ -1,3 +1,4 @@
+//! Reads and writes cells in the list that keeps those of all columns and timesteps.
 ghost use Rattle.std.specs.Prelude.{◌≡◌, ◌==◌, ◌*◌, ◌≤◌, ◌&&◌, ℕ, IsTrue, if◌then◌else◌, vec_len, length, map};
 ghost use Rattle.rw_series.specs.Kept.{content_of};
 ghost use Rattle.rw_series.specs.Cells.{is_kept, position_of, kept_at};
@@ -21,7 +22,7 @@ fn position_of(slots: u16, slot: u16, step: u16) -> usize
     usize::from(step - 1) * usize::from(slots) + usize::from(slot - 1)
 }
 
-/// What is kept of a slot at a timestep, which is nothing where there is no such cell.
+/// Returns what is kept of a slot at a timestep, which is nothing where there is no such cell.
 pub(crate) fn kept_at(
     cells: &[Kept],
     slots: u16,

@@ -1,3 +1,4 @@
+//! Numbers the columns in which values are kept: linked slots have one column.
 ghost use Rattle.rw_model.specs.declared.limits.TheConstants.{SLOTS_MAX};
 ghost use Rattle.std.specs.Prelude.{◌≡◌, ◌+◌, ◌<◌, ◌≤◌, true, All, IfOk, MatchOption, length};
 ghost use Rattle.rw_model.specs.Draft.{IsSlot};
@@ -17,7 +18,7 @@ pub(crate) struct Columns {
     pub(crate) width: u16,
 }
 
-/// The column of a slot, and 0 where there is no such slot.
+/// Returns the column of a slot, and 0 where there is no such slot.
 pub(crate) fn column_of(columns: &[u16], slot: u16) -> u16
     ensures { result ≡ column_of columns.now slot }
 {
@@ -31,7 +32,7 @@ pub(crate) fn column_of(columns: &[u16], slot: u16) -> u16
     }
 }
 
-/// The column of a slot that is there.
+/// Returns the column of a slot that is there.
 pub(crate) fn known_column(columns: &[u16], slot: u16) -> u16
     requires first { 1 ≤ slot }
     requires last { slot ≤ length columns.now }
@@ -66,7 +67,7 @@ fn column_for(basin: &Basin, columns: &[u16], width: u16, before: u16) -> u16
     }
 }
 
-/// The columns of the slots of a basin.
+/// Returns the columns of the slots of a basin.
 pub(crate) fn columns_of(alloc: Global, basin: &Basin) -> Result<Columns, NoMemory>
     ensures { IfOk result (λ made. AreColumns basin.now
         (length (all_slots basin.now.objects)) made.width made.columns.items) }

@@ -1,21 +1,22 @@
+//! Holds what is kept of a cell, known or unknown.
 ghost use Rattle.std.specs.Prelude.{◌≡◌, None};
 ghost use Rattle.rw_series.specs.Kept.{content_of};
 
 use rw_base::Qty;
 use rw_model::{Content, Writer};
 
-/// What is kept of a cell. Where nobody wrote it, it is unknown, and the value doesn't count.
+/// What is kept of a cell. Where nobody wrote it, it is unknown, and the value does not count.
 #[derive(Clone, Copy)]
 pub(crate) struct Kept {
     /// The value.
     pub(crate) value: Qty,
     /// Its priority.
     pub(crate) number: u16,
-    /// Who wrote it.
+    /// The writer; `None` where the cell is unknown.
     writer: Option<Writer>,
 }
 
-/// What an unknown cell keeps.
+/// Returns what an unknown cell keeps.
 pub(crate) fn unknown() -> Kept
     ensures { content_of result ≡ None }
 {
@@ -29,7 +30,7 @@ pub(crate) fn unknown() -> Kept
     }
 }
 
-/// The content that is kept.
+/// Returns the content that is kept.
 pub(crate) fn content_of(kept: &Kept) -> Option<Content>
     ensures { result ≡ content_of kept.now }
 {
@@ -43,7 +44,7 @@ pub(crate) fn content_of(kept: &Kept) -> Option<Content>
     }
 }
 
-/// How a content is kept.
+/// Returns how a content is kept.
 pub(crate) fn kept_of(content: Option<Content>) -> Kept
     ensures { content_of result ≡ content }
 {

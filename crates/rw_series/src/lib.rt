@@ -1,7 +1,7 @@
-//! The values of a run, cell by cell. `Series` keeps what each slot of a basin holds at each timestep, and `put` takes a
+//! Keeps the values of a run, cell by cell. `Series` holds what each slot of a basin has at each timestep, and `put` accepts a
 //! new content by the put rules: a cell is written together with every cell that a link joins to it, or nothing changes.
-//! `restore` makes them hold a content whatever they hold. `at_step` lends the cells of one timestep, for who reads many of them.
-//! `is_shared` tells whether two cells are joined so. Only `sized` and `copy` take memory.
+//! `restore` makes them hold a content whatever they hold. `at_step` lends the cells of one timestep to a caller that reads many
+//! of them. `is_shared` decides whether two cells are joined in this way. Only `sized` and `copy` take memory.
 #![tactic(auto)]
 
 mod cells;

@@ -1,3 +1,4 @@
+//! Holds what the cells of a basin hold, and changes them by the put rules.
 ghost use Rattle.std.specs.Prelude.{◌≡◌, ◌≢◌, ◌↔◌, ◌≤◌, IfOk, true};
 ghost use Rattle.rw_base.specs.declared.number.Cell.{Cell};
 ghost use Rattle.rw_base.specs.declared.number.SlotNo.{SlotNo as Slot};
@@ -59,7 +60,7 @@ fn is_written(end: &PutEnd) -> bool
 }
 
 impl Series {
-    /// A series for the slots and timesteps of a basin, counted from 1, in which every cell is unknown. The one error is
+    /// Returns a series for the slots and timesteps of a basin, counted from 1, in which every cell is unknown. The one error is
     /// want of memory.
     pub fn sized(alloc: Global, basin: &Basin) -> Result<Series, NoMemory>
         ensures made { IfOk result (IsSeriesOf basin.now) }
@@ -79,8 +80,8 @@ impl Series {
         })
     }
 
-    /// What a cell holds, its value in the base units of its slot's dimension. `None` exactly where it is unknown, or where
-    /// the series has no such cell.
+    /// Returns what a cell holds, its value in the base units of its slot's dimension. `None` exactly where it is unknown, or
+    /// where the series has no such cell.
     pub fn get(&self, c: Cell) -> Option<Content>
         ensures { result ≡ held self.now c }
     {
@@ -93,7 +94,7 @@ impl Series {
         )
     }
 
-    /// Its cells at one timestep, counted from 1. There are none where it has no such timestep.
+    /// Returns the cells of one timestep, counted from 1. There are none where the series has no such timestep.
     pub fn at_step(&self, step: StepNo) -> StepCells<'_>
         ensures cells { (slot : Slot)
             → held result (record { slot = slot; step = record { 0 = 1 } })
@@ -110,10 +111,10 @@ impl Series {
         )
     }
 
-    /// Puts a content to a cell, with its value in the base units of the slot's dimension. What becomes of that is as the
-    /// put rules say of what the cell holds (`docs/DEFINITIONS.md`, "Contents, and the put rules"). Where it is `Written`,
-    /// the cell holds the content, and so does each cell of a slot that a link joins to its slot, at the same timestep.
-    /// Where it is `Kept` or `Denied`, nothing changes.
+    /// Puts a content to a cell, with its value in the base units of the slot's dimension, and returns what became of that by the
+    /// put rules and by what the cell holds (`docs/DEFINITIONS.md`, "Contents, and the put rules"). Where it is `Written`, the
+    /// cell holds the content, and so does each cell of a slot that a link joins to its slot, at the same timestep. Where it is
+    /// `Kept` or `Denied`, nothing changes.
     pub fn put(&mut self, basin: &Basin, c: Cell, new: Content) -> PutEnd
         requires made { IsSeriesOf basin.now self.old }
         requires cell { IsCell basin.now c }
@@ -129,8 +130,8 @@ impl Series {
         end
     }
 
-    /// Makes a cell hold a content, with its value in the base units of the slot's dimension, or be unknown, whatever it
-    /// holds, and so each cell of a slot that a link joins to its slot, at the same timestep.
+    /// Makes a cell hold a content, with its value in the base units of the slot's dimension, or be unknown, whatever it holds,
+    /// and so each cell of a slot that a link joins to its slot, at the same timestep.
     pub fn restore(&mut self, basin: &Basin, c: Cell, held: Option<Content>)
         requires made { IsSeriesOf basin.now self.old }
         requires cell { IsCell basin.now c }
@@ -149,7 +150,7 @@ impl Series {
         );
     }
 
-    /// The same series again. The one error is want of memory.
+    /// Returns a copy of the series. The one error is want of memory.
     pub fn copy(&self, alloc: Global) -> Result<Series, NoMemory>
         ensures { IfOk result (λ copy. copy ≡ self.now) }
     {

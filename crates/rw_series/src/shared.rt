@@ -1,3 +1,4 @@
+//! Decides whether two cells share their value.
 ghost use Rattle.std.specs.Prelude.{◌≡◌};
 ghost use Rattle.rw_model.specs.Draft.{IsSlot};
 ghost use Rattle.rw_model.specs.Kept.{numbers_of};
@@ -19,7 +20,8 @@ fn is_in(group: &[SlotNo], slot: SlotNo) -> bool
     false
 }
 
-/// Whether a cell shares its value with this one: it is at the same timestep, and of the same slot or of one that a link joins to it.
+/// Returns whether a cell shares its value with this one: it is at the same timestep, and of the same slot or of one that a link
+/// joins to it.
 pub fn is_shared(basin: &Basin, c: Cell, other: Cell) -> bool
     requires { IsSlot basin.now.objects c.slot.0 }
     ensures { result ≡ is_shared basin.now c other }

@@ -1,3 +1,4 @@
+//! Lends the cells of one timestep to a caller that reads many of them.
 ghost use Rattle.std.specs.Prelude.{◌≡◌, ◌≤◌, ◌*◌, ◌-◌, ◌&&◌, nat_le, drop, length, map, take};
 ghost use Rattle.rw_base.specs.declared.number.SlotNo.{SlotNo as Slot};
 ghost use Rattle.rw_series.specs.Cells.{kept_at};
@@ -39,7 +40,7 @@ impl<'a> Model for StepCells<'a> {
 }
 
 impl<'a> StepCells<'a> {
-    /// What the cell of a slot holds, its value in the base units of the slot's dimension. `None` exactly where it is
+    /// Returns what the cell of a slot holds, its value in the base units of the slot's dimension. `None` exactly where it is
     /// unknown, or where there is no such cell.
     #[inline(always)]
     pub fn get(&self, slot: SlotNo) -> Option<Content>
@@ -54,7 +55,7 @@ impl<'a> StepCells<'a> {
         )
     }
 
-    /// How many slots have cells.
+    /// Returns the number of slots that have cells.
     #[inline(always)]
     pub fn slot_count(&self) -> usize
         ensures { result ≡ length self.now.columns }
@@ -62,8 +63,8 @@ impl<'a> StepCells<'a> {
         self.columns.len()
     }
 
-    /// What the cell of a slot holds which is there, its value in the base units of the slot's dimension. `None` exactly
-    /// where it is unknown.
+    /// Returns what the cell of a slot holds, which has to be there, its value in the base units of the slot's dimension. `None`
+    /// exactly where it is unknown.
     #[inline(always)]
     pub fn content(&self, slot: SlotNo) -> Option<Content>
         requires first { 1 ≤ slot.0 }
@@ -93,7 +94,7 @@ fn row_of(cells: &[Kept], width: u16, step: u16) -> &[Kept]
     &cells[first..first + usize::from(width)]
 }
 
-/// The cells of one timestep. There are none where there is no such timestep.
+/// Returns the cells of one timestep. There are none where there is no such timestep.
 pub(crate) fn cells_at_step<'a>(
     columns: &'a [u16],
     width: u16,

@@ -1,3 +1,4 @@
+//! Writes the answer of a dispatch that puts the solved term and nothing else.
 ghost use Rattle.std.specs.Prelude.{◌≡◌, ◌∷◌, [], None};
 ghost use Rattle.rw_method.specs.Puts.{put, solved_put, is_bounded};
 ghost use Rattle.rw_method.specs.Solve.{answer, answer_of_puts};
@@ -20,7 +21,7 @@ fn put_one(view: &View, place: u8, value: i128, number: u16, solved: &mut Solved
     }
 }
 
-/// Answers what puts the solved term and nothing else, in the place of another answer: an answer is large.
+/// Writes the answer that puts the solved term and nothing else, in the place of another answer, since an answer is large.
 #[inline(always)]
 pub(crate) fn answer_solved(view: &View, balanced: Balanced, solved: &mut Solved)
     ensures { solved.new

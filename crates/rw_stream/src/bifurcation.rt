@@ -1,3 +1,4 @@
+//! Solves bifurcations.
 ghost use Rattle.std.specs.Prelude.{◌≡◌};
 ghost use Rattle.rw_model.specs.declared.kind.Kind.TheVariants as Kind;
 ghost use Rattle.rw_method.specs.Solve.{solve_of};
@@ -7,7 +8,7 @@ use rw_method::places::{INFLOW, OUTFLOW_1, OUTFLOW_2};
 use rw_method::{Method, Share, Solved, View, solve_balance};
 use rw_model::Kind;
 
-/// The method of a bifurcation: what flows in is parted into two outflows.
+/// The method of bifurcations: what flows in is divided into two outflows.
 #[derive(Debug, Drop)]
 pub struct BifurcationMethod;
 

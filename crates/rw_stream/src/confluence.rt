@@ -1,3 +1,4 @@
+//! Solves confluences.
 ghost use Rattle.std.specs.Prelude.{◌≡◌};
 ghost use Rattle.rw_model.specs.declared.kind.Kind.TheVariants as Kind;
 ghost use Rattle.rw_method.specs.Solve.{solve_of};
@@ -7,7 +8,7 @@ use rw_method::places::{INFLOW_1, INFLOW_2, JOINED_OUTFLOW};
 use rw_method::{Method, Share, Solved, View, solve_balance};
 use rw_model::Kind;
 
-/// The method of a confluence: its two inflows flow out together.
+/// The method of confluences: the two inflows flow out together.
 #[derive(Debug, Drop)]
 pub struct ConfluenceMethod;
 

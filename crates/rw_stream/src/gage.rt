@@ -1,3 +1,4 @@
+//! Solves gages.
 ghost use Rattle.std.specs.Prelude.{◌≡◌};
 ghost use Rattle.rw_model.specs.declared.kind.Kind.TheVariants as Kind;
 ghost use Rattle.rw_method.specs.Solve.{solve_of};
@@ -7,7 +8,7 @@ use rw_method::places::{INFLOW, OUTFLOW};
 use rw_method::{Method, Share, Solved, View, solve_balance};
 use rw_model::Kind;
 
-/// The method of a gage: what flows in flows out.
+/// The method of gages: what flows in flows out.
 #[derive(Debug, Drop)]
 pub struct GageMethod;
 

@@ -1,4 +1,4 @@
-//! The methods of what water only runs through: gages, confluences, bifurcations and reaches. Each answers what the
+//! Solves the objects that water only runs through: gages, confluences, bifurcations and reaches. Each method returns what the
 //! definition of a dispatch says of its kind. No call takes memory.
 #![tactic(auto)]
 

@@ -1,3 +1,4 @@
+//! Solves reaches, with a lag and without one.
 ghost use Rattle.std.specs.Prelude.{◌≡◌, ◌+ℤ◌, suc, zero, [], ℕ, ℤ, Bool, List};
 ghost use Rattle.std.specs.Option.{ForSome};
 ghost use Rattle.rw_model.specs.declared.kind.Kind.TheVariants as Kind;
@@ -12,7 +13,7 @@ use rw_method::places::{INFLOW, OUTFLOW, REACH_SIDE};
 use rw_method::{Method, Share, Solved, View, side_flows, solve_balance};
 use rw_model::Kind;
 
-/// The method of a reach: what flowed in as many timesteps ago as its lag flows out, and what flows in by the side.
+/// The method of reaches: what flowed in as many timesteps ago as the lag flows out, with the side flows.
 #[derive(Debug, Drop)]
 pub struct ReachMethod;
 

@@ -1,3 +1,4 @@
+//! Decides whether rows are an elevation-volume table, and finds the first fault of rows that are none.
 ghost use Rattle.rw_table.specs.declared.fault.TheConstants.{ROWS_MAX};
 ghost use Rattle.std.specs.Prelude.{◌≡◌, ◌<◌, ◌≤◌, length, None};
 ghost use Rattle.rw_base.specs.Answers.{Finds};
@@ -8,22 +9,22 @@ use thiserror::Error;
 // The most rows that a table has.
 const ROWS_MAX: usize = 200;
 
-/// The greatest elevation, in mm.
+/// The greatest elevation of a table, in mm.
 pub const ELEVATION_MAX: i64 = 10_000_000;
 
 // The greatest volume, in m3.
 const VOLUME_MAX: i64 = 10_000_000_000_000;
 
-/// Why rows are no table. Rows are counted from 1.
+/// The reasons why rows are no table. Rows are counted from 1.
 #[derive(Clone, Copy, Debug, PartialEq, Eq, Error)]
 pub enum TableFault {
-    /// Fewer than 2 rows.
+    /// There are fewer than 2 rows.
     #[error("a table has at least 2 rows")]
     TooFewRows,
-    /// More than 200 rows.
+    /// There are more than 200 rows.
     #[error("a table has at most 200 rows")]
     TooManyRows,
-    /// This row's elevation is outside 0 to 10^7 mm, or its volume outside 0 to 10^13 m3.
+    /// The elevation of this row is outside 0 to 10^7 mm, or its volume outside 0 to 10^13 m3.
     #[error("row {0} is out of bounds")]
     OutOfBounds(u32),
     /// This row is not above the row before it in both columns.
@@ -77,7 +78,7 @@ fn judge_rows(rows: &[(i64, i64)]) -> Option<TableFault>
     None
 }
 
-/// The first fault of the rows, if they have one.
+/// Returns the first fault of the rows; `None` where they have none.
 pub(crate) fn judge(rows: &[(i64, i64)]) -> Option<TableFault>
     ensures fault { Finds rows_refusal_of result (table_refusal rows.now) }
     ensures table { result ≡ None → IsTable rows.now }

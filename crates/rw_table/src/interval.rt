@@ -1,3 +1,4 @@
+//! Interpolates between two neighbouring rows of a table in whole numbers, rounded down.
 ghost use Rattle.std.specs.Prelude.{◌≡◌, ℕ, pos, ◌+◌, ◌-◌, ◌*◌, ◌/◌, ◌<◌, ◌≤◌, ◌-ℤ◌, ◌≤ℤ◌, ◌<ℤ◌};
 ghost use Rattle.rw_table.specs.Table.{IsWithinBounds, IsAbove};
 ghost use Rattle.rw_table.specs.Line.{between, IsLastOnLine};
@@ -36,7 +37,7 @@ fn distance(from: i64, to: i64) -> u64
     to.abs_diff(from)
 }
 
-/// The volume in m3 on the line from one row to the next, at an elevation of e mm between them.
+/// Returns the volume in m3 on the line from one row to the next, at an elevation of e mm between them, rounded down.
 pub(crate) fn volume_between(low: (i64, i64), high: (i64, i64), e: i64) -> i64
     requires low { IsWithinBounds low }
     requires high { IsWithinBounds high }
@@ -52,7 +53,7 @@ pub(crate) fn volume_between(low: (i64, i64), high: (i64, i64), e: i64) -> i64
     low.1 + gained as i64
 }
 
-/// The last elevation in mm on the line from one row to the next whose volume is at most s m3.
+/// Returns the last elevation in mm on the line from one row to the next whose volume is at most s m3.
 pub(crate) fn elevation_between(low: (i64, i64), high: (i64, i64), s: i64) -> i64
     requires low { IsWithinBounds low }
     requires high { IsWithinBounds high }

@@ -1,9 +1,11 @@
-//! What holds of every table. Each law is the `ensures` of a function that does nothing; its proof has the same name in
+//! Proves what holds of every table. Each law is the `ensures` of a function that does nothing; its proof has the same name in
 //! `proofs/Laws.antt`.
 ghost use Rattle.std.specs.Prelude.{◌≡◌, ℕ, ◌+◌, ◌<◌, ℤ, ◌≤ℤ◌, ◌<ℤ◌, ◌↔◌, List, length, None, Some, IsSome, IsSomeAnd, MatchOption};
 ghost use Rattle.rw_table.specs.Table.{Row, row_at, IsTable, table_refusal};
 ghost use Rattle.rw_table.specs.Line.{between};
 ghost use Rattle.rw_table.specs.Curve.{vol_of, elev_of, IsElevationInside, IsVolumeInside, IsGreatest};
+ghost use Rattle.rw_table.specs.declared.fault.TheConstants.{ELEVATION_MAX, ROWS_MAX, VOLUME_MAX};
+ghost use Rattle.std.specs.Prelude.{pos};
 
 /// Nothing is wrong with rows exactly where they are a table.
 #[tactic(auto, using(crate::proofs::Judgement::table_iff))]
@@ -11,7 +13,7 @@ pub fn faultless_rows()
     ensures { (rows : List Row) → (table_refusal rows ≡ None) ↔ IsTable rows }
 {}
 
-/// There is a volume exactly from the first elevation to the last.
+/// A table has a volume exactly from its first elevation to its last.
 #[tactic(auto, using(crate::proofs::Laws::volume_where))]
 pub fn volume_where()
     ensures { (rows : List Row) (e : ℤ) → IsTable rows
@@ -73,4 +75,11 @@ pub fn volume_after_elevation()
 pub fn elevation_after_volume()
     ensures { (rows : List Row) (e v : ℤ) → IsTable rows → vol_of rows e ≡ Some v
         → IsSomeAnd (elev_of rows v) (λ back. e ≤ℤ back) }
+{}
+
+/// Says how large a table that is read and its numbers may be, as numbers: definitions have them by these names.
+pub fn limits_of_tables()
+    ensures rows { ROWS_MAX ≡ 200 }
+    ensures elevation { ELEVATION_MAX ≡ pos 10000000 }
+    ensures volume { VOLUME_MAX ≡ pos 10000000000000 }
 {}

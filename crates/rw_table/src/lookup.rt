@@ -1,3 +1,4 @@
+//! Looks up the volume at an elevation, and the elevation at a volume, in the rows of a table.
 ghost use Rattle.std.specs.Prelude.{◌≡◌, is_some};
 ghost use Rattle.rw_table.specs.Table.{IsTable};
 ghost use Rattle.rw_table.specs.Curve.{vol_of, elev_of};
@@ -5,7 +6,7 @@ ghost use Rattle.rw_table.specs.Curve.{vol_of, elev_of};
 use crate::interval::{elevation_between, volume_between};
 use crate::search::{rows_up_to_elevation, rows_up_to_volume};
 
-/// The volume in m3 at an elevation of e mm, in the rows of a table.
+/// Returns the volume in m3 at an elevation of e mm, in the rows of a table.
 pub(crate) fn volume_at(rows: &[(i64, i64)], e: i64) -> Option<i64>
     requires { IsTable rows.now }
     ensures { result ≡ vol_of rows.now e }
@@ -24,7 +25,7 @@ pub(crate) fn volume_at(rows: &[(i64, i64)], e: i64) -> Option<i64>
     None
 }
 
-/// The greatest whole elevation in mm whose volume is at most s m3, in the rows of a table.
+/// Returns the greatest whole elevation in mm whose volume is at most s m3, in the rows of a table.
 pub(crate) fn elevation_at(rows: &[(i64, i64)], s: i64) -> Option<i64>
     requires { IsTable rows.now }
     ensures { result ≡ elev_of rows.now s }
@@ -43,7 +44,7 @@ pub(crate) fn elevation_at(rows: &[(i64, i64)], s: i64) -> Option<i64>
     None
 }
 
-/// Whether the rows of a table have an elevation for a volume of s m3.
+/// Returns whether the rows of a table have an elevation for a volume of s m3.
 pub(crate) fn has_elevation(rows: &[(i64, i64)], s: i64) -> bool
     requires { IsTable rows.now }
     ensures { result ≡ is_some (elev_of rows.now s) }
@@ -51,7 +52,8 @@ pub(crate) fn has_elevation(rows: &[(i64, i64)], s: i64) -> bool
     rows[0].1 <= s && s <= rows[rows.len() - 1].1
 }
 
-/// As `volume_at`, without a search where e is from the row before a place up to the one there.
+/// Returns what `volume_at` returns, without a search where e is between the elevations of the row before a place and of the row
+/// there.
 pub(crate) fn volume_near(rows: &[(i64, i64)], place: usize, e: i64) -> Option<i64>
     requires { IsTable rows.now }
     ensures { result ≡ vol_of rows.now e }
@@ -62,7 +64,8 @@ pub(crate) fn volume_near(rows: &[(i64, i64)], place: usize, e: i64) -> Option<i
     volume_at(rows, e)
 }
 
-/// As `elevation_at`, without a search where s is from the row before a place up to the one there.
+/// Returns what `elevation_at` returns, without a search where s is between the volumes of the row before a place and of the row
+/// there.
 pub(crate) fn elevation_near(rows: &[(i64, i64)], place: usize, s: i64) -> Option<i64>
     requires { IsTable rows.now }
     ensures { result ≡ elev_of rows.now s }

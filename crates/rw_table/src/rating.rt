@@ -1,3 +1,4 @@
+//! Holds a valid elevation-volume table, and returns volumes and elevations from it.
 ghost use Rattle.std.specs.Prelude.{◌≡◌, ◌≤◌, ◌≤ℤ◌, ◌<ℤ◌, length, OnOk, IsOk, IfOk, IsErrOf, is_some};
 ghost use Rattle.std.specs.List.Sorted.{IsPartitionPoint};
 ghost use Rattle.std.specs.Option.{ForSome};
@@ -30,10 +31,10 @@ impl Model for Rating {
 }
 
 impl Rating {
-    /// The table of these rows, lowest first, each an elevation in mm and a volume in m3.
+    /// Returns the table of these rows, lowest first, each an elevation in mm and a volume in m3.
     ///
-    /// A fault of the rows is answered as the first that is found: their number, and then, row by row from 1 on, the row's
-    /// bounds and that it is above the row before it. `NoMemory` comes only for rows that are a table.
+    /// Rows with a fault are refused for the first that is found: their number, and then, row by row from 1 on, the bounds of the
+    /// row and that it is above the row before it. `NoMemory` comes only for rows that are a table.
     pub fn of(alloc: Global, rows: &[(i64, i64)]) -> Result<Rating, TableFault>
         ensures rows { IfOk result (λ rating. rating ≡ rows.now) }
         ensures table { OnOk result (IsTable rows.now) }
@@ -50,7 +51,7 @@ impl Rating {
         }
     }
 
-    /// The volume in m3 at an elevation of e mm, on the line between the two rows around it, rounded down. `None` exactly
+    /// Returns the volume in m3 at an elevation of e mm, on the line between the two rows around it, rounded down. `None` exactly
     /// outside the table's elevations.
     pub fn vol(&self, e: i64) -> Option<i64>
         ensures volume { result ≡ vol_of self.now e }
@@ -59,7 +60,7 @@ impl Rating {
         volume_at(&self.rows, e)
     }
 
-    /// The greatest whole elevation in mm whose volume is at most s m3. `None` exactly outside the table's volumes.
+    /// Returns the greatest whole elevation in mm whose volume is at most s m3. `None` exactly outside the table's volumes.
     pub fn elev(&self, s: i64) -> Option<i64>
         ensures elevation { result ≡ elev_of self.now s }
         ensures inside { ForSome result (IsElevationInside self.now) }
@@ -68,14 +69,15 @@ impl Rating {
         elevation_at(&self.rows, s)
     }
 
-    /// Whether the table has an elevation for s m3, which is quicker than `elev`: it looks at the first and the last row alone.
+    /// Returns whether the table has an elevation for s m3. It is quicker than `elev`, since it looks at the first and the last
+    /// row alone.
     pub fn has_elev(&self, s: i64) -> bool
         ensures { result ≡ is_some (elev_of self.now s) }
     {
         has_elevation(&self.rows, s)
     }
 
-    /// How many rows have at most a volume of s m3: where `elev_near` and `vol_near` look first.
+    /// Returns how many rows have a volume of at most s m3: where `elev_near` and `vol_near` look first.
     pub fn rows_up_to(&self, s: i64) -> usize
         ensures bound { result ≤ length self.now }
         ensures place { IsPartitionPoint
@@ -84,7 +86,8 @@ impl Rating {
         rows_up_to_volume(&self.rows, s)
     }
 
-    /// As `vol`, which is quicker where e is between the row before a place and the one there.
+    /// Returns what `vol` returns, and is quicker where e is between the elevations of the row before a place and of the row
+    /// there.
     pub fn vol_near(&self, place: usize, e: i64) -> Option<i64>
         ensures volume { result ≡ vol_of self.now e }
         ensures table { IsTable self.now }
@@ -92,7 +95,7 @@ impl Rating {
         volume_near(&self.rows, place, e)
     }
 
-    /// As `elev`, which is quicker where s is between the volumes of the row before a place and of the one there.
+    /// Returns what `elev` returns, and is quicker where s is between the volumes of the row before a place and of the row there.
     pub fn elev_near(&self, place: usize, s: i64) -> Option<i64>
         ensures elevation { result ≡ elev_of self.now s }
         ensures inside { ForSome result (IsElevationInside self.now) }
@@ -101,7 +104,7 @@ impl Rating {
         elevation_near(&self.rows, place, s)
     }
 
-    /// The lowest elevation of the table in mm.
+    /// Returns the lowest elevation of the table, in mm.
     pub fn lowest(&self) -> i64
         ensures lowest { result ≡ (first_row self.now).0 }
         ensures table { IsTable self.now }

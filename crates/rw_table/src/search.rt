@@ -1,8 +1,9 @@
+//! Counts the rows of a table up to an elevation or a volume, by binary search.
 ghost use Rattle.std.specs.Prelude.{◌≤◌, ◌≤ℤ◌, ◌<ℤ◌, length};
 ghost use Rattle.std.specs.List.Sorted.{IsPartitionPoint};
 ghost use Rattle.rw_table.specs.Table.{Row, IsTable};
 
-/// How many rows of a table are at or below an elevation of e mm.
+/// Counts the rows of a table at or below an elevation of e mm.
 pub(crate) fn rows_up_to_elevation(rows: &[(i64, i64)], e: i64) -> usize
     requires { IsTable rows.now }
     ensures bound { result ≤ length rows.now }
@@ -12,7 +13,7 @@ pub(crate) fn rows_up_to_elevation(rows: &[(i64, i64)], e: i64) -> usize
     rows.partition_point(|row| row.0 <= e)
 }
 
-/// How many rows of a table have at most a volume of s m3.
+/// Counts the rows of a table with a volume of at most s m3.
 pub(crate) fn rows_up_to_volume(rows: &[(i64, i64)], s: i64) -> usize
     requires { IsTable rows.now }
     ensures bound { result ≤ length rows.now }

@@ -3,7 +3,6 @@ pub mod Command
 pub mod Cell
 pub mod Policy
 pub mod Reading
-pub mod Told
 pub mod Reason
 pub mod RunText
 pub mod Sections
@@ -17,12 +16,3 @@ pub mod Written
 pub mod Refusal
 pub mod Lines
 pub mod Promise
-pub mod FirstCall
-pub mod Alike
-pub mod Books
-pub mod SureCall
-pub mod Inflows
-pub mod ModelTable
-pub mod Cascade
-pub mod Ruleset
-pub mod Migrated

@@ -141,7 +141,7 @@ pub(crate) fn asked_of_newest(
 {
     same_asks();
     texts_of_runs();
-    let run = run_any(alloc, setup.basin, setup.methods, inputs, &Newest)?;
+    let run = run_any(alloc, setup.basin, setup.methods, inputs, &Newest, true)?;
     let text = text_of_run(alloc, setup, extras, 0, inputs, &run)?;
     Ok((text, run.end))
 }

@@ -1,3 +1,4 @@
+//! Writes the budgets of a policy: the text of `check`.
 ghost use Rattle.std.specs.Prelude.{◌≡◌, ◌++◌, ◌<◌, ◌≤◌, Some, OnOk, IfOk, string_bytes};
 ghost use Rattle.rpl_budget.specs.Seen.{budget_seen};
 ghost use Rattle.rw_top.specs.Budgets.{budget_line, check_text, counts_line};

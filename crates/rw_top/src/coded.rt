@@ -14,7 +14,7 @@ ghost use Rattle.rw_top.specs.Seen.{policy_of};
 
 use crate::policy::Policy;
 use rpl_compile::accepted::compiled_budgets;
-use rpl_compile::{compile, compile_away};
+use rpl_compile::compile_away;
 use rpl_policy::law::firings_are_verified;
 use rpl_rulesets::law::{firings_of_rules_are_verified, rules_keep_promises, rulesets_have_runs};
 use rpl_types::Typed;
@@ -27,8 +27,8 @@ use rw_model::Basin;
 use rw_run::law::choices;
 use std::alloc::Global;
 
-/// Code of a file runs as itself.
-pub(crate) fn code_runs()
+// Code of a file runs as itself.
+fn code_runs()
     ensures { (basin : Draft) (code : Accepted) → verified basin code.blocks ≡ Ok code
         → IsCodeOf basin (Code code.blocks code.budgets) code }
 {
@@ -51,24 +51,8 @@ fn rules_run()
     firings_of_rules_are_verified();
 }
 
-/// The code of a ruleset that is accepted for the basin, which runs as the ruleset does.
-pub(crate) fn code_of_rules(
-    alloc: Global,
-    typed: &Typed,
-    basin: &Basin,
-) -> Result<Verified, NoMemory>
-    requires { IsOk (rules_judged basin.now (rules_of typed.now.rules)) }
-    ensures fits { IfOk result (λ code. verified basin.now code.blocks ≡ Ok code) }
-    ensures runs { IfOk result (IsCodeOf basin.now (Ruleset (rules_of typed.now.rules))) }
-{
-    rules_run();
-    let _rules = typed.rules();
-    let code = compile(alloc, typed, basin)?;
-    Ok(code)
-}
-
-// The same of a ruleset that goes as its code is made.
-fn code_of_taken(alloc: Global, typed: Typed, basin: &Basin) -> Result<Verified, NoMemory>
+// The code of a ruleset that is accepted for the basin, and that goes as its code is made.
+fn code_of_ruleset(alloc: Global, typed: Typed, basin: &Basin) -> Result<Verified, NoMemory>
     requires { IsOk (rules_judged basin.now (rules_of typed.rules)) }
     ensures fits { IfOk result (λ code. verified basin.now code.blocks ≡ Ok code) }
     ensures runs { IfOk result (IsCodeOf basin.now (Ruleset (rules_of typed.rules))) }
@@ -87,7 +71,7 @@ pub(crate) fn code_of(alloc: Global, policy: Policy, basin: &Basin) -> Result<Ve
 {
     code_runs();
     match policy {
-        Policy::Ruleset(typed) => code_of_taken(alloc, typed, basin),
+        Policy::Ruleset(typed) => code_of_ruleset(alloc, typed, basin),
         Policy::Code(code) => Ok(code),
     }
 }

@@ -1,3 +1,4 @@
+//! Writes the code of a policy: the text of `compile`.
 ghost use Rattle.std.specs.Prelude.{◌≡◌, IfOk, IsOk};
 ghost use Rattle.rpl_code.specs.Spelling.{spelt};
 ghost use Rattle.rpl_compile.specs.Translate.{translate};

@@ -1,3 +1,4 @@
+//! Holds what a command asks for besides the table of a run.
 use rw_words::Order;
 
 /// What the text of a run tells besides its table, and how it is come to.

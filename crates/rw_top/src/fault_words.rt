@@ -1,3 +1,4 @@
+//! Lists the words for what is wrong with models, inputs, rulesets and code.
 ghost use Rattle.std.specs.Prelude.{◌≡◌};
 ghost use Rattle.rw_top.specs.Lines.{build_words as words_of_build, table_words as words_of_table, calendar_words as words_of_calendar, input_words as words_of_input, type_words as words_of_type, verify_words as words_of_verify};
 

@@ -4,7 +4,7 @@
 //! exactly the text that the definitions give for these files: one section for the inputs and one after each batch of edits, each
 //! that of a run from the first timestep on, also where timesteps are reused; and of runs by a policy each firing is one of verified
 //! code, within its budget. Of a model in format 2 the table is said, and not the bytes. Every other status has its cause, and one
-//! line that says so. `law` says what that comes to.
+//! line that says so. `rw_promise` says what that comes to.
 #![tactic(auto)]
 
 mod alone;
@@ -19,7 +19,6 @@ mod extras;
 mod fault_words;
 mod files;
 mod judging;
-pub mod law;
 mod many;
 mod migrate;
 mod perform;

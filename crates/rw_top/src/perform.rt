@@ -1,3 +1,4 @@
+//! Does the job of a command: reads its files, and writes the text that it asks for.
 ghost use Rattle.std.specs.Prelude.{◌≡◌, ◌≢◌, ◌≤◌, ℕ, Err, List, [], length, map, option_map, unwrap_or, IfErr, IfOk, IsTrue, MatchResult, Ok};
 ghost use Rattle.std.specs.List.{All};
 ghost use Rattle.rw_inputs.specs.Edits.{IsBatch};
@@ -11,12 +12,13 @@ ghost use Rattle.rw_top.specs.Ready.{AreReady};
 ghost use Rattle.rw_top.specs.Refusal.{Cause};
 ghost use Rattle.rw_top.specs.RunText.{CountsSections, IsCodeOf, IsRulesText};
 ghost use Rattle.rw_top.specs.Sections.{AppendsAll, StopsAmong, first_given};
+ghost use Rattle.rw_top.specs.Reading.{FilesRead};
 ghost use Rattle.rw_top.specs.Seen.{files_seen};
 ghost use Rattle.rw_words.specs.declared.job.Job.TheVariants as J;
 ghost use Rattle.rw_top.specs.Written.{Appends, CountsOfFiles, CountsReused, IsOne, Stops, WritesAll, status_of_end};
 
 use crate::Refusal;
-use crate::balance::balance_by_policy;
+use crate::balance::balance_by_code;
 use crate::check::budgets;
 use crate::coded::code_of;
 use crate::command::Command;
@@ -26,10 +28,10 @@ use crate::files::{Files, read_files};
 use crate::many::write_many;
 use crate::migrate::migrated_text;
 use crate::reused::write_reused;
-use crate::sample::sample_by_policy;
+use crate::sample::sample_by_code;
 use crate::sections::write_sections;
 use crate::simulate::write_without_rules;
-use crate::why::why_by_policy;
+use crate::why::why_by_code;
 use rpl_predef::Predefs;
 use rpl_verify::Verified;
 use rw_base::{Ledger, NoMemory, Steps};
@@ -109,66 +111,67 @@ fn compile(alloc: Global, files: &Files) -> Result<(Vec<u8>, u8), NoMemory>
     Ok((code_text(alloc, policy, &files.basin)?, 0))
 }
 
-// How the cell of the files came to what it holds in the run by their policy, and the status with which that is written.
+// How the cell of the files came to what it holds in the run by their policy, and the status with which that is written. They are
+// left without their policy.
 fn tell_why<L: Ledger>(
     alloc: Global,
-    files: &Files,
+    files: &mut Files,
     methods: &Catalogue,
     predefs: &Predefs,
     steps: &mut Steps<L>,
 ) -> Result<(Vec<u8>, u8), NoMemory>
     requires order { AreInOrder (map (λ b. code (b.vtable, b.value)) methods.now.methods.items) }
-    requires ready { AreReady J.Why files.now }
+    requires ready { AreReady J.Why files.old }
     ensures { (extras : Extras) → IfOk result
-        (λ pair. IsOne J.Why extras (files_seen files.now) pair.1 pair.0.items) }
+        (λ pair. IsOne J.Why extras (files_seen files.old) pair.1 pair.0.items) }
 {
-    let Some(policy) = &files.policy else {
+    let Some(policy) = files.policy.take() else {
         unreachable!();
     };
+    let by = code_of(alloc, policy, &files.basin)?;
     let Some(inputs) = &files.inputs else {
         unreachable!();
     };
     let Some(cell) = files.cell else {
         unreachable!();
     };
-    let none = Verified::none(alloc);
     let setup = RunSetup {
         basin: &files.basin,
         methods,
-        policy: &none,
+        policy: &by,
         predefs,
     };
-    let (text, end) = why_by_policy(alloc, &setup, policy, inputs, cell, steps)?;
+    let (text, end) = why_by_code(alloc, &setup, inputs, cell, steps)?;
     Ok((text, status_of_run(&end)))
 }
 
-// The books of the run of the files by their policy, and the status with which they are written.
+// The books of the run of the files by their policy, and the status with which they are written. The files are left without their policy.
 fn balance<L: Ledger>(
     alloc: Global,
-    files: &Files,
+    files: &mut Files,
     methods: &Catalogue,
     predefs: &Predefs,
     steps: &mut Steps<L>,
 ) -> Result<(Vec<u8>, u8), NoMemory>
     requires order { AreInOrder (map (λ b. code (b.vtable, b.value)) methods.now.methods.items) }
-    requires ready { AreReady J.Balance files.now }
+    requires ready { AreReady J.Balance files.old }
     ensures { (extras : Extras) → IfOk result
-        (λ pair. IsOne J.Balance extras (files_seen files.now) pair.1 pair.0.items) }
+        (λ pair. IsOne J.Balance extras (files_seen files.old) pair.1 pair.0.items) }
 {
-    let Some(policy) = &files.policy else {
+    let Some(policy) = files.policy.take() else {
         unreachable!();
     };
+    let by = code_of(alloc, policy, &files.basin)?;
     let Some(inputs) = &files.inputs else {
         unreachable!();
     };
-    let none = Verified::none(alloc);
     let setup = RunSetup {
         basin: &files.basin,
         methods,
-        policy: &none,
+        policy: &by,
         predefs,
     };
-    let (text, end) = balance_by_policy(alloc, &setup, policy, inputs, steps)?;
+    let (text, end) = balance_by_code(alloc, &setup, inputs, steps)?;
     Ok((text, status_of_run(&end)))
 }
 
@@ -184,50 +187,45 @@ fn migrate(alloc: Global, files: &Files) -> Result<(Vec<u8>, u8), NoMemory>
     Ok((migrated_text(alloc, text)?, 0))
 }
 
-// The line on the run of the sample of a seed, whose files these are, and the status with which it is written.
+// The line on the run of the sample of a seed, whose files these are, and the status with which it is written. They are left without
+// their policy.
 fn sample<L: Ledger>(
     alloc: Global,
-    files: &Files,
+    files: &mut Files,
     seed: u64,
     methods: &Catalogue,
     predefs: &Predefs,
     steps: &mut Steps<L>,
 ) -> Result<(Vec<u8>, u8), NoMemory>
     requires order { AreInOrder (map (λ b. code (b.vtable, b.value)) methods.now.methods.items) }
-    requires ready { AreReady (J.Sample seed) files.now }
+    requires ready { AreReady (J.Sample seed) files.old }
     ensures { (extras : Extras) → IfOk result
-        (λ pair. IsOne (J.Sample seed) extras (files_seen files.now) pair.1 pair.0.items) }
+        (λ pair. IsOne (J.Sample seed) extras (files_seen files.old) pair.1 pair.0.items) }
 {
-    let Some(policy) = &files.policy else {
+    let Some(policy) = files.policy.take() else {
         unreachable!();
     };
+    let by = code_of(alloc, policy, &files.basin)?;
     let Some(inputs) = &files.inputs else {
         unreachable!();
     };
-    let none = Verified::none(alloc);
     let setup = RunSetup {
         basin: &files.basin,
         methods,
-        policy: &none,
+        policy: &by,
         predefs,
     };
-    let text = sample_by_policy(alloc, &setup, policy, inputs, seed, steps)?;
+    let text = sample_by_code(alloc, &setup, inputs, seed, steps)?;
     Ok((text, 0))
 }
 
 // Writes a text that was made, unless memory was wanting for it.
-fn write_made<K: Sink>(
-    job: Job,
-    extras: Extras,
-    _files: &Files,
-    made: Result<(Vec<u8>, u8), NoMemory>,
-    out: &mut K,
-) -> Result<u8, Refusal>
-    requires { IfOk made
-        (λ pair. IsOne job extras (files_seen _files.now) pair.1 pair.0.items) }
-    ensures { MatchResult result
-        (Appends job extras (files_seen _files.now) (change (K.seen out.old) (K.seen out.new)))
-        (Stops job extras (files_seen _files.now) (change (K.seen out.old) (K.seen out.new))) }
+fn write_made<K: Sink>(made: Result<(Vec<u8>, u8), NoMemory>, out: &mut K) -> Result<u8, Refusal>
+    ensures { (job : Job) (extras : Extras) (files : FilesRead)
+        → IfOk made (λ pair. IsOne job extras files pair.1 pair.0.items)
+        → MatchResult result
+        (Appends job extras files (change (K.seen out.old) (K.seen out.new)))
+        (Stops job extras files (change (K.seen out.old) (K.seen out.new))) }
 {
     let (text, status) = match made {
         Ok(pair) => pair,
@@ -373,22 +371,22 @@ fn many<K: Sink, L: Ledger>(
     written
 }
 
-// The one text of a job that lends its files and makes it whole, and the status with which it is written.
+// The one text of a job that makes it whole, and the status with which it is written.
 fn text_of_job<L: Ledger>(
     alloc: Global,
     job: Job,
-    files: &Files,
+    files: &mut Files,
     methods: &Catalogue,
     predefs: &Predefs,
     extras: Extras,
     steps: &mut Steps<L>,
 ) -> Result<(Vec<u8>, u8), NoMemory>
     requires order { AreInOrder (map (λ b. code (b.vtable, b.value)) methods.now.methods.items) }
-    requires ready { AreReady job files.now }
+    requires ready { AreReady job files.old }
     requires one { job ≢ J.Mrm }
     requires lent { job ≢ J.Run }
     requires whole { job ≢ J.Simulate }
-    ensures { IfOk result (λ pair. IsOne job extras (files_seen files.now) pair.1 pair.0.items) }
+    ensures { IfOk result (λ pair. IsOne job extras (files_seen files.old) pair.1 pair.0.items) }
 {
     match job {
         Job::Check => check(alloc, files),
@@ -428,7 +426,7 @@ fn write_of<K: Sink, L: Ledger>(
         Job::Simulate => simulate(alloc, files, methods, predefs, extras, steps, out),
         _ => {
             let made = text_of_job(alloc, job, files, methods, predefs, extras, steps);
-            write_made(job, extras, files, made, out)
+            write_made(made, out)
         }
     }
 }

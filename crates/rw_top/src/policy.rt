@@ -1,3 +1,4 @@
+//! Holds an accepted policy, a ruleset or code, and returns its budgets.
 ghost use Rattle.std.specs.Prelude.{◌≡◌, ◌≤◌, Some};
 ghost use Rattle.rw_base.specs.declared.limits.TheConstants.{RULES_MAX};
 ghost use Rattle.rpl_budget.specs.Seen.{budget_seen};

@@ -1,3 +1,4 @@
+//! Lists why the text of a command is not written, or not wholly, and the status of each reason.
 ghost use Rattle.std.specs.Prelude.{◌≡◌};
 
 use rpl_code::CodeFault;

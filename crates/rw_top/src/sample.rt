@@ -1,17 +1,15 @@
 // The sample of a seed: the texts of its files, and the line on its run.
-ghost use Rattle.std.specs.Prelude.{◌≡◌, map, IfOk};
+ghost use Rattle.std.specs.Prelude.{◌≡◌, map, IfOk, Ok};
 ghost use Rattle.rw_inputs.specs.Inputs.{IsInputsOf};
 ghost use Rattle.rw_method.specs.Catalogue.{AreInOrder};
 ghost use Rattle.rw_top.specs.Command.{sample_text};
-ghost use Rattle.rw_top.specs.Ready.{IsFit};
-ghost use Rattle.rw_top.specs.RunText.{IsSampleText};
-ghost use Rattle.rw_top.specs.Seen.{policy_of};
+ghost use Rattle.rpl_verify.specs.Verified.{verified};
+ghost use Rattle.rw_top.specs.Policy.{PolicyFile};
+ghost use Rattle.rw_top.specs.RunText.{IsCodeOf, IsSampleText};
 
 use crate::File;
-use crate::policy::Policy;
-use crate::run::run_by_policy;
 use rw_base::{Ledger, NoMemory, Steps};
-use rw_engine::RunSetup;
+use rw_engine::{RunSetup, run_all_of};
 use rw_inputs::Inputs;
 use rw_report::law::texts_of_runs;
 use rw_sample::{sample_inputs, sample_line, sample_model, sample_rules};
@@ -29,24 +27,25 @@ pub(crate) fn sample_text(alloc: Global, seed: u64, file: File) -> Result<Vec<u8
     }
 }
 
-/// The line on the run of the sample by its policy.
-pub(crate) fn sample_by_policy<L: Ledger>(
+/// The line on the run of the sample by its code.
+pub(crate) fn sample_by_code<L: Ledger>(
     alloc: Global,
     setup: &RunSetup<'_>,
-    policy: &Policy,
     inputs: &Inputs,
     seed: u64,
     steps: &mut Steps<L>,
 ) -> Result<Vec<u8>, NoMemory>
-    requires fits { IsFit setup.now.basin.now policy.now }
+    requires fits { verified setup.now.basin.now setup.now.policy.now.blocks
+        ≡ Ok setup.now.policy.now }
     requires order { AreInOrder
         (map (λ b. code (b.vtable, b.value)) setup.now.methods.now.methods.items) }
     requires inputs { IsInputsOf setup.now.basin.now inputs.now }
-    ensures { IfOk result (λ text. IsSampleText setup.now.basin.now (policy_of policy.now)
-        inputs.now seed text.items) }
+    ensures { (policy : PolicyFile) → IsCodeOf setup.now.basin.now policy setup.now.policy.now
+        → IfOk result (λ text. IsSampleText setup.now.basin.now policy inputs.now seed
+        text.items) }
 {
     texts_of_runs();
-    let run = run_by_policy(alloc, setup, policy, true, inputs, steps)?;
+    let run = run_all_of(alloc, setup, inputs, true, steps)?;
     let text = sample_line(alloc, setup.basin, seed, &run)?;
     Ok(text)
 }

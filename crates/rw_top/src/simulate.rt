@@ -68,7 +68,14 @@ fn write_newest<K: Sink>(
         0 (first_given inputs.now) (change (K.seen out.old) (K.seen out.new))) }
 {
     texts_of_runs();
-    match run_any(alloc, setup.basin, setup.methods, inputs, &Newest) {
+    match run_any(
+        alloc,
+        setup.basin,
+        setup.methods,
+        inputs,
+        &Newest,
+        extras.trace,
+    ) {
         Ok(run) => write_run(alloc, setup.basin, &run, extras, out),
         Err(NoMemory) => Err(Refusal::NoMemory),
     }

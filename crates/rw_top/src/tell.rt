@@ -1,3 +1,4 @@
+//! Writes the line of a refusal to the error stream.
 ghost use Rattle.std.specs.Prelude.{◌≡◌, ◌≤◌, ◌++◌, codes, MatchBool};
 ghost use Rattle.std.specs.Fmt.{decimal};
 ghost use Rattle.rw_io.specs.Causes.{Rose};

@@ -1,3 +1,4 @@
+//! Does what the arguments ask for, and returns the status: the top call `basin_main`.
 ghost use Rattle.std.specs.Prelude.{◌≡◌, ℕ, List, map};
 ghost use Rattle.rw_method.specs.Catalogue.{AreInOrder};
 ghost use Rattle.rw_words.specs.Command.{texts_of};

@@ -1,40 +1,39 @@
-// How a cell came to what it holds in a run by the policy of a file.
-ghost use Rattle.std.specs.Prelude.{map, IfOk};
+// How a cell came to what it holds in a run by verified code.
+ghost use Rattle.std.specs.Prelude.{◌≡◌, map, IfOk, Ok};
 ghost use Rattle.rw_inputs.specs.Inputs.{IsInputsOf};
 ghost use Rattle.rw_method.specs.Catalogue.{AreInOrder};
 ghost use Rattle.rw_model.specs.Draft.{IsSlot};
-ghost use Rattle.rw_top.specs.Ready.{IsFit};
-ghost use Rattle.rw_top.specs.RunText.{IsWhyOfRules};
-ghost use Rattle.rw_top.specs.Seen.{policy_of};
+ghost use Rattle.rpl_verify.specs.Verified.{verified};
+ghost use Rattle.rw_top.specs.Policy.{PolicyFile};
+ghost use Rattle.rw_top.specs.RunText.{IsCodeOf, IsWhyOfRules};
 
-use crate::policy::Policy;
-use crate::run::run_by_policy;
 use rw_base::{Cell, Ledger, NoMemory, Steps};
-use rw_engine::{RunEnd, RunSetup};
+use rw_engine::{RunEnd, RunSetup, run_all_of};
 use rw_inputs::Inputs;
 use rw_report::law::texts_of_runs;
 use rw_report::why;
 use std::alloc::Global;
 
-/// How a cell came to what it holds in the run by a policy that is accepted for the basin, and how the run ended.
-pub(crate) fn why_by_policy<L: Ledger>(
+/// How a cell came to what it holds in the run by code that is verified for the basin, and how the run ended.
+pub(crate) fn why_by_code<L: Ledger>(
     alloc: Global,
     setup: &RunSetup<'_>,
-    policy: &Policy,
     inputs: &Inputs,
     cell: Cell,
     steps: &mut Steps<L>,
 ) -> Result<(Vec<u8>, RunEnd), NoMemory>
-    requires fits { IsFit setup.now.basin.now policy.now }
+    requires fits { verified setup.now.basin.now setup.now.policy.now.blocks
+        ≡ Ok setup.now.policy.now }
     requires order { AreInOrder
         (map (λ b. code (b.vtable, b.value)) setup.now.methods.now.methods.items) }
     requires inputs { IsInputsOf setup.now.basin.now inputs.now }
     requires slot { IsSlot setup.now.basin.now.objects cell.slot.0 }
-    ensures { IfOk result (λ pair. IsWhyOfRules setup.now.basin.now (policy_of policy.now)
-        inputs.now cell pair.1 pair.0.items) }
+    ensures { (policy : PolicyFile) → IsCodeOf setup.now.basin.now policy setup.now.policy.now
+        → IfOk result (λ pair. IsWhyOfRules setup.now.basin.now policy inputs.now cell
+        pair.1 pair.0.items) }
 {
     texts_of_runs();
-    let run = run_by_policy(alloc, setup, policy, true, inputs, steps)?;
+    let run = run_all_of(alloc, setup, inputs, true, steps)?;
     let text = why(alloc, setup.basin, &run, inputs, cell)?;
     Ok((text, run.end))
 }

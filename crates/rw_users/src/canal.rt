@@ -1,3 +1,4 @@
+//! Solves canals.
 ghost use Rattle.std.specs.Prelude.{◌≡◌, ◌≤◌, ◌-ℤ◌, [], None};
 ghost use Rattle.rw_model.specs.declared.limits.TheConstants.{SEEPAGE_MAX};
 ghost use Rattle.rw_model.specs.declared.kind.Kind.TheVariants as Kind;
@@ -12,7 +13,7 @@ use rw_method::{
 };
 use rw_model::Kind;
 
-/// The method of a canal: a part of what flows in seeps away.
+/// The method of canals: a part of what flows in seeps away.
 #[derive(Debug, Drop)]
 pub struct CanalMethod;
 

@@ -1,5 +1,5 @@
-//! The methods of what water is diverted to: water users and canals. Each answers what the definition of a dispatch says
-//! of its kind. No call takes memory.
+//! Solves the objects that water is diverted to: water users and canals. Each method returns what the definition of a dispatch
+//! says of its kind. No call takes memory.
 #![tactic(auto)]
 
 mod canal;

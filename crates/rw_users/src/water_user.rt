@@ -1,3 +1,4 @@
+//! Solves water users.
 ghost use Rattle.std.specs.Prelude.{◌≡◌, ℕ, ◌-ℤ◌, [], None};
 ghost use Rattle.std.specs.Option.{ForSome};
 ghost use Rattle.rw_method.specs.declared.places.TheConstants.{DIVERSION};
@@ -14,7 +15,7 @@ use rw_method::{
 };
 use rw_model::{Kind, Supply};
 
-/// The method of a water user: what it diverts is used up in part, and the rest flows back.
+/// The method of water users: a part of what is diverted is consumed, and the rest flows back.
 #[derive(Debug, Drop)]
 pub struct WaterUserMethod;
 

@@ -1,3 +1,4 @@
+//! Reads the arguments of the command line as a command: its job, its paths and its options.
 ghost use Rattle.std.specs.Prelude.{◌≡◌, IfOk, codes, false, map, option_and_then, option_map};
 ghost use Rattle.std.specs.List.{list_any};
 ghost use Rattle.std.specs.Option.{option_map_or};
@@ -13,15 +14,15 @@ use clap::{ArgMatches, Error};
 use rw_base::NoMemory;
 use std::alloc::Global;
 
-/// The words that name a cell: a slot and a timestep.
+/// The arguments that name a cell: a slot and a timestep.
 #[derive(Clone, Copy)]
 pub struct CellWords<'w> {
     pub slot: &'w str,
     pub step: &'w str,
 }
 
-/// What the words ask for: a job, the paths that it wants, in its order, the words of its cell, where it asks for one, and the
-/// options that were given.
+/// What the arguments ask for: a job, the paths that it needs, in its order, the words of its cell, where it asks for one, and
+/// the options that were given.
 #[derive(Drop)]
 pub struct Command<'w> {
     pub job: Job,
@@ -198,8 +199,8 @@ fn command_named<'w>(
     command_in(alloc, found, job)
 }
 
-/// The command that the words ask for, and `None` where they ask for none: `docs/FORMATS.md` says under "Words" which do.
-/// The one error is want of memory, which says nothing of the words.
+/// Returns the command that the arguments ask for; `None` where they ask for none. `docs/FORMATS.md` says under "Words" which of
+/// them do. The one error is want of memory, which says nothing of the arguments.
 pub fn read_words<'w>(alloc: Global, words: &'w [String]) -> Result<Option<Command<'w>>, NoMemory>
     ensures command { IfOk result (λ command. option_map command_seen command
         ≡ asked_command (texts_of words.entry.now)) }

@@ -1,8 +1,9 @@
+//! Lists the jobs of the program, each with the word that names it and the paths, other words and options that it takes.
 ghost use Rattle.std.specs.Prelude.{◌≡◌, map, option_map};
 ghost use Rattle.rw_words.specs.Job.{flags_of, job_named, job_name, job_options, others_of, paths_of};
 ghost use Rattle.rw_words.specs.declared.job.Job.TheVariants as J;
 
-/// What is done: with the files that the words name, or with the sample of a seed.
+/// The jobs of the program: what it does with the files that the arguments name, or with the sample of a seed.
 #[derive(Clone, Copy)]
 pub enum Job {
     Run,

@@ -1,6 +1,6 @@
-//! The words of the command line. They are read with `clap`, as a command with one level of subcommands, and what they ask
-//! for is a function of the words, `command_of` (`specs/Command.antt`). `read_words` answers it, or that they ask for
-//! nothing; want of memory is its one other answer.
+//! Reads the words of the command line. They are read with `clap`, as a command with one level of subcommands, and what they ask
+//! for is a function of the words, `command_of` (`specs/Command.antt`). `read_words` returns that command, or `None` where they
+//! ask for nothing; want of memory is its one error.
 #![tactic(auto)]
 
 mod command;

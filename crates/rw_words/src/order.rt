@@ -1,8 +1,9 @@
+//! Lists the two orders of dispatches that a command can ask for, and reads the words for them.
 ghost use Rattle.std.specs.Prelude.{◌≡◌, option_map};
 ghost use Rattle.std.specs.Option.{option_map_or};
 ghost use Rattle.rw_words.specs.Order.{order_named, order_or_oldest};
 
-/// Which of the objects that wait is dispatched first: the one that has waited longest, or the one that has waited shortest.
+/// The orders of dispatches: first comes the object that has waited longest, or the one that has waited shortest.
 #[derive(Clone, Copy)]
 pub enum Order {
     Oldest,

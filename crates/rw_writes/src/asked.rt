@@ -1,4 +1,4 @@
-//! What a rule asks for in the run's timesteps.
+//! Collects what a rule asks for in the run's timesteps.
 ghost use Rattle.std.specs.Prelude.{◌≡◌, ◌≤◌, ◌<◌, ◌+◌, ◌++◌, ◌∷◌, [], length, nat_le};
 ghost use Rattle.std.specs.List.{filter};
 ghost use Rattle.rw_calendar.specs.declared.limits.TheConstants.{STEPS_MAX};
@@ -10,8 +10,8 @@ use rw_firing::RulePut;
 use rw_model::{Basin, Content, Writer};
 use rw_run::Write;
 
-// What a put asks for.
-fn asked_by(rule: RuleNo, step: StepNo, put: RulePut) -> Write
+/// Returns what a put of a rule at a timestep asks for: its slot, `put.ahead` timesteps later, with its value in the base unit of the slot.
+pub fn asked_by(rule: RuleNo, step: StepNo, put: RulePut) -> Write
     requires { step.0 ≤ STEPS_MAX }
     ensures { result ≡ asked_by_rule rule.0 step.0 put }
 {
@@ -41,7 +41,7 @@ fn add(asked: &mut Vec<Write>, last: u16, write: Write)
     }
 }
 
-/// What a rule asks for in the run's timesteps.
+/// Adds what a rule asks for in the run's timesteps.
 pub(crate) fn ask_all(
     asked: &mut Vec<Write>,
     basin: &Basin,

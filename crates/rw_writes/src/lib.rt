@@ -1,6 +1,7 @@
-//! What becomes of the puts of a rule's firing. `Writes::judge` has those of them that are written, by what the cells hold before
-//! the first of them: all that are to timesteps of the run, but those that the firing puts again later, and those that the put
-//! rules keep or deny. `mark` marks the rules that what an event writes reaches. Only making a `Writes` takes memory.
+//! Decides what becomes of the puts of a rule's firing. `Writes::judge` finds those of them that are written, by what the cells
+//! hold before the first of them: all that are to timesteps of the run, but those that the firing puts again later, and those
+//! that the put rules keep or deny. `mark` marks the rules that what an event writes reaches. Only making a `Writes` takes
+//! memory.
 #![tactic(auto)]
 
 mod asked;
@@ -10,6 +11,7 @@ mod marked;
 mod passed;
 mod writes;
 
+pub use asked::asked_by;
 pub use limits::PUTS_MAX;
 pub use marked::mark;
 pub use writes::Writes;

@@ -1,5 +1,5 @@
-//! How many puts a firing may have.
+//! Limits how many puts a firing may have.
 use rw_base::limits;
 
-/// The most puts of a firing.
+/// The maximum number of puts of a firing.
 pub const PUTS_MAX: usize = limits::PUTS_MAX as usize;

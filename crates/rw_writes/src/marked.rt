@@ -1,4 +1,4 @@
-//! Marking the rules that what an event writes reaches.
+//! Marks the rules that what an event writes reaches.
 ghost use Rattle.std.specs.Prelude.{◌≡◌};
 ghost use Rattle.rw_dispatch.specs.Writes.{AreWrites};
 ghost use Rattle.rw_writes.specs.Writes.{MarksAll};

@@ -1,4 +1,4 @@
-//! Which of the puts of a firing are written.
+//! Decides which of the puts of a firing are written.
 ghost use Rattle.std.specs.Prelude.{◌≡◌, ◌≤◌, ◌<◌, ◌+◌, ◌++◌, ◌∷◌, drop, length};
 ghost use Rattle.rw_dispatch.specs.Writes.{AreWrites, CanWrite};
 ghost use Rattle.rw_series.specs.Series.{held};
@@ -76,11 +76,10 @@ fn keep_one(
         ≡ written.old.items
         ++ written_puts basin.now (held series.now) (write.now ∷ later.now) }
 {
-    if is_put_again(basin, write, later) {
-        return;
-    }
     if is_written(series, write) {
-        written.push_reserved(*write);
+        if !is_put_again(basin, write, later) {
+            written.push_reserved(*write);
+        }
     }
 }
 
@@ -92,7 +91,7 @@ fn behind(asked: &[Write], place: usize) -> &[Write]
     &asked[place + 1..]
 }
 
-/// Those that are written, by what the cells hold before the first of them.
+/// Adds those that are written, by what the cells hold before the first of them.
 pub(crate) fn keep_written(
     written: &mut Vec<Write>,
     basin: &Basin,

@@ -1,3 +1,4 @@
+//! Holds the puts of a firing, and those of them that are written.
 ghost use Rattle.std.specs.Prelude.{◌≡◌, ◌≤◌, [], IfOk, length, All};
 ghost use Rattle.rw_model.specs.Turn.{IsStep};
 ghost use Rattle.rw_dispatch.specs.Writes.{AreWrites};
@@ -37,7 +38,7 @@ impl Model for Writes {
 }
 
 impl Writes {
-    /// With room for the puts of any firing. The one error is want of memory; no other call takes any.
+    /// Returns a list with room for the puts of any firing. The one error is want of memory; no other call takes any.
     pub fn with_room(alloc: Global) -> Result<Writes, NoMemory>
         ensures { IfOk result (λ writes. writes ≡ record { asked = []; written = [] }) }
     {
@@ -46,8 +47,8 @@ impl Writes {
         Ok(Writes { asked, written })
     }
 
-    /// Has those puts of a rule's firing at a timestep that are in the run, and those of them that are written, by what the
-    /// cells hold: `docs/DEFINITIONS.md` says under "Runs", at a firing, which these are. A firing has at most `PUTS_MAX`.
+    /// Finds those puts of a rule's firing at a timestep that are in the run, and those of them that are written, by what the
+    /// cells hold: `docs/DEFINITIONS.md` says under "Runs", at a firing, which these are. A firing has at most `PUTS_MAX` puts.
     pub fn judge(
         &mut self,
         basin: &Basin,
@@ -68,14 +69,14 @@ impl Writes {
         keep_written(&mut self.written, basin, series, self.asked.as_slice());
     }
 
-    /// The puts that are in the run's timesteps, written or not.
+    /// Returns the puts that are in the run's timesteps, written or not.
     pub fn asked(&self) -> &[Write]
         ensures { result.now ≡ self.now.asked }
     {
         self.asked.as_slice()
     }
 
-    /// The puts that are written.
+    /// Returns the puts that are written.
     pub fn written(&self) -> &[Write]
         ensures { result.now ≡ self.now.written }
     {

@@ -1,4 +1,4 @@
-" Vim syntax file: code of basin (docs/FORMATS.md, "Code").
+" Vim syntax file: code of basin (docs/CODE.md).
 if exists('b:current_syntax')
   finish
 endif

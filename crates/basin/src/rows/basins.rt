@@ -1,4 +1,4 @@
-//! What one timestep leaves to the next, and what one object passes on.
+//! Tests what one timestep leaves to the next, and what one object passes on.
 use crate::rows::objects::DAM;
 use crate::rows::runs::Example;
 

@@ -1,4 +1,4 @@
-//! How often the method of reservoirs is asked, where timesteps are taken over and where they aren't.
+//! Tests how often the method of reservoirs is asked, where timesteps are taken over and where they are not.
 use crate::rows::kinds::add_methods;
 use crate::rows::statuses::Text::Any;
 use crate::rows::statuses::{Failing, Simulation, runs_with};

@@ -1,4 +1,4 @@
-//! What the tests of methods share: a table of what an object knows, and what its dispatch is to answer.
+//! Holds what the tests of methods share: a table of what an object knows, and what its dispatch is to answer.
 ghost use Rattle.std.specs.Prelude.{◌≡◌, map};
 ghost use Rattle.rw_method.specs.Catalogue.{AreInOrder};
 
@@ -15,7 +15,7 @@ pub(crate) enum By {
     Own(u16),
 }
 
-/// What a dispatch is to answer: puts have their place, value and number.
+/// The answer that is wanted of a dispatch: puts have their place, value and number.
 #[derive(Clone, Copy)]
 pub(crate) enum Want<'a> {
     Idle,
@@ -28,8 +28,8 @@ pub(crate) enum Want<'a> {
 #[derive(Clone, Copy)]
 pub(crate) struct TableRow<'a>(pub(crate) &'a [(u8, i64, By)], pub(crate) Want<'a>);
 
-/// An object's storage before or its inflow as long ago as its lag, its bounds other than the usual ones, each with its
-/// place, and what it is to answer.
+/// An object's storage before or its inflow as long ago as its lag, its bounds other than the usual ones, each with its place,
+/// and the answers that are wanted of it.
 #[derive(Clone, Copy)]
 pub(crate) struct Table<'a> {
     pub(crate) past: Option<i64>,
@@ -148,7 +148,7 @@ fn is_met(catalogue: &Catalogue, kind: &Kind, table: Table<'_>) -> bool
     true
 }
 
-/// The first of the tables, counted from 0, of which a row is not answered as it wants.
+/// Returns the first of the tables, counted from 0, of which a row is not answered as it has to be.
 pub(crate) fn first_unmet(catalogue: &Catalogue, kind: &Kind, tables: &[Table<'_>]) -> Option<usize>
     requires { AreInOrder (map (λ b. code (b.vtable, b.value)) catalogue.now.methods.items) }
 {

@@ -1,4 +1,5 @@
-//! Each call of the shelf and of the output fails, one after the other, in every command, with the error stream and without it.
+//! Lets each call of the shelf and of the output fail, one after the other, in every command, with the error stream and without
+//! it.
 ghost use Rattle.std.specs.Prelude.{◌≡◌, map};
 ghost use Rattle.rw_method.specs.Catalogue.{AreInOrder};
 
@@ -21,8 +22,7 @@ const TRACES: &[u8] = b"trace,slot,step,value\n1,Dam.Inflow,1,50\n2,Dam.Inflow,2
 
 const EDITS: &[u8] = b"batch,slot,step,value\n1,Dam.Inflow,2,130\n";
 
-/// A command, how many calls of the shelf it makes, three for each file, and how many of the output, one for each section, or, with
-/// edits, one for each piece of a section: what stands before the lines, and these.
+/// A command, how many calls of the shelf it makes, three for each file, and how many of the output, one for each section.
 #[derive(Clone, Copy)]
 struct Row {
     words: &'static [&'static str],
@@ -36,7 +36,7 @@ const ROWS: &[Row] = &[
             "run", "m.toml", "p.rpl", "i.csv", "--edits", "e.csv", "--reuse",
         ],
         reads: 12,
-        writes: 4,
+        writes: 2,
     },
     Row {
         words: &["simulate", "m.toml", "i.csv"],
@@ -186,7 +186,7 @@ fn is_right(alloc: Global, methods: &Catalogue, row: Row, err: u64) -> Result<bo
         err: 0,
     };
     let (status, whole) = answer(alloc, methods, row, none)?;
-    for before in 0..5 {
+    for before in 0..4 {
         if before <= row.writes
             && !is_cut(alloc, methods, row, before + 1, err, whole.out.held())?
         {

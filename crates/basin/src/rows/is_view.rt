@@ -1,4 +1,4 @@
-//! A test of what a dispatch may be given.
+//! Decides whether a dispatch may be given a view.
 ghost use Rattle.std.specs.Prelude.{◌≡◌, ◌≤ℤ◌, IsTrue};
 ghost use Rattle.std.specs.Option.{ForSome};
 ghost use Rattle.rw_method.specs.View.{bounds_in_view, IsBounded, IsViewOf};
@@ -41,7 +41,7 @@ fn is_placed(kind: &Kind, view: &View, place: u8) -> bool
     }
 }
 
-/// Whether an object of this kind can see this.
+/// Returns whether an object of this kind can see this.
 pub(crate) fn is_view_of(kind: &Kind, view: &View) -> bool
     ensures { IsTrue result → IsViewOf kind.now view.entry.now }
 {

@@ -1,4 +1,4 @@
-//! Runs after edits, of which those timesteps are run again that an edit touches, and the others taken over.
+//! Tests runs after edits, of which those timesteps are run again that an edit touches, and the others taken over.
 ghost use Rattle.std.specs.Prelude.{◌≡◌, map};
 ghost use Rattle.rw_method.specs.Catalogue.{AreInOrder};
 
@@ -46,7 +46,7 @@ const PUT_AHEAD: &[u8] =
 /// Its edits, which take a fault away, bring another, and take that away.
 pub(crate) const MENDING: &[u8] = b"batch,slot,step,value\n1,D.Y,2,4\n2,D.Y,1,0\n3,D.Y,1,5\n";
 
-/// What it comes to: no timestep is kept behind a fault.
+/// The result of that run: no timestep is kept after a fault.
 pub(crate) const MENDED: Simulation<'static> = Simulation {
     model: TWO_NUMBERS,
     inputs: b"slot,step,value\nD.Y,1,5\nD.Y,2,0\n",
@@ -70,7 +70,7 @@ const ONE_DAY: Simulation<'static> = Simulation {
     err: Whole(b""),
 };
 
-// The third write fails, behind the two pieces of the first section.
+// The second write fails, behind the first section.
 const ONE_SECTION: Simulation<'static> = Simulation {
     model: DAM_OF_THREE,
     inputs: FLOWS,
@@ -113,7 +113,7 @@ const RUNS: &[(Failing, &[u8], &[u8], Simulation<'static>)] = &[
         ONE_DAY,
     ),
     (
-        Failing::Out(3),
+        Failing::Out(2),
         PASS,
         b"batch,slot,step,value\n1,Dam.Inflow,2,130\n",
         ONE_SECTION,

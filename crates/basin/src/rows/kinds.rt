@@ -1,4 +1,4 @@
-//! The methods of kinds by the kinds' numbers.
+//! Makes the methods of kinds by the kinds' numbers.
 use rw_method::Method;
 use rw_power::PowerReservoirMethod;
 use rw_reservoir::ReservoirMethod;
@@ -40,7 +40,7 @@ pub(crate) fn add_methods(
     Ok(())
 }
 
-/// The methods of the kinds with these numbers.
+/// Returns the methods of the kinds with these numbers.
 pub(crate) fn methods(alloc: Global, numbers: &[u8]) -> Result<Vec<Box<dyn Method>>, AllocError> {
     let mut methods = Vec::new(alloc);
     add_methods(alloc, &mut methods, numbers)?;

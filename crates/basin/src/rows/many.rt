@@ -1,4 +1,4 @@
-//! Books of water, many runs of a basin, and a model in format 2.
+//! Tests water balances, many runs of a basin, and a model in format 2.
 use crate::rows::runs::none_is_wrong;
 use crate::rows::statuses::Text::Whole;
 use crate::rows::statuses::{Failing, Simulation, all_methods, migrates, runs_with};

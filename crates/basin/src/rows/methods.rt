@@ -1,4 +1,5 @@
-//! Each rule by which an object solves what it doesn't know, for each kind that has it, through a catalogue of all methods.
+//! Tests each rule by which an object solves what it does not know, for each kind that has it, through a catalogue of all
+//! methods.
 ghost use Rattle.std.specs.Prelude.{◌≡◌, map};
 ghost use Rattle.rw_method.specs.Catalogue.{AreInOrder};
 

@@ -1,4 +1,4 @@
-//! One object that solves what it doesn't know.
+//! Tests one object that solves what it does not know.
 use crate::rows::runs::Example;
 
 /// A reservoir without a table, and 1000 in it.

@@ -1,4 +1,4 @@
-//! Reservoirs with a table: 250 are held, at 501 mm. Up to 1000 mm and 500 a millimetre has half a cubic metre.
+//! Tests reservoirs with a table: 250 are held, at 501 mm. Up to 1000 mm and 500 a millimetre has half a cubic metre.
 use crate::rows::runs::Example;
 
 // A table alone.

@@ -1,4 +1,4 @@
-//! Power reservoirs: in each table stand the values that are known, and then the answer.
+//! Tests power reservoirs: in each table stand the values that are known, and then the answer.
 use crate::rows::dispatch::By::{Input, Own, Rule};
 use crate::rows::dispatch::Want::{Conflict, OutOfRange, Puts};
 use crate::rows::dispatch::{Table, TableRow};

@@ -1,4 +1,4 @@
-//! Reservoirs: in each table stand the values that are known, and then the answer.
+//! Tests reservoirs: in each table stand the values that are known, and then the answer.
 use crate::rows::dispatch::By::{Input, Own, Rule};
 use crate::rows::dispatch::Want::{Conflict, Idle, OutOfRange, Puts};
 use crate::rows::dispatch::{Table, TableRow};

@@ -1,5 +1,5 @@
-//! Runs by rules: a dam on one day, into which 100 flow. Rule 2 lets 50 out, and the dam comes to hold 1050. Then rule 1 holds it
-//! at 1020, and the dam lets 80 out.
+//! Tests runs by rules: a dam on one day, into which 100 flow. Rule 2 lets 50 out, and the dam comes to hold 1050. Then rule 1
+//! holds it at 1020, and the dam lets 80 out.
 use crate::rows::runs::none_is_wrong;
 use crate::rows::statuses::Text::Whole;
 use crate::rows::statuses::{Simulation, runs_by};

@@ -1,4 +1,4 @@
-//! Whole runs of basins: the objects, the inputs, and the text that is written.
+//! Tests whole runs of basins: the objects, the inputs, and the text that is written.
 use crate::rows::basins::BASINS;
 use crate::rows::objects::OBJECTS;
 use crate::rows::pools::POOLS;
@@ -21,7 +21,7 @@ pub(crate) struct Example<'a> {
     pub(crate) text: &'a str,
 }
 
-/// No row of a table is wrong, of which the first would be in this place, counted from 0.
+/// Fails unless no row of a table is wrong; `first` is the place of the first wrong one, counted from 0.
 pub(crate) fn none_is_wrong(rt: &impl Abort, first: Option<usize>) {
     assert_eq!(rt; first, None);
 }

@@ -1,4 +1,4 @@
-//! Statuses, lines, and calls that fail.
+//! Tests statuses, lines, and calls that fail.
 ghost use Rattle.std.specs.Prelude.{◌≡◌, ◌<◌, IfOk, map};
 ghost use Rattle.rw_method.specs.Catalogue.{AreInOrder};
 
@@ -52,7 +52,7 @@ pub(crate) enum Text<'a> {
     Front(&'a [u8]),
 }
 
-/// The texts of a model and of inputs, and what `simulate` comes to with them.
+/// The texts of a model and of inputs, and the result of `simulate` with them.
 #[derive(Clone, Copy)]
 pub(crate) struct Simulation<'a> {
     pub(crate) model: &'a [u8],
@@ -62,7 +62,7 @@ pub(crate) struct Simulation<'a> {
     pub(crate) err: Text<'a>,
 }
 
-/// Whether this is the text that is wanted.
+/// Returns whether this is the text that is wanted.
 pub(crate) fn is_text(written: &[u8], want: Text<'_>) -> bool {
     match want {
         Any => true,
@@ -85,7 +85,7 @@ fn file(alloc: Global, path: &str, text: &[u8]) -> Result<(String, Vec<u8>), NoM
     Ok((path, bytes))
 }
 
-/// Files with these texts at these paths.
+/// Returns files with these texts at these paths.
 pub(crate) fn files(
     alloc: Global,
     rows: &[(&str, &[u8])],
@@ -176,7 +176,7 @@ pub(crate) fn call(
     Ok(call_counted::<Brand>(alloc, Blank::new(1), words, ends, methods, &predefs))
 }
 
-/// The predefined functions.
+/// Returns the predefined functions.
 pub(crate) fn all_functions(alloc: Global) -> Result<Predefs, NoMemory> {
     let functions = vec![in alloc;
         Predef::of(1, least),
@@ -193,7 +193,7 @@ pub(crate) fn all_functions(alloc: Global) -> Result<Predefs, NoMemory> {
     }
 }
 
-/// The methods of all kinds.
+/// Returns the methods of all kinds.
 pub(crate) fn all_methods(alloc: Global) -> Result<Catalogue, NoMemory>
     ensures { IfOk result
         (λ methods. AreInOrder (map (λ b. code (b.vtable, b.value)) methods.methods.items)) }
@@ -234,8 +234,8 @@ fn is_met(
     comes_to(alloc, &all_methods(alloc)?, words, &mut ends, want)
 }
 
-/// Whether these words, with this policy and these edits, come to what is wanted, where objects solve by these methods and this
-/// call fails.
+/// Returns whether these words, with this policy and these edits, give the result that is wanted, where objects solve by these
+/// methods and this call fails.
 pub(crate) fn runs_with(
     alloc: Global,
     methods: &Catalogue,
@@ -260,7 +260,8 @@ pub(crate) fn runs_with(
     comes_to(alloc, methods, words, &mut ends, want)
 }
 
-/// The same by the methods of all kinds, where no call fails.
+/// Returns whether these words, with this policy and these edits, give the result that is wanted by the methods of all kinds,
+/// where no call fails.
 pub(crate) fn runs_by(
     alloc: Global,
     words: &[&str],
@@ -280,7 +281,7 @@ pub(crate) fn runs_by(
     )
 }
 
-/// Whether `migrate` writes another model, with which `simulate` comes to what is wanted.
+/// Returns whether `migrate` writes another model, with which `simulate` gives the result that is wanted.
 pub(crate) fn migrates(alloc: Global, want: Simulation<'_>) -> Result<bool, NoMemory> {
     let words = owned(alloc, &["migrate", "m.toml"])?;
     let files = files(alloc, &[("m.toml", want.model), ("i.csv", want.inputs)])?;
@@ -291,7 +292,7 @@ pub(crate) fn migrates(alloc: Global, want: Simulation<'_>) -> Result<bool, NoMe
     Ok(status == 0 && model != want.model && simulates(alloc, Failing::Nothing, again)?)
 }
 
-/// Whether `simulate` comes to what is wanted.
+/// Returns whether `simulate` gives the result that is wanted.
 pub(crate) fn simulates(
     alloc: Global,
     failing: Failing,

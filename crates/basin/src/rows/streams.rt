@@ -1,4 +1,5 @@
-//! Gages, confluences, bifurcations, reaches and routed reaches: in each table stand the values that are known, and then the answer.
+//! Tests gages, confluences, bifurcations, reaches and routed reaches: in each table stand the values that are known, and then
+//! the answer.
 use crate::rows::dispatch::By::{Input, Own, Rule};
 use crate::rows::dispatch::Want::{Conflict, Idle, OutOfRange, Puts};
 use crate::rows::dispatch::{Table, TableRow};

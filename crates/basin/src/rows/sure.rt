@@ -1,4 +1,4 @@
-//! A run after edits, with reuse, over files and texts in memory of which no call fails.
+//! Tests a run after edits, with reuse, over files and texts in memory of which no call fails.
 ghost use Rattle.std.specs.Prelude.{◌≡◌, ◌<◌, map};
 ghost use Rattle.rw_method.specs.Catalogue.{AreInOrder};
 

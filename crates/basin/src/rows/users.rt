@@ -1,4 +1,4 @@
-//! Water users and canals: in each table stand the values that are known, and then the answer.
+//! Tests water users and canals: in each table stand the values that are known, and then the answer.
 use crate::rows::dispatch::By::{Input, Rule};
 use crate::rows::dispatch::Want::{Conflict, Idle, OutOfRange, Puts};
 use crate::rows::dispatch::{Table, TableRow};

@@ -25,5 +25,5 @@ returns g c =
       text_is =
           asked_told c.texts_of_runs.ensures.whole basin code no_rules c.args.extras 0 comes.log c.in_ok-run.run' _ c.requires.asked comes.is
           (sym both.1)
-          (c.in_ok-text.ensures comes.log comes.whole.events both.0 (kept_lines _ _ c.in_ok-run.ensures.told comes.is.trace));
+          (c.in_ok-text.ensures comes.log comes.whole.events both.0 (kept_lines _ _ (c.in_ok-run.ensures.told refl) comes.is.trace));
     }

@@ -19,7 +19,7 @@ returns-in-Ok g c =
       run = comes.whole;
       end_is = comes.is.end;
       text_is =
-          c.texts_of_runs.ensures.whole basin 0 comes.log c.in-Ok.run' None c.args.extras.flags c.args.extras.trace comes.is (λ asked. c.in-Ok.ensures.told)
+          c.texts_of_runs.ensures.whole basin 0 comes.log c.in-Ok.run' None c.args.extras.flags c.args.extras.trace comes.is c.in-Ok.ensures.told
           ∙ sym (told_plain basin no_rules c.args.extras 0 None comes.log c.requires.silent);
     })
     c.write_run.result c.write_run.ensures.end c.write_run.ensures.text

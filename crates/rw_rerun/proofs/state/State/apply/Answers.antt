@@ -3,7 +3,7 @@ use Rattle.rw_base.specs.declared.number.Cell.{Cell}
 use Rattle.rw_inputs.specs.Edits.{after_batch}
 use Rattle.rw_inputs.specs.Inputs.{value_at}
 use Rattle.rw_rules.specs.Rules.{policy_in}
-use Rattle.rw_rerun.specs.Edited.{LeavesFirst}
+use Rattle.rw_rerun.specs.Edited.{AreEdited, LeavesFirst}
 use Rattle.rw_rerun.specs.Next.{IsNext}
 use Rattle.rw_rerun.specs.Session.{Session}
 use Rattle.rw_rerun.specs.Touched.{AreRisingIn, CountsUntouched}
@@ -38,7 +38,8 @@ give_way-requires g c =
     let leaves : LeavesFirst basin c.args.batch.now c.deref-3.result.now c.args.self.now.inputs inputs c.args.self.now.kept behind =
     leaves_first basin policy c.args.self.now c.args.batch.now inputs c.in_ok-cells.cells.items c.deref-3.result.now behind c.deref.result.now
     c.requires.made values
-    c.in_ok-inputs.ensures.made c.in_ok-cells.ensures (sym c.deref-3.ensures.value) lent
+    c.in_ok-inputs.ensures.made
+    (subst (λ (s : Session). AreEdited basin c.args.batch.now s.inputs c.in_ok-cells.cells.items) c.self.view_is c.in_ok-cells.ensures) (sym c.deref-3.ensures.value) lent
     (subst (λ (cells : List Cell). CountsUntouched basin cells c.deref.result.now behind) (c.deref-2.ensures.value ∙ sym c.deref-3.ensures.value)
     c.left-behind.ensures) in
     subst (λ (cells : List Cell). IsNext basin policy c.pass_next.new.self inputs cells behind c.in_ok-pass.pass)
@@ -58,7 +59,8 @@ returns-clause-applied g c =
     let leaves : LeavesFirst basin c.args.batch.now c.deref-3.result.now c.args.self.now.inputs inputs c.args.self.now.kept behind =
     leaves_first basin policy c.args.self.now c.args.batch.now inputs c.in_ok-cells.cells.items c.deref-3.result.now behind c.deref.result.now
     c.requires.made values
-    c.in_ok-inputs.ensures.made c.in_ok-cells.ensures (sym c.deref-3.ensures.value) lent
+    c.in_ok-inputs.ensures.made
+    (subst (λ (s : Session). AreEdited basin c.args.batch.now s.inputs c.in_ok-cells.cells.items) c.self.view_is c.in_ok-cells.ensures) (sym c.deref-3.ensures.value) lent
     (subst (λ (cells : List Cell). CountsUntouched basin cells c.deref.result.now behind) (c.deref-2.ensures.value ∙ sym c.deref-3.ensures.value)
     c.left-behind.ensures) in
     applies_next basin policy c.args.self.now c.pass_next.new.self _ c.args.batch.now inputs c.deref-3.result.now behind c.in_ok-pass.pass _ _

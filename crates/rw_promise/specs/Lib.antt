@@ -1,0 +1,10 @@
+pub mod Told
+pub mod FirstCall
+pub mod Alike
+pub mod Books
+pub mod SureCall
+pub mod Inflows
+pub mod ModelTable
+pub mod Cascade
+pub mod Ruleset
+pub mod Migrated

@@ -1,5 +1,0 @@
-use Rattle.rw_top.proofs.OneText.{one_simulated}
-use Rattle.rw_top.proofs.law.one_order.Goals as goal
-
-pub returns : goal.returns
-returns c = one_simulated c.one_run.ensures

@@ -1,5 +1,0 @@
-use Rattle.rw_top.proofs.OneOutput.{one_output}
-use Rattle.rw_top.proofs.law.one_output.Goals as goal
-
-pub returns : goal.returns
-returns c = one_output c.one_run.ensures

@@ -1,8 +1,0 @@
-use Rattle.rw_top.proofs.run.run_by_verified.Goals as goal
-
-pub returns-clause-run : goal.returns-clause-run
-returns-clause-run g c =
-    (c.code_runs.ensures c.args.setup.now.basin.now c.args.policy.now c.requires.fits).comes c.args.inputs.now _ c.in_ok-run.ensures.run
-
-pub run_all_of-requires-clause-can : goal.run_all_of-requires-clause-can
-run_all_of-requires-clause-can g c = record { fits = c.requires.fits; inputs = c.requires.inputs }

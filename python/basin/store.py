@@ -1,0 +1,47 @@
+"""The file of a study: what each of its points came to."""
+
+from __future__ import annotations
+
+import sqlite3
+from typing import Mapping
+
+import numpy as np
+import numpy.typing as npt
+
+from .errors import Stale
+from .process import PathLike
+
+Numbers = npt.NDArray[np.float64]
+FEW = 500  # keys of one look into the file
+
+
+class Store:
+    """A file that keeps what points came to: SQLite's, which holds all of a write or nothing."""
+
+    def __init__(self, path: PathLike, digest: str, columns: int) -> None:
+        self.file = sqlite3.connect(path)
+        self.columns = columns
+        with self.file:
+            self.file.execute("CREATE TABLE IF NOT EXISTS study (digest TEXT)")
+            self.file.execute("CREATE TABLE IF NOT EXISTS runs (point BLOB PRIMARY KEY, told BLOB, fault TEXT) WITHOUT ROWID")
+            held = self.file.execute("SELECT digest FROM study").fetchall()
+            if not held:
+                self.file.execute("INSERT INTO study VALUES (?)", (digest,))
+        if held and held != [(digest,)]:
+            raise Stale(f"{path} holds another study: take another file, or remove it")
+
+    def known(self, keys: list[bytes]) -> dict[bytes, tuple[Numbers, str]]:
+        """What is kept of these points."""
+        found: dict[bytes, tuple[Numbers, str]] = {}
+        for begin in range(0, len(keys), FEW):
+            some = keys[begin : begin + FEW]
+            marks = ",".join("?" * len(some))
+            for point, told, fault in self.file.execute(f"SELECT * FROM runs WHERE point IN ({marks})", some):
+                found[point] = np.frombuffer(told, "<f8"), fault
+        return found
+
+    def keep(self, new: Mapping[bytes, tuple[Numbers, str]]) -> None:
+        """Keeps what points came to, all of them or none."""
+        rows = [(key, values.astype("<f8").tobytes(), fault) for key, (values, fault) in new.items()]
+        with self.file:
+            self.file.executemany("INSERT OR IGNORE INTO runs VALUES (?, ?, ?)", rows)

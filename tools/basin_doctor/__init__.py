@@ -1,0 +1,1 @@
+"""What tools/doctor says, as lines or as JSON, and what it finds in traces."""
