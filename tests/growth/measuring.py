@@ -23,10 +23,6 @@ class Usage:
     megabytes: float
     status: int
 
-    def least(self, other: "Usage") -> "Usage":
-        """Returns the least of both."""
-        return Usage(min(self.seconds, other.seconds), min(self.megabytes, other.megabytes), other.status)
-
 
 def adopt() -> None:
     """Has this process wait for the programs that its shells leave behind."""
