@@ -11,7 +11,6 @@ mod calls;
 mod compute;
 mod direct;
 mod fire;
-mod fired;
 mod locals;
 mod looks;
 mod loops;
@@ -28,5 +27,4 @@ mod turn;
 mod turns;
 mod way;
 
-pub use fired::Fired;
 pub use machine::Machine;

@@ -18,6 +18,7 @@ use crate::setup::RunSetup;
 use crate::state::State;
 use crate::step_end::StepEnd;
 use crate::trace_lines::trace_where;
+use rpl_fires::Fires;
 use rpl_predef::Predefs;
 use rpl_verify::Verified;
 use rw_base::{Cell, Ledger, NoMemory, Qty, StepNo, Steps};
@@ -111,12 +112,13 @@ impl Engine {
     /// Passes the timestep after the last closed one: it is opened, event follows event, and it is closed or ends by a
     /// fault, and is counted in `steps`. After want of memory it isn't, and the engine shows the log that it showed before,
     /// and has no timestep noted.
-    pub fn run_step<L: Ledger>(
+    pub fn run_step<L: Ledger, M: Fires>(
         &mut self,
         basin: &Basin,
         methods: &Catalogue,
         policy: &Verified,
         predefs: &Predefs,
+        machine: &mut M,
         step: StepNo,
         steps: &mut Steps<L>,
     ) -> Result<StepEnd, NoMemory>
@@ -133,12 +135,13 @@ impl Engine {
             policy,
             predefs,
         };
-        self.run_step_of(&setup, step, steps)
+        self.run_step_of(machine, &setup, step, steps)
     }
 
     /// The same of a setup.
-    pub fn run_step_of<L: Ledger>(
+    pub fn run_step_of<L: Ledger, M: Fires>(
         &mut self,
+        machine: &mut M,
         setup: &RunSetup<'_>,
         step: StepNo,
         steps: &mut Steps<L>,
@@ -151,12 +154,13 @@ impl Engine {
             self.old self.new result }
         ensures counted { steps.new ≡ steps.old + steps_of result }
     {
-        self.run_step_by(setup, &Oldest, step, steps)
+        self.run_step_by(machine, setup, &Oldest, step, steps)
     }
 
     // The same where it is picked who is dispatched.
-    pub(crate) fn run_step_by<L: Ledger, P: Pick>(
+    pub(crate) fn run_step_by<L: Ledger, P: Pick, M: Fires>(
         &mut self,
+        machine: &mut M,
         setup: &RunSetup,
         pick: &P,
         step: StepNo,
@@ -170,7 +174,7 @@ impl Engine {
             self.old self.new result }
         ensures counted { steps.new ≡ steps.old + steps_of result }
     {
-        let end = self.state.run_step(setup, pick, step)?;
+        let end = self.state.run_step(machine, setup, pick, step)?;
         steps.tick();
         Ok(end)
     }

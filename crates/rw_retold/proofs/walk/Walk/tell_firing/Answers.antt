@@ -1,8 +1,7 @@
 use Rattle.rw_base.proofs.Common.{false≢true, subst, sym, ◌∙◌}
 use Rattle.rw_series.specs.Series.{held}
 use Rattle.rw_run.specs.Log.{value_in}
-use Rattle.rpl_machine.specs.Fired.{fire_seen}
-use Rattle.rpl_machine.specs.Steps.{value_in_series}
+use Rattle.rpl_fires.specs.Fired.{fire_seen, value_in_series}
 use Rattle.rpl_policy.proofs.Asking.{code_asks}
 use Rattle.rw_asked.specs.Asked.{AreToSlots}
 use Rattle.rw_retold.proofs.Asks.{to_slots}
@@ -24,4 +23,4 @@ push_wanted-requires-clause-slots g c =
     subst (AreToSlots basin) (sym (c.as_slice.ensures.value ∙ c.in_ok-want_all.ensures))
     (to_slots basin c.args.rule.0 c.args.self.now.step.0 c.fire-fired.result.puts.now
     (code_asks c.args.setup.now.policy.now.blocks basin c.args.rule.0 c.args.self.now.step.0 (value_in_series c.args.self.now.series)
-    (fire_seen c.fire-fired.result) c.fire-fired.ensures.fires))
+    (fire_seen c.fire-fired.result) c.fire-fired.ensures.0))
