@@ -1,5 +1,5 @@
 //! Holds what an engine works on, and lets event follow event in a timestep.
-ghost use Rattle.std.specs.Prelude.{◌≡◌, ◌<◌, [], ℕ, map, List, Option, Some, None, Ok, IfOk, IfErr, IfSome, IsSome, is_some};
+ghost use Rattle.std.specs.Prelude.{◌≡◌, ◌<◌, [], ℕ, map, List, Option, Some, None, Ok, IfOk, IfErr, IfSome, IsSome, is_some, true};
 ghost use Rattle.rw_model.specs.Draft.{Draft};
 ghost use Rattle.rw_method.specs.Catalogue.{AreInOrder};
 ghost use Rattle.rw_run.specs.Log.{Event, Log, fault};
@@ -378,8 +378,7 @@ impl State {
         requires order { AreInOrder
             (map (λ b. code (b.vtable, b.value)) setup.now.methods.now.methods.items) }
         requires step { IsStep setup.now.basin.now step.0 }
-        ensures ready { M.serves machine.new setup.now.policy.now ≡ true }
-        ensures passed { HasPassed setup.now.basin.now setup.now.policy.now (P.rule pick.now) step.0
+        ensures { HasPassed setup.now.basin.now setup.now.policy.now (P.rule pick.now) step.0
             self.old self.new result }
     {
         self.open(setup, step)?;

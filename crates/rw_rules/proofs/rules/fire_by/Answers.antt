@@ -13,12 +13,12 @@ pub returns-clause-told : goal.returns-clause-told
 returns-clause-told g c = record {
   fire = _;
   event = c.fire.ensures.event;
-  end = ap (λ (fire : Fire). fire.end) c.fired-fired.ensures.0;
-  count = ap (λ (fire : Fire). fire.count) c.fired-fired.ensures.0;
+  end = ap (λ (fire : Fire). fire.end) c.fired-fired.ensures.told;
+  count = ap (λ (fire : Fire). fire.count) c.fired-fired.ensures.told;
   looked = looked_after c.args.agenda.now c.fired.new.self c.args.rule.0 c.fired-fired.result.looked.now (search rules) c.fired.ensures.rules
-      ∙ ap (λ looks. Some looks) (c.fired-fired.ensures.1 ∙ sym c.fire.ensures.looked
-      ∙ ap (λ looks. looks_at (held c.args.series.now) (look_cells looks)) (sym c.fired-fired.ensures.1)
-      ∙ ap (λ (fire : Fire). looks_at (held c.args.series.now) fire.looked) c.fired-fired.ensures.0);
+      ∙ ap (λ looks. Some looks) (c.fired-fired.ensures.looks ∙ sym c.fire.ensures.looked
+      ∙ ap (λ looks. looks_at (held c.args.series.now) (look_cells looks)) (sym c.fired-fired.ensures.looks)
+      ∙ ap (λ (fire : Fire). looks_at (held c.args.series.now) fire.looked) c.fired-fired.ensures.told);
   asked = c.fire.ensures.puts.asked;
   can_ask = c.fire.ensures.puts.can_ask;
   written = c.fire.ensures.puts.written;
@@ -31,7 +31,7 @@ returns-clause-keeps g c = record {
       (search rules)
       (search rules)
       (subst (λ looks. is_changed (held c.args.series.now) (Some looks) ≡ false)
-      (ap (λ looks. looks_at (held c.args.series.now) (look_cells looks)) c.fired-fired.ensures.1 ∙ c.fire.ensures.looked ∙ sym c.fired-fired.ensures.1)
+      (ap (λ looks. looks_at (held c.args.series.now) (look_cells looks)) c.fired-fired.ensures.looks ∙ c.fire.ensures.looked ∙ sym c.fired-fired.ensures.looks)
       (just_seen (held c.args.series.now) (look_cells c.fired-fired.result.looked.now)))
       c.fired.ensures.rules c.fired.ensures.marked;
   shows =
