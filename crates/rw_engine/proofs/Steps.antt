@@ -323,8 +323,15 @@ unpassed basin policy rule step old new (Err want) why is made back still kept =
 pub clears : (basin : Draft) (policy : Accepted) (old : State) (noted : Option (List Held)) (lines : Option (List TraceEvent)) → IsStateOf basin policy old
     → is_some noted ≡ is_some old.noted → is_some lines ≡ is_some old.lines
     → IsStateOf basin policy (record {
-      run = old.run; queue = old.queue; rules = old.rules; work = old.work; counts = old.counts; firings = old.firings; noted = noted;
-      lines = lines; turns = old.turns;
+      run = old.run;
+      queue = old.queue;
+      rules = old.rules;
+      work = old.work;
+      counts = old.counts;
+      firings = old.firings;
+      noted = noted;
+      lines = lines;
+      turns = old.turns;
     })
 clears basin policy old noted lines made kept told = record {
   engine = record {

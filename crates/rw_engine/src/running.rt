@@ -96,9 +96,9 @@ fn begin(
     }
 }
 
-/// Runs all timesteps of a basin from its inputs, up to the last one or to a fault, and answers what the run comes to, as
-/// `docs/DEFINITIONS.md` says under "Runs". Each opened timestep is counted. A fault of the run is in the answer; the one
-/// error is want of memory.
+/// Runs all timesteps of a basin from its inputs, up to the last one or to a fault, lets the machine fire its rules, and returns
+/// the result of the run, as `docs/DEFINITIONS.md` says under "Runs". Each opened timestep is counted. A fault of the run is in
+/// the result; the only error is want of memory.
 pub fn run_all<L: Ledger, M: Fires>(
     alloc: Global,
     basin: &Basin,
@@ -125,7 +125,7 @@ pub fn run_all<L: Ledger, M: Fires>(
     run_all_of(alloc, machine, &setup, inputs, true, steps)
 }
 
-/// The same of a setup. Without a trace it is what the run comes to but for its lines.
+/// Runs all timesteps as `run_all` does, of a setup. Without a trace the result is the same but for its lines.
 pub fn run_all_of<L: Ledger, M: Fires>(
     alloc: Global,
     machine: &mut M,
@@ -147,8 +147,8 @@ pub fn run_all_of<L: Ledger, M: Fires>(
     pass_all(engine, machine, setup, &Oldest, steps)
 }
 
-/// Runs all timesteps of a setup as `run_all_of` does, but where it is picked which of the objects that wait is dispatched. The
-/// one error is want of memory.
+/// Runs all timesteps of a setup as `run_all_of` does, but `pick` says which of the objects that wait is dispatched. The only
+/// error is want of memory.
 pub fn run_by_of<L: Ledger, P: Pick, M: Fires>(
     alloc: Global,
     machine: &mut M,

@@ -144,8 +144,8 @@ fn tell_all<M: Fires>(
     Ok(())
 }
 
-/// Appends the trace of a run of the setup from these inputs, whoever was dispatched first, with what became of each put that was
-/// asked for: `docs/FORMATS.md` says how. The one error is want of memory.
+/// Appends the trace of a run of the setup from these inputs, in whatever order objects were dispatched, with what became of each
+/// put that was asked for, as `docs/FORMATS.md` says. The machine fires the rules of the trace again. The only error is want of memory.
 pub fn push_asked_trace<M: Fires>(
     alloc: Global,
     text: &mut String,

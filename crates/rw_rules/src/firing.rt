@@ -13,9 +13,9 @@ use rw_series::Series;
 use rw_writes::Writes;
 
 /// Lets a machine that is prepared for a policy fire a rule of it at a timestep of the run, counted from 1. What the machine did is
-/// the event that the definition makes of the firing, by what the cells hold; `writes` has what that event asks for and writes,
-/// and nothing of it is made yet. At what it looked is told with what the cells hold, at no more cells than the budget of its
-/// block allows. It takes no memory.
+/// the event that the definition makes of the firing, by what the cells hold. `writes` has what that event asks for and writes,
+/// and no cell is written yet. Each look has what its cell holds, and there are no more looks than the budget of the block
+/// allows. It takes no memory.
 pub fn fire<M: Fires>(
     machine: &mut M,
     writes: &mut Writes,

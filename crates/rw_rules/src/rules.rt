@@ -34,8 +34,8 @@ use rw_writes::{Writes, mark};
 use std::alloc::Global;
 use std::marker::Model;
 
-/// The rules of verified code in a run, seen as the agenda, the puts of the last firing in the run's timesteps, and those of them
-/// that are to be written.
+/// Holds the rules of verified code in a run, seen as the agenda, the puts of the last firing in the run's timesteps, and those of
+/// them that are to be written. The machine that fires them is lent to `fire`.
 #[derive(Drop)]
 pub struct Rules {
     agenda: Agenda,
@@ -86,7 +86,7 @@ fn fire_by<M: Fires>(
 }
 
 impl Rules {
-    /// The rules of verified code for a basin. The one error is want of memory; no other call takes any.
+    /// Returns the rules of verified code for a basin. The only error is want of memory; no other call takes any.
     pub fn for_policy(alloc: Global, policy: &Verified, basin: &Basin) -> Result<Rules, NoMemory>
         requires { verified basin.now policy.now.blocks ≡ Ok policy.now }
         ensures { IfOk result (IsRulesOf basin.now policy.now) }
@@ -108,7 +108,7 @@ impl Rules {
         self.agenda.begin_step();
     }
 
-    /// The first rule that is due, in the order of the basin's agenda. `None` exactly where there is none.
+    /// Returns the first rule that is due, in the order of the basin's agenda; `None` exactly if there is none.
     /// `docs/DEFINITIONS.md` says under "Runs" when a rule is due.
     pub fn due(&self, series: &Series) -> Option<RuleNo>
         requires indexed { IsIndexed self.now.agenda (held series.now) }
@@ -121,7 +121,7 @@ impl Rules {
         self.agenda.next(series)
     }
 
-    /// Lets a rule fire by a machine at a timestep, counted from 1. Nothing of what it writes is made yet.
+    /// Lets a machine that is prepared for the policy fire a rule at a timestep, counted from 1. No cell is written yet.
     pub fn fire<M: Fires>(
         &mut self,
         machine: &mut M,
@@ -151,8 +151,8 @@ impl Rules {
         )
     }
 
-    /// Writes the puts of the last firing, wakes the objects that they reach, and marks the rules: as the event of that firing leaves
-    /// them at its timestep.
+    /// Writes the puts of the last firing, wakes the objects that they reach, and marks the rules, as the event of that firing
+    /// leaves them at its timestep.
     pub fn write(&mut self, basin: &Basin, series: &mut Series, queue: &mut Queue, step: StepNo)
         requires can { AreWrites basin.now self.old.written }
         requires made { IsStageOf basin.now (stage series.old queue.old) }
@@ -170,7 +170,7 @@ impl Rules {
         mark(basin, &mut self.agenda, writes);
     }
 
-    /// Marks each rule that looked at a cell which what a dispatch wrote reaches.
+    /// Marks each rule that looked at a cell that the writes of a dispatch reach.
     pub fn touched(&mut self, basin: &Basin, writes: &[Write])
         requires { AreWrites basin.now writes.now }
         ensures { (before after : Cells) → ((cell : Cell) → after cell
@@ -181,7 +181,7 @@ impl Rules {
         mark(basin, &mut self.agenda, writes);
     }
 
-    /// At what a rule looked when it last fired, nothing if it hasn't.
+    /// Returns what a rule looked at when it last fired; nothing if it has not fired.
     pub fn looked(&self, rule: RuleNo) -> &[Look]
         requires { IsListed self.now.agenda rule.0 }
         ensures { result.now ≡ unwrap_or (looked_by self.now.agenda rule.0) [] }
@@ -189,14 +189,14 @@ impl Rules {
         self.agenda.looked(rule)
     }
 
-    /// What the last firing asks for in the run's timesteps, written or not.
+    /// Returns what the last firing asks for in the run's timesteps, written or not.
     pub fn asked(&self) -> &[Write]
         ensures { result.now ≡ self.now.asked }
     {
         self.writes.asked()
     }
 
-    /// What the last firing writes.
+    /// Returns what the last firing writes.
     pub fn written(&self) -> &[Write]
         ensures { result.now ≡ self.now.written }
     {
