@@ -7,7 +7,7 @@ mod rows;
 
 ghost use Rattle.std.specs.Prelude.{◌≡◌, ◌<◌, IfOk};
 ghost use Rattle.rw_io.specs.Outside.{change};
-ghost use Rattle.rw_top.specs.Promise.{Promise};
+ghost use Rattle.rw_commands.specs.Promise.{Promise};
 ghost use Rattle.rw_words.specs.Command.{texts_of};
 
 use rpl_predef::{

@@ -4,7 +4,8 @@ ghost use Rattle.rpl_verify.specs.Verified.{verified};
 
 use crate::written::the_later_is_written;
 use rpl_code::read_code;
-use rpl_machine::{Fired, Machine};
+use rpl_fires::{Fired, Fires};
+use rpl_machine::Machine;
 use rpl_predef::{
     Predef, Predefs, absolute, clamped, greatest, least, mul_div, rounded_down, sign,
 };
@@ -269,6 +270,7 @@ fn fire(
     alloc: Global,
     policy: &Verified,
     predefs: &Predefs,
+    machine: &mut Machine,
     series: &Series,
     basin: &Basin,
     code: &str,
@@ -277,12 +279,12 @@ fn fire(
     requires { verified basin.now policy.now.blocks ≡ Ok policy.now }
 {
     assert!(rt; policy.rule_count() == 1);
-    let Ok(mut machine) = Machine::for_policy(alloc, policy) else {
+    let Ok(()) = machine.prepare(policy) else {
         panic!(rt; "no memory")
     };
-    let fired = machine.fire(policy, predefs, basin, series, RuleNo(1), StepNo(1));
+    machine.fire(policy, predefs, basin, series, RuleNo(1), StepNo(1));
+    let fired = machine.fired();
     assert!(rt; is_wanted(&fired, want), "{code}");
-    drop(machine);
 }
 
 // Reads a code and fires its rule.
@@ -290,6 +292,7 @@ fn check(
     rt: &impl Abort,
     alloc: Global,
     predefs: &Predefs,
+    machine: &mut Machine,
     series: &Series,
     basin: &Basin,
     code: &str,
@@ -297,35 +300,59 @@ fn check(
 ) {
     assert!(rt; code.len() <= 16_777_216);
     let policy = accepted(rt, alloc, basin, code);
-    fire(rt, alloc, &policy, predefs, series, basin, code, want);
+    fire(
+        rt, alloc, &policy, predefs, machine, series, basin, code, want,
+    );
     drop(policy);
 }
 
-fn check_all(rt: &impl Abort, alloc: Global, predefs: &Predefs, series: &Series, basin: &Basin) {
+fn check_all(
+    rt: &impl Abort,
+    alloc: Global,
+    predefs: &Predefs,
+    machine: &mut Machine,
+    series: &Series,
+    basin: &Basin,
+) {
     for row in &ROWS {
-        check(rt, alloc, predefs, series, basin, row.0, &row.1);
+        check(rt, alloc, predefs, machine, series, basin, row.0, &row.1);
     }
     let Ok(text) = long_locals(alloc) else {
         panic!(rt; "no memory")
     };
-    check(rt, alloc, predefs, series, basin, text.as_str(), &NOTHING);
+    check(
+        rt,
+        alloc,
+        predefs,
+        machine,
+        series,
+        basin,
+        text.as_str(),
+        &NOTHING,
+    );
     drop(text);
-    the_later_is_written(rt, alloc, predefs, basin, series);
+    the_later_is_written(rt, alloc, predefs, machine, basin, series);
 }
 
-fn check_in(rt: &impl Abort, alloc: Global, predefs: &Predefs, basin: &Basin) {
+fn check_in(
+    rt: &impl Abort,
+    alloc: Global,
+    predefs: &Predefs,
+    machine: &mut Machine,
+    basin: &Basin,
+) {
     match Series::sized(alloc, basin) {
         Ok(series) => {
-            check_all(rt, alloc, predefs, &series, basin);
+            check_all(rt, alloc, predefs, machine, &series, basin);
             drop(series);
         }
         Err(_) => panic!(rt; "no memory"),
     }
 }
 
-fn check_in_dam(rt: &impl Abort, alloc: Global, predefs: &Predefs) {
+fn check_in_dam(rt: &impl Abort, alloc: Global, predefs: &Predefs, machine: &mut Machine) {
     let basin = dam(rt, alloc);
-    check_in(rt, alloc, predefs, &basin);
+    check_in(rt, alloc, predefs, machine, &basin);
     drop(basin);
 }
 
@@ -344,6 +371,7 @@ fn rules_do_what_was_worked_out(rt: HostRuntime) -> Result<(), Fail> {
     let Ok(predefs) = Predefs::of(rows) else {
         return Err(Fail::from("no predefined functions"));
     };
-    check_in_dam(&rt, alloc, &predefs);
+    let mut machine = Machine::new(alloc);
+    check_in_dam(&rt, alloc, &predefs, &mut machine);
     Ok(())
 }

@@ -4,6 +4,7 @@ ghost use Rattle.rpl_verify.specs.Verified.{verified};
 ghost use Rattle.rw_rules.specs.Firing.{IsRuleTurn};
 
 use crate::firings::accepted;
+use rpl_fires::Fires;
 use rpl_machine::Machine;
 use rpl_predef::Predefs;
 use rpl_verify::Verified;
@@ -47,15 +48,13 @@ fn is_fired(
     rt: &impl Abort,
     alloc: Global,
     predefs: &Predefs,
+    machine: &mut Machine,
     basin: &Basin,
     series: &Series,
     policy: &Verified,
 )
     requires { verified basin.now policy.now.blocks ≡ Ok policy.now }
 {
-    let Ok(mut machine) = Machine::for_policy(alloc, policy) else {
-        panic!(rt; "no memory")
-    };
     let Ok(mut writes) = Writes::with_room(alloc) else {
         panic!(rt; "no memory")
     };
@@ -65,17 +64,12 @@ fn is_fired(
         policy,
         predefs,
     };
-    let fired = fire(
-        &mut machine,
-        &mut writes,
-        &setup,
-        series,
-        RuleNo(1),
-        StepNo(1),
-    );
-    assert!(rt; fired.count == 12);
+    let Ok(()) = machine.prepare(policy) else {
+        panic!(rt; "no memory")
+    };
+    fire(machine, &mut writes, &setup, series, RuleNo(1), StepNo(1));
+    assert!(rt; machine.fired().count == 12);
     assert!(rt; is_only(writes.written(), 5));
-    drop(machine);
     drop(writes);
 }
 
@@ -83,6 +77,7 @@ fn is_fired_of_rules(
     rt: &impl Abort,
     alloc: Global,
     predefs: &Predefs,
+    machine: &mut Machine,
     basin: &Basin,
     series: &Series,
     policy: &Verified,
@@ -98,7 +93,10 @@ fn is_fired_of_rules(
         policy,
         predefs,
     };
-    let fired = rules.fire(&setup, series, RuleNo(1), StepNo(1));
+    let Ok(()) = machine.prepare(policy) else {
+        panic!(rt; "no memory")
+    };
+    let fired = rules.fire(machine, &setup, series, RuleNo(1), StepNo(1));
     assert!(rt; fired.end == FireEnd::Done && fired.count == 12);
     assert!(rt; is_only(rules.written(), 5));
     drop(rules);
@@ -109,12 +107,13 @@ pub(crate) fn the_later_is_written(
     rt: &impl Abort,
     alloc: Global,
     predefs: &Predefs,
+    machine: &mut Machine,
     basin: &Basin,
     series: &Series,
 ) {
     let policy = accepted(rt, alloc, basin, CODE);
     no_rule_looks(rt, alloc, basin, &policy);
-    is_fired(rt, alloc, predefs, basin, series, &policy);
-    is_fired_of_rules(rt, alloc, predefs, basin, series, &policy);
+    is_fired(rt, alloc, predefs, machine, basin, series, &policy);
+    is_fired_of_rules(rt, alloc, predefs, machine, basin, series, &policy);
     drop(policy);
 }

@@ -1,7 +1,6 @@
-//! What a rule of verified code does at a timestep. A `Machine` goes through the code instruction by instruction on words of 64 bits
-//! that tell no kinds: that a word is a number, a truth value, a timestep or a slot is known from the verifier alone. `fire` does
-//! what the definition of such a machine over values gives (`fire_of_code` of `rpl_verify`), is never stuck, and takes no
-//! memory.
+//! Fires rules of verified code. A `Machine` does the code instruction by instruction, on words of 64 bits that do not tell their kind:
+//! only the verifier knows whether a word is a number, a truth value, a timestep or a slot. `fire` does what the definition of a
+//! machine over values gives (`fire_of_code` of `rpl_verify`), is never stuck, and takes no memory; `prepare` takes all of it.
 #![tactic(auto)]
 
 mod around;
@@ -11,7 +10,6 @@ mod calls;
 mod compute;
 mod direct;
 mod fire;
-mod fired;
 mod locals;
 mod looks;
 mod loops;
@@ -28,5 +26,4 @@ mod turn;
 mod turns;
 mod way;
 
-pub use fired::Fired;
 pub use machine::Machine;

@@ -9,6 +9,7 @@ ghost use Rattle.rw_rerun.specs.Session.{IsSessionOf};
 use crate::methods::{all_methods, predefs};
 use crate::shared::{basin, has_bytes, lasting};
 use rpl_code::read_code;
+use rpl_machine::Machine;
 use rpl_predef::Predefs;
 use rpl_verify::{Verified, verify};
 use rw_base::{Blank, Ledger, NoMemory, Steps};
@@ -196,6 +197,7 @@ fn accepted<'a>(rt: &impl Abort, alloc: Global, basin: &Basin, text: &str) -> &'
 fn apply<L: Ledger>(
     rt: &impl Abort,
     basin: &Basin,
+    machine: &mut Machine,
     session: &mut Session<'_>,
     batch: &Batch,
     steps: &mut Steps<L>,
@@ -212,9 +214,9 @@ fn apply<L: Ledger>(
     ensures order { AreInOrder
         (map (λ b. code (b.vtable, b.value)) session.new.setup.methods.now.methods.items) }
 {
-    match session.apply(batch, steps) {
+    match session.apply(machine, batch, steps) {
         Ok(()) => {}
-        Err(NoMemory) => match session.apply(batch, steps) {
+        Err(NoMemory) => match session.apply(machine, batch, steps) {
             Ok(()) => {}
             Err(NoMemory) => panic!(rt; "refused once more"),
         },
@@ -244,6 +246,7 @@ fn check_batches<L: Ledger>(
     rt: &impl Abort,
     alloc: Global,
     basin: &Basin,
+    machine: &mut Machine,
     session: &mut Session<'_>,
     batches: &[Batch],
     steps: &mut Steps<L>,
@@ -256,13 +259,13 @@ fn check_batches<L: Ledger>(
     requires batches { All (IsBatch basin.now) batches.now }
 {
     assert!(rt; batches.len() == 4);
-    apply(rt, basin, session, &batches[0], steps);
+    apply(rt, basin, machine, session, &batches[0], steps);
     assert!(rt; is_told(rt, alloc, basin, 1, session, SECOND_DAY));
-    apply(rt, basin, session, &batches[1], steps);
+    apply(rt, basin, machine, session, &batches[1], steps);
     assert!(rt; is_told(rt, alloc, basin, 2, session, BOTH_DAYS));
-    apply(rt, basin, session, &batches[2], steps);
+    apply(rt, basin, machine, session, &batches[2], steps);
     assert!(rt; is_told(rt, alloc, basin, 3, session, NO_DAY));
-    apply(rt, basin, session, &batches[3], steps);
+    apply(rt, basin, machine, session, &batches[3], steps);
     assert!(rt; is_told(rt, alloc, basin, 4, session, OVERDRAWN));
 }
 
@@ -273,6 +276,7 @@ fn check_session<L: Ledger>(
     methods: &Catalogue,
     policy: &Verified,
     predefs: &Predefs,
+    machine: &mut Machine,
     steps: &mut Steps<L>,
 )
     requires fits { verified basin.now policy.now.blocks ≡ Ok policy.now }
@@ -280,9 +284,11 @@ fn check_session<L: Ledger>(
 {
     let inputs = read_inputs(alloc, basin, INFLOWS.as_bytes()).expect(rt, "inputs");
     let batches = read_edits(alloc, basin, EDITS.as_bytes()).expect(rt, "edits");
-    match Session::start(alloc, basin, methods, policy, predefs, inputs, true, steps) {
+    match Session::start(
+        alloc, basin, methods, policy, predefs, machine, inputs, true, steps,
+    ) {
         Ok(mut session) => {
-            check_batches(rt, alloc, basin, &mut session, &batches, steps);
+            check_batches(rt, alloc, basin, machine, &mut session, &batches, steps);
             drop(session);
         }
         Err(NoMemory) => panic!(rt; "memory"),
@@ -296,6 +302,7 @@ fn check<L: Ledger>(
     blank: Blank,
     methods: &Catalogue,
     predefs: &Predefs,
+    machine: &mut Machine,
 )
     requires name { blank.name ≡ L.name }
     requires parts { blank.parts ≡ L.parts }
@@ -305,13 +312,23 @@ fn check<L: Ledger>(
     let mut steps = Steps::<L>::of(blank);
     let basin = basin(rt, alloc, DAM);
     let policy = accepted(rt, alloc, basin, CAP_AND_BASE);
-    check_session(rt, alloc, basin, methods, policy, predefs, &mut steps);
+    check_session(
+        rt, alloc, basin, methods, policy, predefs, machine, &mut steps,
+    );
 }
 
 #[test]
 fn a_refused_batch_is_applied_once_more(rt: HostRuntime) -> Result<(), Fail> {
     let methods = Catalogue::of(all_methods(rt.alloc())?).expect(&rt, "a catalogue");
     let predefs = predefs(rt.alloc())?;
-    check::<Brand>(&rt, rt.alloc(), Blank::new(1), &methods, &predefs);
+    let mut machine = Machine::new(rt.alloc());
+    check::<Brand>(
+        &rt,
+        rt.alloc(),
+        Blank::new(1),
+        &methods,
+        &predefs,
+        &mut machine,
+    );
     Ok(())
 }

@@ -6,6 +6,7 @@ ghost use Rattle.rw_method.specs.Catalogue.{AreInOrder};
 ghost use Rattle.rw_model.specs.Turn.{IsStep};
 
 use crate::shared::{basin, lasting, none_is_wrong};
+use rpl_machine::Machine;
 use rpl_predef::Predefs;
 use rpl_verify::Verified;
 use rw_base::{Ledger, NoMemory, StepNo, Steps};
@@ -91,6 +92,7 @@ fn pass<L: Ledger>(
     methods: &Catalogue,
     policy: &Verified,
     predefs: &Predefs,
+    machine: &mut Machine,
     engine: &mut Engine,
     steps: &mut Steps<L>,
 ) -> Result<StepEnd, NoMemory>
@@ -99,7 +101,7 @@ fn pass<L: Ledger>(
     requires day { IsStep basin.now 1 }
     ensures { IsErr result → steps.new ≡ steps.old }
 {
-    engine.run_step(basin, methods, policy, predefs, StepNo(1), steps)
+    engine.run_step(basin, methods, policy, predefs, machine, StepNo(1), steps)
 }
 
 /// Tests that the record of a day has what the lake looked at, and what its puts reached.
@@ -108,6 +110,7 @@ pub(crate) fn check_records<L: Ledger>(
     alloc: Global,
     methods: &Catalogue,
     predefs: &Predefs,
+    machine: &mut Machine,
     steps: &mut Steps<L>,
 )
     requires { AreInOrder (map (λ b. code (b.vtable, b.value)) methods.now.methods.items) }
@@ -116,7 +119,7 @@ pub(crate) fn check_records<L: Ledger>(
     assert!(rt; basin.control().stamps.count() == 3);
     let none = lasting(rt, alloc, Verified::none(alloc));
     let engine = begun(rt, alloc, basin, none);
-    match pass(basin, methods, none, predefs, engine, steps) {
+    match pass(basin, methods, none, predefs, machine, engine, steps) {
         Ok(StepEnd::Closed) => check_record(rt, last_record(rt, alloc, engine)),
         _ => panic!(rt; "the first day isn't closed"),
     }

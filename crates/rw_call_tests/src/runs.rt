@@ -6,6 +6,7 @@ ghost use Rattle.rw_method.specs.Catalogue.{AreInOrder};
 use crate::methods::{all_methods, predefs};
 use crate::records::check_records;
 use crate::shared::{basin, lasting, none_is_wrong};
+use rpl_machine::Machine;
 use rpl_predef::Predefs;
 use rpl_verify::Verified;
 use rw_base::{Blank, Ledger, NoMemory, ObjectNo, StepNo, Steps};
@@ -51,6 +52,7 @@ fn run<'a, L: Ledger>(
     alloc: Global,
     methods: &Catalogue,
     predefs: &Predefs,
+    machine: &mut Machine,
     steps: &mut Steps<L>,
 ) -> &'a Run
     requires { AreInOrder (map (λ b. code (b.vtable, b.value)) methods.now.methods.items) }
@@ -66,7 +68,15 @@ fn run<'a, L: Ledger>(
         policy: none,
         predefs,
     };
-    match run_by_of(alloc, &setup, &inputs, &SecondIsNewest, true, steps) {
+    match run_by_of(
+        alloc,
+        machine,
+        &setup,
+        &inputs,
+        &SecondIsNewest,
+        true,
+        steps,
+    ) {
         Ok(run) => lasting(rt, alloc, run),
         Err(NoMemory) => panic!(rt; "memory"),
     }
@@ -99,6 +109,7 @@ fn check<L: Ledger>(
     blank: Blank,
     methods: &Catalogue,
     predefs: &Predefs,
+    machine: &mut Machine,
 )
     requires name { blank.name ≡ L.name }
     requires parts { blank.parts ≡ L.parts }
@@ -106,14 +117,22 @@ fn check<L: Ledger>(
     requires order { AreInOrder (map (λ b. code (b.vtable, b.value)) methods.now.methods.items) }
 {
     let mut steps = Steps::<L>::of(blank);
-    check_lines(rt, run(rt, alloc, methods, predefs, &mut steps));
-    check_records(rt, alloc, methods, predefs, &mut steps);
+    check_lines(rt, run(rt, alloc, methods, predefs, machine, &mut steps));
+    check_records(rt, alloc, methods, predefs, machine, &mut steps);
 }
 
 #[test]
 fn runs_and_records_are_those_worked_out(rt: HostRuntime) -> Result<(), Fail> {
     let methods = Catalogue::of(all_methods(rt.alloc())?).expect(&rt, "a catalogue");
     let predefs = predefs(rt.alloc())?;
-    check::<Brand>(&rt, rt.alloc(), Blank::new(1), &methods, &predefs);
+    let mut machine = Machine::new(rt.alloc());
+    check::<Brand>(
+        &rt,
+        rt.alloc(),
+        Blank::new(1),
+        &methods,
+        &predefs,
+        &mut machine,
+    );
     Ok(())
 }

@@ -25,15 +25,15 @@ use Rattle.rw_run.specs.Next.{next_of}
 use Rattle.rw_run.specs.Runs.{follows_by}
 use Rattle.rw_run.specs.Waiting.{waiting}
 use Rattle.rw_engine.specs.Passing.{steps_of}
-use Rattle.rw_engine.specs.Picked.{EndsStepBy, CountsTurns, LeadsBy, PassesBy, PicksAt, follows_at, turn_after, turns_after}
-use Rattle.rw_engine.specs.Shows.{EndsBy, NotesAlike}
-use Rattle.rw_engine.specs.Records.{CanWriteLines, HasNoted, lines_of_step}
+use Rattle.rw_engine.specs.Picked.{EndsStepBy, CountsTurns, LeadsBy, PassesBy, PicksAt, RunsStepBy, follows_at, turn_after, turns_after}
+use Rattle.rw_engine.specs.Shows.{EndsBy, IsEngineOf, KeepsOn, NotesAlike}
+use Rattle.rw_engine.specs.Records.{CanWriteLines, HasNoted, IsUntold, lines_of_step}
 use Rattle.rw_engine.specs.State.{AreWithinStep, CanGoBack, HasPassed, IsStateOf, KeepsWithin}
 use Rattle.rw_engine.specs.declared.step_end.StepEnd.{StepEnd}
 use Rattle.rw_engine.specs.declared.step_end.StepEnd.TheVariants.{Closed as IsClosed, Fault as IsFaulted}
 use Rattle.rw_engine.proofs.Notings.{notes_more}
 use Rattle.rw_engine.proofs.Records.{can_step}
-use Rattle.rw_engine.proofs.Traces.{lines_more, shown_more, told_more}
+use Rattle.rw_engine.proofs.Traces.{alike_on, lines_more, shown_more, told_more}
 use Rattle.rw_engine.proofs.Turns.{turns_more}
 
 module _ (basin : Draft) (policy : Policy) (rule : Picking) where
@@ -315,6 +315,53 @@ unpassed basin policy rule step old new (Err want) why is made back still kept =
   closed_steps = tt;
   few = tt;
   wants = kept;
+}
+
+-- ---- before a timestep is opened
+
+-- a state of which notes and lines are cleared stays one of the run
+pub clears : (basin : Draft) (policy : Accepted) (old : State) (noted : Option (List Held)) (lines : Option (List TraceEvent)) → IsStateOf basin policy old
+    → is_some noted ≡ is_some old.noted → is_some lines ≡ is_some old.lines
+    → IsStateOf basin policy (record {
+      run = old.run;
+      queue = old.queue;
+      rules = old.rules;
+      work = old.work;
+      counts = old.counts;
+      firings = old.firings;
+      noted = noted;
+      lines = lines;
+      turns = old.turns;
+    })
+clears basin policy old noted lines made kept told = record {
+  engine = record {
+    valid = made.engine.valid;
+    fits = made.engine.fits;
+    objects = made.engine.objects;
+    rules = made.engine.rules;
+    series = made.engine.series;
+    closed_steps = made.engine.closed_steps;
+    notes = alike_on old.noted noted old.lines lines old.run.trace old.run.trace kept told refl made.engine.notes;
+  };
+  keeps = made.keeps ∙ sym kept;
+  counts = made.counts;
+  firings = made.firings;
+}
+
+-- an engine that opens no timestep for want of memory shows what it showed
+pub unopened : (basin : Draft) (policy : Accepted) (rule : Picking) (step : ℕ) (old new : Engine) (result : Result StepEnd NoMemory)
+    (why : NoMemory) → IsErrAnd result (λ fault. fault ≡ why) → IsEngineOf basin policy new
+    → ((log : Log) → Shows basin old log → Shows basin new log) → IsUntold new → KeepsOn old new
+    → RunsStepBy basin policy rule step old new result
+unopened basin policy rule step old new (Ok end) why is made shows untold kept = absurd is
+unopened basin policy rule step old new (Err want) why is made shows untold kept = record {
+  made = made;
+  passes = λ log was before. tt;
+  before = shows;
+  untold = untold;
+  kept = kept;
+  closed_steps = tt;
+  few = tt;
 }
 
 -- no timestep is counted where memory wants

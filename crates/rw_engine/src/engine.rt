@@ -18,6 +18,7 @@ use crate::setup::RunSetup;
 use crate::state::State;
 use crate::step_end::StepEnd;
 use crate::trace_lines::trace_where;
+use rpl_fires::Fires;
 use rpl_predef::Predefs;
 use rpl_verify::Verified;
 use rw_base::{Cell, Ledger, NoMemory, Qty, StepNo, Steps};
@@ -30,8 +31,8 @@ use rw_run::{Run, Trace};
 use std::alloc::Global;
 use std::marker::Model;
 
-/// A run on its way, seen as what it shows: its rules, what the cells hold, the trace, the last closed timestep, and how it stands. It
-/// stands for a log of events, which `Shows` says.
+/// Represents a run on its way, seen as what it shows: its rules, what the cells hold, the trace, the last closed timestep, and its
+/// end so far. `Shows` says which log of events it represents.
 #[derive(Drop)]
 pub struct Engine {
     state: State,
@@ -52,8 +53,8 @@ impl Model for Engine {
 }
 
 impl Engine {
-    /// The engine of a run whose inputs are placed, and no timestep opened. It shows the log of the inputs. It keeps a
-    /// trace, and notes at what each timestep looks, so that a record of it can be made. The one error is want of memory.
+    /// Returns the engine of a run whose inputs are placed, with no timestep opened. It shows the log of the inputs. It keeps a
+    /// trace, and notes what each timestep looks at, so that a record of it can be made. The only error is want of memory.
     /// `docs/DEFINITIONS.md` says under "Runs" what a run is.
     pub fn for_run(
         alloc: Global,
@@ -69,8 +70,8 @@ impl Engine {
         Engine::for_reuse(alloc, basin, policy, inputs, true)
     }
 
-    /// The same, which keeps a trace where one is asked for, and notes timesteps in any case. The one error is want of
-    /// memory.
+    /// Returns an engine as `for_run` does, which keeps a trace if one is asked for, and notes timesteps in any case. The only
+    /// error is want of memory.
     pub fn for_reuse(
         alloc: Global,
         basin: &Basin,
@@ -90,8 +91,8 @@ impl Engine {
         })
     }
 
-    /// The same without a trace: no line is kept, nothing is noted, and within a timestep no memory is taken. The one error
-    /// is want of memory.
+    /// Returns an engine as `for_run` does, without a trace: it keeps no line, notes nothing, and takes no memory within a
+    /// timestep. The only error is want of memory.
     pub fn without_trace(
         alloc: Global,
         basin: &Basin,
@@ -108,15 +109,16 @@ impl Engine {
         })
     }
 
-    /// Passes the timestep after the last closed one: it is opened, event follows event, and it is closed or ends by a
-    /// fault, and is counted in `steps`. After want of memory it isn't, and the engine shows the log that it showed before,
-    /// and has no timestep noted.
-    pub fn run_step<L: Ledger>(
+    /// Passes the timestep after the last closed one, and lets the machine fire its rules: the timestep is opened, event follows
+    /// event, and it is closed or ends with a fault, and is counted in `steps`. After want of memory it is not counted, and the
+    /// engine shows the log that it showed before, and has no timestep noted.
+    pub fn run_step<L: Ledger, M: Fires>(
         &mut self,
         basin: &Basin,
         methods: &Catalogue,
         policy: &Verified,
         predefs: &Predefs,
+        machine: &mut M,
         step: StepNo,
         steps: &mut Steps<L>,
     ) -> Result<StepEnd, NoMemory>
@@ -133,12 +135,13 @@ impl Engine {
             policy,
             predefs,
         };
-        self.run_step_of(&setup, step, steps)
+        self.run_step_of(machine, &setup, step, steps)
     }
 
-    /// The same of a setup.
-    pub fn run_step_of<L: Ledger>(
+    /// Passes the timestep as `run_step` does, of a setup.
+    pub fn run_step_of<L: Ledger, M: Fires>(
         &mut self,
+        machine: &mut M,
         setup: &RunSetup<'_>,
         step: StepNo,
         steps: &mut Steps<L>,
@@ -151,12 +154,13 @@ impl Engine {
             self.old self.new result }
         ensures counted { steps.new ≡ steps.old + steps_of result }
     {
-        self.run_step_by(setup, &Oldest, step, steps)
+        self.run_step_by(machine, setup, &Oldest, step, steps)
     }
 
     // The same where it is picked who is dispatched.
-    pub(crate) fn run_step_by<L: Ledger, P: Pick>(
+    pub(crate) fn run_step_by<L: Ledger, P: Pick, M: Fires>(
         &mut self,
+        machine: &mut M,
         setup: &RunSetup,
         pick: &P,
         step: StepNo,
@@ -170,12 +174,12 @@ impl Engine {
             self.old self.new result }
         ensures counted { steps.new ≡ steps.old + steps_of result }
     {
-        let end = self.state.run_step(setup, pick, step)?;
+        let end = self.state.run_step(machine, setup, pick, step)?;
         steps.tick();
         Ok(end)
     }
 
-    /// What the run comes to so far. It takes no memory.
+    /// Returns the result of the run so far. It takes no memory.
     pub fn run(&self) -> &Run
         ensures run { (basin : Draft) (policy : Accepted) (log : Log)
             → IsEngineOf basin policy self.now
@@ -185,8 +189,8 @@ impl Engine {
         self.state.run()
     }
 
-    /// The record of the timestep that was closed last, of an engine that notes timesteps. `None` exactly where it has too many cells
-    /// or lines to be kept, or isn't noted: after want of memory, or once a timestep was taken back.
+    /// Returns the record of the timestep that was closed last, of an engine that notes timesteps; `None` exactly if it has too many
+    /// cells or lines to be kept, or is not noted: after want of memory, or once a timestep was taken back.
     pub fn last_record(&self, alloc: Global) -> Result<Option<StepRecord>, NoMemory>
         ensures noted { (basin : Draft) (step : ℕ) (old : Log) (events : List Event)
             → HasNoted basin step old events self.now → self.now.closed ≡ step
@@ -198,8 +202,8 @@ impl Engine {
         listed(alloc, kept)
     }
 
-    /// The same as it is kept, to which the lines of the timestep are handed over: it is asked for once. `order` is that in which the
-    /// cells of another timestep rose, or any other: where those of this one rise so too they need no sorting.
+    /// Returns that record as it is kept, with the lines of the timestep themselves: so it can be asked for once. `order` is the
+    /// order in which the cells of another timestep rose, or any other: if those of this one rise so too, they need no sorting.
     pub fn last_kept(
         &mut self,
         alloc: Global,
@@ -214,23 +218,23 @@ impl Engine {
         self.state.last_kept(alloc, order)
     }
 
-    /// Whether each cell at which a timestep looked holds what it held before it then.
+    /// Returns whether each cell that a timestep looked at holds what it held before that timestep.
     pub fn alike(&self, kept: &StepRecord) -> bool
         ensures { (result ≡ true) ↔ AreHeld (held self.now.series) kept.now.looked }
     {
         is_alike(&self.state.run().series, kept.looked())
     }
 
-    /// So by what is kept of it.
+    /// Returns the same as `alike`, by what is kept of the timestep.
     pub fn is_kept_alike(&self, kept: &KeptStep) -> bool
         ensures { (result ≡ true) ↔ AreHeld (held self.now.series) kept.now.looked }
     {
         is_kept_alike(&self.state.run().series, kept.looked())
     }
 
-    /// Passes a timestep again, by its record, without asking methods and rules. Where its cells are alike, and it comes after the
-    /// last closed one, that is what `run_step` would do. After want of memory the engine shows the log that it showed before,
-    /// and has no timestep noted.
+    /// Passes a timestep again, by its record, without methods and rules. If its cells are alike, and it comes after the last
+    /// closed one, that is what `run_step` would do. After want of memory the engine shows the log that it showed before, and
+    /// has no timestep noted.
     pub fn replay(&mut self, basin: &Basin, kept: &StepRecord) -> Result<(), NoMemory>
         requires step { IsStep basin.now kept.now.step }
         requires can { CanWriteLines basin.now kept.now.lines }
@@ -240,7 +244,7 @@ impl Engine {
         self.state.replay(basin, kept.kept())
     }
 
-    /// The same by what is kept of it, but no timestep is noted behind it.
+    /// Passes a timestep again, by what is kept of it, and notes no timestep.
     pub fn replay_kept(&mut self, basin: &Basin, kept: &KeptStep) -> Result<(), NoMemory>
         requires step { IsStep basin.now kept.now.step }
         requires can { CanWriteLines basin.now kept.now.lines }
@@ -250,7 +254,7 @@ impl Engine {
         self.state.replay_kept(basin, kept)
     }
 
-    /// Takes the timestep that was closed last back, by its record: the engine shows the log before it. It takes no memory.
+    /// Takes back the timestep that was closed last, by its record: the engine shows the log before it. It takes no memory.
     pub fn take_back(&mut self, basin: &Basin, kept: &StepRecord)
         requires made { CanReplay basin.now self.old }
         ensures { TakesBack basin.now kept.now self.old self.new }
@@ -258,7 +262,7 @@ impl Engine {
         self.take_back_kept(basin, kept.kept())
     }
 
-    /// The same by what is kept of it.
+    /// Takes back the timestep that was closed last, by what is kept of it.
     pub fn take_back_kept(&mut self, basin: &Basin, kept: &KeptStep)
         requires made { CanReplay basin.now self.old }
         ensures { TakesBack basin.now kept.now self.old self.new }
@@ -266,8 +270,8 @@ impl Engine {
         self.state.take_back(basin, kept)
     }
 
-    /// Makes a cell, with those that share its value, hold an input, in the base units of the slot's dimension and within
-    /// its bounds, or nothing where none is given. It takes no memory.
+    /// Sets a cell, with those that share its value, to an input, in the base units of the slot's dimension and within its
+    /// bounds, or to nothing if none is given. It takes no memory.
     pub fn give(&mut self, basin: &Basin, cell: Cell, value: Option<Qty>)
         requires made { CanReplay basin.now self.old }
         requires cell { IsCell basin.now cell }
@@ -278,7 +282,7 @@ impl Engine {
         self.state.give(basin, cell, value)
     }
 
-    /// What the run came to, or so far where timesteps are left. It takes no memory.
+    /// Returns the result of the run, or its result so far if timesteps are left. It takes no memory.
     pub fn finish(self) -> Run
         ensures run { (basin : Draft) (policy : Accepted) (log : Log) → IsEngineOf basin policy self
             → Shows basin self log → IsRunOf basin log result }

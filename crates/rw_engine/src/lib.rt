@@ -1,8 +1,9 @@
-//! Runs. An `Engine` stands for a log of events: it shows what the cells hold after it, the lines of its trace, the last
-//! closed timestep, and the fault if one came. `for_run` places the inputs, `run_step` passes one timestep, and `run_all`
-//! runs them all and hands out what the run comes to. What a run goes by is a `RunSetup`: the calls whose names end in `_of`
-//! take one, and the others make one. Each event is the one that the definition says follows
-//! (`rw_run`); `run_by_of` lets a rule pick who is dispatched. After want of memory an engine shows the same log as before.
+//! Runs basins. An `Engine` represents a log of events: it shows what the cells hold after it, the lines of its trace, the last
+//! closed timestep, and the fault if there is one. `for_run` places the inputs, `run_step` passes one timestep, and `run_all`
+//! runs all of them and returns the result of the run. A `RunSetup` has what a run needs besides its inputs and the machine that
+//! fires its rules: functions whose names end in `_of` take one, and the others make one. Each event is the one that the
+//! definition says follows (`rw_run`); with `run_by_of` a rule picks who is dispatched. After want of memory an engine shows the
+//! same log as before.
 #![tactic(auto)]
 
 mod counts;

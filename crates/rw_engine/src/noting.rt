@@ -1,4 +1,4 @@
-//! Noting at what an event looked, and what the puts reach that it asked for.
+//! Notes what an event looked at, and what the puts reach that it asked for.
 ghost use Rattle.std.specs.Prelude.{◌≡◌, ◌++◌, [], IsSome, unwrap_or};
 ghost use Rattle.std.specs.List.{filter_map};
 ghost use Rattle.rw_model.specs.Turn.{IsTurn};

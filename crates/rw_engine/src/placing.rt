@@ -1,4 +1,4 @@
-//! Placing the inputs of a run.
+//! Places the inputs of a run.
 ghost use Rattle.std.specs.Prelude.{◌≡◌, ◌≤◌, ◌<◌, IfSome, length, option_map};
 ghost use Rattle.rw_model.specs.Draft.{IsSlot};
 ghost use Rattle.rw_model.specs.Objects.{all_slots};

@@ -1,4 +1,4 @@
-//! Passing a timestep again, by its record.
+//! Passes a timestep again, by its record.
 ghost use Rattle.std.specs.Prelude.{◌≡◌, [], IfErr, IfOk, IfSome, is_some};
 ghost use Rattle.std.specs.List.{cons_option};
 ghost use Rattle.std.specs.Option.{option_or};

@@ -10,6 +10,7 @@ ghost use Rattle.rw_engine.specs.Shows.{IsEngineOf};
 use crate::engine::Engine;
 use crate::setup::RunSetup;
 use crate::step_end::StepEnd;
+use rpl_fires::Fires;
 use rpl_predef::Predefs;
 use rpl_verify::Verified;
 use rw_base::{Ledger, NoMemory, StepNo, Steps};
@@ -22,8 +23,9 @@ use std::alloc::Global;
 use std::mem::drop;
 
 // Passes timestep after timestep, up to the last one or to a fault.
-fn pass_steps<L: Ledger, P: Pick>(
+fn pass_steps<L: Ledger, P: Pick, M: Fires>(
     engine: &mut Engine,
+    machine: &mut M,
     setup: &RunSetup,
     pick: &P,
     steps: &mut Steps<L>,
@@ -41,7 +43,7 @@ fn pass_steps<L: Ledger, P: Pick>(
         steps.old steps.new (Err why)) }
 {
     for before in 0..setup.basin.control().stamps.count() {
-        let end = engine.run_step_by(setup, pick, StepNo(before + 1), steps)?;
+        let end = engine.run_step_by(machine, setup, pick, StepNo(before + 1), steps)?;
         match end {
             StepEnd::Closed => {}
             StepEnd::Fault(_) => return Ok(()),
@@ -51,8 +53,9 @@ fn pass_steps<L: Ledger, P: Pick>(
 }
 
 // The same with an engine that ends with it, and what that shows.
-fn pass_all<L: Ledger, P: Pick>(
+fn pass_all<L: Ledger, P: Pick, M: Fires>(
     mut engine: Engine,
+    machine: &mut M,
     setup: &RunSetup,
     pick: &P,
     steps: &mut Steps<L>,
@@ -65,7 +68,7 @@ fn pass_all<L: Ledger, P: Pick>(
     ensures { RunsAllBy setup.now.basin.now setup.now.policy.now (P.rule pick.now) engine
         steps.old steps.new result }
 {
-    match pass_steps(&mut engine, setup, pick, steps) {
+    match pass_steps(&mut engine, machine, setup, pick, steps) {
         Ok(()) => Ok(engine.finish()),
         Err(NoMemory) => {
             drop(engine);
@@ -93,15 +96,16 @@ fn begin(
     }
 }
 
-/// Runs all timesteps of a basin from its inputs, up to the last one or to a fault, and answers what the run comes to, as
-/// `docs/DEFINITIONS.md` says under "Runs". Each opened timestep is counted. A fault of the run is in the answer; the one
-/// error is want of memory.
-pub fn run_all<L: Ledger>(
+/// Runs all timesteps of a basin from its inputs, up to the last one or to a fault, lets the machine fire its rules, and returns
+/// the result of the run, as `docs/DEFINITIONS.md` says under "Runs". Each opened timestep is counted. A fault of the run is in
+/// the result; the only error is want of memory.
+pub fn run_all<L: Ledger, M: Fires>(
     alloc: Global,
     basin: &Basin,
     methods: &Catalogue,
     policy: &Verified,
     predefs: &Predefs,
+    machine: &mut M,
     inputs: &Inputs,
     steps: &mut Steps<L>,
 ) -> Result<Run, NoMemory>
@@ -118,12 +122,13 @@ pub fn run_all<L: Ledger>(
         policy,
         predefs,
     };
-    run_all_of(alloc, &setup, inputs, true, steps)
+    run_all_of(alloc, machine, &setup, inputs, true, steps)
 }
 
-/// The same of a setup. Without a trace it is what the run comes to but for its lines.
-pub fn run_all_of<L: Ledger>(
+/// Runs all timesteps as `run_all` does, of a setup. Without a trace the result is the same but for its lines.
+pub fn run_all_of<L: Ledger, M: Fires>(
     alloc: Global,
+    machine: &mut M,
     setup: &RunSetup<'_>,
     inputs: &Inputs,
     traced: bool,
@@ -139,13 +144,14 @@ pub fn run_all_of<L: Ledger>(
     ensures counted { CountsSteps setup.now.basin.now steps.old steps.new result }
 {
     let engine = begin(alloc, setup, inputs, traced)?;
-    pass_all(engine, setup, &Oldest, steps)
+    pass_all(engine, machine, setup, &Oldest, steps)
 }
 
-/// Runs all timesteps of a setup as `run_all_of` does, but where it is picked which of the objects that wait is dispatched. The
-/// one error is want of memory.
-pub fn run_by_of<L: Ledger, P: Pick>(
+/// Runs all timesteps of a setup as `run_all_of` does, but `pick` says which of the objects that wait is dispatched. The only
+/// error is want of memory.
+pub fn run_by_of<L: Ledger, P: Pick, M: Fires>(
     alloc: Global,
+    machine: &mut M,
     setup: &RunSetup<'_>,
     inputs: &Inputs,
     pick: &P,
@@ -162,5 +168,5 @@ pub fn run_by_of<L: Ledger, P: Pick>(
     ensures counted { CountsSteps setup.now.basin.now steps.old steps.new result }
 {
     let engine = begin(alloc, setup, inputs, traced)?;
-    pass_all(engine, setup, pick, steps)
+    pass_all(engine, machine, setup, pick, steps)
 }

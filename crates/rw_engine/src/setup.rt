@@ -4,7 +4,7 @@ use rpl_verify::Verified;
 use rw_method::Catalogue;
 use rw_model::Basin;
 
-/// What a run goes by, whatever its inputs.
+/// Holds what a run needs besides its inputs and the machine that fires its rules.
 #[derive(Drop)]
 pub struct RunSetup<'a> {
     /// The basin.

@@ -1,5 +1,5 @@
 //! Holds what an engine works on, and lets event follow event in a timestep.
-ghost use Rattle.std.specs.Prelude.{◌≡◌, ◌<◌, [], ℕ, map, List, Option, Some, None, Ok, IfOk, IfErr, IfSome, IsSome, is_some};
+ghost use Rattle.std.specs.Prelude.{◌≡◌, ◌<◌, [], ℕ, map, List, Option, Some, None, Ok, IfOk, IfErr, IfSome, IsSome, is_some, true};
 ghost use Rattle.rw_model.specs.Draft.{Draft};
 ghost use Rattle.rw_method.specs.Catalogue.{AreInOrder};
 ghost use Rattle.rw_run.specs.Log.{Event, Log, fault};
@@ -31,6 +31,7 @@ use crate::trace_lines::{
     fault_by, fault_of_rule, note_firing_lines, note_lines, tell_line, trace_where,
 };
 use crate::turn::next_turn;
+use rpl_fires::Fires;
 use rpl_verify::Verified;
 use rw_base::{Cell, NoMemory, ObjectNo, Qty, RuleNo, StepNo};
 use rw_dispatch::{Pick, Queue, Workspace, judge_dispatch, make};
@@ -249,13 +250,21 @@ impl State {
     }
 
     // Lets the rule fire that is due, below its limit.
-    fn fire(&mut self, setup: &RunSetup, rule: RuleNo, step: StepNo) -> Result<bool, NoMemory>
+    fn fire<M: Fires>(
+        &mut self,
+        machine: &mut M,
+        setup: &RunSetup,
+        rule: RuleNo,
+        step: StepNo,
+    ) -> Result<bool, NoMemory>
+        requires ready { M.serves machine.old setup.now.policy.now ≡ true }
         requires within { IsWithinStep setup.now.basin.now setup.now.policy.now self.old }
         requires idle { self.old.queue.waiting ≡ [] }
         requires turn { IsRuleTurn setup.now.basin.now setup.now.policy.now rule.0 step.0 }
         requires below { count_of_number self.old.firings rule.0
             < setup.now.basin.now.control.rule_limit }
-        ensures { DoesEvent setup.now.basin.now setup.now.policy.now None step.0 self.old self.new
+        ensures ready { M.serves machine.new setup.now.policy.now ≡ true }
+        ensures does { DoesEvent setup.now.basin.now setup.now.policy.now None step.0 self.old self.new
             (HoldsDue setup.now.basin.now setup.now.policy.now self.old step.0
             (Some rule.0)) result }
     {
@@ -265,7 +274,7 @@ impl State {
             policy: setup.policy,
             predefs: setup.predefs,
         };
-        let fired = self.rules.fire(&by, &self.run.series, rule, step);
+        let fired = self.rules.fire(machine, &by, &self.run.series, rule, step);
         note_firing(
             &mut self.noted,
             setup.basin,
@@ -283,11 +292,19 @@ impl State {
     }
 
     // Lets the rule fire that is due, unless its limit is reached.
-    fn let_fire(&mut self, setup: &RunSetup, rule: RuleNo, step: StepNo) -> Result<bool, NoMemory>
+    fn let_fire<M: Fires>(
+        &mut self,
+        machine: &mut M,
+        setup: &RunSetup,
+        rule: RuleNo,
+        step: StepNo,
+    ) -> Result<bool, NoMemory>
+        requires ready { M.serves machine.old setup.now.policy.now ≡ true }
         requires within { IsWithinStep setup.now.basin.now setup.now.policy.now self.old }
         requires idle { self.old.queue.waiting ≡ [] }
         requires turn { IsRuleTurn setup.now.basin.now setup.now.policy.now rule.0 step.0 }
-        ensures { DoesEvent setup.now.basin.now setup.now.policy.now None step.0 self.old self.new
+        ensures ready { M.serves machine.new setup.now.policy.now ≡ true }
+        ensures does { DoesEvent setup.now.basin.now setup.now.policy.now None step.0 self.old self.new
             (HoldsDue setup.now.basin.now setup.now.policy.now self.old step.0
             (Some rule.0)) result }
     {
@@ -295,30 +312,45 @@ impl State {
         if setup.basin.control().rule_limit <= count {
             return self.exceed(setup, step, RunFault::RuleLimit { rule, step, count });
         }
-        self.fire(setup, rule, step)
+        self.fire(machine, setup, rule, step)
     }
 
     // Where no object waits, the first rule that is due fires; where none is due, the timestep is closed.
-    fn turn_to_rules(&mut self, setup: &RunSetup, step: StepNo) -> Result<bool, NoMemory>
+    fn turn_to_rules<M: Fires>(
+        &mut self,
+        machine: &mut M,
+        setup: &RunSetup,
+        step: StepNo,
+    ) -> Result<bool, NoMemory>
+        requires ready { M.serves machine.old setup.now.policy.now ≡ true }
         requires within { IsWithinStep setup.now.basin.now setup.now.policy.now self.old }
         requires idle { self.old.queue.waiting ≡ [] }
         requires step { IsStep setup.now.basin.now step.0 }
-        ensures { DoesEvent setup.now.basin.now setup.now.policy.now None step.0 self.old self.new
+        ensures ready { M.serves machine.new setup.now.policy.now ≡ true }
+        ensures does { DoesEvent setup.now.basin.now setup.now.policy.now None step.0 self.old self.new
             (HoldsWithin setup.now.basin.now setup.now.policy.now self.old step.0
             self.old.queue.waiting) result }
     {
         match self.rules.due(&self.run.series) {
-            Some(rule) => self.let_fire(setup, rule, step),
+            Some(rule) => self.let_fire(machine, setup, rule, step),
             None => self.close(setup, step),
         }
     }
 
     // The event that follows in the open timestep, where one of those that wait is picked.
-    fn event<P: Pick>(&mut self, setup: &RunSetup, pick: &P, step: StepNo) -> Result<bool, NoMemory>
+    fn event<P: Pick, M: Fires>(
+        &mut self,
+        machine: &mut M,
+        setup: &RunSetup,
+        pick: &P,
+        step: StepNo,
+    ) -> Result<bool, NoMemory>
+        requires ready { M.serves machine.old setup.now.policy.now ≡ true }
         requires within { IsWithinStep setup.now.basin.now setup.now.policy.now self.old }
         requires order { AreInOrder
             (map (λ b. code (b.vtable, b.value)) setup.now.methods.now.methods.items) }
         requires step { IsStep setup.now.basin.now step.0 }
+        ensures ready { M.serves machine.new setup.now.policy.now ≡ true }
         ensures does { DoesEvent setup.now.basin.now setup.now.policy.now
             (picked_at (P.rule pick.now) self.old.turns self.old.queue.waiting)
             step.0 self.old self.new
@@ -329,17 +361,19 @@ impl State {
     {
         match self.queue.next_by(pick, self.turns) {
             Some(object) => self.ask(setup, object, step),
-            None => self.turn_to_rules(setup, step),
+            None => self.turn_to_rules(machine, setup, step),
         }
     }
 
     // The events of a timestep, of which the first opens it.
-    fn pass<P: Pick>(
+    fn pass<P: Pick, M: Fires>(
         &mut self,
+        machine: &mut M,
         setup: &RunSetup,
         pick: &P,
         step: StepNo,
     ) -> Result<StepEnd, NoMemory>
+        requires ready { M.serves machine.old setup.now.policy.now ≡ true }
         requires fresh { IsCleared setup.now.basin.now setup.now.policy.now self.old }
         requires order { AreInOrder
             (map (λ b. code (b.vtable, b.value)) setup.now.methods.now.methods.items) }
@@ -349,16 +383,17 @@ impl State {
     {
         self.open(setup, step)?;
         loop {
-            let ended = self.event(setup, pick, step)?;
+            let ended = self.event(machine, setup, pick, step)?;
             if ended {
                 return Ok(self.step_end());
             }
         }
     }
 
-    /// Passes a timestep, and takes back what was done in it where memory wants for the rest.
-    pub(crate) fn run_step<P: Pick>(
+    /// Has the machine prepared for the policy, passes a timestep, and takes back what was done in it where memory wants for the rest.
+    pub(crate) fn run_step<P: Pick, M: Fires>(
         &mut self,
+        machine: &mut M,
         setup: &RunSetup,
         pick: &P,
         step: StepNo,
@@ -373,8 +408,9 @@ impl State {
     {
         self.noted.begin_step();
         self.lines.truncate(0);
+        machine.prepare(setup.policy)?;
         let before = self.run.trace.len();
-        match self.pass(setup, pick, step) {
+        match self.pass(machine, setup, pick, step) {
             Ok(end) => Ok(end),
             Err(NoMemory) => {
                 self.run.trace.truncate(before);

@@ -1,7 +1,7 @@
 //! Lists how a timestep can end.
 use rw_run::RunFault;
 
-/// How a timestep ended.
+/// Says how a timestep ended.
 #[derive(Clone, Copy, Debug, PartialEq, Eq)]
 pub enum StepEnd {
     /// It was closed.

@@ -1,4 +1,4 @@
-//! Telling the lines of events to a trace, and to the lines of the timestep, where these are noted.
+//! Writes the lines of events to a trace, and to the lines of the timestep if these are noted.
 ghost use Rattle.std.specs.Prelude.{◌≡◌, [], ◌∷◌, if◌then◌else◌, map, IfOk, IfErr, IsSome, None, Some};
 ghost use Rattle.rw_run.specs.declared.trace.TraceEvent.TheVariants as Line;
 ghost use Rattle.rw_run.specs.RunOf.{line_of};

@@ -11,6 +11,7 @@ ghost use Rattle.rw_order.specs.AnyRun.{IsAnyRun, IsSettledLog, SettlesAs};
 ghost use Rattle.rw_order.specs.Free.{order_free};
 
 use crate::law::{any_order, inputs_are_inside};
+use rpl_fires::Fires;
 use rpl_predef::{
     Predef, Predefs, absolute, clamped, greatest, least, mul_div, rounded_down, sign,
 };
@@ -25,10 +26,11 @@ use rw_run::Run;
 use std::alloc::Global;
 use std::marker::Brand;
 
-// The run without rules, with a count of timesteps that nobody asks for. No rule calls a function, but the engine takes a table.
-fn run_counted<L: Ledger, P: Pick>(
+// The run without rules, with a count of timesteps that nobody asks for. No rule fires, but the engine takes a machine.
+fn run_counted<L: Ledger, P: Pick, M: Fires>(
     alloc: Global,
     blank: Blank,
+    machine: &mut M,
     basin: &Basin,
     methods: &Catalogue,
     inputs: &Inputs,
@@ -63,7 +65,7 @@ fn run_counted<L: Ledger, P: Pick>(
         policy: &empty,
         predefs: &predefs,
     };
-    run_by_of(alloc, &setup, inputs, pick, traced, &mut steps)
+    run_by_of(alloc, machine, &setup, inputs, pick, traced, &mut steps)
 }
 
 // What a basin is, it always is.
@@ -77,8 +79,9 @@ fn is_valid(basin: &Basin)
 /// which of the objects that wait is dispatched. Returns the run: that of the log in which each dispatch is of the object in the
 /// place of the rule, one of those that wait. Where the order of dispatches is free in the basin and one order settles, this one
 /// does, with the same values. The one error is want of memory. `docs/DEFINITIONS.md` has it under "Any order".
-pub fn run_any<P: Pick>(
+pub fn run_any<P: Pick, M: Fires>(
     alloc: Global,
+    machine: &mut M,
     basin: &Basin,
     methods: &Catalogue,
     inputs: &Inputs,
@@ -97,5 +100,14 @@ pub fn run_any<P: Pick>(
     any_order();
     inputs_are_inside();
     is_valid(basin);
-    run_counted::<Brand, P>(alloc, Blank::new(1), basin, methods, inputs, pick, traced)
+    run_counted::<Brand, P, M>(
+        alloc,
+        Blank::new(1),
+        machine,
+        basin,
+        methods,
+        inputs,
+        pick,
+        traced,
+    )
 }

@@ -16,8 +16,8 @@ use Rattle.rpl_verify.specs.Resolved.{resolved_code}
 use Rattle.rpl_verify.specs.Verified.{Accepted, verified, with_budgets}
 use Rattle.rpl_policy.specs.Policy.{policy_of_code}
 use Rattle.rpl_rulesets.specs.RulesPolicy.{policy_of_rules}
-use Rattle.rw_top.specs.Policy.{Code, IsPolicyFileOf, PolicyFile, Ruleset}
-use Rattle.rw_top.specs.RunText.{policy_in_run}
+use Rattle.rw_commands.specs.Policy.{Code, IsPolicyFileOf, PolicyFile, Ruleset}
+use Rattle.rw_commands.specs.RunText.{policy_in_run}
 use Rattle.rw_ahead.specs.Ahead.{ahead_to}
 use Rattle.rw_promise.proofs.Counted.{few_declared}
 

@@ -1,7 +1,7 @@
 -- The budgets of a policy's rules, and those of a ruleset's code.
-use Rattle.rw_top.proofs.Common.{Bool, Declared, IsSome, List, None, Option, Some, [], ap, arith, counts_line, declaration_from, false, for_each}
-use Rattle.rw_top.proofs.Common.{function, if◌then◌else◌, length, line_if, nat_tests, option_map, refl, rule, rules_in, subst, suc, sym, zero, ℕ}
-use Rattle.rw_top.proofs.Common.{◌++◌, ◌+◌, ◌-◌, ◌<◌, ◌==◌, ◌∙◌, ◌∷◌, ◌≡◌, ◌≤◌}
+use Rattle.rw_commands.proofs.Common.{Bool, Declared, IsSome, List, None, Option, Some, [], ap, arith, counts_line, declaration_from, false, for_each}
+use Rattle.rw_commands.proofs.Common.{function, if◌then◌else◌, length, line_if, nat_tests, option_map, refl, rule, rules_in, subst, suc, sym, zero, ℕ}
+use Rattle.rw_commands.proofs.Common.{◌++◌, ◌+◌, ◌-◌, ◌<◌, ◌==◌, ◌∙◌, ◌∷◌, ◌≡◌, ◌≤◌}
 use Rattle.rw_base.proofs.Common.{option_and_then, slice_get}
 use Rattle.rw_model.proofs.Common.{Draft, numbered-known}
 use Rattle.rw_model.specs.Objects.{numbered}
@@ -18,9 +18,9 @@ use Rattle.rpl_verify.proofs.Common.{rule_from}
 use Rattle.rpl_verify.proofs.VerifiedFacts.{each as budget_each, length-rules, rule_is}
 use Rattle.rpl_compile.specs.Budgets.{budgets_from, code_budgets_of}
 use Rattle.rpl_compile.specs.Translate.{Callee, blocks_from, predefined_callees, translate}
-use Rattle.rw_top.specs.Budgets.{budget_in, check_text}
-use Rattle.rw_top.specs.Policy.{PolicyFile, Ruleset, Code, IsPolicyFileOf}
-use Rattle.rw_top.proofs.BudgetLemmas.{is_declared, its_block}
+use Rattle.rw_commands.specs.Budgets.{budget_in, check_text}
+use Rattle.rw_commands.specs.Policy.{PolicyFile, Ruleset, Code, IsPolicyFileOf}
+use Rattle.rw_commands.proofs.BudgetLemmas.{is_declared, its_block}
 
 -- ---- each rule has budgets
 

@@ -1,12 +1,12 @@
 -- What has to be refused of a call that keeps its promise, in terms of what its shelf tells.
-use Rattle.rw_top.proofs.Common.{AcceptsAll, AskForCommand, BadEdits, BadInputs, BadModel, BadPolicy, BadScenarios, Call, Change, Command, HoldsTooLong}
-use Rattle.rw_top.proofs.Common.{IfSome, InputRefusal, IsHonest, IsSome, List, LongFile, ModelRefusal, None, Option, Promise, RefusesInputs}
-use Rattle.rw_top.proofs.Common.{RefusesModel, RefusesPolicy, Rose, ShelfView, Some, arith, order, path_of, ℕ, ◌≡◌, ◌≤◌, ◌⊎◌}
-use Rattle.rw_top.specs.declared.refusal.File.{File}
-use Rattle.rw_top.specs.Reading.{LacksCell, RefusesEdits, RefusesScenarios}
+use Rattle.rw_commands.proofs.Common.{AcceptsAll, AskForCommand, BadEdits, BadInputs, BadModel, BadPolicy, BadScenarios, Call, Change, Command, HoldsTooLong}
+use Rattle.rw_commands.proofs.Common.{IfSome, InputRefusal, IsHonest, IsSome, List, LongFile, ModelRefusal, None, Option, Promise, RefusesInputs}
+use Rattle.rw_commands.proofs.Common.{RefusesModel, RefusesPolicy, Rose, ShelfView, Some, arith, order, path_of, ℕ, ◌≡◌, ◌≤◌, ◌⊎◌}
+use Rattle.rw_commands.specs.declared.refusal.File.{File}
+use Rattle.rw_commands.specs.Reading.{LacksCell, RefusesEdits, RefusesScenarios}
 use Rattle.rw_promise.specs.Told.{AreTold}
-use Rattle.rw_top.specs.declared.refusal.File.TheVariants.{Model}
-use Rattle.rw_top.specs.Policy.{BadCode, RulesRefusal, BadRules, BadBlocks}
+use Rattle.rw_commands.specs.declared.refusal.File.TheVariants.{Model}
+use Rattle.rw_commands.specs.Policy.{BadCode, RulesRefusal, BadRules, BadBlocks}
 
 -- a path that is told and had no fault
 abbrev IsGood : Change ShelfView → List ℕ → Type 0

@@ -1,5 +1,5 @@
 -- What is told of runs doesn't go by how far ahead rules may put: books, a reason, and the texts of many runs.
-use Rattle.rw_top.proofs.Common.{List, None, Option, Some, [], ap, ap₂, refl, length, ℕ, ℤ, ◌++◌, ◌+◌, ◌∙◌, ◌∷◌, ◌≡◌}
+use Rattle.rw_commands.proofs.Common.{List, None, Option, Some, [], ap, ap₂, refl, length, ℕ, ℤ, ◌++◌, ◌+◌, ◌∙◌, ◌∷◌, ◌≡◌}
 use Rattle.std.specs.Prelude.{Bool, codes, if◌then◌else◌, map}
 use Rattle.std.specs.Fmt.{decimal}
 use Rattle.rw_base.specs.declared.number.Cell.{Cell}
@@ -31,7 +31,7 @@ use Rattle.rw_mrm.specs.Tally.{is_settled}
 use Rattle.rw_ahead.proofs.SameRuns.{cells_same}
 use Rattle.rw_ahead.specs.Ahead.{ahead_to}
 use Rattle.rw_migrated.proofs.FarTables.{end_same, heading_same, names_same, slot_same}
-use Rattle.rw_top.specs.Many.{as_ended, many_texts, scenario_texts}
+use Rattle.rw_commands.specs.Many.{as_ended, many_texts, scenario_texts}
 
 abbrev ended_with : Bool → Cells → Ended
 ended_with settled cells = record { settled = settled; cells = cells }

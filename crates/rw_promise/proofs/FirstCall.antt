@@ -1,22 +1,22 @@
 -- A call on one plain reservoir, by the law on the text of its run.
-use Rattle.rw_top.proofs.Common.{Call, Command, Fault, GrowsBy, IfOk, IsRunText, IsSomeAnd, IsTextOf, List, None, Option, Promise, Reads}
-use Rattle.rw_top.proofs.Common.{ReadsInputs, RunEnd, SaysAt, Settled, Some, WritesAll, [], ap, arith, false, model_of, refl, simulation_of}
-use Rattle.rw_top.proofs.Common.{status_of_end, subst, sym, ℕ, ℤ, ◌↔◌, ◌∙◌, ◌∷◌, ◌≡◌, ◌≤◌}
+use Rattle.rw_commands.proofs.Common.{Call, Command, Fault, GrowsBy, IfOk, IsRunText, IsSomeAnd, IsTextOf, List, None, Option, Promise, Reads}
+use Rattle.rw_commands.proofs.Common.{ReadsInputs, RunEnd, SaysAt, Settled, Some, WritesAll, [], ap, arith, false, model_of, refl, simulation_of}
+use Rattle.rw_commands.proofs.Common.{status_of_end, subst, sym, ℕ, ℤ, ◌↔◌, ◌∙◌, ◌∷◌, ◌≡◌, ◌≤◌}
 use Rattle.rw_plain_reservoir.specs.Table.{IsFirstText}
 use Rattle.rw_plain_reservoir.specs.FirstForm.{FirstModel, IsFirstForm, IsFirstFlows}
 use Rattle.rw_inputs.specs.Inputs.{Inputs as Given}
 use Rattle.rw_model.proofs.Common.{IsBasin, Draft}
 use Rattle.rw_run.specs.Next.{no_rules}
-use Rattle.rw_top.specs.Sections.{AreSections}
-use Rattle.rw_top.proofs.SectionLemmas.{one_grown}
+use Rattle.rw_commands.specs.Sections.{AreSections}
+use Rattle.rw_commands.proofs.SectionLemmas.{one_grown}
 use Rattle.rw_promise.specs.FirstCall.{IsFirstCall}
 use Rattle.rw_words.specs.declared.job.Job.TheVariants.{Simulate}
-use Rattle.rw_top.specs.declared.refusal.File.TheVariants.{Inputs}
-use Rattle.rw_top.proofs.CommandLemmas.{of_command}
-use Rattle.rw_top.proofs.Findings.{one_basin, same_text}
-use Rattle.rw_top.proofs.OneReading.{same_values}
-use Rattle.rw_top.specs.RunText.{IsPlainText, no_extras}
-use Rattle.rw_top.specs.Sections.{first_given}
+use Rattle.rw_commands.specs.declared.refusal.File.TheVariants.{Inputs}
+use Rattle.rw_commands.proofs.CommandLemmas.{of_command}
+use Rattle.rw_commands.proofs.Findings.{one_basin, same_text}
+use Rattle.rw_commands.proofs.OneReading.{same_values}
+use Rattle.rw_commands.specs.RunText.{IsPlainText, no_extras}
+use Rattle.rw_commands.specs.Sections.{first_given}
 use Rattle.rw_promise.proofs.OneText.{of_values}
 
 is_settled : (end : RunEnd) → status_of_end end ≡ 0 → end ≡ Settled

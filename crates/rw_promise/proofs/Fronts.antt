@@ -1,5 +1,5 @@
 -- What was written before a call broke off begins the text of the command.
-use Rattle.rw_top.proofs.Common.{FilesRead, IsSomeAnd, List, None, Option, RunEnd, Some, [], ap, refl, sym, ℕ, ℤ, ◌++◌, ◌+◌, ◌∙◌, ◌∷◌, ◌≡◌}
+use Rattle.rw_commands.proofs.Common.{FilesRead, IsSomeAnd, List, None, Option, RunEnd, Some, [], ap, refl, sym, ℕ, ℤ, ◌++◌, ◌+◌, ◌∙◌, ◌∷◌, ◌≡◌}
 use Rattle.rw_base.specs.declared.number.Cell.{Cell}
 use Rattle.rw_model.proofs.Common.{Draft}
 use Rattle.rw_inputs.specs.Edits.{Batch}
@@ -9,12 +9,12 @@ use Rattle.rw_promise.proofs.OneAnswer.{first_sections, one_why}
 use Rattle.rw_promise.proofs.OneOutput.{one_book, one_line}
 use Rattle.rw_promise.proofs.OneText.{one_simulated}
 use Rattle.rw_promise.proofs.OneScenario.{many_front}
-use Rattle.rw_top.specs.Many.{AreFirstPieces, AreScenarioRuns, many_texts, status_of_runs}
-use Rattle.rw_top.specs.Policy.{PolicyFile as Rules}
-use Rattle.rw_top.specs.RunText.{IsBalanceOfRules, IsPlainText, IsRulesText, IsSampleText, IsWhyOfRules}
-use Rattle.rw_top.specs.Sections.{AreFirstSections, AreSections, first_given}
-use Rattle.rw_top.specs.Written.{IsFrontOf, IsTextOf, batches_in, scenarios_in}
-use Rattle.rw_top.specs.declared.extras.Extras.{Extras}
+use Rattle.rw_commands.specs.Many.{AreFirstPieces, AreScenarioRuns, many_texts, status_of_runs}
+use Rattle.rw_commands.specs.Policy.{PolicyFile as Rules}
+use Rattle.rw_commands.specs.RunText.{IsBalanceOfRules, IsPlainText, IsRulesText, IsSampleText, IsWhyOfRules}
+use Rattle.rw_commands.specs.Sections.{AreFirstSections, AreSections, first_given}
+use Rattle.rw_commands.specs.Written.{IsFrontOf, IsTextOf, batches_in, scenarios_in}
+use Rattle.rw_commands.specs.declared.extras.Extras.{Extras}
 use Rattle.rw_words.specs.declared.job.Job.TheVariants as J
 
 same_of : {A B : Type 0} (found : Option A) (text : A → B) (one other : B) → IsSomeAnd found (λ x. one ≡ text x)

@@ -1,16 +1,16 @@
 -- How many sections a text has.
-use Rattle.rw_top.proofs.Common.{FilesRead, IsSomeAnd, List, None, Option, RunEnd, Some, [], ap, length, refl, suc, ℕ, ◌++◌, ◌+◌, ◌∙◌, ◌∷◌, ◌≡◌}
+use Rattle.rw_commands.proofs.Common.{FilesRead, IsSomeAnd, List, None, Option, RunEnd, Some, [], ap, length, refl, suc, ℕ, ◌++◌, ◌+◌, ◌∙◌, ◌∷◌, ◌≡◌}
 use Rattle.rw_base.proofs.Common.{arith}
 use Rattle.rw_model.proofs.Common.{Draft}
 use Rattle.rw_inputs.specs.Edits.{Batch}
 use Rattle.rw_inputs.specs.Inputs.{Inputs}
 use Rattle.rw_run.proofs.Common.{Log}
-use Rattle.rw_top.specs.Many.{AreScenarioRuns, many_texts, scenario_texts, status_of_runs}
-use Rattle.rw_top.specs.Policy.{PolicyFile as Rules}
-use Rattle.rw_top.specs.RunText.{IsRulesText}
-use Rattle.rw_top.specs.Sections.{AreSections, GivenInputs, edited_given, first_given}
-use Rattle.rw_top.specs.Written.{IsTextOf, batches_in, scenarios_in}
-use Rattle.rw_top.specs.declared.extras.Extras.{Extras}
+use Rattle.rw_commands.specs.Many.{AreScenarioRuns, many_texts, scenario_texts, status_of_runs}
+use Rattle.rw_commands.specs.Policy.{PolicyFile as Rules}
+use Rattle.rw_commands.specs.RunText.{IsRulesText}
+use Rattle.rw_commands.specs.Sections.{AreSections, GivenInputs, edited_given, first_given}
+use Rattle.rw_commands.specs.Written.{IsTextOf, batches_in, scenarios_in}
+use Rattle.rw_commands.specs.declared.extras.Extras.{Extras}
 use Rattle.rw_words.specs.declared.job.Job.TheVariants as J
 
 sections_count : (basin : Draft) (policy : Rules) (extras : Extras) (number : ℕ) (given : GivenInputs) (batches : List Batch) (end : RunEnd)

@@ -1,7 +1,7 @@
 -- Runs with edits have one text, with the timesteps that are run again too, and a cell has one reason.
-use Rattle.rw_top.proofs.Common.{List, None, Option, RunEnd, Some, IsSomeAnd, [], ap, ap₂, length, refl, subst, sym, told_section, true, false, ℕ, ℤ}
-use Rattle.rw_top.proofs.Common.{◌++◌, ◌+◌, ◌∙◌, ◌∷◌}
-use Rattle.rw_top.proofs.Common.{Bool, ◌≡◌}
+use Rattle.rw_commands.proofs.Common.{List, None, Option, RunEnd, Some, IsSomeAnd, [], ap, ap₂, length, refl, subst, sym, told_section, true, false, ℕ, ℤ}
+use Rattle.rw_commands.proofs.Common.{◌++◌, ◌+◌, ◌∙◌, ◌∷◌}
+use Rattle.rw_commands.proofs.Common.{Bool, ◌≡◌}
 use Rattle.rw_base.proofs.Common.{All-contains, Contains, arith, none-some, suc, zero, ◌<◌, ◌≤◌}
 use Rattle.std.specs.Prelude.{◌↔◌}
 use Rattle.std.proofs.lemmas.List.Elements.{Contains-append_right}
@@ -18,10 +18,10 @@ use Rattle.rw_rerun.specs.Session.{numbers_of_steps}
 use Rattle.rw_run.proofs.Common.{IsRun, Log, Policy, end_of}
 use Rattle.rw_run.specs.Reuse.{AreRerun, AreRising}
 use Rattle.rw_promise.proofs.OneText.{same_to}
-use Rattle.rw_top.specs.Policy.{PolicyFile as Rules}
-use Rattle.rw_top.specs.RunText.{IsRerun, IsRulesText, IsWhyOfRules, policy_in_run}
-use Rattle.rw_top.specs.Sections.{AreFirstSections, AreSections, GivenInputs, edited_given, first_given}
-use Rattle.rw_top.specs.declared.extras.Extras.{Extras}
+use Rattle.rw_commands.specs.Policy.{PolicyFile as Rules}
+use Rattle.rw_commands.specs.RunText.{IsRerun, IsRulesText, IsWhyOfRules, policy_in_run}
+use Rattle.rw_commands.specs.Sections.{AreFirstSections, AreSections, GivenInputs, edited_given, first_given}
+use Rattle.rw_commands.specs.declared.extras.Extras.{Extras}
 
 -- ---- rising lists of the same numbers
 

@@ -1,8 +1,8 @@
 -- Two calls that ask for the same of the same files append the same.
-use Rattle.rw_top.proofs.Common.{Command, Declared, FilesRead, Holds, IsSomeAnd, Job, List, None, Ok, Option, Reads, ReadsInputs, ReadsModel}
-use Rattle.rw_top.proofs.Common.{ReadsPolicy, RunEnd, Some, WasRead, [], ap, ap₂, false, model_of, refl, reads_code, subst, sym, true, ℕ, ℤ}
-use Rattle.rw_top.proofs.Common.{◌∙◌, ◌∷◌, ◌≡◌, ◌≤◌}
-use Rattle.rw_top.specs.declared.refusal.File.{File}
+use Rattle.rw_commands.proofs.Common.{Command, Declared, FilesRead, Holds, IsSomeAnd, Job, List, None, Ok, Option, Reads, ReadsInputs, ReadsModel}
+use Rattle.rw_commands.proofs.Common.{ReadsPolicy, RunEnd, Some, WasRead, [], ap, ap₂, false, model_of, refl, reads_code, subst, sym, true, ℕ, ℤ}
+use Rattle.rw_commands.proofs.Common.{◌∙◌, ◌∷◌, ◌≡◌, ◌≤◌}
+use Rattle.rw_commands.specs.declared.refusal.File.{File}
 use Rattle.rw_base.proofs.Common.{Bool, IsSome, none-some, same_Some}
 use Rattle.std.specs.Prelude.{IfSome, MatchOption, option_and_then}
 use Rattle.rw_base.specs.declared.number.Cell.{Cell}
@@ -17,23 +17,23 @@ use Rattle.rpl_code.specs.declared.block.Block.{Block}
 use Rattle.rpl_tree.specs.Budget.{Budget}
 use Rattle.rpl_verify.specs.Budget.{ruling}
 use Rattle.rw_promise.proofs.OneAnswer.{AreBoth, one_log, one_sections, one_why}
-use Rattle.rw_top.proofs.OneReading.{one_kind, one_ruleset, same_values}
+use Rattle.rw_commands.proofs.OneReading.{one_kind, one_ruleset, same_values}
 use Rattle.rw_promise.proofs.OneText.{one_simulated}
 use Rattle.rw_promise.specs.Alike.{AppendAlike, AskAlike, TellAlike}
-use Rattle.rw_top.specs.Call.{Call}
-use Rattle.rw_top.specs.Cell.{cell_asked}
-use Rattle.rw_top.specs.Command.{AskForCommand, AskOne, AtPath, OfSample, Source, extras_of, path_in, source_of}
-use Rattle.rw_top.specs.Policy.{Code, IsPolicyFileOf, PolicyFile as Rules, Ruleset}
-use Rattle.rw_top.specs.Promise.{Promise}
-use Rattle.rw_top.specs.Reading.{AreRead, HasText, ReadsBatches, SaysAt, batches_read, text_wanted}
+use Rattle.rw_commands.specs.Call.{Call}
+use Rattle.rw_commands.specs.Cell.{cell_asked}
+use Rattle.rw_commands.specs.Command.{AskForCommand, AskOne, AtPath, OfSample, Source, extras_of, path_in, source_of}
+use Rattle.rw_commands.specs.Policy.{Code, IsPolicyFileOf, PolicyFile as Rules, Ruleset}
+use Rattle.rw_commands.specs.Promise.{Promise}
+use Rattle.rw_commands.specs.Reading.{AreRead, HasText, ReadsBatches, SaysAt, batches_read, text_wanted}
 use Rattle.rw_books.specs.Text.{balance_of_run}
-use Rattle.rw_top.specs.Many.{many_texts, status_of_runs}
+use Rattle.rw_commands.specs.Many.{many_texts, status_of_runs}
 use Rattle.rw_promise.proofs.OneScenario.{one_many}
-use Rattle.rw_top.specs.RunText.{IsBalanceOfRules, IsPlainText, IsRulesText, IsSampleText, IsWhyOfRules, policy_in_run}
-use Rattle.rw_top.specs.Sections.{AreSections, first_given, joined_sections}
-use Rattle.rw_top.specs.Written.{IsTextOf, WritesAll, scenarios_in, status_of_end}
-use Rattle.rw_top.specs.declared.extras.Extras.{Extras}
-use Rattle.rw_top.specs.declared.refusal.File.TheVariants.{Edits, Inputs as InputsFile, Model, Policy as PolicyFile, Traces}
+use Rattle.rw_commands.specs.RunText.{IsBalanceOfRules, IsPlainText, IsRulesText, IsSampleText, IsWhyOfRules, policy_in_run}
+use Rattle.rw_commands.specs.Sections.{AreSections, first_given, joined_sections}
+use Rattle.rw_commands.specs.Written.{IsTextOf, WritesAll, scenarios_in, status_of_end}
+use Rattle.rw_commands.specs.declared.extras.Extras.{Extras}
+use Rattle.rw_commands.specs.declared.refusal.File.TheVariants.{Edits, Inputs as InputsFile, Model, Policy as PolicyFile, Traces}
 use Rattle.rw_words.specs.declared.job.Job.TheVariants.{Balance, Check, Compile, Migrate, Mrm, Run, Sample, Simulate, Why}
 
 -- ---- a file's text

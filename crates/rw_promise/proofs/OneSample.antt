@@ -1,5 +1,5 @@
 -- A seed has one line.
-use Rattle.rw_top.proofs.Common.{List, Ok, Reads, ap, length, subst, sym, ℕ, ℤ, ◌∙◌, ◌≡◌}
+use Rattle.rw_commands.proofs.Common.{List, Ok, Reads, ap, length, subst, sym, ℕ, ℤ, ◌∙◌, ◌≡◌}
 use Rattle.rw_base.specs.declared.number.Cell.{Cell}
 use Rattle.rw_inputs.specs.Placings.{placings}
 use Rattle.rw_model.proofs.Common.{Draft, all_slots}
@@ -7,10 +7,10 @@ use Rattle.rw_report.specs.Outcome.{outcome_by}
 use Rattle.rw_run.proofs.Common.{IsRun, Log, Policy}
 use Rattle.rw_sample.specs.Line.{sample_line}
 use Rattle.rw_sample.specs.Texts.{sample_inputs, sample_rules}
-use Rattle.rw_top.proofs.OneReading.{one_ruleset, same_values}
+use Rattle.rw_commands.proofs.OneReading.{one_ruleset, same_values}
 use Rattle.rw_promise.proofs.OneText.{same_to}
-use Rattle.rw_top.specs.Policy.{Ruleset}
-use Rattle.rw_top.specs.RunText.{IsSampleOf, IsSampleText, policy_in_run}
+use Rattle.rw_commands.specs.Policy.{Ruleset}
+use Rattle.rw_commands.specs.RunText.{IsSampleOf, IsSampleText, policy_in_run}
 
 pub one_sample : ((basin : Draft) (policy : Policy) (inputs : List (Cell × ℤ)) (log other : Log) → IsRun basin policy inputs log
     → IsRun basin policy inputs other → log ≡ other)

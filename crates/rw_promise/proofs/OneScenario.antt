@@ -1,5 +1,5 @@
 -- A scenario has one run, by its own batch alone.
-use Rattle.rw_top.proofs.Common.{IsSomeAnd, List, Some, [], ap, ap₂, inl, inr, refl, subst, sym, zero, suc, ℕ, ℤ, ◌++◌, ◌+◌, ◌∙◌, ◌∷◌, ◌≡◌}
+use Rattle.rw_commands.proofs.Common.{IsSomeAnd, List, Some, [], ap, ap₂, inl, inr, refl, subst, sym, zero, suc, ℕ, ℤ, ◌++◌, ◌+◌, ◌∙◌, ◌∷◌, ◌≡◌}
 use Rattle.std.specs.Prelude.{map, slice_get, take}
 use Rattle.std.proofs.Common.{append-nil, append_assoc}
 use Rattle.rw_report.specs.Outcome.{outcome_by}
@@ -10,9 +10,9 @@ use Rattle.rw_model.proofs.Common.{Draft}
 use Rattle.rw_inputs.specs.Edits.{Batch, after_batch}
 use Rattle.rw_inputs.specs.Inputs.{Inputs, value_at}
 use Rattle.rw_run.proofs.Common.{IsRun, Log, Policy}
-use Rattle.rw_top.specs.Many.{AreFirstPieces, AreScenarioRuns, IsScenarioRun, as_ended, many_texts, scenario_texts}
-use Rattle.rw_top.specs.Policy.{PolicyFile as Rules}
-use Rattle.rw_top.specs.RunText.{policy_in_run}
+use Rattle.rw_commands.specs.Many.{AreFirstPieces, AreScenarioRuns, IsScenarioRun, as_ended, many_texts, scenario_texts}
+use Rattle.rw_commands.specs.Policy.{PolicyFile as Rules}
+use Rattle.rw_commands.specs.RunText.{policy_in_run}
 use Rattle.rw_promise.proofs.OneAnswer.{one_log}
 
 module _ (one_run : (basin : Draft) (policy : Policy) (inputs : List (Cell × ℤ)) (log other : Log) → IsRun basin policy inputs log

@@ -1,6 +1,6 @@
 -- A run has one end and one text.
-use Rattle.rw_top.proofs.Common.{IsRunText, List, None, RunEnd, [], ap, ap₂, length, refl, subst, suc, sym, told_section, zero, ℕ, ℤ, ◌++◌, ◌∙◌, ◌∷◌}
-use Rattle.rw_top.proofs.Common.{◌≡◌}
+use Rattle.rw_commands.proofs.Common.{IsRunText, List, None, RunEnd, [], ap, ap₂, length, refl, subst, suc, sym, told_section, zero, ℕ, ℤ, ◌++◌, ◌∙◌, ◌∷◌}
+use Rattle.rw_commands.proofs.Common.{◌≡◌}
 use Rattle.rw_base.specs.declared.number.Cell.{Cell}
 use Rattle.rw_model.proofs.Common.{Draft, all_slots}
 use Rattle.rw_inputs.specs.Inputs.{Inputs, value_at}
@@ -22,8 +22,8 @@ use Rattle.rw_run.specs.Runs.{with_inputs, standing}
 use Rattle.rw_run.specs.Waiting.{waiting}
 use Rattle.rw_words.specs.declared.order.Order.{Order}
 use Rattle.rw_words.specs.declared.order.Order.TheVariants.{Oldest, Newest}
-use Rattle.rw_top.specs.RunText.{IsSimulated}
-use Rattle.rw_top.specs.declared.extras.Extras.{Extras}
+use Rattle.rw_commands.specs.RunText.{IsSimulated}
+use Rattle.rw_commands.specs.declared.extras.Extras.{Extras}
 
 module _ (inputs others : Inputs) (same : (slot step : ℕ) → value_at inputs slot step ≡ value_at others slot step) where
   same_of : (slot steps : ℕ) → placings_of inputs slot steps ≡ placings_of others slot steps

@@ -1,8 +1,8 @@
 -- The statuses of a call that asks for the sample: nothing of it is refused.
-use Rattle.rw_top.proofs.Common.{AskForCommand, BadEdits, BadInputs, BadModel, BadPolicy, BadScenarios, Call, Command, Declared, Err}
-use Rattle.rw_top.proofs.Common.{FailsToRead, Holds, InputRefusal, IsReading, IsSomeAnd, List, LongFile, ModelRefusal, None, Ok, Promise}
-use Rattle.rw_top.proofs.Common.{Reason, Result, Some, WasFound, WasRefused, WritesAll, [], ap, arith, checked, false, inl, inr, model_of}
-use Rattle.rw_top.proofs.Common.{path_of, refl, status_of, subst, suc, sym, with_types, zero, ℕ, ◌∙◌, ◌≡◌, ◌⊎◌}
+use Rattle.rw_commands.proofs.Common.{AskForCommand, BadEdits, BadInputs, BadModel, BadPolicy, BadScenarios, Call, Command, Declared, Err}
+use Rattle.rw_commands.proofs.Common.{FailsToRead, Holds, InputRefusal, IsReading, IsSomeAnd, List, LongFile, ModelRefusal, None, Ok, Promise}
+use Rattle.rw_commands.proofs.Common.{Reason, Result, Some, WasFound, WasRefused, WritesAll, [], ap, arith, checked, false, inl, inr, model_of}
+use Rattle.rw_commands.proofs.Common.{path_of, refl, status_of, subst, suc, sym, with_types, zero, ℕ, ◌∙◌, ◌≡◌, ◌⊎◌}
 use Rattle.std.specs.Prelude.{IsTrue, is_ok, true}
 use Rattle.rw_inputs.specs.Reading.{inputs_of}
 use Rattle.rw_model.specs.Draft.{Draft}
@@ -12,14 +12,14 @@ use Rattle.rw_promise.specs.Inflows.{inflow_at}
 use Rattle.rw_promise.specs.Ruleset.{sample_ruleset}
 use Rattle.rpl_types.specs.Judged.{TypeRefusal, rules_judged}
 use Rattle.rpl_types.specs.Nodes.{Types}
-use Rattle.rw_top.proofs.OneReading.{policy_clash}
-use Rattle.rw_top.proofs.SampleText.{model_of_sample}
-use Rattle.rw_top.specs.Reading.{LacksCell}
-use Rattle.rw_top.specs.Policy.{IsRulesetOf, PolicyRefusal, RefusesText, Ruleset}
-use Rattle.rw_top.specs.declared.refusal.File.{File}
-use Rattle.rw_top.specs.declared.refusal.File.TheVariants.{Model, Policy as PolicyFile, Inputs, Edits, Traces}
-use Rattle.rw_top.specs.declared.refusal.Refusal.{Refusal}
-use Rattle.rw_top.specs.declared.refusal.Refusal.TheVariants.{Words, CannotRead, CannotWrite, NoMemory, NoCell}
+use Rattle.rw_commands.proofs.OneReading.{policy_clash}
+use Rattle.rw_commands.proofs.SampleText.{model_of_sample}
+use Rattle.rw_commands.specs.Reading.{LacksCell}
+use Rattle.rw_commands.specs.Policy.{IsRulesetOf, PolicyRefusal, RefusesText, Ruleset}
+use Rattle.rw_commands.specs.declared.refusal.File.{File}
+use Rattle.rw_commands.specs.declared.refusal.File.TheVariants.{Model, Policy as PolicyFile, Inputs, Edits, Traces}
+use Rattle.rw_commands.specs.declared.refusal.Refusal.{Refusal}
+use Rattle.rw_commands.specs.declared.refusal.Refusal.TheVariants.{Words, CannotRead, CannotWrite, NoMemory, NoCell}
 use Rattle.rw_words.specs.Plain.{plain_command}
 use Rattle.rw_words.specs.declared.job.Job.TheVariants.{Sample}
 

@@ -1,44 +1,44 @@
 -- What each status says of a call that keeps its promise.
-use Rattle.rw_top.proofs.Common.{AskOne, AskNothing, AskForCommand, BadEdits, BadInputs, BadModel, BadPolicy, BadScenarios, AreRead, Call, Command, FailsToRead}
-use Rattle.rw_top.proofs.Common.{Fault, FilesRead, FindsTooLong, GrowsBy, Holds, InputRefusal, IsRunText, IsSomeAnd, IsTextOf, Job, None}
-use Rattle.rw_top.proofs.Common.{Option, ReadsInputs, ReadsPolicy, SaysAt, Some, List, LongFile, ModelRefusal, Promise, Reason}
-use Rattle.rw_top.proofs.Common.{RefusedCommand, RefusesInputs, RefusesModel, RefusesPolicy, Rose, RunEnd, Settled, WasFound, WasRefused, WritesFront}
-use Rattle.rw_top.proofs.Common.{WroteCheck, WroteCode, WroteRun, [], ap, arith, inl, inr, reads_code, refl, status_by, status_of, status_of_end}
-use Rattle.rw_top.proofs.Common.{takes_code, true, ℕ, ◌∙◌, ◌∷◌, ◌≡◌, ◌≢◌, ◌≤◌, ◌⊎◌}
-use Rattle.rw_top.specs.declared.refusal.File.{File}
-use Rattle.rw_top.specs.declared.refusal.Refusal.{Refusal}
+use Rattle.rw_commands.proofs.Common.{AskOne, AskNothing, AskForCommand, BadEdits, BadInputs, BadModel, BadPolicy, BadScenarios, AreRead, Call, Command, FailsToRead}
+use Rattle.rw_commands.proofs.Common.{Fault, FilesRead, FindsTooLong, GrowsBy, Holds, InputRefusal, IsRunText, IsSomeAnd, IsTextOf, Job, None}
+use Rattle.rw_commands.proofs.Common.{Option, ReadsInputs, ReadsPolicy, SaysAt, Some, List, LongFile, ModelRefusal, Promise, Reason}
+use Rattle.rw_commands.proofs.Common.{RefusedCommand, RefusesInputs, RefusesModel, RefusesPolicy, Rose, RunEnd, Settled, WasFound, WasRefused, WritesFront}
+use Rattle.rw_commands.proofs.Common.{WroteCheck, WroteCode, WroteRun, [], ap, arith, inl, inr, reads_code, refl, status_by, status_of, status_of_end}
+use Rattle.rw_commands.proofs.Common.{takes_code, true, ℕ, ◌∙◌, ◌∷◌, ◌≡◌, ◌≢◌, ◌≤◌, ◌⊎◌}
+use Rattle.rw_commands.specs.declared.refusal.File.{File}
+use Rattle.rw_commands.specs.declared.refusal.Refusal.{Refusal}
 use Rattle.rw_run.specs.Next.{no_rules}
 use Rattle.rw_run.specs.declared.fault.RunFault.{RunFault}
 use Rattle.rw_base.specs.declared.number.Cell.{Cell}
-use Rattle.rw_top.specs.Cell.{FindsCell}
-use Rattle.rw_top.specs.Promise.{WroteBalance, WroteMany, WroteMigrated, WroteRules, WroteSample, WroteWhy}
-use Rattle.rw_top.specs.Reading.{LacksCell, ReadsModel, ReadsScenarios, RefusesEdits, RefusesScenarios, text_wanted}
+use Rattle.rw_commands.specs.Cell.{FindsCell}
+use Rattle.rw_commands.specs.Promise.{WroteBalance, WroteMany, WroteMigrated, WroteRules, WroteSample, WroteWhy}
+use Rattle.rw_commands.specs.Reading.{LacksCell, ReadsModel, ReadsScenarios, RefusesEdits, RefusesScenarios, text_wanted}
 use Rattle.rpl_compile.specs.Translate.{translate}
-use Rattle.rw_top.specs.RunText.{IsBalanceOfRules, IsRulesText, IsSampleText, IsWhyOfRules}
-use Rattle.rw_top.specs.Many.{AllSettled, AreScenarioRuns, many_texts, status_of_runs}
+use Rattle.rw_commands.specs.RunText.{IsBalanceOfRules, IsRulesText, IsSampleText, IsWhyOfRules}
+use Rattle.rw_commands.specs.Many.{AllSettled, AreScenarioRuns, many_texts, status_of_runs}
 use Rattle.rw_model_toml.specs.Migrated.{IsMigrated}
 use Rattle.rw_inputs.specs.Edits.{Batch}
 use Rattle.rw_run.specs.Log.{Log}
 use Rattle.rw_run.specs.RunOf.{end_of}
 use Rattle.rw_mrm.specs.Tally.{is_settled}
 use Rattle.rw_base.proofs.Common.{All-cons, All-head, All-nil, All-tail, if◌then◌else◌, none-some, same_Some, subst, unwrap_or}
-use Rattle.rw_top.proofs.SampleText.{inputs_of_sample, model_of_sample, ruleset_of_sample, source_by}
-use Rattle.rw_top.specs.Sections.{AreSections, joined_sections}
-use Rattle.rw_top.specs.Written.{WritesSections, batches_in, scenarios_in}
-use Rattle.rw_top.proofs.SectionLemmas.{one_grown}
+use Rattle.rw_commands.proofs.SampleText.{inputs_of_sample, model_of_sample, ruleset_of_sample, source_by}
+use Rattle.rw_commands.specs.Sections.{AreSections, joined_sections}
+use Rattle.rw_commands.specs.Written.{WritesSections, batches_in, scenarios_in}
+use Rattle.rw_commands.proofs.SectionLemmas.{one_grown}
 use Rattle.rw_base.proofs.Common.{sym, ◌&&◌}
 use Rattle.rw_inputs.specs.Inputs.{Inputs as Given}
 use Rattle.rpl_code.specs.Spelling.{spelt}
-use Rattle.rw_top.specs.Budgets.{check_text}
-use Rattle.rw_top.specs.Policy.{BadCode, RulesRefusal, BadRules, BadBlocks, PolicyFile as Rules, Ruleset, Code, code_in_file, is_code}
+use Rattle.rw_commands.specs.Budgets.{check_text}
+use Rattle.rw_commands.specs.Policy.{BadCode, RulesRefusal, BadRules, BadBlocks, PolicyFile as Rules, Ruleset, Code, code_in_file, is_code}
 use Rattle.rw_words.specs.declared.job.Job.TheVariants.{Simulate, Check, Compile, Run, Why, Sample, Balance, Mrm, Migrate}
-use Rattle.rw_top.specs.declared.refusal.File.TheVariants.{Policy as PolicyFile, Inputs as InputsFile, Traces as TracesFile}
-use Rattle.rw_top.specs.declared.refusal.Refusal.TheVariants.{Words, CannotRead, CannotWrite, NoMemory, Inputs, Edits, Traces, NoCell}
-use Rattle.rw_top.proofs.CauseLemmas.{told_status}
-use Rattle.rw_top.proofs.OneReading.{one_kind}
-use Rattle.rw_top.specs.Command.{extras_of}
-use Rattle.rw_top.specs.RunText.{IsPlainText}
-use Rattle.rw_top.specs.Sections.{first_given}
+use Rattle.rw_commands.specs.declared.refusal.File.TheVariants.{Policy as PolicyFile, Inputs as InputsFile, Traces as TracesFile}
+use Rattle.rw_commands.specs.declared.refusal.Refusal.TheVariants.{Words, CannotRead, CannotWrite, NoMemory, Inputs, Edits, Traces, NoCell}
+use Rattle.rw_commands.proofs.CauseLemmas.{told_status}
+use Rattle.rw_commands.proofs.OneReading.{one_kind}
+use Rattle.rw_commands.specs.Command.{extras_of}
+use Rattle.rw_commands.specs.RunText.{IsPlainText}
+use Rattle.rw_commands.specs.Sections.{first_given}
 
 settles : (P : RunEnd → Type 0) (end : RunEnd) → 0 ≡ status_of_end end → P end → P Settled
 settles P Settled is wrote = wrote

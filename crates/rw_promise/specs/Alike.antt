@@ -3,9 +3,9 @@ use Rattle.std.specs.Prelude.{◌≡◌, List, ℕ, IfSome, IsSome}
 use Rattle.rw_io.specs.Known.{GrowsBy}
 use Rattle.rw_io.specs.Outside.{Change, Holds, SinkView}
 use Rattle.rw_words.specs.Command.{Command}
-use Rattle.rw_top.specs.Call.{Call}
-use Rattle.rw_top.specs.Command.{AskForCommand, path_of}
-use Rattle.rw_top.specs.declared.refusal.File.{File}
+use Rattle.rw_commands.specs.Call.{Call}
+use Rattle.rw_commands.specs.Command.{AskForCommand, path_of}
+use Rattle.rw_commands.specs.declared.refusal.File.{File}
 
 -- each file of the command is told, and is the same in both places
 abbrev pub TellAlike : Command → Holds → Holds → Type 0

@@ -3,9 +3,9 @@ use Rattle.std.specs.Prelude.{ℕ, ℤ, List, IsSome}
 use Rattle.rw_plain_reservoir.specs.FirstForm.{FirstModel, IsFirstForm, IsFirstFlows}
 use Rattle.rw_inputs.specs.Inputs.{Inputs}
 use Rattle.rw_model.specs.Draft.{Draft}
-use Rattle.rw_top.specs.Call.{Call}
-use Rattle.rw_top.specs.Command.{AskForCommand, simulation_of}
-use Rattle.rw_top.specs.Reading.{ReadsInputs}
+use Rattle.rw_commands.specs.Call.{Call}
+use Rattle.rw_commands.specs.Command.{AskForCommand, simulation_of}
+use Rattle.rw_commands.specs.Reading.{ReadsInputs}
 
 -- the words ask for the run of that reservoir with these flows, and the shelf tells both files
 pub record IsFirstCall (call : Call) (model : FirstModel) (inflows outflows : List ℤ) : Type 0 where

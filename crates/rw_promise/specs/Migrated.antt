@@ -13,9 +13,9 @@ use Rattle.rw_report.specs.Outcome.{outcome_by}
 use Rattle.rw_report.specs.Whole.{whole_of}
 use Rattle.rw_report.specs.Why.{why_of}
 use Rattle.rw_books.specs.Text.{balance_of_run}
-use Rattle.rw_top.specs.Many.{many_texts}
-use Rattle.rw_top.specs.Policy.{IsPolicyFileOf, PolicyFile}
-use Rattle.rw_top.specs.RunText.{policy_in_run}
+use Rattle.rw_commands.specs.Many.{many_texts}
+use Rattle.rw_commands.specs.Policy.{IsPolicyFileOf, PolicyFile}
+use Rattle.rw_commands.specs.RunText.{policy_in_run}
 
 -- the run of one basin is that of the other, from whatever inputs, and so is each text of it: a section, whatever is asked for in it but
 -- what became of each put, why a cell holds what it holds, the books, and the sections of many runs with their summary

@@ -4,7 +4,7 @@ use Rattle.rw_io.specs.Outside.{change}
 use Rattle.rw_io.specs.Sure.{shelf_seen, sink_seen}
 use Rattle.rw_io.specs.declared.sure_shelf.SureShelf.{SureShelf}
 use Rattle.rw_io.specs.declared.sure_sink.SureSink.{SureSink}
-use Rattle.rw_top.specs.Call.{Call}
+use Rattle.rw_commands.specs.Call.{Call}
 
 -- its shelf is a sure one, and so is its output
 pub record IsSure (call : Call) : Type 0 where

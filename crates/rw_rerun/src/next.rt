@@ -12,6 +12,7 @@ use crate::orders::Orders;
 use crate::pass::Pass;
 use crate::passing::passed;
 use crate::spare::{Spare, bring, give_all, unchanged};
+use rpl_fires::Fires;
 use rpl_policy::law::code_keeps_promises;
 use rpl_verify::law::answered_code_is_safe;
 use rw_base::{Cell, Ledger, NoMemory, Steps};
@@ -82,29 +83,36 @@ fn pass_from(
     }
 }
 
+/// The run after a batch: its inputs, the cells that the batch changes, and how many timesteps it leaves.
+#[derive(Clone, Copy)]
+pub(crate) struct Next<'a> {
+    pub(crate) inputs: &'a Inputs,
+    pub(crate) cells: &'a [Cell],
+    pub(crate) behind: u16,
+}
+
 /// Passes all timesteps by the spare engine of the run before: it is brought behind those that are left, the cells are given
 /// anew, and the others are passed one by one.
-pub(crate) fn pass_behind<L: Ledger>(
+pub(crate) fn pass_behind<L: Ledger, M: Fires>(
     alloc: Global,
+    machine: &mut M,
     setup: &RunSetup<'_>,
     kept: &[Option<KeptStep>],
     spare: Spare,
     orders: Orders,
-    inputs: &Inputs,
-    cells: &[Cell],
-    behind: u16,
+    next: Next<'_>,
     steps: &mut Steps<L>,
 ) -> Result<Pass, NoMemory>
-    requires can { CanRun setup.now.basin.now setup.now.policy.now inputs.now }
+    requires can { CanRun setup.now.basin.now setup.now.policy.now next.inputs.now }
     requires order { AreInOrder
         (map (λ b. code (b.vtable, b.value)) setup.now.methods.now.methods.items) }
     requires kept { CanGoBy setup.now.basin.now kept.now }
     requires stands { IsSpareBy setup.now.basin.now setup.now.policy.now kept.now spare }
     requires known { AreKeptFrom kept.now 0 spare.behind }
-    requires cells { All (IsCell setup.now.basin.now) cells.now }
-    requires left { AreKeptFirst kept.now behind }
-    ensures { PassesBehind setup.now.basin.now setup.now.policy.now inputs.now cells.now kept.now
-        behind spare steps.old steps.new result }
+    requires cells { All (IsCell setup.now.basin.now) next.cells.now }
+    requires left { AreKeptFirst kept.now next.behind }
+    ensures { PassesBehind setup.now.basin.now setup.now.policy.now next.inputs.now next.cells.now kept.now
+        next.behind spare steps.old steps.new result }
 {
     answered_code_is_safe();
     code_keeps_promises();
@@ -114,9 +122,9 @@ pub(crate) fn pass_behind<L: Ledger>(
         orders,
         setup.basin,
         kept,
-        inputs,
-        cells,
-        behind,
+        next.inputs,
+        next.cells,
+        next.behind,
     )?;
-    passed(alloc, pass, setup, kept, behind, steps)
+    passed(alloc, pass, machine, setup, kept, next.behind, steps)
 }

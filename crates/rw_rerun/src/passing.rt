@@ -10,6 +10,7 @@ ghost use Rattle.rw_rerun.specs.UnderWay.{CanGoBy, IsReplayable, GoesOn, HandsOn
 
 use crate::orders::Orders;
 use crate::pass::Pass;
+use rpl_fires::Fires;
 use rpl_policy::law::code_keeps_promises;
 use rpl_verify::law::answered_code_is_safe;
 use rw_base::{Ledger, NoMemory, StepNo, Steps};
@@ -51,9 +52,10 @@ fn take_over(
 }
 
 // Runs a timestep, and keeps it anew. Most have as many cells as they had in the run before, and these rise as others so many did.
-fn run_anew<L: Ledger>(
+fn run_anew<L: Ledger, M: Fires>(
     alloc: Global,
     pass: &mut Pass,
+    machine: &mut M,
     setup: &RunSetup<'_>,
     entry: &Option<KeptStep>,
     step: StepNo,
@@ -68,7 +70,7 @@ fn run_anew<L: Ledger>(
         pass.old pass.new steps.old steps.new result }
 {
     how_many();
-    let end = pass.engine.run_step_of(setup, step, steps)?;
+    let end = pass.engine.run_step_of(machine, setup, step, steps)?;
     pass.reran.push(step)?;
     match end {
         StepEnd::Closed => {
@@ -86,9 +88,10 @@ fn run_anew<L: Ledger>(
 }
 
 // Takes the timestep over where it is kept and all at which it looked is held alike, and runs it otherwise.
-fn pass_step<L: Ledger>(
+fn pass_step<L: Ledger, M: Fires>(
     alloc: Global,
     pass: &mut Pass,
+    machine: &mut M,
     setup: &RunSetup<'_>,
     entry: &Option<KeptStep>,
     step: StepNo,
@@ -106,20 +109,21 @@ fn pass_step<L: Ledger>(
         return skip(pass, setup, step);
     }
     match entry {
-        None => run_anew(alloc, pass, setup, entry, step, steps),
+        None => run_anew(alloc, pass, machine, setup, entry, step, steps),
         Some(kept) => {
             if pass.engine.is_kept_alike(kept) {
                 return take_over(pass, setup, kept, step);
             }
-            run_anew(alloc, pass, setup, entry, step, steps)
+            run_anew(alloc, pass, machine, setup, entry, step, steps)
         }
     }
 }
 
 // Passes the other timesteps, from behind so many, with what is kept of an earlier run to go by.
-fn pass_rest<L: Ledger>(
+fn pass_rest<L: Ledger, M: Fires>(
     alloc: Global,
     pass: &mut Pass,
+    machine: &mut M,
     setup: &RunSetup<'_>,
     kept: &[Option<KeptStep>],
     behind: u16,
@@ -139,15 +143,24 @@ fn pass_rest<L: Ledger>(
     code_keeps_promises();
     for before in behind..setup.basin.control().stamps.count() {
         let entry = &kept[usize::from(before)];
-        pass_step(alloc, pass, setup, entry, StepNo(before + 1), steps)?;
+        pass_step(
+            alloc,
+            pass,
+            machine,
+            setup,
+            entry,
+            StepNo(before + 1),
+            steps,
+        )?;
     }
     Ok(())
 }
 
 /// The same of a run on its way that is handed on, where memory is there for it.
-pub(crate) fn passed<L: Ledger>(
+pub(crate) fn passed<L: Ledger, M: Fires>(
     alloc: Global,
     mut pass: Pass,
+    machine: &mut M,
     setup: &RunSetup<'_>,
     kept: &[Option<KeptStep>],
     behind: u16,
@@ -163,7 +176,7 @@ pub(crate) fn passed<L: Ledger>(
     ensures { HandsOn setup.now.basin.now setup.now.policy.now kept.now behind pass
         steps.old steps.new result }
 {
-    match pass_rest(alloc, &mut pass, setup, kept, behind, steps) {
+    match pass_rest(alloc, &mut pass, machine, setup, kept, behind, steps) {
         Ok(()) => Ok(pass),
         Err(NoMemory) => {
             drop(pass);
@@ -173,8 +186,9 @@ pub(crate) fn passed<L: Ledger>(
 }
 
 /// Passes all timesteps from inputs, with what is kept of an earlier run to go by.
-pub(crate) fn pass_all<L: Ledger>(
+pub(crate) fn pass_all<L: Ledger, M: Fires>(
     alloc: Global,
+    machine: &mut M,
     setup: &RunSetup<'_>,
     kept: &[Option<KeptStep>],
     inputs: &Inputs,
@@ -196,5 +210,5 @@ pub(crate) fn pass_all<L: Ledger>(
         over: false,
         orders: Orders::new(alloc),
     };
-    passed(alloc, pass, setup, kept, 0, steps)
+    passed(alloc, pass, machine, setup, kept, 0, steps)
 }

@@ -9,6 +9,7 @@ ghost use Rattle.rw_rules.specs.Rules.{policy_in};
 ghost use Rattle.rw_rerun.specs.Session.{Applies, CountsRuns, IsSessionOf, IsStarted};
 
 use crate::state::State;
+use rpl_fires::Fires;
 use rpl_predef::Predefs;
 use rpl_verify::Verified;
 use rw_base::{Ledger, NoMemory, StepNo, Steps};
@@ -32,12 +33,13 @@ impl<'a> Session<'a> {
     /// Runs all timesteps of a basin from its inputs, up to the last one or to a fault. Each opened timestep is counted. The
     /// trace is kept where it is asked for. The one error is want of memory. `docs/DEFINITIONS.md` says under "Reuse" what
     /// is taken over later.
-    pub fn start<L: Ledger>(
+    pub fn start<L: Ledger, M: Fires>(
         alloc: Global,
         basin: &'a Basin,
         methods: &'a Catalogue,
         policy: &'a Verified,
         predefs: &'a Predefs,
+        machine: &mut M,
         inputs: Inputs,
         traced: bool,
         steps: &mut Steps<L>,
@@ -64,12 +66,13 @@ impl<'a> Session<'a> {
             policy,
             predefs,
         };
-        Session::start_of(alloc, setup, inputs, traced, steps)
+        Session::start_of(alloc, machine, setup, inputs, traced, steps)
     }
 
     /// The same of a setup.
-    pub fn start_of<L: Ledger>(
+    pub fn start_of<L: Ledger, M: Fires>(
         alloc: Global,
+        machine: &mut M,
         setup: RunSetup<'a>,
         inputs: Inputs,
         traced: bool,
@@ -86,7 +89,7 @@ impl<'a> Session<'a> {
         ensures counted { CountsRuns setup.entry.basin.now steps.old steps.new result
             (λ session. session.state.reran) }
     {
-        let state = State::start(alloc, &setup, inputs, traced, steps)?;
+        let state = State::start(alloc, machine, &setup, inputs, traced, steps)?;
         Ok(Session {
             alloc,
             setup,
@@ -96,7 +99,12 @@ impl<'a> Session<'a> {
 
     /// Applies a batch of edits to its inputs, and comes to their run. A timestep of which all at which it looked is held alike is
     /// taken over; each other one is run, and counted. After want of memory the session is as before.
-    pub fn apply<L: Ledger>(&mut self, batch: &Batch, steps: &mut Steps<L>) -> Result<(), NoMemory>
+    pub fn apply<L: Ledger, M: Fires>(
+        &mut self,
+        machine: &mut M,
+        batch: &Batch,
+        steps: &mut Steps<L>,
+    ) -> Result<(), NoMemory>
         requires made { IsSessionOf self.old.setup.basin.now
             self.old.setup.policy.now self.old.state }
         requires order { AreInOrder
@@ -109,7 +117,8 @@ impl<'a> Session<'a> {
         ensures counted { CountsRuns self.old.setup.basin.now steps.old steps.new result
             (λ done. self.new.state.reran) }
     {
-        self.state.apply(self.alloc, &self.setup, batch, steps)
+        self.state
+            .apply(self.alloc, machine, &self.setup, batch, steps)
     }
 
     /// What the run of its inputs comes to. It takes no memory.

@@ -14,12 +14,13 @@ ghost use Rattle.rw_rerun.specs.Spare.{AreKeptFrom};
 ghost use Rattle.rw_rerun.specs.Session.{Applies, CountsRuns, HoldAsBefore, IsSessionOf, IsStarted};
 
 use crate::exchange::{exchange, exchange_for, nothing_kept};
-use crate::next::pass_behind;
+use crate::next::{Next, pass_behind};
 use crate::orders::Orders;
 use crate::pass::Pass;
 use crate::passing::pass_all;
 use crate::spare::{Spare, found_or_fresh, spare_of};
 use crate::touched::{edited, left};
+use rpl_fires::Fires;
 use rpl_policy::law::code_keeps_promises;
 use rpl_verify::Verified;
 use rpl_verify::law::answered_code_is_safe;
@@ -77,8 +78,9 @@ impl<'a> Model for State<'a> {
 
 impl<'a> State<'a> {
     // The run of inputs, of which no timestep is kept yet.
-    pub(crate) fn start<L: Ledger>(
+    pub(crate) fn start<L: Ledger, M: Fires>(
         alloc: Global,
+        machine: &mut M,
         setup: &RunSetup<'a>,
         inputs: Inputs,
         traced: bool,
@@ -93,7 +95,7 @@ impl<'a> State<'a> {
             (λ state. state.reran) }
     {
         let mut kept = nothing_kept(alloc, setup.basin.control().stamps.count())?;
-        let pass = pass_all(alloc, setup, &kept, &inputs, traced, steps)?;
+        let pass = pass_all(alloc, machine, setup, &kept, &inputs, traced, steps)?;
         let Pass {
             engine,
             reran,
@@ -117,9 +119,10 @@ impl<'a> State<'a> {
 
     // Passes the timesteps of the run after a batch, which leaves so many first ones. After that there is no spare engine, and the
     // pass has the orders.
-    fn pass_next<L: Ledger>(
+    fn pass_next<L: Ledger, M: Fires>(
         &mut self,
         alloc: Global,
+        machine: &mut M,
         setup: &RunSetup<'_>,
         inputs: &Inputs,
         cells: &[Cell],
@@ -148,9 +151,12 @@ impl<'a> State<'a> {
             traced,
         )?;
         let orders = replace(&mut self.orders, Orders::new(alloc));
-        pass_behind(
-            alloc, setup, &self.kept, spare, orders, inputs, cells, behind, steps,
-        )
+        let next = Next {
+            inputs,
+            cells,
+            behind,
+        };
+        pass_behind(alloc, machine, setup, &self.kept, spare, orders, next, steps)
     }
 
     // Gives way to the run after a batch. Its engine becomes the spare one, for the run after that.
@@ -193,9 +199,10 @@ impl<'a> State<'a> {
     }
 
     // The run of the inputs after a batch, by what is kept of the run before.
-    pub(crate) fn apply<L: Ledger>(
+    pub(crate) fn apply<L: Ledger, M: Fires>(
         &mut self,
         alloc: Global,
+        machine: &mut M,
         setup: &RunSetup<'_>,
         batch: &Batch,
         steps: &mut Steps<L>,
@@ -213,7 +220,7 @@ impl<'a> State<'a> {
         let cells = edited(alloc, setup.basin, &self.inputs, batch)?;
         let inputs = apply(alloc, setup.basin, &self.inputs, batch)?;
         let behind = left(setup.basin, &self.kept, &cells);
-        let pass = self.pass_next(alloc, setup, &inputs, &cells, behind, steps)?;
+        let pass = self.pass_next(alloc, machine, setup, &inputs, &cells, behind, steps)?;
         self.give_way(setup, inputs, &cells, behind, pass);
         Ok(())
     }

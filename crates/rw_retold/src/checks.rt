@@ -1,4 +1,4 @@
-//! Whether what a line of a trace names is there: of a run's lines it always is.
+//! Checks whether what a line of a trace names exists: of the lines of a run it always does.
 ghost use Rattle.std.specs.Prelude.{◌≡◌, ◌≤◌, ◌↔◌, false, true, IsTrue};
 ghost use Rattle.rw_calendar.specs.declared.limits.TheConstants.{STEPS_MAX};
 ghost use Rattle.rpl_code.specs.declared.block.BlockHead.TheVariants.{Rule as RuleHead};

@@ -1,6 +1,7 @@
-//! What became of each put of a run, told from its trace. `push_asked_trace` goes through the lines once, with the cells as they
-//! were at each: it has the rules of firings fire and the objects of dispatches solve again, by which it knows what was asked
-//! for, and tells that below the line, as `rw_asked` says. What the trace says to be written it writes. So a run keeps nothing for it.
+//! Writes what became of each put of a run, from the trace of the run. `push_asked_trace` goes through the lines once, with the
+//! cells as they were at each line. There it lets the rules of firings fire and the objects of dispatches solve again, and writes
+//! below the line what they asked for, as `rw_asked` defines. It writes the puts of the trace to the cells. So a run keeps nothing
+//! for it.
 #![tactic(auto)]
 
 mod checks;

@@ -16,6 +16,7 @@ ghost use Rattle.rw_asked.specs.Words.{asked_trace_words};
 ghost use Rattle.rw_retold.specs.Walk.{IsWalkOf, IsWalkedTo};
 
 use crate::walk::{Walk, push_plain};
+use rpl_fires::Fires;
 use rw_base::{Cell, NoMemory};
 use rw_engine::RunSetup;
 use rw_inputs::Inputs;
@@ -24,10 +25,10 @@ use rw_run::{Trace, TraceEvent, Write};
 use std::alloc::Global;
 
 // Tells the next line, and what was asked for in the event that it begins.
-fn tell_line(
-    alloc: Global,
+fn tell_line<M: Fires>(
     walk: &mut Walk,
     text: &mut String,
+    machine: &mut M,
     setup: &RunSetup<'_>,
     teller: &Teller<'_>,
     line: TraceEvent,
@@ -71,7 +72,7 @@ fn tell_line(
         } => {
             push_plain(text, teller, setup.basin, line)?;
             if done {
-                walk.tell_firing(alloc, text, setup, teller, rule)
+                walk.tell_firing(text, machine, setup, teller, rule)
             } else {
                 Ok(())
             }
@@ -84,10 +85,10 @@ fn tell_line(
 
 // Tells the line in a place. Most lines are of puts, and of such a line no more than the put is read.
 #[inline(always)]
-fn tell_at(
-    alloc: Global,
+fn tell_at<M: Fires>(
     walk: &mut Walk,
     text: &mut String,
+    machine: &mut M,
     setup: &RunSetup<'_>,
     teller: &Teller<'_>,
     trace: &Trace,
@@ -113,15 +114,15 @@ fn tell_at(
             walk.write(setup.basin, &write);
             Ok(())
         }
-        None => tell_line(alloc, walk, text, setup, teller, line_at(trace, place)),
+        None => tell_line(walk, text, machine, setup, teller, line_at(trace, place)),
     }
 }
 
 // Tells all lines.
-fn tell_all(
-    alloc: Global,
+fn tell_all<M: Fires>(
     walk: &mut Walk,
     text: &mut String,
+    machine: &mut M,
     setup: &RunSetup<'_>,
     teller: &Teller<'_>,
     trace: &Trace,
@@ -138,16 +139,17 @@ fn tell_all(
         → OnOk result (string_bytes text.new ≡ whole) }
 {
     for place in 0..trace.len() {
-        tell_at(alloc, walk, text, setup, teller, trace, place)?;
+        tell_at(walk, text, machine, setup, teller, trace, place)?;
     }
     Ok(())
 }
 
-/// Appends the trace of a run of the setup from these inputs, whoever was dispatched first, with what became of each put that was
-/// asked for: `docs/FORMATS.md` says how. The one error is want of memory.
-pub fn push_asked_trace(
+/// Appends the trace of a run of the setup from these inputs, in whatever order objects were dispatched, with what became of each
+/// put that was asked for, as `docs/FORMATS.md` says. The machine fires the rules of the trace again. The only error is want of memory.
+pub fn push_asked_trace<M: Fires>(
     alloc: Global,
     text: &mut String,
+    machine: &mut M,
     setup: &RunSetup<'_>,
     inputs: &Inputs,
     trace: &Trace,
@@ -166,5 +168,5 @@ pub fn push_asked_trace(
     let mut walk = Walk::begin(alloc, setup, inputs)?;
     let teller = Teller::new(alloc, setup.basin)?;
     text.push_str("# trace\n")?;
-    tell_all(alloc, &mut walk, text, setup, &teller, trace)
+    tell_all(&mut walk, text, machine, setup, &teller, trace)
 }

@@ -25,8 +25,7 @@ ghost use Rattle.rw_asked.specs.Words.{asked_lines_words};
 ghost use Rattle.rw_retold.specs.Walk.{IsWalkOf, IsWalkedTo};
 
 use crate::checks::{can_write, has_method, is_rule, is_step};
-use rpl_machine::Machine;
-use rpl_verify::Verified;
+use rpl_fires::Fires;
 use rw_asked::{push_dispatched, push_fired};
 use rw_base::{NoMemory, ObjectNo, RuleNo, StepNo};
 use rw_dispatch::{Workspace, judge_dispatch, make};
@@ -40,12 +39,10 @@ use rw_series::Series;
 use rw_writes::asked_by;
 use std::alloc::Global;
 
-/// The cells as they were at a line of a trace, the open timestep, and what is wanted to have objects solve and rules fire again. The
-/// machine, whose room is large, is made before the first firing.
+/// The cells as they were at a line of a trace, the open timestep, and what is wanted to have objects solve and rules fire again.
 #[derive(Drop)]
 pub(crate) struct Walk {
     pub(crate) series: Series,
-    pub(crate) machine: Option<Machine>,
     pub(crate) work: Workspace,
     pub(crate) wanted: Vec<Write>,
     pub(crate) step: StepNo,
@@ -118,20 +115,6 @@ fn want_all(
     Ok(())
 }
 
-// Has a machine, which is made where there is none yet.
-fn want_machine(
-    alloc: Global,
-    policy: &Verified,
-    machine: &mut Option<Machine>,
-) -> Result<(), NoMemory>
-    ensures { OnOk result (IsSome machine.new) }
-{
-    if machine.is_none() {
-        *machine = Some(Machine::for_policy(alloc, policy)?);
-    }
-    Ok(())
-}
-
 impl Walk {
     /// Before the first timestep of the run of these inputs.
     pub(crate) fn begin(
@@ -149,7 +132,6 @@ impl Walk {
         let run = engine.finish();
         Ok(Walk {
             series: run.series,
-            machine: None,
             work: Workspace::new(true),
             wanted: Vec::new(alloc),
             step: StepNo(0),
@@ -214,10 +196,10 @@ impl Walk {
     }
 
     /// Tells what a rule asked for that fires.
-    pub(crate) fn tell_firing(
+    pub(crate) fn tell_firing<M: Fires>(
         &mut self,
-        alloc: Global,
         text: &mut String,
+        machine: &mut M,
         setup: &RunSetup<'_>,
         teller: &Teller<'_>,
         rule: RuleNo,
@@ -242,11 +224,8 @@ impl Walk {
         if !is_rule(setup.policy, rule) {
             return Ok(());
         }
-        want_machine(alloc, setup.policy, &mut self.machine)?;
-        let Some(machine) = &mut self.machine else {
-            unreachable!()
-        };
-        let fired = machine.fire(
+        machine.prepare(setup.policy)?;
+        machine.fire(
             setup.policy,
             setup.predefs,
             setup.basin,
@@ -254,6 +233,7 @@ impl Walk {
             rule,
             self.step,
         );
+        let fired = machine.fired();
         want_all(&mut self.wanted, rule, self.step, fired.puts)?;
         push_wanted(
             text,

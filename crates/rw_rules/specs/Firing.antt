@@ -9,8 +9,7 @@ use Rattle.rw_run.specs.Next.{ended, firing_of}
 use Rattle.rw_model.specs.Turn.{IsStep}
 use Rattle.rw_agenda.specs.declared.limits.TheConstants.{RULES_MAX}
 use Rattle.rpl_code.specs.declared.block.BlockHead.TheVariants.{Rule}
-use Rattle.rpl_machine.specs.declared.fired.Fired.{Fired}
-use Rattle.rpl_machine.specs.Fired.{fire_seen}
+use Rattle.rw_firing.specs.Fire.{Fire}
 use Rattle.rpl_tree.specs.Budget.{Budget}
 use Rattle.rpl_verify.specs.Fits.{count_alike}
 use Rattle.rpl_verify.specs.Machine.{rule_from}
@@ -29,8 +28,8 @@ abbrev pub firing_event : Draft → Accepted → Cells → ℕ → ℕ → Optio
 firing_event basin policy cells rule step = firing_of basin (policy_of_code basin policy.blocks) cells rule step
 
 -- the event of a firing that is told, where the cells held this
-abbrev pub event_of_fired : Draft → Cells → ℕ → ℕ → Fired → Event
-event_of_fired basin cells rule step fired = ended basin cells rule step (fire_seen fired) (fire_seen fired).end
+abbrev pub event_of_fired : Draft → Cells → ℕ → ℕ → Fire → Event
+event_of_fired basin cells rule step fire = ended basin cells rule step fire fire.end
 
 -- the writes of a firing are what its event asks for and what it writes, and all of it may be written
 pub record HasPuts (basin : Draft) (event : Event) (writes : Writes) : Type 0 where

@@ -1,7 +1,7 @@
-//! The rules of a policy in a run. `Rules` says which is due, lets one fire, and leaves cells, objects and rules as the event of its
-//! firing does. `fire` is the firing of one rule of verified code: the machine fires it, and its puts are judged, so that both
-//! together tell the event that the definition of a run makes of it. `reads` says how often each rule looks at most, for which
-//! an agenda has to have room. Only making rules takes memory.
+//! Lets the rules of a policy fire in a run. `Rules` finds the rule that is due, lets it fire by a machine that is lent, and leaves
+//! cells, objects and rules as the event of that firing does. `fire` is the firing of one rule of verified code: the machine
+//! fires it, and its puts are judged, so both together give the event that the definition of a run makes of it. `reads` returns
+//! how often each rule looks at most: an agenda needs room for that. Only making rules takes memory.
 #![tactic(auto)]
 
 mod firing;

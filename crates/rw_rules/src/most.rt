@@ -24,8 +24,8 @@ fn reads_of(policy: &Verified, basin: &Basin, rule: RuleNo) -> u32
     policy.budget(policy.rule_block(rule)).reads as u32
 }
 
-/// How often each rule of verified code looks at most, of rule 1 first: each at most 20,000 times. The one error is want of
-/// memory.
+/// Returns how often each rule of verified code looks at most, of rule 1 first: each at most 20,000 times. The only error is want
+/// of memory.
 pub fn reads(alloc: Global, policy: &Verified, basin: &Basin) -> Result<Vec<u32>, NoMemory>
     requires { verified basin.now policy.now.blocks ≡ Ok policy.now }
     ensures { IfOk result (λ reads. AreReads policy.now reads.items) }

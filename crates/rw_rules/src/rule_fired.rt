@@ -1,7 +1,7 @@
 //! Holds how a firing ended, and how much it counted.
 use rw_firing::FireEnd;
 
-/// How a firing ended, and how much it counted.
+/// Says how a firing ended, and how much it counted.
 #[derive(Clone, Copy, Debug, PartialEq, Eq)]
 pub struct RuleFired {
     /// How it ended.

@@ -1,5 +1,5 @@
 //! Holds the rules of verified code in a run, finds the one that is due, lets it fire and writes its puts.
-ghost use Rattle.std.specs.Prelude.{◌≡◌, ◌≤◌, [], ◌∷◌, ℕ, IfOk, IfSome, IsSome, Ok, option_map, unwrap_or};
+ghost use Rattle.std.specs.Prelude.{◌≡◌, ◌≤◌, [], ◌∷◌, ℕ, IfOk, IfSome, Ok, option_map, true, unwrap_or};
 ghost use Rattle.rw_model.specs.Draft.{Draft};
 ghost use Rattle.rw_series.specs.Series.{held};
 ghost use Rattle.rw_dispatch.specs.Stage.{IsStageOf, Leaves, stage};
@@ -19,7 +19,7 @@ use crate::RuleFired;
 use crate::firing::fire;
 use crate::most::reads;
 use crate::setup::RuleSetup;
-use rpl_machine::Machine;
+use rpl_fires::Fires;
 use rpl_verify::Verified;
 use rw_agenda::Agenda;
 use rw_agenda::law::index_stays;
@@ -34,42 +34,27 @@ use rw_writes::{Writes, mark};
 use std::alloc::Global;
 use std::marker::Model;
 
-/// The rules of verified code in a run, seen as the agenda, the puts of the last firing in the run's timesteps, and those of them
-/// that are to be written. Where there is no rule there is no machine, whose room is large.
+/// Holds the rules of verified code in a run, seen as the agenda, the puts of the last firing in the run's timesteps, and those of
+/// them that are to be written. The machine that fires them is lent to `fire`.
 #[derive(Drop)]
 pub struct Rules {
-    machine: Option<Machine>,
     agenda: Agenda,
     writes: Writes,
 }
 
 impl Model for Rules {
-    ghost use Rattle.std.specs.Prelude.{◌≤◌, IsSome, length};
     ghost use Rattle.rw_rules.specs.Rules as specs;
 
     ghost Value = { specs.Rules };
 
     ghost view = { λ rules.
         specs.rules_kept rules.agenda rules.writes };
-
-    ghost invariant = { λ rules. 1 ≤ length rules.agenda.rules → IsSome rules.machine };
-}
-
-// A machine, where the policy has a rule.
-fn machine_for(alloc: Global, policy: &Verified) -> Result<Option<Machine>, NoMemory>
-    ensures { IfOk result
-        (λ machine. 1 ≤ count_alike RuleHead policy.now.blocks → IsSome machine) }
-{
-    if policy.rule_count() == 0 {
-        return Ok(None);
-    }
-    Ok(Some(Machine::for_policy(alloc, policy)?))
 }
 
 // Lets a rule fire by a machine, and has the agenda keep at what it looked.
 #[inline(always)]
-fn fire_by(
-    machine: &mut Machine,
+fn fire_by<M: Fires>(
+    machine: &mut M,
     agenda: &mut Agenda,
     writes: &mut Writes,
     setup: &RuleSetup<'_>,
@@ -77,9 +62,11 @@ fn fire_by(
     rule: RuleNo,
     step: StepNo,
 ) -> RuleFired
+    requires ready { M.serves machine.old setup.now.policy.now ≡ true }
     requires turn { IsRuleTurn setup.now.basin.now setup.now.policy.now rule.0 step.0 }
     requires made { IsRulesOf setup.now.basin.now setup.now.policy.now
         (rules_kept agenda.old writes.old) }
+    ensures ready { M.serves machine.new setup.now.policy.now ≡ true }
     ensures made { IsRulesOf setup.now.basin.now setup.now.policy.now
         (rules_kept agenda.new writes.new) }
     ensures told { Told setup.now.basin.now setup.now.policy.now (held series.now) rule.0 step.0
@@ -89,7 +76,8 @@ fn fire_by(
         (rules_kept agenda.old writes.old) (rules_kept agenda.new writes.new) }
 {
     index_stays();
-    let fired = fire(machine, writes, setup, series, rule, step);
+    fire(machine, writes, setup, series, rule, step);
+    let fired = machine.fired();
     agenda.fired(rule, fired.looked);
     RuleFired {
         end: fired.end,
@@ -98,20 +86,15 @@ fn fire_by(
 }
 
 impl Rules {
-    /// The rules of verified code for a basin. The one error is want of memory; no other call takes any.
+    /// Returns the rules of verified code for a basin. The only error is want of memory; no other call takes any.
     pub fn for_policy(alloc: Global, policy: &Verified, basin: &Basin) -> Result<Rules, NoMemory>
         requires { verified basin.now policy.now.blocks ≡ Ok policy.now }
         ensures { IfOk result (IsRulesOf basin.now policy.now) }
     {
         let reads = reads(alloc, policy, basin)?;
         let agenda = Agenda::for_rules(alloc, basin, reads.as_slice())?;
-        let machine = machine_for(alloc, policy)?;
         let writes = Writes::with_room(alloc)?;
-        Ok(Rules {
-            machine,
-            agenda,
-            writes,
-        })
+        Ok(Rules { agenda, writes })
     }
 
     /// Begins a timestep: no rule has fired in it.
@@ -125,7 +108,7 @@ impl Rules {
         self.agenda.begin_step();
     }
 
-    /// The first rule that is due, in the order of the basin's agenda. `None` exactly where there is none.
+    /// Returns the first rule that is due, in the order of the basin's agenda; `None` exactly if there is none.
     /// `docs/DEFINITIONS.md` says under "Runs" when a rule is due.
     pub fn due(&self, series: &Series) -> Option<RuleNo>
         requires indexed { IsIndexed self.now.agenda (held series.now) }
@@ -138,25 +121,25 @@ impl Rules {
         self.agenda.next(series)
     }
 
-    /// Lets a rule fire at a timestep, counted from 1. Nothing of what it writes is made yet.
-    pub fn fire(
+    /// Lets a machine that is prepared for the policy fire a rule at a timestep, counted from 1. No cell is written yet.
+    pub fn fire<M: Fires>(
         &mut self,
+        machine: &mut M,
         setup: &RuleSetup<'_>,
         series: &Series,
         rule: RuleNo,
         step: StepNo,
     ) -> RuleFired
+        requires ready { M.serves machine.old setup.now.policy.now ≡ true }
         requires turn { IsRuleTurn setup.now.basin.now setup.now.policy.now rule.0 step.0 }
         requires made { IsRulesOf setup.now.basin.now setup.now.policy.now self.old }
+        ensures ready { M.serves machine.new setup.now.policy.now ≡ true }
         ensures made { IsRulesOf setup.now.basin.now setup.now.policy.now self.new }
         ensures told { Told setup.now.basin.now setup.now.policy.now (held series.now) rule.0 step.0
             result self.new }
         ensures can { AreWrites setup.now.basin.now self.new.written }
         ensures keeps { FiredOn setup.now.policy.now (held series.now) rule.0 self.old self.new }
     {
-        let Some(machine) = &mut self.machine else {
-            unreachable!()
-        };
         fire_by(
             machine,
             &mut self.agenda,
@@ -168,8 +151,8 @@ impl Rules {
         )
     }
 
-    /// Writes the puts of the last firing, wakes the objects that they reach, and marks the rules: as the event of that firing leaves
-    /// them at its timestep.
+    /// Writes the puts of the last firing, wakes the objects that they reach, and marks the rules, as the event of that firing
+    /// leaves them at its timestep.
     pub fn write(&mut self, basin: &Basin, series: &mut Series, queue: &mut Queue, step: StepNo)
         requires can { AreWrites basin.now self.old.written }
         requires made { IsStageOf basin.now (stage series.old queue.old) }
@@ -187,7 +170,7 @@ impl Rules {
         mark(basin, &mut self.agenda, writes);
     }
 
-    /// Marks each rule that looked at a cell which what a dispatch wrote reaches.
+    /// Marks each rule that looked at a cell that the writes of a dispatch reach.
     pub fn touched(&mut self, basin: &Basin, writes: &[Write])
         requires { AreWrites basin.now writes.now }
         ensures { (before after : Cells) → ((cell : Cell) → after cell
@@ -198,7 +181,7 @@ impl Rules {
         mark(basin, &mut self.agenda, writes);
     }
 
-    /// At what a rule looked when it last fired, nothing if it hasn't.
+    /// Returns what a rule looked at when it last fired; nothing if it has not fired.
     pub fn looked(&self, rule: RuleNo) -> &[Look]
         requires { IsListed self.now.agenda rule.0 }
         ensures { result.now ≡ unwrap_or (looked_by self.now.agenda rule.0) [] }
@@ -206,14 +189,14 @@ impl Rules {
         self.agenda.looked(rule)
     }
 
-    /// What the last firing asks for in the run's timesteps, written or not.
+    /// Returns what the last firing asks for in the run's timesteps, written or not.
     pub fn asked(&self) -> &[Write]
         ensures { result.now ≡ self.now.asked }
     {
         self.writes.asked()
     }
 
-    /// What the last firing writes.
+    /// Returns what the last firing writes.
     pub fn written(&self) -> &[Write]
         ensures { result.now ≡ self.now.written }
     {

@@ -3,7 +3,7 @@ use rpl_predef::Predefs;
 use rpl_verify::Verified;
 use rw_model::Basin;
 
-/// What rules fire by, whatever the cells hold.
+/// Holds what rules need to fire, besides a machine, whatever the cells hold.
 #[derive(Drop)]
 pub struct RuleSetup<'a> {
     /// The basin.

@@ -1,21 +1,16 @@
-//! Does what the arguments ask for, and returns the status: the top call `basin_main`.
-ghost use Rattle.std.specs.Prelude.{◌≡◌, ℕ, List, map};
+//! Does what the words ask for by the machine of `rpl_machine`: the top call `basin_main`.
+ghost use Rattle.std.specs.Prelude.{map};
 ghost use Rattle.rw_method.specs.Catalogue.{AreInOrder};
 ghost use Rattle.rw_words.specs.Command.{texts_of};
 ghost use Rattle.rw_io.specs.Outside.{change};
-ghost use Rattle.rw_top.specs.Promise.{Promise};
-ghost use Rattle.rw_top.specs.Lines.{memory_line};
-ghost use Rattle.rw_top.specs.Written.{TellsLine};
+ghost use Rattle.rw_commands.specs.Promise.{Promise};
 
-use crate::Refusal;
-use crate::command::Command;
-use crate::perform::perform;
-use crate::tell::{tell, tell_memory, tell_words};
+use rpl_machine::Machine;
 use rpl_predef::Predefs;
-use rw_base::{Ledger, NoMemory, Steps};
+use rw_base::{Ledger, Steps};
+use rw_commands::perform_words;
 use rw_io::{Shelf, Sink};
 use rw_method::Catalogue;
-use rw_words::read_words;
 use std::alloc::Global;
 
 /// Does what the words ask for, and answers the status with which a program ends. The words don't include the
@@ -63,32 +58,16 @@ pub fn basin_main<S: Shelf, K: Sink, E: Sink, L: Ledger>(
       steps = change steps.old steps.new;
     }) result }
 {
-    let command = match read_words(alloc, words) {
-        Ok(Some(words)) => Command { words },
-        Ok(None) => {
-            tell_words(err);
-            return Refusal::Words.status();
-        }
-        Err(NoMemory) => {
-            tell_memory(err);
-            return Refusal::NoMemory.status();
-        }
-    };
-    match perform(alloc, &command, shelf, out, methods, predefs, steps) {
-        Ok(status) => status,
-        Err(refusal) => {
-            tell(err, &command, &refusal);
-            refusal.status()
-        }
-    }
-}
-
-/// What a program does that has no memory to call `basin_main` with: writes the line on that, as far as `err` takes it, and answers
-/// the status with which it ends. It takes no memory itself.
-pub fn end_without_memory<E: Sink>(err: &mut E) -> u8
-    ensures status { result ≡ 5 }
-    ensures told { TellsLine (change (E.seen err.old) (E.seen err.new)) memory_line }
-{
-    tell_memory(err);
-    Refusal::NoMemory.status()
+    let mut machine = Machine::new(alloc);
+    perform_words(
+        alloc,
+        words,
+        shelf,
+        out,
+        err,
+        methods,
+        predefs,
+        &mut machine,
+        steps,
+    )
 }

@@ -2,9 +2,9 @@
 ghost use Rattle.std.specs.Prelude.{◌≡◌, ◌≤◌, Bool, false, ℕ, ℤ, List, Ok, Option};
 ghost use Rattle.rw_base.specs.declared.number.StepNo.{StepNo};
 ghost use Rattle.rw_run.specs.declared.run.RunEnd.{RunEnd};
-ghost use Rattle.rw_top.specs.Many.{many_texts};
-ghost use Rattle.rw_top.specs.RunText.{IsBalanceText, IsRunText, IsWhyText, policy_in_run, tells_asks};
-ghost use Rattle.rw_top.specs.declared.extras.Extras.{Extras};
+ghost use Rattle.rw_commands.specs.Many.{many_texts};
+ghost use Rattle.rw_commands.specs.RunText.{IsBalanceText, IsRunText, IsWhyText, policy_in_run, tells_asks};
+ghost use Rattle.rw_commands.specs.declared.extras.Extras.{Extras};
 ghost use Rattle.rw_base.specs.declared.limits.TheConstants.{RULES_MAX};
 ghost use Rattle.rw_base.specs.declared.number.Cell.{Cell};
 ghost use Rattle.rw_model.specs.Draft.{Draft};
@@ -21,7 +21,7 @@ ghost use Rattle.rw_run.specs.Log.{Log};
 ghost use Rattle.rw_run.specs.Runs.{IsRun};
 ghost use Rattle.rw_ahead.specs.Ahead.{ahead_to};
 ghost use Rattle.rpl_rulesets.specs.RulesPolicy.{policy_of_rules};
-ghost use Rattle.rw_top.specs.Policy.{IsPolicyFileOf, PolicyFile};
+ghost use Rattle.rw_commands.specs.Policy.{IsPolicyFileOf, PolicyFile};
 ghost use Rattle.rw_promise.specs.Migrated.{GoesAlike};
 
 use rpl_ahead::law::{accepted_further, runs_of_code};

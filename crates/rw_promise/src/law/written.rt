@@ -14,17 +14,17 @@ ghost use Rattle.rpl_compile.specs.Translate.{translate};
 ghost use Rattle.rpl_tree.specs.Tree.{Declared};
 ghost use Rattle.rw_words.specs.Command.{Command};
 ghost use Rattle.rw_words.specs.declared.job.Job.TheVariants as J;
-ghost use Rattle.rw_top.specs.Budgets.{check_text};
-ghost use Rattle.rw_top.specs.Call.{Call};
-ghost use Rattle.rw_top.specs.Cell.{cell_asked};
-ghost use Rattle.rw_top.specs.Command.{AskForCommand, extras_of};
-ghost use Rattle.rw_top.specs.Many.{AreScenarioRuns, many_texts};
-ghost use Rattle.rw_top.specs.Policy.{PolicyFile, Ruleset};
-ghost use Rattle.rw_top.specs.Promise.{WroteBalance, WroteCheck, WroteCode, WroteMany, WroteMigrated, WroteRules, WroteRun, WroteSample, WroteWhy};
-ghost use Rattle.rw_top.specs.Reading.{ReadsEdits, ReadsInputs, ReadsModel, ReadsPolicy, ReadsScenarios, SaysAt};
-ghost use Rattle.rw_top.specs.RunText.{IsBalanceOfRules, IsRulesText, IsSampleOf, IsSimulated, IsWhyOfRules};
-ghost use Rattle.rw_top.specs.Sections.{AreSections, first_given, joined_sections};
-ghost use Rattle.rw_top.specs.declared.refusal.File.TheVariants as F;
+ghost use Rattle.rw_commands.specs.Budgets.{check_text};
+ghost use Rattle.rw_commands.specs.Call.{Call};
+ghost use Rattle.rw_commands.specs.Cell.{cell_asked};
+ghost use Rattle.rw_commands.specs.Command.{AskForCommand, extras_of};
+ghost use Rattle.rw_commands.specs.Many.{AreScenarioRuns, many_texts};
+ghost use Rattle.rw_commands.specs.Policy.{PolicyFile, Ruleset};
+ghost use Rattle.rw_commands.specs.Promise.{WroteBalance, WroteCheck, WroteCode, WroteMany, WroteMigrated, WroteRules, WroteRun, WroteSample, WroteWhy};
+ghost use Rattle.rw_commands.specs.Reading.{ReadsEdits, ReadsInputs, ReadsModel, ReadsPolicy, ReadsScenarios, SaysAt};
+ghost use Rattle.rw_commands.specs.RunText.{IsBalanceOfRules, IsRulesText, IsSampleOf, IsSimulated, IsWhyOfRules};
+ghost use Rattle.rw_commands.specs.Sections.{AreSections, first_given, joined_sections};
+ghost use Rattle.rw_commands.specs.declared.refusal.File.TheVariants as F;
 
 /// Sections of runs: of `simulate`, of `run` and of `mrm`.
 pub fn written_sections()

@@ -1,4 +1,4 @@
-use Rattle.rw_top.proofs.Common.{ap, sym, ◌++◌, ◌∙◌}
+use Rattle.rw_commands.proofs.Common.{ap, sym, ◌++◌, ◌∙◌}
 use Rattle.rw_inputs.specs.Placings.{placings}
 use Rattle.rw_run.specs.Log.{cells_of}
 use Rattle.rw_run.specs.RunOf.{last_closed}

@@ -1,4 +1,4 @@
-use Rattle.rw_top.proofs.Common.{None, Settled, subst, sym, ◌↔◌, ◌∙◌, ◌≡◌}
+use Rattle.rw_commands.proofs.Common.{None, Settled, subst, sym, ◌↔◌, ◌∙◌, ◌≡◌}
 use Rattle.rw_plain_reservoir.specs.Table.{IsFirstText}
 use Rattle.rw_report.specs.Outcome.{outcome_by}
 use Rattle.rw_promise.proofs.law.first_form.Goals as goal

@@ -1,4 +1,4 @@
-use Rattle.rw_top.proofs.OneReading.{same_values, refuses_clash}
+use Rattle.rw_commands.proofs.OneReading.{same_values, refuses_clash}
 use Rattle.rw_promise.proofs.law.one_inputs.Goals as goal
 
 pub returns-clause-values : goal.returns-clause-values

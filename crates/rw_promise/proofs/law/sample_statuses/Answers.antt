@@ -1,5 +1,5 @@
 use Rattle.rw_base.proofs.Common.{subst}
-use Rattle.rw_top.specs.Command.{AskForCommand}
+use Rattle.rw_commands.specs.Command.{AskForCommand}
 use Rattle.rw_promise.proofs.SampleStatus.{answers}
 use Rattle.rw_promise.proofs.law.sample_statuses.Goals as goal
 

@@ -1,7 +1,7 @@
 use Rattle.std.specs.Prelude.{◌≡◌, ◌≢◌, ℕ, List, Option, Some, None, IsSomeAnd}
 use Rattle.rw_io.specs.Outside.{Change, ShelfView}
-use Rattle.rw_top.proofs.Common.{Call, Promise, Rose, ap, arith, subst}
-use Rattle.rw_top.specs.Command.{path_of}
+use Rattle.rw_commands.proofs.Common.{Call, Promise, Rose, ap, arith, subst}
+use Rattle.rw_commands.specs.Command.{path_of}
 use Rattle.rw_promise.specs.SureCall.{IsSure}
 use Rattle.rw_promise.proofs.StatusLemmas as status
 use Rattle.rw_promise.proofs.law.sure_calls.Goals as goal

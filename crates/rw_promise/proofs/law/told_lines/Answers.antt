@@ -1,8 +1,8 @@
-use Rattle.rw_top.proofs.Common.{AskOne, Call, WasRefused, inl, inr, ◌⊎◌}
-use Rattle.rw_top.specs.declared.refusal.Refusal.{Refusal}
-use Rattle.rw_top.specs.Lines.{memory_line, refusal_line, words_line}
-use Rattle.rw_top.specs.Written.{TellsLine}
-use Rattle.rw_top.specs.declared.refusal.Refusal.TheVariants.{Words, NoMemory}
+use Rattle.rw_commands.proofs.Common.{AskOne, Call, WasRefused, inl, inr, ◌⊎◌}
+use Rattle.rw_commands.specs.declared.refusal.Refusal.{Refusal}
+use Rattle.rw_commands.specs.Lines.{memory_line, refusal_line, words_line}
+use Rattle.rw_commands.specs.Written.{TellsLine}
+use Rattle.rw_commands.specs.declared.refusal.Refusal.TheVariants.{Words, NoMemory}
 use Rattle.rw_promise.proofs.law.told_lines.Goals as goal
 
 -- the line of words that ask for nothing, that of want of memory, or that of the command's refusal

@@ -1,8 +1,8 @@
 use Rattle.std.specs.Prelude.{◌≡◌, ◌<◌, ◌-◌, ◌^◌, ℕ, List, Option, Some, None, IfSome, IsSome}
-use Rattle.rw_top.proofs.Common.{Rose, arith}
+use Rattle.rw_commands.proofs.Common.{Rose, arith}
 use Rattle.rw_io.specs.Outside.{Change, Holds, ShelfView}
-use Rattle.rw_top.specs.Command.{path_of}
-use Rattle.rw_top.specs.Reading.{IsHonest}
+use Rattle.rw_commands.specs.Command.{path_of}
+use Rattle.rw_commands.specs.Reading.{IsHonest}
 use Rattle.rw_promise.proofs.law.told_of_calls.Goals as goal
 
 -- a path that is told, and whose count of faults is what it was

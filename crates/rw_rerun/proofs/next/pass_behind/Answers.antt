@@ -41,5 +41,5 @@ returns g c =
     let framed : IsFramed (policy_in basin policy) =
     (c.code_keeps_promises.ensures basin policy.blocks policy.budgets
     (c.answered_code_is_safe.ensures.accepted basin policy.blocks policy c.requires.can.fits)).framed in
-    passes_behind basin policy c.args.inputs.now c.args.cells.now c.args.kept.now c.args.behind c.args.spare _ c.args.steps.now _ _ framed
+    passes_behind basin policy c.args.next.inputs.now c.args.next.cells.now c.args.kept.now c.args.next.behind c.args.spare _ c.args.steps.now _ _ framed
     c.requires.left.near c.in_ok-pass.ensures c.passed.ensures

@@ -56,7 +56,7 @@ returns-in-None-clause-does g c =
     does_on c.args.setup.now.basin.now c.args.setup.now.policy.now c.args.step.0 c.args.self.now c.turn_to_rules.new.self c.next_by.new.self
     (picked_at (g.P.Pick.rule c.args.pick.now) c.args.self.now.turns waits) None
     waits c.next_by.new.self.waiting c.turn_to_rules.result
-    (none_picked (g.P.Pick.rule c.args.pick.now) c.args.self.now.turns waits none.0) (none.0 ∙ sym none.1) c.turn_to_rules.ensures
+    (none_picked (g.P.Pick.rule c.args.pick.now) c.args.self.now.turns waits none.0) (none.0 ∙ sym none.1) c.turn_to_rules.ensures.does
 
 pub returns-in-Some-clause-picks : goal.returns-in-Some-clause-picks
 returns-in-Some-clause-picks g c =

@@ -36,8 +36,8 @@ note_firing-requires-clause-known g c =
 pub note_firing-requires-clause-can : goal.note_firing-requires-clause-can
 note_firing-requires-clause-can g c = c.fire-fired.ensures.told.can_ask
 
-pub returns-in_err-note_firing : goal.returns-in_err-note_firing
-returns-in_err-note_firing g c =
+pub returns-in_err-note_firing-clause-does : goal.returns-in_err-note_firing-clause-does
+returns-in_err-note_firing-clause-does g c =
     let basin = c.args.setup.now.basin.now in
     let policy = c.args.setup.now.policy.now in
     let old = c.args.self.now in
@@ -48,8 +48,8 @@ returns-in_err-note_firing g c =
     c.in_err-note_firing.ensures.1)
     (record { closed_steps = refl; end = refl }) c.in_err-note_firing.ensures.0
 
-pub returns-in_err-note_firing_lines : goal.returns-in_err-note_firing_lines
-returns-in_err-note_firing_lines g c =
+pub returns-in_err-note_firing_lines-clause-does : goal.returns-in_err-note_firing_lines-clause-does
+returns-in_err-note_firing_lines-clause-does g c =
     let basin = c.args.setup.now.basin.now in
     let policy = c.args.setup.now.policy.now in
     let old = c.args.self.now in
@@ -61,8 +61,8 @@ returns-in_err-note_firing_lines g c =
     (cells_looked (looked_now c.fire-fired.new.self c.args.rule.0) ++ cells_reached basin c.fire-fired.new.self.asked, c.in_ok-note_firing.ensures))
     (record { closed_steps = refl; end = refl }) (sym c.requires.within.made.engine.notes.same ∙ c.in_err-note_firing_lines.ensures.wants)
 
-pub returns-in_err-note_firing_lines-2 : goal.returns-in_err-note_firing_lines-2
-returns-in_err-note_firing_lines-2 g c =
+pub returns-in_err-note_firing_lines-2-clause-does : goal.returns-in_err-note_firing_lines-2-clause-does
+returns-in_err-note_firing_lines-2-clause-does g c =
     let basin = c.args.setup.now.basin.now in
     let policy = c.args.setup.now.policy.now in
     let old = c.args.self.now in
@@ -73,8 +73,8 @@ returns-in_err-note_firing_lines-2 g c =
     (cells_looked (looked_now c.fire-fired.new.self c.args.rule.0) ++ cells_reached basin c.fire-fired.new.self.asked, c.in_ok-note_firing.ensures))
     (record { closed_steps = refl; end = refl }) (c.requires.within.made.engine.notes.traced c.in_err-note_firing_lines-2.ensures.wants)
 
-pub returns : goal.returns
-returns g c =
+pub returns-clause-does : goal.returns-clause-does
+returns-clause-does g c =
     let basin = c.args.setup.now.basin.now in
     let policy = c.args.setup.now.policy.now in
     let old = c.args.self.now in

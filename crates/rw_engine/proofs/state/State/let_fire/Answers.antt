@@ -9,8 +9,8 @@ get-count-requires g c =
     let turn = c.requires.turn in
     record { first = turn.first; last = subst (λ n. c.args.rule.0 ≤ n) (sym (made.firings ∙ made.engine.rules.many)) turn.last }
 
-pub returns-then-control-count : goal.returns-then-control-count
-returns-then-control-count g c =
+pub returns-then-control-count-clause-does : goal.returns-then-control-count-clause-does
+returns-then-control-count-clause-does g c =
     let basin = c.args.setup.now.basin.now in
     let old = c.args.self.now in
     let does = c.exceed.ensures None old.queue.waiting in record {

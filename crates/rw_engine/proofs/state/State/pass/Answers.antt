@@ -36,6 +36,7 @@ loop-ended-init g c =
       };
       few = few_first c.args.setup.now.basin.now old new tells.turns c.in_ok-open.ensures.opened.within.made.counts;
       still = record { closed_steps = tells.closed_steps; end = tells.end };
+      ready = c.requires.ready;
     }
 
 pub returns-then-ended : goal.returns-then-ended
@@ -84,4 +85,5 @@ loop-ended-preserved g c = record {
   still =
       still_more c.args.self.now c.loop-ended.self c.event.new.self c.loop-ended.invariant.still
       (rw c.if-ended.false at c.in_ok-ended.ensures.does.on_the_way).0;
+  ready = c.event.ensures.ready;
 }

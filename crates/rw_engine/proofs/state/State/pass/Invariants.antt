@@ -1,4 +1,5 @@
 use Rattle.rw_engine.proofs.Common.{IsBefore, IsStill, IsWithinStep, Reached, Shows, left, seen, ◌+◌, ◌≤◌}
+use Rattle.std.specs.Prelude.{true, ◌≡◌}
 use Rattle.rw_run.specs.Log.{Log}
 use Rattle.rw_engine.specs.Picked.{most_turns}
 use Rattle.rw_engine.specs.State.{CanGoBack, turns_at_most}
@@ -12,6 +13,7 @@ invariant-loop-ended g l = record {
   few : turns_at_most l.setup.basin.now l.self ≤ l.fn.self.turns + most_turns l.setup.basin.now;
   back : CanGoBack l.fn.self l.self;
   still : IsStill l.fn.self l.self;
+  ready : g.M.Fires.serves l.machine l.setup.policy.now ≡ true;
 }
 
 abbrev pub decreases-loop-ended : goal.decreases-loop-ended

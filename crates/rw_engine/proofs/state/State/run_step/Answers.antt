@@ -6,31 +6,33 @@ use Rattle.rw_record.specs.Noted.{noted_in}
 use Rattle.rw_record.specs.Notes.{CanTakeBack}
 use Rattle.rw_engine.proofs.Notings.{cleared_none, cleared_some, in_some}
 use Rattle.rw_engine.proofs.Traces.{alike_on, emptied, grows_some, short_some, shortened}
+use Rattle.rw_engine.proofs.Steps.{clears, unopened}
 use Rattle.rw_engine.proofs.state.State.run_step.Goals as goal
 
 pub pass-requires-clause-fresh : goal.pass-requires-clause-fresh
 pass-requires-clause-fresh g c =
-    let made = c.requires.made in
-    let old = c.args.self.now in
-    let kept = ap is_some c.begin_step.ensures ∙ cleared_some old.noted in record {
-      made = record {
-        engine = record {
-          valid = made.engine.valid;
-          fits = made.engine.fits;
-          objects = made.engine.objects;
-          rules = made.engine.rules;
-          series = made.engine.series;
-          closed_steps = made.engine.closed_steps;
-          notes = alike_on old.noted c.begin_step.new.self old.lines c.truncate.new.self old.run.trace old.run.trace kept
-              (ap is_some c.truncate.ensures ∙ short_some old.lines 0) refl made.engine.notes;
-        };
-        keeps = made.keeps ∙ sym kept;
-        counts = made.counts;
-        firings = made.firings;
-      };
+    let old = c.args.self.now in record {
+      made = clears c.args.setup.now.basin.now c.args.setup.now.policy.now old c.begin_step.new.self c.truncate.new.self c.requires.made
+          (ap is_some c.begin_step.ensures ∙ cleared_some old.noted) (ap is_some c.truncate.ensures ∙ short_some old.lines 0);
       cleared = rw c.begin_step.ensures (cleared_none old.noted);
       none_told = rw c.truncate.ensures (emptied old.lines);
     }
+
+pub returns-in_err-prepare-clause-made : goal.returns-in_err-prepare-clause-made
+returns-in_err-prepare-clause-made g c =
+    let old = c.args.self.now in
+    clears c.args.setup.now.basin.now c.args.setup.now.policy.now old c.begin_step.new.self c.truncate.new.self c.requires.made
+    (ap is_some c.begin_step.ensures ∙ cleared_some old.noted) (ap is_some c.truncate.ensures ∙ short_some old.lines 0)
+
+pub returns-in_err-prepare-clause-runs : goal.returns-in_err-prepare-clause-runs
+returns-in_err-prepare-clause-runs g c =
+    let old = c.args.self.now in
+    unopened c.args.setup.now.basin.now c.args.setup.now.policy.now _ c.args.step.0 _ _ c.from_residual.result _ c.from_residual.ensures.1
+    (clears c.args.setup.now.basin.now c.args.setup.now.policy.now old c.begin_step.new.self c.truncate.new.self c.requires.made
+    (ap is_some c.begin_step.ensures ∙ cleared_some old.noted) (ap is_some c.truncate.ensures ∙ short_some old.lines 0)).engine
+    (λ log shows. record { cells = shows.cells; trace = shows.trace; closed_steps = shows.closed_steps; end = shows.end })
+    (rw c.truncate.ensures (emptied old.lines))
+    (record { trace = refl; noted = ap is_some c.begin_step.ensures ∙ cleared_some old.noted })
 
 module _ (g : _) (c : goal.After-truncate-in-Err-2 g) where
   can : CanTakeBack (held c.args.self.now.run.series) (held c.pass.new.self.run.series) (noted_in c.pass.new.self.noted)

@@ -13,11 +13,11 @@ let_fire-requires-clause-turn g c =
       at = c.requires.step;
     }
 
-pub returns-in-Some : goal.returns-in-Some
-returns-in-Some g c =
+pub returns-in-Some-clause-does : goal.returns-in-Some-clause-does
+returns-in-Some-clause-does g c =
     let basin = c.args.setup.now.basin.now in
     let policy = c.args.setup.now.policy.now in
-    let does = c.let_fire.ensures in record {
+    let does = c.let_fire.ensures.does in record {
       keeps = does.keeps;
       on_the_way = does.on_the_way;
       goes = λ log holds. does.goes log (
@@ -29,8 +29,8 @@ returns-in-Some g c =
       wants = does.wants;
     }
 
-pub returns-in-None : goal.returns-in-None
-returns-in-None g c =
+pub returns-in-None-clause-does : goal.returns-in-None-clause-does
+returns-in-None-clause-does g c =
     let basin = c.args.setup.now.basin.now in
     let policy = c.args.setup.now.policy.now in
     let does = c.close.ensures in record {

@@ -1,4 +1,4 @@
-use Rattle.rw_top.proofs.Common.{sym, ◌∙◌}
+use Rattle.rw_commands.proofs.Common.{sym, ◌∙◌}
 use Rattle.rw_promise.proofs.law.migration.migrated_models_tell_alike.Goals as goal
 
 pub returns-clause-why : goal.returns-clause-why

@@ -1,5 +1,5 @@
-use Rattle.rw_top.proofs.Common.{ap, false, if◌then◌else◌, sym, ◌∙◌}
-use Rattle.rw_top.specs.RunText.{asked_section_text, policy_in_run, section_text}
+use Rattle.rw_commands.proofs.Common.{ap, false, if◌then◌else◌, sym, ◌∙◌}
+use Rattle.rw_commands.specs.RunText.{asked_section_text, policy_in_run, section_text}
 use Rattle.rw_promise.proofs.law.migration.migrated_models_write_alike.Goals as goal
 
 pub returns : goal.returns

@@ -1,5 +1,0 @@
-use Rattle.rw_top.proofs.Common.{change}
-use Rattle.rw_top.proofs.files.read_text.Goals as goal
-
-pub returns-in-Sample-clause-read : goal.returns-in-Sample-clause-read
-returns-in-Sample-clause-read g c = c.make_text.ensures (change (g.S.Shelf.seen c.args.shelf.now) (g.S.Shelf.seen c.args.shelf.now))

@@ -1,4 +1,0 @@
-use Rattle.rw_top.proofs.perform.write_runs.Goals as goal
-
-pub returns-else-extras-clause-counted : goal.returns-else-extras-clause-counted
-returns-else-extras-clause-counted g c = λ policy means reuse. absurd cc

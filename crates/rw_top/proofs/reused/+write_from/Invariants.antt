@@ -1,5 +1,0 @@
-use Rattle.rw_top.proofs.Common.{length}
-use Rattle.rw_top.proofs.reused.+write_from.Given as goal
-
-abbrev pub decreases-write_from : goal.decreases-write_from
-decreases-write_from g l = length l.batches.now

@@ -1,4 +1,0 @@
-use Rattle.rw_top.proofs.tell.tell_inputs.Goals as goal
-
-pub returns : goal.returns
-returns g c = rw (c.from.ensures, c.input_words.ensures) at c.tell_place.ensures

@@ -1,4 +1,0 @@
-use Rattle.rw_top.proofs.tell.tell_types.Goals as goal
-
-pub returns : goal.returns
-returns g c = rw c.type_words.ensures at c.tell_place.ensures
