@@ -1,13 +1,17 @@
 -- The kind of a name, and the function of a name that was declared last.
-use Rattle.rw_base.proofs.Common.{◌≡◌, ℕ, List, [], ◌∷◌, reverse, Some, bytes_eq, unwrap_or, refl, ap, ◌∙◌, if◌then◌else◌}
+use Rattle.rw_base.proofs.Common.{◌≡◌, ◌<◌, ℕ, zero, suc, Bool, true, false, List, [], ◌∷◌, ◌++◌, length, map, reverse, Option, None, Some, Bor, bytes_eq}
+use Rattle.rw_base.proofs.Common.{arith, unwrap_or, refl, sym, ap, ◌∙◌, if◌then◌else◌, option_and_then, option_map, slice_get, slice_get_read}
+use Rattle.rw_base.proofs.Common.{length-reverse, reverse-append}
+use Rattle.core.specs.Slice.{IsItemAt}
+use Rattle.std.proofs.lemmas.Option.{slice_get_past}
 use Rattle.rpl_tree.specs.Kinds.{kind_named}
 use Rattle.rpl_scope.specs.Scope.{first_named}
-use Rattle.rpl_scope.proofs.Latest.{first_of_all, last_is_first, last_of_all}
 use Rattle.rpl_budget.specs.declared.kind.TreeKind.{TreeKind}
+use Rattle.rpl_budget.specs.declared.known.Known.{Known}
 use Rattle.rpl_budget.specs.declared.kind.TreeKind.TheVariants.{Number}
-use Rattle.rpl_budget.specs.Seen.{tree_kind_seen, names_of}
+use Rattle.rpl_budget.specs.Seen.{tree_kind_seen, names_of, places_of, priced_or_none, priced_seen}
 use Rattle.rpl_budget.proofs.Exact.{of_choice}
-use Rattle.rpl_budget.specs.Pass.{Priced, priced_named, no_function}
+use Rattle.rpl_budget.specs.Pass.{priced_named}
 
 -- ---- names
 
@@ -20,17 +24,54 @@ kind_found (entry ∷ names) sought =
 
 -- ---- functions
 
-abbrev pub last_function : List ℕ → Priced → List Priced → Priced
-last_function sought = last_of_all (λ (priced : Priced). bytes_eq priced.head.name sought) (λ (priced : Priced). priced)
+-- the function in a place, if there is a place, where the last function stands first
+abbrev pub at_place : List Known → Option ℕ → Option Known
+at_place all place = option_and_then (slice_get (reverse all)) place
 
-latest : (sought : List ℕ) (functions : List Priced)
-    → first_of_all (λ (priced : Priced). bytes_eq priced.head.name sought) (λ (priced : Priced). priced) no_function functions
-    ≡ priced_named functions sought
-latest sought [] = refl
-latest sought (priced ∷ functions) = ap (λ found. if bytes_eq priced.head.name sought then priced else found) (latest sought functions)
+front : (xs : List Known) (y : Known) (p : ℕ) → p < length xs → slice_get (xs ++ y ∷ []) p ≡ slice_get xs p
+front [] y p low = absurd (omega (arith, low))
+front (x ∷ xs) y zero low = refl
+front (x ∷ xs) y (suc p) low = front xs y p (omega (arith, low))
 
-pub function_found : (sought : List ℕ) (functions : List Priced)
-    → last_function sought no_function functions ≡ priced_named (reverse functions) sought
-function_found sought functions =
-    last_is_first (λ (priced : Priced). bytes_eq priced.head.name sought) (λ (priced : Priced). priced) no_function functions
-    ∙ latest sought (reverse functions)
+last : (xs : List Known) (y : Known) → slice_get (xs ++ y ∷ []) (length xs) ≡ Some y
+last [] y = refl
+last (x ∷ xs) y = last xs y
+
+one_more : (f : Known) (all : List Known) (place : Option ℕ) → ((p : ℕ) → place ≡ Some p → p < length all)
+    → at_place (f ∷ all) place ≡ at_place all place
+one_more f all None low = refl
+one_more f all (Some p) low =
+    ap (λ xs. slice_get xs p) (reverse-append (f ∷ []) all) ∙ front (reverse all) f p (omega (arith, low p refl, length-reverse all))
+
+newest : (f : Known) (all : List Known) → at_place (f ∷ all) (Some (length all)) ≡ Some f
+newest f all =
+    ap (λ xs. slice_get xs (length all)) (reverse-append (f ∷ []) all)
+    ∙ ap (slice_get (reverse all ++ f ∷ [])) (sym (length-reverse all)) ∙ last (reverse all) f
+
+below : (test : Bool) (all : List Known) (x : List ℕ) (p : ℕ)
+    → (if test then Some (length all) else first_named (places_of all) x) ≡ Some p
+    → (first_named (places_of all) x ≡ Some p → p < length all) → p < suc (length all)
+below true all x p here rest = let same : length all ≡ p = grind (arith, here) in omega (arith, same)
+below false all x p here rest = omega (arith, rest here)
+
+within : (all : List Known) (x : List ℕ) (p : ℕ) → first_named (places_of all) x ≡ Some p → p < length all
+within [] x p here = absurd (grind (arith, here))
+within (f ∷ all) x p here = below (bytes_eq f.name.now x) all x p here (within all x p)
+
+by_test : (test : Bool) (f : Known) (all : List Known) (x : List ℕ)
+    → priced_or_none (at_place all (first_named (places_of all) x)) ≡ priced_named (map priced_seen all) x
+    → priced_or_none (at_place (f ∷ all) (if test then Some (length all) else first_named (places_of all) x))
+    ≡ (if test then priced_seen f else priced_named (map priced_seen all) x)
+by_test true f all x rest = ap priced_or_none (newest f all)
+by_test false f all x rest = ap priced_or_none (one_more f all (first_named (places_of all) x) (within all x)) ∙ rest
+
+pub function_found : (all : List Known) (x : List ℕ)
+    → priced_or_none (at_place all (first_named (places_of all) x)) ≡ priced_named (map priced_seen all) x
+function_found [] x = refl
+function_found (f ∷ all) x = by_test (bytes_eq f.name.now x) f all x (function_found all x)
+
+-- the function that a slice lends at a place
+pub item_at : (items : List Known) (place : ℕ) (item : Option (Bor Known)) → IsItemAt items place item
+    → option_map (λ (found : Bor Known). found.now) item ≡ slice_get items place
+item_at items place None lent = sym (slice_get_past items place lent.3)
+item_at items place (Some found) lent = sym (slice_get_read items (length items) place found.now refl lent.3.0 lent.1)

@@ -1,5 +1,5 @@
 -- What the crate's own types hold, as the definitions see it.
-use Rattle.std.specs.Prelude.{ℕ, List, map, Option, None, Some, reverse}
+use Rattle.std.specs.Prelude.{ℕ, List, [], ◌∷◌, length, map, Option, None, Some, reverse}
 use Rattle.rpl_tree.specs.Budget.{Budget, budget}
 use Rattle.rpl_tree.specs.Kinds.{Names}
 use Rattle.rpl_tree.specs.Value.{Kind, number_kind, truth_kind, date_kind, slot_kind, numbers_kind, slots_kind}
@@ -47,4 +47,9 @@ priced_or_none (Some f) = priced_seen f
 
 -- the function that was declared last stands last
 abbrev pub functions_of : List Known → List Priced
-functions_of known = reverse (map priced_seen known)
+functions_of known = map priced_seen (reverse known)
+
+-- the place of each function by its name, where the last function stands first
+abbrev pub places_of : List Known → List (List ℕ × ℕ)
+places_of [] = []
+places_of (f ∷ all) = (f.name.now, length all) ∷ places_of all

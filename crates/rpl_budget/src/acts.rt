@@ -2,10 +2,10 @@
 ghost use Rattle.std.specs.Prelude.{◌≡◌, ◌∷◌, IfOk, OnOk};
 ghost use Rattle.rpl_tree.specs.Seen.{act_of, acts_in};
 ghost use Rattle.rpl_budget.specs.Pass as Pass;
-ghost use Rattle.rpl_budget.specs.Seen.{functions_of, named_seen, names_of};
+ghost use Rattle.rpl_budget.specs.Seen.{named_seen, names_of};
 
+use crate::functions::Functions;
 use crate::kind::TreeKind;
-use crate::known::Known;
 use crate::load::{Load, both, either, nothing, one_put, steps};
 use crate::named::Named;
 use crate::pass::pass;
@@ -17,11 +17,11 @@ use rw_base::NoMemory;
 /// Computes the load of statements, one after the other, where these functions and names can be used. The names stay as they are.
 #[cycle(acts)]
 pub(crate) fn acts<'a>(
-    known: &[Known],
+    known: &Functions<'a>,
     names: &mut Scope<'a, TreeKind>,
     statements: &'a [Statement],
 ) -> Result<Load, NoMemory>
-    ensures found { IfOk result (λ load. load ≡ Pass.pass_acts (functions_of known.now)
+    ensures found { IfOk result (λ load. load ≡ Pass.pass_acts known.now
         (names_of names.old) (acts_in statements.now)) }
     ensures names { OnOk result (names.new ≡ names.old) }
 {
@@ -44,11 +44,11 @@ fn branched(test: Load, first: Load, second: Load) -> Load
 
 #[cycle(acts)]
 fn act<'a>(
-    known: &[Known],
+    known: &Functions<'a>,
     names: &mut Scope<'a, TreeKind>,
     statement: &'a Statement,
 ) -> Result<Load, NoMemory>
-    ensures found { IfOk result (λ load. load ≡ Pass.pass_act (functions_of known.now)
+    ensures found { IfOk result (λ load. load ≡ Pass.pass_act known.now
         (names_of names.old) (act_of statement.now)) }
     ensures names { OnOk result (names.new ≡ names.old) }
 {
@@ -78,12 +78,12 @@ fn act<'a>(
 // What is done with a variable.
 #[cycle(acts)]
 fn inside<'a>(
-    known: &[Known],
+    known: &Functions<'a>,
     names: &mut Scope<'a, TreeKind>,
     variable: Named<'a>,
     body: &'a [Statement],
 ) -> Result<Load, NoMemory>
-    ensures found { IfOk result (λ load. load ≡ Pass.pass_acts (functions_of known.now)
+    ensures found { IfOk result (λ load. load ≡ Pass.pass_acts known.now
         (named_seen variable.entry ∷ names_of names.old) (acts_in body.now)) }
     ensures names { OnOk result (names.new ≡ names.old) }
 {

@@ -5,7 +5,7 @@ ghost use Rattle.rpl_budget.specs.Pass.{and_priced, declared_budget, predefined_
 ghost use Rattle.rpl_budget.specs.Seen.{budget_seen};
 
 use crate::TreeCost;
-use crate::known::Known;
+use crate::functions::Functions;
 use crate::ruleset::{declared, predefined};
 use rpl_tree::Declaration;
 use rw_base::NoMemory;
@@ -16,17 +16,16 @@ use std::marker::Model;
 /// declaration for something else, too, goes through it while it is at hand.
 #[derive(Drop)]
 pub struct InTurn<'a> {
-    known: Vec<Known<'a>>,
+    known: Functions<'a>,
 }
 
 impl<'a> Model for InTurn<'a> {
     ghost use Rattle.std.specs.Prelude.{List};
     ghost use Rattle.rpl_budget.specs.Pass.{Priced};
-    ghost use Rattle.rpl_budget.specs.Seen.{functions_of};
 
     ghost Value = { List Priced };
 
-    ghost view = { λ turn. functions_of turn.known.items };
+    ghost view = { λ turn. turn.known };
 }
 
 impl<'a> InTurn<'a> {

@@ -1,14 +1,13 @@
-//! Holds the functions that can be called, and computes the load of a call.
-ghost use Rattle.std.specs.Prelude.{◌≡◌, bytes_eq, option_map, if◌then◌else◌};
+//! Holds a function that can be called, and computes the load of a call.
+ghost use Rattle.std.specs.Prelude.{◌≡◌};
 ghost use Rattle.rpl_tree.specs.Budget.{capped, limits};
 ghost use Rattle.rpl_tree.specs.Value as Value;
 ghost use Rattle.rpl_budget.specs.Pass as Pass;
-ghost use Rattle.rpl_budget.specs.Seen.{functions_of, tree_kind_seen, tree_kinds_seen, priced_or_none, priced_seen};
+ghost use Rattle.rpl_budget.specs.Seen.{tree_kind_seen, tree_kinds_seen, priced_seen};
 
 use crate::TreeCost;
 use crate::kind::{TreeKind, weight};
 use crate::load::{Load, nothing, plus, standing, stopped};
-use rpl_scope::is_same_name;
 use rw_base::limits::WORDS_MAX;
 
 /// A function that can be called, and the load of a call, its arguments apart.
@@ -31,35 +30,6 @@ pub(crate) fn weights(kinds: &[TreeKind]) -> u64
         sum = plus(sum, stopped(weight(*kind), WORDS_MAX), WORDS_MAX);
     }
     sum
-}
-
-// This function, if it has the name.
-fn known_or<'a, 'b>(
-    f: &'a Known<'b>,
-    name: &[u8],
-    otherwise: Option<&'a Known<'b>>,
-) -> Option<&'a Known<'b>>
-    ensures { priced_or_none (option_map (λ g. g.now) result)
-        ≡ if bytes_eq f.entry.now.name.now name.now then priced_seen f.entry.now
-        else priced_or_none (option_map (λ g. g.now) otherwise.entry) }
-{
-    if is_same_name(f.name, name) {
-        Some(f)
-    } else {
-        otherwise
-    }
-}
-
-/// Returns the function of a name that was declared last.
-pub(crate) fn function_named<'a, 'b>(known: &'a [Known<'b>], name: &[u8]) -> Option<&'a Known<'b>>
-    ensures { priced_or_none (option_map (λ f. f.now) result)
-        ≡ Pass.priced_named (functions_of known.now) name.now }
-{
-    let mut found = None;
-    for entry in known {
-        found = known_or(entry, name, found);
-    }
-    found
 }
 
 /// Returns the load of a call of a function whose arguments are there.

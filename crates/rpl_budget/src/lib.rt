@@ -5,6 +5,7 @@
 
 mod acts;
 mod cost;
+mod functions;
 mod in_turn;
 mod kind;
 mod known;

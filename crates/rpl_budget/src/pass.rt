@@ -3,10 +3,11 @@ ghost use Rattle.std.specs.Prelude.{◌≡◌, ◌∷◌, [], IfOk, OnOk, drop};
 ghost use Rattle.rpl_tree.specs.Seen.{tree_of, trees_in};
 ghost use Rattle.rpl_tree.specs.Tree.{at, bind, call, choice, convert, each, list, mapped, one, two};
 ghost use Rattle.rpl_budget.specs.Pass as Pass;
-ghost use Rattle.rpl_budget.specs.Seen.{functions_of, tree_kind_seen, tree_kinds_seen, measured_seen, named_seen, names_of};
+ghost use Rattle.rpl_budget.specs.Seen.{tree_kind_seen, tree_kinds_seen, measured_seen, named_seen, names_of};
 
+use crate::functions::Functions;
 use crate::kind::{TreeKind, element_of, one_kind, room_of, two_kind, weight};
-use crate::known::{Known, called, function_named};
+use crate::known::called;
 use crate::load::{Load, above, both, fitted, locals_alone, looked, nothing, standing, steps};
 use crate::named::{Named, kind_named};
 use crate::work::{
@@ -20,12 +21,12 @@ use rw_base::NoMemory;
 #[cycle(pass)]
 #[tactic(auto, using(rpl_tree::proofs::Viewed::tree_of_list))]
 pub(crate) fn pass<'a>(
-    known: &[Known],
+    known: &Functions<'a>,
     names: &mut Scope<'a, TreeKind>,
     e: &'a Expr,
 ) -> Result<Work, NoMemory>
     ensures found { IfOk result (λ work. measured_seen work
-        ≡ Pass.pass (functions_of known.now) (names_of names.old) (tree_of e.now)) }
+        ≡ Pass.pass known.now (names_of names.old) (tree_of e.now)) }
     ensures names { OnOk result (names.new ≡ names.old) }
 {
     match e {
@@ -56,14 +57,14 @@ pub(crate) fn pass<'a>(
 // One of two values.
 #[cycle(pass)]
 fn choice<'a>(
-    known: &[Known],
+    known: &Functions<'a>,
     names: &mut Scope<'a, TreeKind>,
     condition: &'a Expr,
     yes: &'a Expr,
     no: &'a Expr,
 ) -> Result<Work, NoMemory>
     ensures found { IfOk result (λ work. measured_seen work
-        ≡ Pass.pass (functions_of known.now) (names_of names.old)
+        ≡ Pass.pass known.now (names_of names.old)
         (choice (tree_of condition.now) (tree_of yes.now) (tree_of no.now))) }
     ensures names { OnOk result (names.new ≡ names.old) }
 {
@@ -76,14 +77,14 @@ fn choice<'a>(
 // A value under a name, and what is done with it.
 #[cycle(pass)]
 fn bind<'a>(
-    known: &[Known],
+    known: &Functions<'a>,
     names: &mut Scope<'a, TreeKind>,
     name: &'a [u8],
     value: &'a Expr,
     body: &'a Expr,
 ) -> Result<Work, NoMemory>
     ensures found { IfOk result (λ work. measured_seen work
-        ≡ Pass.pass (functions_of known.now) (names_of names.old)
+        ≡ Pass.pass known.now (names_of names.old)
         (bind name.now (tree_of value.now) (tree_of body.now))) }
     ensures names { OnOk result (names.new ≡ names.old) }
 {
@@ -98,7 +99,7 @@ fn bind<'a>(
 // A loop over a list.
 #[cycle(pass)]
 fn each<'a>(
-    known: &[Known],
+    known: &Functions<'a>,
     names: &mut Scope<'a, TreeKind>,
     own: &'a LoopText,
     list: &'a Expr,
@@ -106,7 +107,7 @@ fn each<'a>(
     body: &'a Expr,
 ) -> Result<Work, NoMemory>
     ensures found { IfOk result (λ work. measured_seen work
-        ≡ Pass.pass (functions_of known.now) (names_of names.old)
+        ≡ Pass.pass known.now (names_of names.old)
         (each own.now.name.items (tree_of list.now) own.now.total.items (tree_of first.now)
         (tree_of body.now))) }
     ensures names { OnOk result (names.new ≡ names.old) }
@@ -127,14 +128,14 @@ fn each<'a>(
 // A list of what comes of each element of another.
 #[cycle(pass)]
 fn mapping<'a>(
-    known: &[Known],
+    known: &Functions<'a>,
     names: &mut Scope<'a, TreeKind>,
     name: &'a [u8],
     list: &'a Expr,
     body: &'a Expr,
 ) -> Result<Work, NoMemory>
     ensures found { IfOk result (λ work. measured_seen work
-        ≡ Pass.pass (functions_of known.now) (names_of names.old)
+        ≡ Pass.pass known.now (names_of names.old)
         (mapped name.now (tree_of list.now) (tree_of body.now))) }
     ensures names { OnOk result (names.new ≡ names.old) }
 {
@@ -149,13 +150,13 @@ fn mapping<'a>(
 // A word and one expression.
 #[cycle(pass)]
 fn one<'a>(
-    known: &[Known],
+    known: &Functions<'a>,
     names: &mut Scope<'a, TreeKind>,
     word: OneWord,
     arg: &'a Expr,
 ) -> Result<Work, NoMemory>
     ensures found { IfOk result (λ work. measured_seen work
-        ≡ Pass.pass (functions_of known.now) (names_of names.old)
+        ≡ Pass.pass known.now (names_of names.old)
         (one word (tree_of arg.now))) }
     ensures names { OnOk result (names.new ≡ names.old) }
 {
@@ -169,14 +170,14 @@ fn one<'a>(
 // A word and two expressions.
 #[cycle(pass)]
 fn two<'a>(
-    known: &[Known],
+    known: &Functions<'a>,
     names: &mut Scope<'a, TreeKind>,
     word: TwoWord,
     left: &'a Expr,
     right: &'a Expr,
 ) -> Result<Work, NoMemory>
     ensures found { IfOk result (λ work. measured_seen work
-        ≡ Pass.pass (functions_of known.now) (names_of names.old)
+        ≡ Pass.pass known.now (names_of names.old)
         (two word (tree_of left.now) (tree_of right.now))) }
     ensures names { OnOk result (names.new ≡ names.old) }
 {
@@ -191,14 +192,14 @@ fn two<'a>(
 // A word, an object and an expression.
 #[cycle(pass)]
 fn convert<'a>(
-    known: &[Known],
+    known: &Functions<'a>,
     names: &mut Scope<'a, TreeKind>,
     _word: ConvertWord,
     _object: &[u8],
     arg: &'a Expr,
 ) -> Result<Work, NoMemory>
     ensures found { IfOk result (λ work. measured_seen work
-        ≡ Pass.pass (functions_of known.now) (names_of names.old)
+        ≡ Pass.pass known.now (names_of names.old)
         (convert _word _object.now (tree_of arg.now))) }
     ensures names { OnOk result (names.new ≡ names.old) }
 {
@@ -212,13 +213,13 @@ fn convert<'a>(
 // `slot[step]`.
 #[cycle(pass)]
 fn look<'a>(
-    known: &[Known],
+    known: &Functions<'a>,
     names: &mut Scope<'a, TreeKind>,
     slot: &'a Expr,
     step: &'a Expr,
 ) -> Result<Work, NoMemory>
     ensures found { IfOk result (λ work. measured_seen work
-        ≡ Pass.pass (functions_of known.now) (names_of names.old)
+        ≡ Pass.pass known.now (names_of names.old)
         (at (tree_of slot.now) (tree_of step.now))) }
     ensures names { OnOk result (names.new ≡ names.old) }
 {
@@ -233,14 +234,14 @@ fn look<'a>(
 // What is done with a name.
 #[cycle(pass)]
 fn inside<'a>(
-    known: &[Known],
+    known: &Functions<'a>,
     names: &mut Scope<'a, TreeKind>,
     name: &'a [u8],
     kind: TreeKind,
     body: &'a Expr,
 ) -> Result<Work, NoMemory>
     ensures found { IfOk result (λ work. measured_seen work
-        ≡ Pass.pass (functions_of known.now) ((name.now, tree_kind_seen kind) ∷ names_of names.old)
+        ≡ Pass.pass known.now ((name.now, tree_kind_seen kind) ∷ names_of names.old)
         (tree_of body.now)) }
     ensures names { OnOk result (names.new ≡ names.old) }
 {
@@ -253,14 +254,14 @@ fn inside<'a>(
 // What is done in a turn, with an element and a total.
 #[cycle(pass)]
 fn inside_turn<'a>(
-    known: &[Known],
+    known: &Functions<'a>,
     names: &mut Scope<'a, TreeKind>,
     item: Named<'a>,
     total: &'a [u8],
     kind: TreeKind,
     body: &'a Expr,
 ) -> Result<Work, NoMemory>
-    ensures found { IfOk result (λ work. measured_seen work ≡ Pass.pass (functions_of known.now)
+    ensures found { IfOk result (λ work. measured_seen work ≡ Pass.pass known.now
         ((total.now, tree_kind_seen kind) ∷ named_seen item.entry ∷ names_of names.old)
         (tree_of body.now)) }
     ensures names { OnOk result (names.new ≡ names.old) }
@@ -274,12 +275,12 @@ fn inside_turn<'a>(
 // Each element, from the last on.
 #[cycle(pass)]
 fn elements<'a>(
-    known: &[Known],
+    known: &Functions<'a>,
     names: &mut Scope<'a, TreeKind>,
     items: &'a [Expr],
 ) -> Result<Work, NoMemory>
     ensures found { IfOk result (λ work. measured_seen work
-        ≡ Pass.pass_all (functions_of known.now) (names_of names.old) (trees_in items.now)) }
+        ≡ Pass.pass_all known.now (names_of names.old) (trees_in items.now)) }
     ensures names { OnOk result (names.new ≡ names.old) }
 {
     let mut others = Work {
@@ -298,12 +299,12 @@ fn elements<'a>(
 #[cycle(pass)]
 #[tactic(auto, using(crate::proofs::Viewed::count_is))]
 fn list<'a>(
-    known: &[Known],
+    known: &Functions<'a>,
     names: &mut Scope<'a, TreeKind>,
     items: &'a [Expr],
 ) -> Result<Work, NoMemory>
     ensures found { IfOk result (λ work. measured_seen work
-        ≡ Pass.pass (functions_of known.now) (names_of names.old)
+        ≡ Pass.pass known.now (names_of names.old)
         (list (trees_in items.now))) }
     ensures names { OnOk result (names.new ≡ names.old) }
 {
@@ -332,12 +333,12 @@ fn argument(takes: &[TreeKind], value: Work, others: Load) -> Load
 // Each argument, from the last on.
 #[cycle(pass)]
 fn arguments<'a>(
-    known: &[Known],
+    known: &Functions<'a>,
     names: &mut Scope<'a, TreeKind>,
     takes: &[TreeKind],
     args: &'a [Expr],
 ) -> Result<Load, NoMemory>
-    ensures found { IfOk result (λ load. load ≡ Pass.pass_arguments (functions_of known.now)
+    ensures found { IfOk result (λ load. load ≡ Pass.pass_arguments known.now
         (names_of names.old) (tree_kinds_seen takes.now) (trees_in args.now)) }
     ensures names { OnOk result (names.new ≡ names.old) }
 {
@@ -353,17 +354,17 @@ fn arguments<'a>(
 
 #[cycle(pass)]
 fn call<'a>(
-    known: &[Known],
+    known: &Functions<'a>,
     names: &mut Scope<'a, TreeKind>,
-    name: &[u8],
+    name: &'a [u8],
     args: &'a [Expr],
 ) -> Result<Work, NoMemory>
     ensures found { IfOk result (λ work. measured_seen work
-        ≡ Pass.pass (functions_of known.now) (names_of names.old)
+        ≡ Pass.pass known.now (names_of names.old)
         (call name.now (trees_in args.now))) }
     ensures names { OnOk result (names.new ≡ names.old) }
 {
-    match function_named(known, name) {
+    match known.find(name) {
         None => {
             let load = arguments(known, names, &[], args)?;
             Ok(Work {

@@ -5,10 +5,11 @@ ghost use Rattle.rpl_tree.specs.Mean as Mean;
 ghost use Rattle.rpl_tree.specs.Seen.{declared_of, parameter_of, rules_of};
 ghost use Rattle.rpl_budget.specs.Budgets.{budgets_of};
 ghost use Rattle.rpl_budget.specs.Pass as Pass;
-ghost use Rattle.rpl_budget.specs.Seen.{budget_seen, functions_of, tree_kind_seen, tree_kinds_seen, measured_seen, names_of, priced_seen};
+ghost use Rattle.rpl_budget.specs.Seen.{budget_seen, tree_kind_seen, tree_kinds_seen, measured_seen, names_of, priced_seen};
 
 use crate::TreeCost;
 use crate::acts::acts;
+use crate::functions::Functions;
 use crate::kind::{TreeKind, kind_of_type};
 use crate::known::{Known, weights};
 use crate::load::{Load, fitted, plus};
@@ -86,13 +87,13 @@ fn param_names<'a>(alloc: Global, params: &'a [Param]) -> Result<Scope<'a, TreeK
 /// Computes the budgets of a declaration. A function can be called by those that follow.
 pub(crate) fn declared<'a>(
     alloc: Global,
-    known: &mut Vec<Known<'a>>,
+    known: &mut Functions<'a>,
     declaration: &'a Declaration,
 ) -> Result<TreeCost, NoMemory>
     ensures cost { IfOk result (λ cost. budget_seen cost
-        ≡ Pass.declared_budget (functions_of known.old.items) (declared_of declaration.now)) }
-    ensures known { OnOk result (functions_of known.new.items
-        ≡ Pass.and_priced (functions_of known.old.items) (declared_of declaration.now)) }
+        ≡ Pass.declared_budget known.old (declared_of declaration.now)) }
+    ensures known { OnOk result (known.new
+        ≡ Pass.and_priced known.old (declared_of declaration.now)) }
 {
     match declaration {
         Declaration::Rule { body, .. } => {
@@ -144,11 +145,11 @@ fn of_numbers(name: &'static [u8], takes: Vec<TreeKind>) -> Known<'static>
 }
 
 /// Returns the functions that there are in each ruleset, the last of them first.
-pub(crate) fn predefined(alloc: Global) -> Result<Vec<Known<'static>>, NoMemory>
-    ensures { IfOk result (λ known. functions_of known.items ≡ Pass.predefined_priced) }
+pub(crate) fn predefined<'a>(alloc: Global) -> Result<Functions<'a>, NoMemory>
+    ensures { IfOk result (λ known. known ≡ Pass.predefined_priced) }
 {
     let one = TreeKind::Number;
-    let mut known = Vec::new(alloc);
+    let mut known = Functions::new(alloc);
     known.push(of_numbers(b"MulDiv", vec![in alloc; one, one, one]?))?;
     known.push(of_numbers(b"Sign", vec![in alloc; one]?))?;
     known.push(of_numbers(b"RoundDown", vec![in alloc; one, one]?))?;

@@ -10,5 +10,6 @@ pub mod Visiting
 pub mod VisitingActs
 -- ---- heads of functions, and all declarations
 pub mod Heading
+pub mod Placed
 pub mod InTurn
 pub mod Counting

@@ -19,7 +19,7 @@ use rpl_tree::{Expr, RplType, Statement};
 /// Returns the type of a function's body, and those of its nodes.
 #[tactic(auto, using(crate::proofs::VisitingActs::body_given))]
 pub(crate) fn body_types<'a>(
-    known: &Known,
+    known: &Known<'_, 'a>,
     scope: Scope<'a, RplType>,
     body: &'a Expr,
 ) -> Result<(RplType, Vec<Option<RplType>>), Stop>
@@ -37,7 +37,10 @@ pub(crate) fn body_types<'a>(
 
 /// Returns the types of a rule's nodes.
 #[tactic(auto, using(crate::proofs::VisitingActs::acts_given))]
-pub(crate) fn acts_types(known: &Known, body: &[Statement]) -> Result<Vec<Option<RplType>>, Stop>
+pub(crate) fn acts_types<'a>(
+    known: &Known<'_, 'a>,
+    body: &'a [Statement],
+) -> Result<Vec<Option<RplType>>, Stop>
     ensures { Answers Stop.NoMemory stop_refusal (λ types. types.items) result
         (types_of_acts known.now.basin.now (callable_in known.now) [] 1 (acts_in body.now)) }
 {

@@ -1,28 +1,21 @@
 //! Finds the type of a call from those of its arguments.
-ghost use Rattle.std.specs.Prelude.{◌≡◌, ◌<◌, ◌+◌, ◌∷◌, [], None, Some, bytes_eq, drop, length, map, option_map};
+ghost use Rattle.std.specs.Prelude.{◌≡◌, ◌<◌, ◌+◌, ◌∷◌, [], None, Some, bytes_eq, drop, length, map};
 ghost use Rattle.std.specs.List.{list_any};
 ghost use Rattle.rpl_tree.specs.Seen.{declared_of};
 ghost use Rattle.rpl_types.specs.Fits.{arguments_misfit, length_misfit, longest, misfit_among, misfit_in_places, sooner};
 ghost use Rattle.rpl_types.specs.Forms.{list_type};
-ghost use Rattle.rpl_types.specs.Functions.{call_type, measured_by, numbers_type, predefined_count, predefined_type, product_over_type, signature_named, unknown_type, declared_type};
+ghost use Rattle.rpl_types.specs.Functions.{call_type, measured_by, numbers_type, predefined_count, predefined_type, product_over_type, unknown_type, declared_type};
 ghost use Rattle.rpl_types.specs.Judged.{function_names};
-ghost use Rattle.rpl_types.specs.Seen.{callable_of, signature_of, signatures_of};
+ghost use Rattle.rpl_types.specs.Seen.{callable_of};
 
 use crate::TypeKind;
 use crate::fits::{length_misfit, misfit, sooner};
 use crate::forms::{measured, plain_number};
+use crate::functions::Functions;
 use rpl_scope::is_same_name;
 use rpl_tree::{Declaration, RplType};
 use rw_base::Dim;
 use rw_base::limits::LIST_MAX;
-
-/// A function that was declared: its name, the types of its parameters, and that of its result.
-#[derive(Drop)]
-pub(crate) struct Signature<'a> {
-    pub(crate) name: &'a [u8],
-    pub(crate) takes: Vec<RplType>,
-    pub(crate) result: RplType,
-}
 
 /// Returns why not all values fit where a type is asked for; `None` where they do.
 fn misfit_among(given: &[RplType], asked: &RplType) -> Option<TypeKind>
@@ -162,22 +155,6 @@ fn predefined_type(name: &[u8], count: usize, args: &[RplType]) -> Result<RplTyp
     }
 }
 
-/// Returns the function of a name, if one was declared. There are at most 200.
-pub(crate) fn signature_named<'a, 'b>(
-    functions: &'a [Signature<'b>],
-    name: &[u8],
-) -> Option<&'a Signature<'b>>
-    ensures { option_map (λ found. signature_of found.now) result
-        ≡ signature_named (signatures_of functions.now) name.now }
-{
-    for known in functions {
-        if is_same_name(known.name, name) {
-            return Some(known);
-        }
-    }
-    None
-}
-
 fn is_later(later: &[Declaration], name: &[u8]) -> bool
     ensures { result ≡ list_any (bytes_eq name.now) (function_names (map declared_of later.now)) }
 {
@@ -210,18 +187,18 @@ fn unknown_type(later: &[Declaration], name: &[u8]) -> Result<RplType, TypeKind>
 }
 
 /// Returns the type of a call of the name, where these functions are declared before, and those declarations are not.
-pub(crate) fn call_type(
-    earlier: &[Signature],
+pub(crate) fn call_type<'a>(
+    earlier: &Functions<'a>,
     later: &[Declaration],
-    name: &[u8],
+    name: &'a [u8],
     args: &[RplType],
 ) -> Result<RplType, TypeKind>
-    ensures { result ≡ call_type (callable_of earlier.now later.now) name.now args.now }
+    ensures { result ≡ call_type (callable_of earlier.now later.now) name.entry.now args.now }
 {
     if let Some(count) = predefined_count(name) {
         return predefined_type(name, count, args);
     }
-    let Some(known) = signature_named(earlier, name) else {
+    let Some(known) = earlier.find(name) else {
         return unknown_type(later, name);
     };
     match arguments_misfit(args, &known.takes) {

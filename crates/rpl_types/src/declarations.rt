@@ -11,14 +11,13 @@ ghost use Rattle.rpl_types.specs.Gives.{callable_in};
 ghost use Rattle.rpl_types.specs.Judged.{and_function, cost_refusal, declared_types, is_affordable, rules_judged, refused_as_whole, with_budget};
 ghost use Rattle.rpl_types.specs.Declarations.{node_refusal};
 ghost use Rattle.rpl_types.specs.Refused.{type_refusal_of};
-ghost use Rattle.rpl_types.specs.Seen.{signatures_of};
 ghost use Rattle.rpl_types.specs.Stopped.{stop_refusal};
 ghost use Rattle.rpl_types.specs.declared.fault.TypeFault.TheVariants as TypeFault;
 ghost use Rattle.rpl_types.specs.declared.stop.Stop.TheVariants as Stop;
 
 use crate::bodies::{acts_types, body_types};
-use crate::calls::Signature;
 use crate::fits::misfit;
+use crate::functions::Functions;
 use crate::heads::{head_refusal, param_scope, signature, type_here};
 use crate::known::Known;
 use crate::stop::Stop;
@@ -44,12 +43,12 @@ fn unless_as_whole(refusal: Option<TypeKind>, types: NodeTypes) -> Result<NodeTy
     }
 }
 
-fn function_types(
-    known: &Known,
-    name: &[u8],
-    params: &[Param],
-    answers: &TypeText,
-    body: &Expr,
+fn function_types<'a>(
+    known: &Known<'_, 'a>,
+    name: &'a [u8],
+    params: &'a [Param],
+    answers: &'a TypeText,
+    body: &'a Expr,
 ) -> Result<NodeTypes, Stop>
     ensures { Answers Stop.NoMemory stop_refusal (λ types. types.items) result
         (declared_types known.now.basin.now (callable_in known.now)
@@ -65,7 +64,10 @@ fn function_types(
 }
 
 /// Returns the types of the nodes of a declaration, its budgets apart.
-fn declared_types(known: &Known, declaration: &Declaration) -> Result<NodeTypes, Stop>
+fn declared_types<'a>(
+    known: &Known<'_, 'a>,
+    declaration: &'a Declaration,
+) -> Result<NodeTypes, Stop>
     ensures { Answers Stop.NoMemory stop_refusal (λ types. types.items) result
         (declared_types known.now.basin.now (callable_in known.now) (declared_of declaration.now)) }
 {
@@ -100,7 +102,11 @@ fn cost_refusal(cost: &TreeCost) -> Option<TypeKind>
 }
 
 /// Returns the types of the nodes of a declaration, where each of its budgets is within its limit.
-fn with_budget(known: &Known, declaration: &Declaration, cost: &TreeCost) -> Result<NodeTypes, Stop>
+fn with_budget<'a>(
+    known: &Known<'_, 'a>,
+    declaration: &'a Declaration,
+    cost: &TreeCost,
+) -> Result<NodeTypes, Stop>
     ensures { Answers Stop.NoMemory stop_refusal (λ types. types.items) result
         (with_budget known.now.basin.now (callable_in known.now) (budget_seen cost.now)
         (declared_of declaration.now)) }
@@ -112,11 +118,11 @@ fn with_budget(known: &Known, declaration: &Declaration, cost: &TreeCost) -> Res
 /// Adds what later declarations can call.
 fn add_function<'a>(
     alloc: Global,
-    earlier: &mut Vec<Signature<'a>>,
+    earlier: &mut Functions<'a>,
     declaration: &'a Declaration,
 ) -> Result<(), Stop>
-    ensures ok { OnOk result (signatures_of earlier.new.items
-        ≡ and_function (declared_of declaration.now) (signatures_of earlier.old.items)) }
+    ensures ok { OnOk result
+        (earlier.new ≡ and_function (declared_of declaration.now) earlier.old) }
     ensures err { IfErr result (λ stop. stop ≡ Stop.NoMemory) }
 {
     match declaration {
@@ -130,7 +136,7 @@ fn add_function<'a>(
             let made = signature(alloc, name, params, result)?;
             match earlier.push(made) {
                 Ok(()) => Ok(()),
-                Err(_) => Err(Stop::NoMemory),
+                Err(NoMemory) => Err(Stop::NoMemory),
             }
         }
     }
@@ -157,7 +163,7 @@ fn fault_at(number: usize, stop: Stop) -> TypeFault
 
 /// Returns the types of the nodes of a declaration with the budgets that it has in its turn, which are noted.
 fn priced_types<'a>(
-    known: &Known,
+    known: &Known<'_, 'a>,
     turn: &mut InTurn<'a>,
     costs: &mut Vec<TreeCost>,
     declaration: &'a Declaration,
@@ -208,7 +214,7 @@ pub(crate) fn types_of_all(
         ≡ budgets_of (map declared_of declarations.now)) }
 {
     let mut all = Vec::new(alloc);
-    let mut earlier = Vec::new(alloc);
+    let mut earlier = Functions::new(alloc);
     let mut turn = first_turn(alloc)?;
     for place in 0..declarations.len() {
         let declaration = &declarations[place];

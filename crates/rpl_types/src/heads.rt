@@ -5,13 +5,14 @@ ghost use Rattle.rpl_tree.specs.declared.rpl_type.RplType.TheVariants as RplType
 ghost use Rattle.rpl_types.specs.Fits.{longest};
 ghost use Rattle.rpl_types.specs.Functions.{head_misfit, is_duplicate, param_scope, predefined_count, refusal_in, repeats_name, signature, signature_named, type_here, with_room, written_type};
 ghost use Rattle.rpl_types.specs.Judged.{head_refusal};
-ghost use Rattle.rpl_types.specs.Seen.{signature_of, signatures_of};
+ghost use Rattle.rpl_types.specs.Seen.{signature_of};
 ghost use Rattle.rpl_types.specs.declared.stop.Stop.TheVariants as Stop;
 
 use crate::TypeKind;
-use crate::calls::{Signature, predefined_count, signature_named};
+use crate::calls::predefined_count;
 use crate::fits::sooner;
 use crate::forms::plain;
+use crate::functions::{Functions, Signature};
 use crate::names::unit_named;
 use crate::stop::Stop;
 use rpl_scope::Scope;
@@ -126,21 +127,21 @@ fn repeats_name(alloc: Global, params: &[Param]) -> Result<bool, Stop>
 }
 
 /// Returns whether a name cannot be that of a function after those.
-fn is_taken(earlier: &[Signature], name: &[u8]) -> bool
-    ensures { result ≡ is_some (predefined_count name.now)
-        || is_some (signature_named (signatures_of earlier.now) name.now) }
+fn is_taken<'a>(earlier: &Functions<'a>, name: &'a [u8]) -> bool
+    ensures { result ≡ is_some (predefined_count name.entry.now)
+        || is_some (signature_named earlier.now name.entry.now) }
 {
-    predefined_count(name).is_some() || signature_named(earlier, name).is_some()
+    predefined_count(name).is_some() || earlier.find(name).is_some()
 }
 
-fn is_duplicate(
+fn is_duplicate<'a>(
     alloc: Global,
-    earlier: &[Signature],
-    name: &[u8],
+    earlier: &Functions<'a>,
+    name: &'a [u8],
     params: &[Param],
 ) -> Result<bool, Stop>
     ensures ok { IfOk result (λ duplicate. duplicate
-        ≡ is_duplicate (signatures_of earlier.now) name.now (map parameter_of params.now)) }
+        ≡ is_duplicate earlier.now name.entry.now (map parameter_of params.now)) }
     ensures err { IfErr result (λ stop. stop ≡ Stop.NoMemory) }
 {
     if is_taken(earlier, name) {
@@ -151,15 +152,15 @@ fn is_duplicate(
 }
 
 /// Returns what is wrong with a function before its body is judged; `None` where nothing is.
-pub(crate) fn head_refusal(
+pub(crate) fn head_refusal<'a>(
     alloc: Global,
-    earlier: &[Signature],
-    name: &[u8],
+    earlier: &Functions<'a>,
+    name: &'a [u8],
     params: &[Param],
     answers: &TypeText,
 ) -> Result<Option<TypeKind>, Stop>
-    ensures ok { IfOk result (λ refusal. refusal ≡ head_refusal (signatures_of earlier.now)
-        name.now (map parameter_of params.now) (type_of answers.now)) }
+    ensures ok { IfOk result (λ refusal. refusal ≡ head_refusal earlier.now
+        name.entry.now (map parameter_of params.now) (type_of answers.now)) }
     ensures err { IfErr result (λ stop. stop ≡ Stop.NoMemory) }
 {
     if is_duplicate(alloc, earlier, name, params)? {

@@ -1,5 +1,5 @@
 //! Holds what a declaration is judged with: the basin and the other declarations.
-use crate::calls::Signature;
+use crate::functions::Functions;
 use rpl_tree::Declaration;
 use rw_model::Basin;
 use std::alloc::Global;
@@ -12,7 +12,7 @@ pub(crate) struct Known<'a, 'b> {
     /// The basin.
     pub(crate) basin: &'a Basin,
     /// The functions that are declared before.
-    pub(crate) earlier: &'a [Signature<'b>],
+    pub(crate) earlier: &'a Functions<'b>,
     /// The declarations from this one on.
     pub(crate) later: &'a [Declaration],
 }

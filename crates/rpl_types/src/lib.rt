@@ -12,6 +12,7 @@ mod declarations;
 mod fault;
 mod fits;
 mod forms;
+mod functions;
 mod heads;
 mod known;
 pub mod law;

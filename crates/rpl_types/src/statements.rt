@@ -54,7 +54,7 @@ fn target_misfit(basin: &Basin, target: &SlotText, ahead: i64, t: &RplType) -> O
 /// Judges the statements in a row.
 #[cycle(statements)]
 pub(crate) fn statements<'a>(
-    known: &Known,
+    known: &Known<'_, 'a>,
     progress: &mut Progress<'a>,
     body: &'a [Statement],
 ) -> Result<(), Stop>
@@ -70,7 +70,7 @@ pub(crate) fn statements<'a>(
 #[cycle(statements)]
 #[tactic(auto, using(rpl_tree::proofs::Viewed::act_of_branch, rpl_tree::proofs::Viewed::act_of_with))]
 fn visit_statement<'a>(
-    known: &Known,
+    known: &Known<'_, 'a>,
     progress: &mut Progress<'a>,
     statement: &'a Statement,
 ) -> Result<(), Stop>
@@ -102,7 +102,7 @@ fn visit_statement<'a>(
 
 /// Judges `target[t + ahead] := value;`.
 fn set<'a>(
-    known: &Known,
+    known: &Known<'_, 'a>,
     progress: &mut Progress<'a>,
     target: &SlotText,
     ahead: i64,

@@ -57,7 +57,7 @@ fn leaf(progress: &mut Progress, found: Result<RplType, TypeKind>) -> Result<Rpl
 #[cycle(visit)]
 #[tactic(auto, using(rpl_tree::proofs::Viewed::tree_of_list, rpl_tree::proofs::Viewed::tree_of_call))]
 pub(crate) fn visit<'a>(
-    known: &Known,
+    known: &Known<'_, 'a>,
     progress: &mut Progress<'a>,
     e: &'a Expr,
 ) -> Result<RplType, Stop>
@@ -100,7 +100,7 @@ fn variable<'a>(progress: &mut Progress<'a>, name: &'a [u8]) -> Result<RplType, 
 /// Visits `name(args)`.
 #[cycle(visit)]
 fn call<'a>(
-    known: &Known,
+    known: &Known<'_, 'a>,
     progress: &mut Progress<'a>,
     name: &'a [u8],
     args: &'a [Expr],
@@ -117,7 +117,7 @@ fn call<'a>(
 /// Visits `(x)`.
 #[cycle(visit)]
 fn brackets<'a>(
-    known: &Known,
+    known: &Known<'_, 'a>,
     progress: &mut Progress<'a>,
     inside: &'a Expr,
 ) -> Result<RplType, Stop>
@@ -130,7 +130,11 @@ fn brackets<'a>(
 
 /// Visits `{x, y}`.
 #[cycle(visit)]
-fn list<'a>(known: &Known, progress: &mut Progress<'a>, items: &'a [Expr]) -> Result<RplType, Stop>
+fn list<'a>(
+    known: &Known<'_, 'a>,
+    progress: &mut Progress<'a>,
+    items: &'a [Expr],
+) -> Result<RplType, Stop>
     ensures { Visits known.now progress.old progress.new result (list (trees_in items.now)) }
 {
     let node = reserve(progress)?;
@@ -142,7 +146,7 @@ fn list<'a>(known: &Known, progress: &mut Progress<'a>, items: &'a [Expr]) -> Re
 /// Returns the types of expressions in a row.
 #[cycle(visit)]
 fn row<'a>(
-    known: &Known,
+    known: &Known<'_, 'a>,
     progress: &mut Progress<'a>,
     items: &'a [Expr],
 ) -> Result<Vec<RplType>, Stop>
@@ -169,7 +173,7 @@ fn pushed(found: &mut Vec<RplType>, own: RplType) -> Result<(), Stop>
 /// Visits `IF condition THEN yes ELSE no ENDIF`.
 #[cycle(visit)]
 fn choice<'a>(
-    known: &Known,
+    known: &Known<'_, 'a>,
     progress: &mut Progress<'a>,
     condition: &'a Expr,
     yes: &'a Expr,
@@ -189,7 +193,7 @@ fn choice<'a>(
 /// Visits `LET name := value IN body ENDLET`.
 #[cycle(visit)]
 fn bind<'a>(
-    known: &Known,
+    known: &Known<'_, 'a>,
     progress: &mut Progress<'a>,
     name: &'a [u8],
     value: &'a Expr,
@@ -209,7 +213,7 @@ fn bind<'a>(
 /// Visits `FOR name IN list WITH total := first DO body ENDFOR`.
 #[cycle(visit)]
 fn each<'a>(
-    known: &Known,
+    known: &Known<'_, 'a>,
     progress: &mut Progress<'a>,
     names: &'a LoopText,
     list: &'a Expr,
@@ -236,7 +240,7 @@ fn each<'a>(
 /// Visits `MAP name IN list DO body ENDMAP`.
 #[cycle(visit)]
 fn mapped<'a>(
-    known: &Known,
+    known: &Known<'_, 'a>,
     progress: &mut Progress<'a>,
     name: &'a [u8],
     list: &'a Expr,
@@ -258,7 +262,7 @@ fn mapped<'a>(
 /// Visits a word and one expression.
 #[cycle(visit)]
 fn one<'a>(
-    known: &Known,
+    known: &Known<'_, 'a>,
     progress: &mut Progress<'a>,
     word: OneWord,
     arg: &'a Expr,
@@ -284,7 +288,7 @@ fn is_look(e: &Expr) -> bool
 /// Visits a word and two expressions.
 #[cycle(visit)]
 fn two<'a>(
-    known: &Known,
+    known: &Known<'_, 'a>,
     progress: &mut Progress<'a>,
     word: TwoWord,
     left: &'a Expr,
@@ -303,7 +307,7 @@ fn two<'a>(
 /// Visits a word, an object and an expression.
 #[cycle(visit)]
 fn convert<'a>(
-    known: &Known,
+    known: &Known<'_, 'a>,
     progress: &mut Progress<'a>,
     word: ConvertWord,
     object: &[u8],
@@ -321,7 +325,7 @@ fn convert<'a>(
 /// Visits `slot[step]`.
 #[cycle(visit)]
 fn look<'a>(
-    known: &Known,
+    known: &Known<'_, 'a>,
     progress: &mut Progress<'a>,
     slot: &'a Expr,
     step: &'a Expr,

@@ -1,13 +1,13 @@
 use Rattle.std.proofs.Common.{◌∷◌, ap, ap₂, sym, ◌∙◌}
 use Rattle.rpl_tree.specs.Seen.{act_of, acts_in, tree_of}
 use Rattle.rpl_budget.specs.Pass.{Measured, measured_binding, load_of_branches, pass, pass_act, pass_acts}
-use Rattle.rpl_budget.specs.Seen.{functions_of, tree_kind_seen, measured_seen, names_of}
+use Rattle.rpl_budget.specs.Seen.{tree_kind_seen, measured_seen, names_of}
 use Rattle.rpl_tree.proofs.Viewed.{act_of_branch, act_of_with}
 use Rattle.rpl_budget.proofs.acts.+acts.Goals as goal
 
 pub act-returns-in_ok-second-in-If-clause-found : goal.act-returns-in_ok-second-in-If-clause-found
 act-returns-in_ok-second-in-If-clause-found t c =
-    let functions = functions_of c.args.known.now in
+    let functions = c.args.known.now in
     let names = names_of c.args.names.now in
     let test = c.in_ok-test-in-If.ensures in
     let first = c.in_ok-first-in-If.ensures in
@@ -20,7 +20,7 @@ act-returns-in_ok-second-in-If-clause-found t c =
 
 pub act-returns-in_ok-inside-in-With-clause-found : goal.act-returns-in_ok-inside-in-With-clause-found
 act-returns-in_ok-inside-in-With-clause-found t c =
-    let functions = functions_of c.args.known.now in
+    let functions = c.args.known.now in
     let names = names_of c.args.names.now in
     let value = c.in_ok-value-in-With in
     let kind = tree_kind_seen value.value.kind in

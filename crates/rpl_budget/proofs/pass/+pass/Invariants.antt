@@ -2,12 +2,12 @@ use Rattle.std.proofs.Common.{◌≡◌, ◌≤◌, ◌+◌, ◌*◌, drop, leng
 use Rattle.rpl_tree.specs.declared.expression.Expr.{size-Expr}
 use Rattle.rpl_tree.specs.Seen.{trees_in}
 use Rattle.rpl_budget.specs.Pass.{pass_all, pass_arguments}
-use Rattle.rpl_budget.specs.Seen.{functions_of, tree_kinds_seen, measured_seen, names_of}
+use Rattle.rpl_budget.specs.Seen.{tree_kinds_seen, measured_seen, names_of}
 use Rattle.rpl_budget.proofs.pass.+pass.Given as goal
 
 abbrev pub invariant-elements-loop-k : goal.invariant-elements-loop-k
 invariant-elements-loop-k l = record {
-  found : measured_seen l.others ≡ pass_all (functions_of l.known) (names_of l.fn.names) (trees_in (drop l.k l.items));
+  found : measured_seen l.others ≡ pass_all l.known (names_of l.fn.names) (trees_in (drop l.k l.items));
   same : l.names ≡ l.fn.names;
   within : l.k ≤ length l.items;
 }
@@ -17,7 +17,7 @@ decreases-elements-loop-k l = l.k
 
 abbrev pub invariant-arguments-loop-k : goal.invariant-arguments-loop-k
 invariant-arguments-loop-k l = record {
-  found : l.others ≡ pass_arguments (functions_of l.known) (names_of l.fn.names) (tree_kinds_seen (drop l.k l.takes)) (trees_in (drop l.k l.args));
+  found : l.others ≡ pass_arguments l.known (names_of l.fn.names) (tree_kinds_seen (drop l.k l.takes)) (trees_in (drop l.k l.args));
   same : l.names ≡ l.fn.names;
   within : l.k ≤ length l.args;
 }

@@ -7,7 +7,7 @@ use Rattle.rpl_budget.proofs.Declared.{all_passed}
 use Rattle.rpl_tree.specs.Seen.{declared_of}
 use Rattle.rpl_types.specs.Declarations.{node_refusal}
 use Rattle.rpl_types.specs.Judged.{type_refusal, with_budget}
-use Rattle.rpl_types.specs.Seen.{callable_of, signatures_of}
+use Rattle.rpl_types.specs.Seen.{callable_of}
 use Rattle.rpl_types.proofs.Counting.{its_next, none_left}
 use Rattle.rpl_types.proofs.InTurn.{goes_on, none_found, stops}
 use Rattle.rpl_types.proofs.declarations.types_of_all.Goals as goal
@@ -16,7 +16,7 @@ pub loop-place-init : goal.loop-place-init
 loop-place-init c =
     let rules = map declared_of c.args.declarations.now in
     record {
-      types = rw (c.new-all.ensures.items, c.new-earlier.ensures.items) (sym (none_found _));
+      types = rw (c.new-all.ensures.items, c.new-earlier.ensures) (sym (none_found _));
       costs = rw (c.requires.none, c.in_ok-turn.ensures.ok) (all_passed rules);
       many = rw c.requires.none refl;
     }
@@ -39,8 +39,8 @@ returns-in-Err-clause-types c = (
       (omega (arith, low, mapped)) l.invariant.many
       (ap (λ ds. map budget_seen l.costs.items ++ passed_from l.turn (map declared_of ds)) (sym step) ∙ l.invariant.costs) in
       let rest = take_all (length declarations - l.place) (drop l.place declarations) (omega (arith, length-drop l.place declarations)) in
-      let known = ap₂ (λ earlier later. with_budget c.args.basin.now (callable_of earlier later) mine d) (sym c.deref.ensures.value) (sym rest) in
-      stops c.args.basin.now rules (l.place + 1) (signatures_of l.earlier.items) d
+      let known = ap (λ later. with_budget c.args.basin.now (callable_of l.earlier later) mine d) (sym rest) in
+      stops c.args.basin.now rules (l.place + 1) l.earlier d
       (map declared_of (drop (l.place + 1) declarations)) (map declared_of (drop l.place declarations)) mine _ _
       (ap (map declared_of) step) its l.invariant.types why.kind why.node (known ∙ c.in-Err.ensures.types.0 (node_refusal why.kind why.node) told.1)
       ∙ ap (λ k. Err (type_refusal why.kind k why.node)) (sym told.0),
@@ -64,12 +64,12 @@ loop-place-preserved c =
     its_next (map budget_seen l.costs.items) rules l.place mine (passed_from (and_priced l.turn d) behind) (omega (arith, low, mapped))
     l.invariant.many all in
     let rest = take_all (length declarations - l.place) (drop l.place declarations) (omega (arith, length-drop l.place declarations)) in
-    let known = ap₂ (λ earlier later. with_budget c.args.basin.now (callable_of earlier later) mine d) (sym c.deref.ensures.value) (sym rest) in
+    let known = ap (λ later. with_budget c.args.basin.now (callable_of l.earlier later) mine d) (sym rest) in
     let longer = ap length c.in-Ok.ensures.costs in
     let sum = length-append (map budget_seen l.costs.items) (mine ∷ []) in
     record {
       types =
-          goes_on c.args.basin.now rules (l.place + 1) (signatures_of l.earlier.items) d behind (map declared_of (drop l.place declarations)) mine _ _
+          goes_on c.args.basin.now rules (l.place + 1) l.earlier d behind (map declared_of (drop l.place declarations)) mine _ _
           (ap (map declared_of) step) its l.invariant.types c.in-Ok.types.items (known ∙ c.in-Ok.ensures.types) _
           (ap (map (λ types. types.items)) c.in-Ok-push.ensures.items ∙ map-append (λ types. types.items) l.all.items (c.in-Ok.types ∷ []))
           _ c.in-Ok-add_function.ensures.ok _ refl;

@@ -1,0 +1,19 @@
+use Rattle.rw_base.proofs.Common.{sym, ap, subst, ◌∙◌}
+use Rattle.core.specs.Slice.{IsItemAt}
+use Rattle.rpl_types.specs.Functions.{signature_named}
+use Rattle.rpl_types.proofs.Placed.{found_in_place, in_place, item_at}
+use Rattle.rpl_types.proofs.functions.Functions.find.Goals as goal
+
+pub returns-in-None : goal.returns-in-None
+returns-in-None c =
+    let place = sym c.in-None.is ∙ c.find.ensures ∙ c.self.invariant c.args.name.now in
+    ap (in_place c.self.inside.signatures.items) place ∙ found_in_place c.self.inside.signatures.items c.args.name.now
+    ∙ ap (λ all. signature_named all c.args.name.now) c.self.view_is
+
+pub returns-in-Some : goal.returns-in-Some
+returns-in-Some c =
+    let place = sym c.in-Some.is ∙ c.find.ensures ∙ c.self.invariant c.args.name.now in
+    item_at c.self.inside.signatures.items c.in-Some.place c.get.result
+    (subst (λ all. IsItemAt all c.in-Some.place c.get.result) c.deref.ensures.value c.get.ensures.lookup)
+    ∙ ap (in_place c.self.inside.signatures.items) place ∙ found_in_place c.self.inside.signatures.items c.args.name.now
+    ∙ ap (λ all. signature_named all c.args.name.now) c.self.view_is
