@@ -3,15 +3,15 @@
 from __future__ import annotations
 
 import argparse
-import signal
 import sys
 
 from . import ensemble
 from .errors import Error, some_of
 from .parts import Done, failure, outcomes
 from .plans import Plan
+from .process import ended_in_order
 
-TERMINATED = 128 + signal.SIGTERM
+INTERRUPTED = 130
 EXAMPLE = "example: python3 -m basin run FOLDER --workers 4 && python3 -m basin merge FOLDER 5 50 95"
 
 
@@ -73,13 +73,14 @@ def words_of() -> argparse.Namespace:
 def main() -> int:
     """Does what the words say; what can't be done is one line, with status 2."""
     words = words_of()
-    # When `timeout` or Slurm asks this process to end, it ends the program that it runs, and leaves no file.
-    signal.signal(signal.SIGTERM, lambda *_: sys.exit(TERMINATED))
     try:
-        words.does(words)
+        with ended_in_order():  # when `timeout` or Slurm asks for it
+            words.does(words)
     except (Error, ValueError, OSError) as error:
         print(f"basin: {error}", file=sys.stderr)
         return 2
+    except KeyboardInterrupt:
+        return INTERRUPTED
     return 0
 
 

@@ -14,7 +14,7 @@ import time as clock
 import warnings
 from fractions import Fraction
 from pathlib import Path
-from typing import TYPE_CHECKING, Any, Callable, Iterator, Literal, Sequence
+from typing import TYPE_CHECKING, Any, Callable, Generator, Iterator, Literal, Sequence
 
 import pandas as pd
 
@@ -27,14 +27,14 @@ from .files import Policy
 from .netcdf import host, opened
 from .parts import Done, Outcome, failure, outcomes, run_part
 from .plans import Plan, each_part, plan
-from .process import PathLike
+from .process import PathLike, ended_in_order, kill_below
 from .slurm import slurm
 from .statistics import STATISTICS, Percent, merge, rank_of, texts_of
 from .tables import UNKNOWN
 
 if TYPE_CHECKING:
     import xarray
-    from distributed import Client
+    from distributed import Client, LocalCluster
 
 __all__ = ["Done", "FaultedTraces", "Plan", "execute", "faults", "merge", "nearest", "plan", "refusals", "run", "slurm"]
 __all__ += ["statistics", "values"]
@@ -48,6 +48,17 @@ FAULT_COLUMNS = ("kind", "object", "slot", "rule", "rule_name", "step", "time", 
 
 class RefusedTraces(UserWarning):
     """Some traces are refused, and count in no statistic. `refusals` tells them by name."""
+
+
+class Room:
+    """Has workers make their files in this folder, which is removed even if they are killed: a plugin of dask's."""
+
+    def __init__(self, folder: str) -> None:
+        self.folder = folder
+
+    def setup(self, worker: object) -> None:
+        """Is called in each worker as it begins."""
+        tempfile.tempdir = self.folder
 
 
 class Lines:
@@ -95,7 +106,8 @@ def execute(
     """Runs the parts that are missing: by the client, by as many local processes, or here with `workers=0`.
 
     A part of a worker that died runs again, as often as `retries` says, and no part stops another. `Error`
-    at the end where parts failed. Traces that are refused or end in a fault are warned of.
+    at the end where parts failed. Traces that are refused or end in a fault are warned of. SIGTERM and SIGINT end local
+    workers and their programs at once: parts that are done stay, and the next call runs the others.
     """
     _clear(told)
     missing = told.missing()
@@ -104,13 +116,16 @@ def execute(
     failed: list[tuple[int, BaseException]] = []
     here = client is None and workers == 0 or not missing
     ended = outcomes(told.folder, missing) if here else _by_workers(told, missing, client, workers, retries)
-    for number, found in ended:
-        if isinstance(found, BaseException):
-            failed.append((number, found))
-        else:
-            done.append(found)
-            tell(len(done), len(missing), found)
-    _clear(told)
+    try:
+        with ended_in_order(), contextlib.closing(ended):
+            for number, found in ended:
+                if isinstance(found, BaseException):
+                    failed.append((number, found))
+                else:
+                    done.append(found)
+                    tell(len(done), len(missing), found)
+    finally:
+        _clear(told)
     if failed:
         raise failure(failed, len(missing)) from failed[0][1]
     if count := sum(part.refused for part in done):
@@ -123,7 +138,7 @@ def execute(
 
 def _by_workers(
     told: Plan, missing: list[int], client: Client | None, workers: int | None, retries: int
-) -> Iterator[Outcome]:
+) -> Generator[Outcome, None, None]:
     """Runs parts on workers, and tells each as it ends."""
     from distributed import as_completed
 
@@ -162,7 +177,7 @@ def _client(client: Client | None, workers: int | None) -> Iterator[Client]:
     with contextlib.ExitStack() as opened_here:
         opened_here.enter_context(_hidden_main())
         opened_here.enter_context(dask.config.set(settings))
-        scratch = opened_here.enter_context(tempfile.TemporaryDirectory(prefix="basin-dask-"))
+        scratch = opened_here.enter_context(tempfile.TemporaryDirectory(prefix="basin-dask-", ignore_cleanup_errors=True))
         cluster = LocalCluster(
             n_workers=workers or os.cpu_count(),
             threads_per_worker=1,
@@ -172,7 +187,25 @@ def _client(client: Client | None, workers: int | None) -> Iterator[Client]:
             local_directory=scratch,
         )
         opened_here.enter_context(cluster)
-        yield opened_here.enter_context(NewClient(cluster))
+        at_work = opened_here.enter_context(NewClient(cluster))
+        at_work.register_worker_plugin(Room(scratch))
+        try:
+            yield at_work
+        except Exception:
+            raise
+        except BaseException:  # an interrupt, an exit, or a caller who breaks off
+            _kill(cluster)
+            raise
+
+
+def _kill(cluster: LocalCluster) -> None:
+    """Ends local workers and what they started, and has none begun anew."""
+    from distributed.core import Status
+
+    nannies = list(cluster.workers.values())
+    for nanny in nannies:
+        nanny.status = Status.failed
+    kill_below({nanny.pid for nanny in nannies if nanny.pid})
 
 
 @contextlib.contextmanager

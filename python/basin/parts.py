@@ -8,7 +8,7 @@ import time as clock
 from dataclasses import dataclass
 from functools import lru_cache
 from pathlib import Path
-from typing import Iterable, Iterator
+from typing import Generator, Iterable
 
 import numpy as np
 
@@ -70,7 +70,7 @@ class Values:
         self.lacking.discard(trace)
 
 
-def outcomes(folder: Path, numbers: Iterable[int]) -> Iterator[Outcome]:
+def outcomes(folder: Path, numbers: Iterable[int]) -> Generator[Outcome, None, None]:
     """Runs parts one after another, of which none stops another."""
     for number in numbers:
         try:

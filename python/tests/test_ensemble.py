@@ -20,6 +20,7 @@ import xarray
 import basin
 from basin import ensemble, netcdf
 from basin.plans import shares
+from basin.process import below
 from basin.statistics import blocks, percentile
 from basin.tables import UNKNOWN
 
@@ -234,6 +235,48 @@ def test_what_is_asked_to_end_ends_the_program(tmp_path: Path) -> None:
     assert running.returncode == 128 + signal.SIGTERM and not list(rooms.iterdir())
     with pytest.raises(ProcessLookupError):
         os.kill(int(begun.read_text()), 0)
+
+
+def is_at_work(process: int) -> bool:
+    """Whether a process has not ended; one of which nobody asked yet how it ended has."""
+    try:
+        return Path(f"/proc/{process}/stat").read_text().rpartition(")")[2].split()[0] != "Z"
+    except OSError:
+        return False
+
+
+@pytest.mark.parametrize("number", [signal.SIGTERM, signal.SIGINT])
+def test_what_is_asked_to_end_ends_its_workers(tmp_path: Path, number: signal.Signals) -> None:
+    begun, program, rooms = tmp_path / "begun", tmp_path / "basin", tmp_path / "rooms"
+    for folder in (begun, rooms):
+        folder.mkdir()
+    real = shlex.quote(basin.find_program())
+    hangs = f"grep -q ',47$' \"$5\" && touch {begun}/$$ && exec sleep 300"  # the traces of the last two parts
+    program.write_text(f'#!/bin/sh\n[ "$1" != mrm ] || {{ {hangs}; }}\nexec {real} "$@"\n')
+    program.chmod(0o755)
+    inflow = inflows(6) % 47
+    inflow[2:] = 47
+    told = planned(tmp_path / "a", inflow, size=2, way="mrm", program=str(program))
+    path = os.pathsep.join(str(TOP / name) for name in ("python", "tools"))
+    environment = {**os.environ, "PYTHONPATH": path, "TMPDIR": str(rooms)}
+    words = [sys.executable, "-m", "basin", "run", str(told.folder), "--workers", "2"]
+    with subprocess.Popen(words, env=environment, stderr=subprocess.DEVNULL) as running:
+        while (len(list(begun.iterdir())) < 2 or len(told.missing()) > 2) and running.poll() is None:
+            time.sleep(0.05)
+        workers = below({running.pid}) - {running.pid}
+        running.send_signal(number)
+        asked = time.monotonic()
+        running.wait(60)
+        while any(map(is_at_work, workers)) and time.monotonic() - asked < 60:
+            time.sleep(0.05)
+    took = time.monotonic() - asked
+    programs = {int(file.name) for file in begun.iterdir()}
+    assert len(programs) == 2 and programs <= workers
+    assert running.returncode == 128 + number and took < 5  # a busy machine takes longer than a second
+    assert not list(rooms.iterdir()) and [file.name for file in (told.folder / "parts").iterdir()] == ["00000.nc"]
+    program.write_text(f'#!/bin/sh\nexec {real} "$@"\n')
+    assert [done.part for done in ensemble.execute(told, workers=0)] == [1, 2]
+    assert (cells_of(told, "Dam.Outflow") == outflow(inflow)).all()
 
 
 @pytest.mark.parametrize("form", ["frames", "rows", "dataset", "file"])

@@ -3,6 +3,7 @@
 from collections import deque
 from collections.abc import Iterator
 from dataclasses import dataclass
+from heapq import heappop, heappush
 
 from .dispatch import missing, past_ago, past_name, past_value
 from .formats import LEVELS
@@ -220,31 +221,48 @@ class Root:
 
 
 class Search:
-    """Looks for inputs that are missing: first those given at other timesteps, then any that help most."""
+    """Looks for inputs that are missing: those given at other timesteps, then any that let objects solve, then all that
+    the object lacks which lacks least. What follows from an input is gone through a few times, however many there are."""
 
     def __init__(self, waiting: Waiting) -> None:
         self.waiting = waiting
         self.known = set(waiting.known)  # with the inputs that were found so far, and all that follows
         self.solved: dict[str, BasinObject] = {}  # the objects that solve then, by name, in their order
         self.roots: list[Root] = []
-        holes, candidates = waiting.holes(), waiting.candidates()
-        while best := self.best(holes):
-            self.take([Root(best[:1])])
+        self.places = {name: place for place, name in enumerate(waiting.candidates())}
+        self.numbers = {thing.name: number for number, thing in enumerate(waiting.objects)}
+        self.lacks = [(0, number) for number in self.numbers.values()]  # a heap: how much an object lacks, or less
+        self.close: list[str] = []  # what objects lack that lack nothing else
+        for name in self.starts(waiting.holes()):
+            self.take([Root([name])])
         for name in waiting.wanted():
-            if name not in self.known:
-                self.take([Root([name])])
-        while roots := self.beside(self.best(candidates)) or self.fewest(set(candidates)):
-            self.take(roots)
+            self.take([Root([name])])
+        self.close = list(self.places)
+        self.find_others()
+
+    def find_others(self) -> None:
+        """Takes what lets objects solve by itself, and where nothing does all that one object lacks."""
+        while True:
+            names, self.close = sorted(set(self.close), key=self.places.__getitem__), []
+            for name in self.starts(names):
+                self.take([Root(self.alike(name))])
+            if not self.close:
+                few = self.fewest()
+                if not few:
+                    return
+                self.take(few)
 
     def take(self, roots: list[Root]) -> None:
-        """Takes inputs as found."""
-        self.roots += roots
-        order, _ = self.spread([name for root in roots for name in root.names[: root.count]])
-        self.solved.update(order)
+        """Takes inputs as found, unless they follow from what was found."""
+        names = [name for root in roots for name in root.names[: root.count]]
+        if not self.known.issuperset(names):
+            self.roots += roots
+            self.solved.update(self.spread(names)[0])
 
     def spread(self, names: list[str]) -> tuple[dict[str, BasinObject], list[str]]:
         """Makes slots known, and all that objects solve then: these objects in order, and the new slots."""
-        order, added, queue = {}, [], deque(names)
+        order: dict[str, BasinObject] = {}
+        added, queue = [], deque(names)
         while queue:
             name = queue.popleft()
             if name in self.known:
@@ -252,40 +270,92 @@ class Search:
             self.known.add(name)
             added.append(name)
             for thing in self.waiting.owners[name]:
-                done = thing.name in self.solved or thing.name in order
-                if not done and not any(self.waiting.lacking(thing, self.known)):
+                if thing.name not in self.solved and thing.name not in order and self.is_solved_now(thing):
                     order[thing.name] = thing
                     queue.extend(self.waiting.solves(thing))
         return order, added
 
+    def is_solved_now(self, thing: BasinObject) -> bool:
+        """Whether an object lacks nothing more; what it lacks is noted."""
+        roots = self.roots_of(thing)
+        if roots:
+            count = sum(root.count for root in roots)
+            heappush(self.lacks, (count, self.numbers[thing.name]))
+            self.close += [name for root in roots for name in root.names if count == 1 and name in self.places]
+        return not roots
+
+    def roots_of(self, thing: BasinObject) -> list[Root]:
+        """What an object lacks; the name of a slot of an earlier timestep is empty."""
+        fixed, terms = self.waiting.lacking(thing, self.known)
+        names = [self.waiting.first.get(f"{thing.name}.{name}", "") for name in (*fixed, *terms)]
+        roots = [Root([name]) for name in names[: len(fixed)]]
+        return roots + ([Root(names[len(fixed) :], len(terms) - 1)] if terms else [])
+
+    def forget(self, order: dict[str, BasinObject], added: list[str]) -> None:
+        """Takes back what was tried."""
+        self.known.difference_update(added)
+        for name in order:
+            self.solved.pop(name, None)
+
+    def starts(self, names: list[str]) -> list[str]:
+        """Those of these slots that let objects solve, without those that follow from others; the one with most first."""
+        order, added, starts = {}, [], []
+        queue, asked, before = deque(names), set(names), len(self.close)
+        while queue:
+            name = queue.popleft()
+            solved, known = self.spread([name]) if name not in self.known else ({}, [])
+            if solved:
+                starts.append(name)
+                self.solved.update(solved)
+                order.update(solved)
+                added += known
+                queue.extend(name for name in self.close[before:] if name in asked)
+            else:
+                self.known.difference_update(known)
+            del self.close[before:]
+        self.forget(order, added)
+        return self.without_what_follows(starts)
+
+    def without_what_follows(self, starts: list[str]) -> list[str]:
+        """The slots that do not follow from later ones; the one that lets most objects solve first."""
+        order, added, gains, before = {}, [], {}, len(self.close)
+        for name in reversed(starts):
+            if name not in self.known:
+                solved, known = self.spread([name])
+                self.solved.update(solved)
+                order.update(solved)
+                added += known
+                gains[name] = len(solved)
+        self.forget(order, added)
+        del self.close[before:]
+        return sorted(gains, key=lambda name: (-gains[name], self.places[name]))
+
     def gain(self, name: str) -> int:
         """How many further objects would solve if a slot were given."""
+        before = len(self.close)
         order, added = self.spread([name])
         self.known.difference_update(added)
+        del self.close[before:]
         return len(order)
 
-    def best(self, names: list[str]) -> list[str]:
-        """The slots each of which would let most further objects solve; none where no single one does."""
-        if len(self.solved) == len(self.waiting.objects):
-            return []
-        gains = {name: self.gain(name) for name in names if name not in self.known}
-        most = max(gains.values(), default=0)
-        return [name for name in gains if gains[name] == most] if most else []
+    def alike(self, name: str) -> list[str]:
+        """The slots of the object that has this one, each of which would let as many objects solve."""
+        if name in self.known:
+            return [name]
+        own = {self.waiting.first[slot.full_name] for slot in self.waiting.owners[name][0].slots}
+        others = sorted((own & self.places.keys()) - self.known, key=self.places.__getitem__)
+        gain = self.gain(name)
+        return [other for other in others if other == name or self.gain(other) == gain]
 
-    def beside(self, names: list[str]) -> list[Root]:
-        """Of slots that would all do, those of the object that has the first, as one missing input."""
-        for thing in self.waiting.owners[names[0]] if names else ():
-            own = {self.waiting.first[slot.full_name] for slot in thing.slots}
-            return [Root([name for name in names if name in own])]
-        return []
-
-    def fewest(self, candidates: set[str]) -> list[Root]:
+    def fewest(self) -> list[Root]:
         """What the object lacks that lacks least, of those that still wait and that inputs could help."""
-        lists: list[list[Root]] = []
-        for thing in self.waiting.objects:
-            fixed, terms = self.waiting.lacking(thing, self.known)
-            names = [self.waiting.first.get(f"{thing.name}.{name}", "") for name in (*fixed, *terms)]
-            if thing.name not in self.solved and all(name in candidates for name in names):
-                lists.append([Root([name]) for name in names[: len(fixed)]])
-                lists[-1] += [Root(names[len(fixed) :], len(terms) - 1)] if terms else []
-        return min(lists, key=lambda few: sum(root.count for root in few), default=[])
+        while self.lacks:
+            noted, number = heappop(self.lacks)
+            thing = self.waiting.objects[number]
+            roots = [] if thing.name in self.solved else self.roots_of(thing)
+            count = sum(root.count for root in roots)
+            if count > noted:
+                heappush(self.lacks, (count, number))
+            elif roots and all(name in self.places for root in roots for name in root.names):
+                return roots
+        return []
