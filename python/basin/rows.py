@@ -39,7 +39,7 @@ class Row(NamedTuple):
 def slot_name(name: Hashable) -> str:
     """A name that can be a slot's: what else stands in a frame's heading is never written into a row."""
     if not isinstance(name, str) or not SLOT.fullmatch(name):
-        raise ValueError(f"{plain(str(name))} is no slot: it has to be Object.Slot")
+        raise ValueError(f"{plain(str(name))} is not a slot: write Object.Slot")
     return name
 
 

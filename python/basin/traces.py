@@ -97,7 +97,7 @@ class Series:
         said = attributes.get("basin_unit", attributes.get("units"))
         if said is not None and said not in (unit, UNITS.get(unit, unit)):
             raise ValueError(
-                f"{slot} is in {plain(str(said))}, and has to be in its base unit, {unit or 'none'}"
+                f"{slot} is in {plain(str(said))}, but must be in its base unit, {unit or 'none'}"
             )
         if any(word in attributes for word in PACKED):
             raise ValueError(f"{slot} is packed by scale_factor or add_offset: unpack it first")

@@ -30,7 +30,7 @@ def in_units(model: Model | PathLike, table: pd.DataFrame, *units: str) -> pd.Da
             try:
                 factors = _factors(told, slot, unit, steps)
             except ValueError as error:
-                if "isn't what the slot measures" not in str(error):
+                if "is not what the slot measures" not in str(error):
                     raise
                 continue
             found[slot], names[slot] = found[slot] / factors, unit

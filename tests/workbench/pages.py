@@ -236,7 +236,7 @@ def of_rules(browser: Browser, bench: Bench) -> Iterator[Outcome]:
     browser.run(place.format(8))
     after(browser, lambda: press(browser, "/step"), is_refused=True)
     told = browser.said("#rulesfindings", "Line 20", PATIENCE)
-    yield "a unit", None if "both sides of > have to measure the same" in told and "May be meant" in told else told
+    yield "a unit", None if "both sides of > must measure the same quantity" in told and "Hint" in told else told
     yield "at its line", None if "both sides" in browser.text("#rules .line.fault .says") and browser.text("#rules u") else "not there"
     yield "the table stays", None if kept_table(browser) == before else "differs"
     waited(browser, "document.querySelector('#banners').textContent.includes('last run that was accepted')")

@@ -48,7 +48,7 @@ def of_policy(words: argparse.Namespace, answer: str) -> int:
     model = judged(File(words.model))
     policy = read_policy(words.policy, model) if model and not model.findings else None
     if not policy or (policy.findings and not answer) or (answer and not policy.findings):
-        say(NOTE, "This tool reads the files otherwise than `basin`, so it can't say more.")
+        say(NOTE, "This tool reads the files differently from `basin`, so it cannot explain more.")
         return 1
     if answer:
         tell_refused(answer, policy)
@@ -56,8 +56,8 @@ def of_policy(words: argparse.Namespace, answer: str) -> int:
     inputs = read_inputs(File(words.inputs).content, model) if words.inputs else None
     given = None if words.traces else inputs  # what inputs do not give, traces may
     found = [] if given and given.findings else warnings(policy, model, given)
-    tell_policy(found, policy, NEVER, "What will never happen, by this tool's own reading:")
-    tell_policy(surprises(policy, model), policy, SURPRISE, "What may surprise, by this tool's own reading:")
+    tell_policy(found, policy, NEVER, "Parts of the rules that never take effect, by this tool's own check:")
+    tell_policy(surprises(policy, model), policy, SURPRISE, "Parts of the rules that may surprise you, by this tool's own check:")
     tell = tell_traces if words.traces else tell_rules_run
     wrong = tell(words, model, policy, inputs) if words.inputs else False
     return int(bool(found) or wrong)
@@ -81,7 +81,7 @@ def tell_refused(answer: str, policy: Policy) -> None:
         finding = policy.findings[0]
         say(WRONG, *told(finding, policy.source), **policy.source.where(finding.span.begin))
     if others:
-        head("Also wrong, by this tool's own reading:" if is_same else "By this tool's own reading this is wrong:")
+        head("Also wrong, by this tool's own check:" if is_same else "Wrong, by this tool's own check:")
     for finding in others[:MOST_TOLD]:
         say(ALSO_WRONG, told_short(finding, policy.source), **policy.source.where(finding.span.begin))
     if len(others) > MOST_TOLD:

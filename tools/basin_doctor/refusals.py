@@ -12,12 +12,12 @@ from .saying import ALSO_WRONG, NOTE, WRONG, head, say
 
 MOST_TOLD = 20  # of what else is wrong
 TOML_HINTS = {
-    "Illegal character '\\n'": ": is a quote missing at the end of the text?",
-    "Unterminated string": ": is a quote missing at the end of the text?",
-    "Cannot overwrite a value": ": the table has that key already",
-    "Cannot declare": ": the file has that table already",
-    "Invalid value": ": a text stands in quotes, a number has no comma",
-    "Expected newline": ": something stands behind the value",
+    "Illegal character '\\n'": ": a text has no closing quote",
+    "Unterminated string": ": a text has no closing quote",
+    "Cannot overwrite a value": ": the table already has this key",
+    "Cannot declare": ": the file already has this table",
+    "Invalid value": ": write a text in quotes, and a number without a comma",
+    "Expected newline": ": there is something after the value",
     "Unclosed array": ": is a comma or a ] missing?",
     "Unclosed inline table": ": is a comma or a } missing?",
     "Expected '=' after a key": ": a line is key = value, or a [table]",
@@ -70,10 +70,10 @@ def tell_findings(refusal: str, findings: list, file: File) -> None:
         place, line = file.at(here.line)
         say(WRONG, f"{place}: {here.says}", line, **file.where(here.line))
     else:
-        say(WRONG, meaning(refusal) or "This tool doesn't know that answer.", file=file.path)
+        say(WRONG, meaning(refusal) or "This tool does not know this error message.", file=file.path)
     others = [finding for finding in findings if finding is not here]
     if others:
-        head("Also wrong, by this tool's own reading:" if here else "By this tool's own reading this is wrong:")
+        head("Also wrong, by this tool's own check:" if here else "Wrong, by this tool's own check:")
     tell_alike(others, file)
 
 
@@ -83,7 +83,7 @@ def tell_alike(findings: list, file: File) -> None:
     for finding in findings:
         alike.setdefault(finding.says, []).append(finding.line)
     for says, (first, *lines) in list(alike.items())[:MOST_TOLD]:
-        more = f" So it is in {len(lines)} more line{'s' * (len(lines) > 1)}." if lines else ""
+        more = f" The same error is in {len(lines)} more line{'s' * (len(lines) > 1)}." if lines else ""
         say(ALSO_WRONG, f"{file.at(first)[0]}: {says}{more}", **file.where(first))
     if len(alike) > MOST_TOLD:
         say(NOTE, f"and {len(alike) - MOST_TOLD} more")
@@ -101,7 +101,7 @@ def tell_no_toml(file: File) -> None:
         before = content[: error.start]
         line, column = before.count(b"\n") + 1, error.start - (before.rfind(b"\n") + 1) + 1
         place, shown = file.at(line)
-        says = f"the byte {content[error.start]:#04x} isn't UTF-8: save it as UTF-8."
+        says = f"the byte {content[error.start]:#04x} is not UTF-8: save the file as UTF-8."
         say(WRONG, f"{place}, column {column}: {says}", shown, **file.where(line, column))
     except ValueError as error:
         tell_toml_error(file, str(error))
@@ -129,11 +129,11 @@ def tell_large_numbers(file: File) -> None:
         if any(abs(int(digits)) >= 2**63 for digits in re.findall(r"(?<![\w.])[0-9]{19,}(?![\w.])", line))
     ]
     if not numbers:
-        words = "Python's reader takes the file for TOML, so this tool can't say where `basin` stops."
+        words = "Python's TOML reader accepts the file, so this tool cannot say where `basin` stops."
         say(WRONG, words, file=file.path)
         return
     place, line = file.at(numbers[0])
-    says = f"{place}: a number has more than 64 bits, which TOML doesn't ask to be read."
+    says = f"{place}: a number needs more than 64 bits, and TOML does not require a reader to accept it: write a smaller one."
     say(WRONG, says, line, **file.where(numbers[0]))
 
 

@@ -44,11 +44,11 @@ class Traces:
         yield f"{self.count} traces: {self.count - len(self.faulted)} settled, {len(self.faulted)} ended in a fault."
         if self.faulted:
             yield (
-                f"No statistic counts {named(self.faulted)}. If these are the driest or the wettest traces, the "
-                "statistics are those of the others."
+                f"No statistic includes {named(self.faulted)}. If these are the driest or the wettest traces, the"
+                " statistics describe only the others."
             )
         if self.empty:
-            yield f"Cells are empty in {named(self.empty)}; the statistics of a cell count the traces that know it."
+            yield f"Cells are empty in {named(self.empty)}; the statistics of a cell include only the traces in which it is known."
 
     def told(self) -> Iterator[tuple[int, list[int]]]:
         """Yields the traces to explain, each with those that are like it: one for each kind of fault, one for empty cells."""
@@ -59,7 +59,7 @@ class Traces:
     @staticmethod
     def line_of_alike(numbers: list[int]) -> str:
         """Returns the line that names the traces which are like one that was explained."""
-        return f"So it is in {named(numbers)}."
+        return f"The same is true of {named(numbers)}."
 
     def as_edits(self, number: int) -> bytes:
         """Returns a trace as the first batch of edits: both are applied to the inputs as they are in their file."""

@@ -20,7 +20,7 @@ def measuring(units: list[str], base: str, timesteps: Lasting | None) -> tuple[s
         try:
             return unit, factor_of(unit, base, timesteps)
         except ValueError as error:
-            if "isn't what the slot measures" not in str(error):
+            if "is not what the slot measures" not in str(error):
                 raise Unable(f"{error}") from None
     return None
 

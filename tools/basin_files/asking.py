@@ -8,7 +8,7 @@ from .program import Unable, basin
 WORDS_REFUSED = 2  # the program's status
 WRITTEN, KEPT, DENIED, AGAIN, LATE = FATES = ("written", "kept", "denied", "again", "late")
 OVER = "over"  # what a written put took the place of
-NO_SUCH_OPTION = "this program has no --asked, so what was asked for and not written isn't told"
+NO_SUCH_OPTION = "this program has no --asked, so requested assignments that were not made are not shown"
 
 
 @dataclass(slots=True)

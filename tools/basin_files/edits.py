@@ -24,7 +24,7 @@ class Edits:
     def judge(self, record: list[str], line: int, row: int) -> Wrong | None:
         """The first thing that is wrong with a row."""
         if len(record) != 1 + len(FIELDS):
-            return 0, "ragged", f"the row has {len(record)} fields, and has to have 4: {plain(','.join(record))}."
+            return 0, "ragged", f"the row has {len(record)} fields, but must have 4: {plain(','.join(record))}."
         number, name, steps, value = record
         wrong = self.wrong_with_batch(number)
         wrong = wrong or moved(wrong_with_slot(name, self.model)) or moved(wrong_with_steps(steps, self.model))
@@ -34,14 +34,14 @@ class Edits:
     def wrong_with_batch(self, text: str) -> Wrong | None:
         """Why a field names no batch that may come next; else that batch is the last one."""
         if not NUMBER.fullmatch(text):
-            return 1, "not a number", f"{self.word} is {shown(text)}, and has to be a number."
+            return 1, "not a number", f"{self.word} is {shown(text)}, but must be a number."
         number, there = int(text), self.batches
         if number not in ((there, there + 1) if there else (1,)):
             due = f"{there} or {there + 1}, as the row before it has {there}" if there else "1, as the first one"
-            return 1, "batch order", f"{self.word} is {number}, and has to be {due}."
+            return 1, "batch order", f"{self.word} is {number}, but must be {due}."
         if number > MOST_BATCHES:
-            more = "; basin.ensemble takes any number (docs/PYTHON.md)" if self.word == "trace" else ""
-            return 1, "too many", f"{self.word} is {number}, and there are {MOST_BATCHES} at most{more}."
+            more = "; basin.ensemble accepts any number (docs/PYTHON.md)" if self.word == "trace" else ""
+            return 1, "too many", f"{self.word} is {number}, but at most {MOST_BATCHES} are allowed{more}."
         self.batches = number
         return None
 
@@ -61,8 +61,8 @@ class Edits:
         """Whether a row is one too many."""
         if row <= MOST_EDITS + 1:
             return None
-        more = "; basin.ensemble takes any number of traces (docs/PYTHON.md)" if self.word == "trace" else ""
-        return 0, "too many", f"there are {MOST_EDITS:,} rows at most{more}."
+        more = "; basin.ensemble accepts any number of traces (docs/PYTHON.md)" if self.word == "trace" else ""
+        return 0, "too many", f"the file has too many rows: at most {MOST_EDITS:,} are allowed{more}."
 
 
 def moved(wrong: Wrong | None) -> Wrong | None:
@@ -75,7 +75,7 @@ def read_edits(content: bytes, model: Model, word: str = "batch") -> Edits:
     edits, records, wanted = Edits(model, word), records_of(content), [word, *FIELDS]
     line, header = next(records, (1, []))
     if header != wanted:
-        says = f"the first row has to be {','.join(wanted)}" + (f"; it is {plain(','.join(header))}." if header else ".")
+        says = f"the first row must be {','.join(wanted)}" + (f"; it is {plain(','.join(header))}." if header else ".")
         edits.findings.append(InputsFinding("row 1 column 0: header", line, says))
         return edits
     for row, (line, record) in enumerate(records, 2):

@@ -33,14 +33,14 @@ LEFT_SIDE = {
     "power_reservoir": "Storage",
 }
 DERIVED_TEXT = {
-    "Evaporation": "what lies between the elevation before and the one that is lower by EvaporationRate",
+    "Evaporation": "the volume between the previous elevation and the elevation lower by EvaporationRate",
     "Release": "Outflow, up to max_release",
-    "Spill": "Outflow less Release",
-    "Depletion": "depletion parts of 1000 of Diversion, rounded down",
-    "ReturnFlow": "Diversion less Depletion",
-    "Seepage": "Inflow less Outflow",
+    "Spill": "Outflow - Release",
+    "Depletion": "Diversion x depletion / 1000, rounded down",
+    "ReturnFlow": "Diversion - Depletion",
+    "Seepage": "Inflow - Outflow",
     "Energy": "Release x head x power / 10^9, rounded down",
-    "Content": "Content before and Inflow, less Outflow",
+    "Content": "Content before + Inflow - Outflow",
 }
 
 
@@ -61,8 +61,9 @@ def beyond_plant(thing: BasinObject, past: int, request: int) -> str:
     """Why a request for energy can't be met, behind the name of its slot."""
     most = thing.max_release
     return (
-        f"is {request:,} kWh, and at the head of {head(thing, past):,} mm that the storage before gives the"
-        f" greatest release, {most:,} m3/step, gives {energy(thing, past, most):,} kWh."
+        f"is {request:,} kWh, but with the head of {head(thing, past):,} mm that the previous storage gives, the"
+        " maximum release,"
+        f" {most:,} m3/step, gives {energy(thing, past, most):,} kWh."
     )
 
 
@@ -75,7 +76,7 @@ def tell_fault(model: Model, inputs: Inputs, section: Section) -> list[str]:
     lines = [f"The run ended in timestep {step}, from {stamp_of(begin)} to {stamp_of(end)}."]
     if fault_words(timestep) != section.fault:
         return lines + [
-            "This tool, going through that timestep again, comes to something else, so it can't say more."
+            "This tool repeated the timestep and got another result, so it cannot explain more."
         ]
     return lines + Telling(timestep).lines()
 
@@ -111,7 +112,7 @@ class Telling:
                 " allows."
             ]
         told = self.conflict() if self.fault.kind == "conflict" else self.out_of_range()
-        return [f"{name}: {told[0]}", *told[1:], "What was known of it then:", *self.known(), *self.advice()]
+        return [f"{name}: {told[0]}", *told[1:], "Its known values then:", *self.known(), *self.advice()]
 
     # ---- what was known
 
@@ -176,22 +177,22 @@ class Telling:
         """What a conflict is about."""
         slot, held, value = self.fault.slot, self.fault.held, self.fault.value
         if slot in DERIVED_TEXT and slot not in terms_of(self.thing):
-            return [f"{slot} would be {value:,}, that is {DERIVED_TEXT[slot]}, and it holds {held:,}."]
+            return [f"{slot} would be {value:,} ({DERIVED_TEXT[slot]}), but it is {held:,}."]
         if slot == "PoolElevation":
             table, storage = self.thing.table, self.values["Storage"]
             there = volume(table, held)
             other = "none" if there is None else f"{there:,} m3"
             return [
-                "Storage and PoolElevation don't agree.",
+                "Storage and PoolElevation do not agree.",
                 (
-                    f"    by the table {storage:,} m3 stand at {value:,} mm, and the volume at {held:,} mm is"
+                    f"    in the table {storage:,} m3 is at {value:,} mm, and the volume at {held:,} mm is"
                     f" {other}"
                 ),
             ]
         left, left_value, words, numbers, right = self.balance(self.values)
         total = "" if numbers == f"{right:,}" else f" = {right:,}"
         lines = [
-            "its balance doesn't hold.",
+            "its mass balance does not hold.",
             f"    {left} = {words}",
             f"    {left_value:,}, and not {numbers}{total}",
         ]
@@ -200,7 +201,7 @@ class Telling:
                 f"    (the table has {held:,} m3 at PoolElevation {self.view.known['PoolElevation']:,})"
             )
         if self.asked_release() is not None:
-            lines.append(f"    (Outflow is the least by which Energy is {self.values['EnergyRequest']:,} kWh)")
+            lines.append(f"    (Outflow is the smallest that gives an Energy of {self.values['EnergyRequest']:,} kWh)")
         return lines
 
     def out_of_range(self) -> list[str]:
@@ -227,8 +228,8 @@ class Telling:
         if slot in self.view.known or slot not in terms_of(self.thing):
             return []
         if self.is_of_before():
-            tells = "the head" if self.thing.kind == "power_reservoir" else "what evaporates"
-            return [f"    (that is the storage before the timestep, of which the table tells {tells})"]
+            tells = "the head" if self.thing.kind == "power_reservoir" else "the evaporation"
+            return [f"    (this is the storage before the timestep, with which the table gives {tells})"]
         left, left_value, words, numbers, _ = self.balance({**self.values, slot: value}, slot)
         return [f"    {left} = {words}", f"    {left_value:,} = {numbers}"]
 
@@ -251,21 +252,21 @@ class Telling:
                 if (cell := self.timestep.cell(slot.full_name)) and not cell.writer
             ]
             if not given:
-                return ["Nothing of this is an input of its own: look at the objects that it comes from."]
-            return [f"Take one of these inputs away ({', '.join(given)}), or change it so that they agree."]
+                return ["None of these values is an input: look at the objects that they come from."]
+            return [f"Remove one of these inputs ({', '.join(given)}), or change one so that they agree."]
         if self.is_of_before():
-            return [f"Mend what its storage of timestep {self.timestep.step - 1} comes from."]
+            return [f"Correct the inputs that its storage of timestep {self.timestep.step - 1} comes from."]
         if self.fault.slot == "EnergyRequest":
-            return ["Ask for less, or keep more in store before."]
+            return ["Ask for less energy, or keep more water stored before."]
         value, low = self.fault.value, self.view.bounds[self.fault.slot][0]
         if not self.thing.stores:
             return ["Change an input that it comes from, or set other bounds."]
         if self.fault.slot == "Outflow" and value < low:
-            return ["More is wanted in store than there is: want less, or let less be diverted."]
+            return ["The storage that is asked for needs more water than there is: ask for less, or divert less."]
         if self.fault.slot == "Storage" and self.fault.slot not in self.view.known:
             table = self.thing.options.get("table")
             less = value < low or (table and value < table[0][1])
             return [
-                "Let out or divert less, or begin with more." if less else "Let out more, or begin with less."
+                "Release or divert less, or begin with more." if less else "Release more, or begin with less."
             ]
         return ["Change an input that it comes from, or set other bounds."]

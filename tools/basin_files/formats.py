@@ -300,16 +300,16 @@ def usual_bounds(slot_name: str, kind: str) -> tuple[int, int]:
 # ---- refusals
 
 MODEL_REFUSALS = {
-    "not TOML": "The bytes of the file are no TOML.",
-    "missing": "A key that is required isn't there.",
-    "wrong kind": "The value is of another type than the key asks for.",
+    "not TOML": "The file is not TOML.",
+    "missing": "A required key is missing.",
+    "wrong kind": "The value has another type than the key needs.",
     "unknown key": "The table has no such key.",
     "unknown kind": "There is no such kind of object: " + ", ".join(KIND_KEYS) + ".",
-    "build duplicate name": "A name is taken already, or the slot has bounds already.",
+    "build duplicate name": "A name is already used, or the slot already has bounds.",
     "build unknown slot": "A text names no slot of the model.",
-    "build linked twice": "A slot is in an earlier link already; one link joins 2 to 8 slots.",
+    "build linked twice": "A slot is already in an earlier link; one link joins 2 to 8 slots.",
     "build link within object": "Two slots of a link are of the same object.",
-    "build link dimension": "The slots of a link don't measure the same.",
+    "build link dimension": "The slots of a link do not measure the same quantity.",
     "build link bounds": "The bounds of linked slots leave them no value.",
     "build bad parameter": "A value is outside its range.",
     "build too many": (
@@ -327,36 +327,37 @@ MODEL_REFUSALS = {
     "calendar beyond years": "The last timestep would end past the year 9999.",
 }
 INPUTS_REFUSALS = {
-    "header": "The first row has to be slot,step,value.",
-    "ragged": "The row hasn't three fields.",
+    "header": "The first row must be slot,step,value.",
+    "ragged": "The row does not have three fields.",
     "unknown slot": "The model has no such slot.",
-    "not settable": "The object derives the slot from its others, so it can't be given.",
+    "not settable": "The object derives the slot from its others, so it cannot be given.",
     "not a number": (
         "A step is a number or two with a - between them, a value a whole number, both of 1 to 18 digits."
     ),
-    "step outside": "The timesteps aren't those of the run, or the first is behind the last.",
-    "out of bounds": "The slot can't have the value.",
+    "step outside": "The timesteps are outside the run, or the first is after the last.",
+    "out of bounds": "The slot cannot have the value.",
     "twice": (
         "An earlier row gives a value to the same cell, or to that of a slot that is linked to the slot."
     ),
 }
 # Of edits and of traces there are these besides.
 EDITS_REFUSALS = {
-    "batch order": "The first row's number is 1, and that of a later row the one of the row before it, or one more.",
+    "batch order": "The number in the first row is 1. A later row has the number of the row before it, or one more.",
     "too many": f"There are at most {MOST_BATCHES} batches or traces, and {MOST_EDITS:,} rows.",
 }
 OTHER_REFUSALS = {
-    "words refused": "The command is `simulate MODEL INPUTS`: three words, and a path doesn't begin with -.",
-    "cannot read": "The file isn't there, is a folder, or may not be read.",
+    "words refused": "The command is `simulate MODEL INPUTS`: three arguments, and a path does not begin with -.",
+    "cannot read": "The file does not exist, is a folder, or may not be read.",
     "cannot write": (
-        "The output took no more: a closed pipe, say, or a full disk. A front of the table was written."
+        "The output could not be written to its end: a closed pipe, for example, or a full disk. The beginning"
+        " of the table was written."
     ),
-    "want of memory": "There was no memory. A model of fewer values needs less.",
+    "want of memory": "There was not enough memory. A model with fewer values needs less.",
     "too long": f"A file has at most {GREATEST_FILE:,} bytes.",
 }
 FAULTS = {
-    "conflict": "More was given than goes together.",
-    "out of range": "An object comes to a value that the slot can't have, or a rule to a number out of range.",
-    "limit": "An object was dispatched, or a rule fired, as often as the model allows, and would have been again.",
+    "conflict": "The given values contradict one another.",
+    "out of range": "An object solves to a value that the slot cannot have, or a rule computes a number out of range.",
+    "limit": "An object was dispatched, or a rule fired, as often as the model allows, and was due again.",
     "division by zero": "A rule divided by 0.",
 }

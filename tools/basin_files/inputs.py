@@ -88,7 +88,7 @@ def read_inputs(content: bytes, model: Model) -> Inputs:
 
 def wrong_with_header(content: bytes, header: list[str]) -> str:
     """Why the first row isn't the header."""
-    wanted = "the first row has to be slot,step,value"
+    wanted = "the first row must be slot,step,value"
     if content[:2] in (b"\xff\xfe", b"\xfe\xff"):
         return f"{wanted}. The file is UTF-16: save it as UTF-8."
     if not header:
@@ -107,7 +107,7 @@ def wrong_with_header(content: bytes, header: list[str]) -> str:
 def wrong_with_row(record: list[str], inputs: Inputs, line: int, row: int) -> Wrong | None:
     """The first thing that is wrong with a row: column, refusal, and why. Else its cells are taken."""
     if len(record) != 3:
-        return 0, "ragged", f"the row has {len(record)} fields, and has to have 3: {plain(','.join(record))}."
+        return 0, "ragged", f"the row has {len(record)} fields, but must have 3: {plain(','.join(record))}."
     name, steps, value = record
     return (
         wrong_with_slot(name, inputs.model)
@@ -129,8 +129,8 @@ def wrong_with_slot(name: str, model: Model) -> Wrong | None:
             1,
             "not settable",
             (
-                f"{name} is derived: {slot.owner} ({owner.kind}) works it out of its other slots. Give"
-                f" {', '.join(terms)} of it."
+                f"{name} is derived: {slot.owner} ({owner.kind}) computes it from its other slots. Give"
+                f" {', '.join(terms)} instead."
             ),
         )
     return None
@@ -156,18 +156,18 @@ def wrong_with_steps(text: str, model: Model) -> Wrong | None:
     count = model.run.count
     if not steps:
         hint = (
-            " tools/inputs turns dates into timesteps."
+            " tools/inputs converts dates to timesteps."
             if re.search(r"[0-9][-./:][0-9]+[-./:T]", text)
             else ""
         )
         return (
             2,
             "not a number",
-            f"step is {shown(text)}, and has to be a number, or two with a - between them.{hint}",
+            f"step is {shown(text)}, but must be a number, or two with a - between them.{hint}",
         )
     if not 1 <= steps[0] <= steps[1] <= count:
         why = (
-            "the first is behind the last"
+            "the first is after the last"
             if steps[0] > steps[1]
             else f"the run has the timesteps 1 to {count:,}"
         )
@@ -180,11 +180,11 @@ def wrong_with_value(text: str, name: str, model: Model) -> Wrong | None:
     if not SIGNED.fullmatch(text):
         hint = ""
         if re.fullmatch(r"[-+]?[0-9.,eE+-]+", text):
-            hint = " tools/inputs rounds decimals, and turns m3/s into m3 a timestep."
+            hint = " tools/inputs rounds decimals, and converts m3/s to m3 per timestep."
         return (
             3,
             "not a number",
-            f"value is {shown(text)}, and has to be a whole number of 1 to 18 digits.{hint}",
+            f"value is {shown(text)}, but must be a whole number of 1 to 18 digits.{hint}",
         )
     low, high = model.bounds(name)
     if not low <= int(text) <= high:
@@ -193,7 +193,7 @@ def wrong_with_value(text: str, name: str, model: Model) -> Wrong | None:
             3,
             "out of bounds",
             (
-                f"{name} can't be {int(text):,}: its bounds are {amount(low)} to"
+                f"{name} cannot be {int(text):,}: its bounds are {amount(low)} to"
                 f" {amount(high)} {model.slots[name].unit}"
                 + (f", between those of {whose}." if whose != name else ".")
             ),

@@ -106,7 +106,7 @@ class ModelReader:
             self.find(
                 f"wrong kind {path}",
                 path,
-                f"{self.place(path)} is {shown(value)}, and has to be {key.allowed()}.",
+                f"{self.place(path)} is {shown(value)}, but must be {key.allowed()}.",
             )
         return good
 
@@ -125,7 +125,7 @@ class ModelReader:
             self.find(
                 f"missing {path}",
                 at,
-                f"{self.place(at)} has no {key.name}: it has to be {key.allowed()}."
+                f"{self.place(at)} has no {key.name}: it must be {key.allowed()}."
                 + self.spelling(key.name, table),
             )
             return WRONG
@@ -135,7 +135,7 @@ class ModelReader:
     def spelling(self, name: str, table: Toml) -> str:
         """A hint at a key that is there and may be meant."""
         near = nearest(name, table)
-        return f" Is {near} meant to be it?" if near else ""
+        return f" Did you mean {near}?" if near else ""
 
     def in_range(self, key: Key, value: object, path: str) -> bool:
         """Whether a value of the right type is in the key's range."""
@@ -146,7 +146,7 @@ class ModelReader:
         else:
             good = key.type != "start" or (isinstance(value, str) and bool(START.fullmatch(value)))
         if not good:
-            self.bad_parameter(path, f"{self.place(path)} is {shown(value)}, and has to be {key.allowed()}.")
+            self.bad_parameter(path, f"{self.place(path)} is {shown(value)}, but must be {key.allowed()}.")
         return good
 
     def bad_parameter(self, path: str, says: str) -> None:
@@ -159,7 +159,7 @@ class ModelReader:
         for name in sorted(set(table) - set(listed), key=lambda word: word.encode()):
             path = f"{at}.{name}" if at else name
             near = nearest(name, listed)
-            hint = f" {near} may be meant." if near else ""
+            hint = f" Did you mean {near}?" if near else ""
             self.find(
                 f"unknown key {path}",
                 path,
@@ -189,7 +189,7 @@ class ModelReader:
                 "run.start",
                 (
                     f"run: start is {shown(start)}: there is no such moment. "
-                    "It has to be a date of the years 1 to 9999 and an hour from 00 to 23."
+                    "It must be a date of the years 1 to 9999 and an hour from 00 to 23."
                 ),
             )
         elif step == "1month" and (moment.day, moment.hour) != (1, 0):
@@ -223,7 +223,7 @@ class ModelReader:
                 f"unknown kind {at}.kind",
                 f"{at}.kind",
                 f"{self.who(at)}: there is no kind {shown(kind)}."
-                + (f" {near} may be meant." if near else "")
+                + (f" Did you mean {near}?" if near else "")
                 + f" Kinds: {', '.join(formats.KIND_KEYS)}.",
             )
             kind = WRONG
@@ -283,7 +283,7 @@ class ModelReader:
         least, most = formats.DATA_SLOTS
         if not least <= len(items) <= most:
             self.bad_parameter(
-                f"{at}.slots", f"{self.who(at)} has {len(items)} slots, and has to have {least} to {most}."
+                f"{at}.slots", f"{self.who(at)} has {len(items)} slots, but must have {least} to {most}."
             )
         return slots
 
@@ -299,7 +299,7 @@ class ModelReader:
             self.bad_parameter(
                 f"{at}.history",
                 (
-                    f"history of {self.who(at)} has {len(items)} inflows, and has to have as "
+                    f"history of {self.who(at)} has {len(items)} inflows, but must have as "
                     f"many as the lag, which is {lag}."
                 ),
             )
@@ -316,7 +316,7 @@ class ModelReader:
                     f"wrong kind {at}.table[{number}]",
                     f"{at}.table[{number}]",
                     (
-                        f"row {number} of the table of {self.who(at)} is {shown(row)}, and has to be"
+                        f"row {number} of the table of {self.who(at)} is {shown(row)}, but must be"
                         " [elevation in mm, volume in m3], two whole numbers."
                     ),
                 )
@@ -367,7 +367,7 @@ class ModelReader:
             if len(self.model.findings) == before and not least <= len(names) <= most:
                 self.bad_parameter(
                     f"{at}.slots",
-                    f"{self.who(at)} has {len(names)} slots, and has to have {least} to {most}.",
+                    f"{self.who(at)} has {len(names)} slots, but must have {least} to {most}.",
                 )
         self.only((Key("slots", "array"),), table, at)
         if len(self.model.findings) == before:
@@ -396,7 +396,7 @@ class ModelReader:
         if slot.link:
             return (
                 "linked twice",
-                f"{name} is joined already, with {' and '.join(self.others(slot))}: write one link of all",
+                f"{name} is already linked with {' and '.join(self.others(slot))}: write one link for all of them",
             )
         beside = next((other for other in earlier if other.owner == slot.owner), None)
         if beside:
@@ -426,7 +426,7 @@ class ModelReader:
             self.find(
                 f"build {at}: duplicate name",
                 f"{at}.slot",
-                f"{self.who(at)}: {name} has bounds already; a slot has them once.",
+                f"{self.who(at)}: {name} already has bounds: a slot has one [[bound]] at most.",
             )
         else:
             self.set_bounds(slot, low, high, at)
@@ -445,8 +445,8 @@ class ModelReader:
                 f"build {at}: bad parameter",
                 f"{at}.min",
                 (
-                    f"{self.who(at)}: {amount(low)} to {amount(high)} isn't within the widest "
-                    f"bounds of {slot.full_name}, {amount(least)} to {amount(most)} {slot.unit}."
+                    f"{self.who(at)}: {amount(low)} to {amount(high)} is not within the widest bounds of"
+                    f" {slot.full_name}, {amount(least)} to {amount(most)} {slot.unit}."
                 ),
             )
         else:
@@ -479,7 +479,7 @@ class ModelReader:
                 "run.steps",
                 (
                     f"{len(model.slots):,} slots over {steps:,} timesteps are "
-                    f"{len(model.slots) * steps:,} values, and a run has at most {formats.MOST_VALUES:,}."
+                    f"{len(model.slots) * steps:,} values, but a run has at most {formats.MOST_VALUES:,}."
                 ),
             )
         for number, link in enumerate(model.links, 1):

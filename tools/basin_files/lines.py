@@ -201,7 +201,7 @@ class LineReader:
         begin = self.place
         self.levels += 1
         if self.text.startswith(("[", "{"), begin) and self.levels > MOST_LEVELS:
-            raise NotBasins(f"more than {MOST_LEVELS} brackets are in one another ({self.here()})")
+            raise NotBasins(f"more than {MOST_LEVELS} brackets are nested ({self.here()})")
         if self.skip("["):
             self.items(path)
         elif self.skip("{"):
@@ -223,7 +223,7 @@ class LineReader:
             except ValueError:
                 is_beyond = False  # a date, or no TOML
             if is_beyond:
-                raise NotBasins(f"a number is beyond 64 bits ({self.here()})")
+                raise NotBasins(f"a number needs more than 64 bits ({self.here()})")
         return word
 
     def items(self, path: str) -> None:

@@ -65,5 +65,5 @@ def drawn(text: str, ending: str) -> bytes:
         ["dot", f"-T{ending.removeprefix('.')}"], input=text.encode(), capture_output=True, check=False
     )
     if done.returncode:
-        raise Unable(f"dot can't draw it: {done.stderr.decode('utf-8', 'replace').strip()}")
+        raise Unable(f"dot cannot draw it: {done.stderr.decode('utf-8', 'replace').strip()}")
     return done.stdout

@@ -18,8 +18,8 @@ def cut(sections: list[Section], first: str | None, last: str | None) -> None:
         if word:
             at = moment_in(word)
             if not at:
-                raise Unable(f"{word} is no date: 2021-06-01, or 2021-06")
+                raise Unable(f"{word} is not a date: write 2021-06-01 or 2021-06")
             for section in sections:
                 section.rows = [row for row in section.rows if keeps(row, at)]
     if (first or last) and not any(section.rows for section in sections):
-        raise Unable("no timestep lies there")
+        raise Unable("the period has no timestep")

@@ -17,8 +17,8 @@ from .reasons import LONG, plain
 
 TOP = Path(__file__).resolve().parents[2]
 HOW_BUILT = (
-    "`./basin --build` proves and builds it, which takes about an hour of a quick processor and tells how far it"
-    " is; BASIN=PATH in front of the tool names another program"
+    "`./basin --build` proves and builds it, which takes about an hour on a fast processor and reports its"
+    " progress; BASIN=PATH before the tool names another program"
 )
 RELEASED = "program/basin"  # where a release has the program, and the repository nothing
 CANNOT = 2  # the status of a tool that can't do what it was asked
@@ -68,11 +68,11 @@ COMMON = {
     "policy": Common(("--policy",), {"metavar": "FILE"}),
     "edits": Common(("--edits",), {"metavar": "FILE"}),
     "unit": Common(("--unit",), {"action": "append", "default": [], "metavar": "UNIT"}),
-    "first": Common(("--from",), {"metavar": "DATE", "help": "timesteps that end after it: 2021-06-01, 2021-06"}),
-    "last": Common(("--to",), {"metavar": "DATE", "help": "timesteps that begin before it"}),
-    "csv": Common(("--csv",), {"action": "store_true", "help": "with commas between the fields, for a spreadsheet"}),
-    "output": Common(("-o", "--output"), {"metavar": "FILE", "help": "what is written goes to this file"}),
-    "held": Common(("-o", "--output"), {"action": ToFile, "metavar": "FILE", "help": "what is written goes to this file"}),
+    "first": Common(("--from",), {"metavar": "DATE", "help": "only timesteps that end after this date: 2021-06-01, 2021-06"}),
+    "last": Common(("--to",), {"metavar": "DATE", "help": "only timesteps that begin before this date"}),
+    "csv": Common(("--csv",), {"action": "store_true", "help": "write fields with commas between them, for a spreadsheet"}),
+    "output": Common(("-o", "--output"), {"metavar": "FILE", "help": "write the output to this file"}),
+    "held": Common(("-o", "--output"), {"action": ToFile, "metavar": "FILE", "help": "write the output to this file"}),
 }
 
 
@@ -80,7 +80,7 @@ class Words(argparse.ArgumentParser):
     """The words of a tool. What is wrong with them is one line, with status 2."""
 
     def error(self, message: str) -> NoReturn:
-        raise Unable(f"{message} (--help tells the words)")
+        raise Unable(f"{message} (--help lists the arguments)")
 
     def common(self, name: str, **more: Any) -> None:
         """Adds an option of COMMON, which is read under this name, and its older words, which aren't told."""
@@ -99,7 +99,7 @@ class Words(argparse.ArgumentParser):
             self.common("policy", required=True, help="the policy")
         else:
             self.add_argument("policy", metavar="POLICY")
-            self.common("policy", default=argparse.SUPPRESS, help="the policy, and then none behind MODEL")
+            self.common("policy", default=argparse.SUPPRESS, help="the policy, in place of the argument after MODEL")
 
 
 class Progress:
@@ -162,12 +162,13 @@ def good_model(path: str | Path) -> Model:
         model = read_model(bytes_of(path))
     except ValueError as error:
         raise Unable(
-            f"{plain(str(path))} is no TOML: {plain(str(error))} (tools/doctor {plain(str(path), LONG)} says more)"
+            f"{plain(str(path))} is no TOML: {plain(str(error))} (for more: tools/doctor {plain(str(path), LONG)})"
         ) from None
     if model.findings:
         finding = model.findings[0]
         raise Unable(
-            f"{plain(str(path))} line {finding.line}: {finding.says} (tools/doctor {plain(str(path), LONG)} says more)"
+            f"{plain(str(path))} line {finding.line}: {finding.says} (for more: tools/doctor"
+            f" {plain(str(path), LONG)})"
         )
     return model
 
@@ -180,7 +181,7 @@ def built() -> str | Path:
         return released
     program = TOP / "crates/basin/out/basin"
     if not program.exists():
-        raise Unable(f"the program isn't built. {HOW_BUILT}")
+        raise Unable(f"the program is not built. {HOW_BUILT}")
     if any(path.stat().st_mtime > program.stat().st_mtime for path in sources()):
         raise Unable(f"the program is older than its sources. {HOW_BUILT}")
     return program
@@ -202,7 +203,7 @@ def basin(*words: str | Path) -> tuple[int, str, str]:
         )
     except OSError as error:
         raise Unable(f"cannot run {program}: {error.strerror}") from None
-    output, errors = waited_for(running, f"basin {words[0]} goes on")
+    output, errors = waited_for(running, f"basin {words[0]} is still running")
     return running.returncode, output.decode("utf-8", "replace"), errors.decode("utf-8", "replace").removesuffix("\n")
 
 

@@ -30,7 +30,7 @@ def shown(value: object) -> str:
 def wrong_with_name(name: str) -> str | None:
     """Why a text is no name, or `None`."""
     if name in formats.RESERVED_WORDS:
-        return "the language of rules keeps that word for itself"
+        return "the rule language reserves this word"
     if len(name.encode()) > formats.NAME_LENGTH:
         return f"it has {len(name.encode())} bytes"
     if NAME.fullmatch(name):
@@ -43,16 +43,16 @@ def wrong_with_rows(rows: Table) -> tuple[str, int, str] | None:
     """What is wrong with the rows of a table: the refusal, the first row with it, and why; or `None`."""
     least, most = formats.TABLE_ROWS
     if len(rows) < least:
-        return "too few rows", 0, f"it has {len(rows)} rows, and has to have {least} to {most}"
+        return "too few rows", 0, f"it has {len(rows)} rows, but must have {least} to {most}"
     if len(rows) > most:
-        return "too many rows", 0, f"it has {len(rows)} rows, and has to have {least} to {most}"
+        return "too many rows", 0, f"it has {len(rows)} rows, but must have {least} to {most}"
     for number, (elevation, volume) in enumerate(rows, 1):
         if not 0 <= elevation <= formats.GREATEST_ELEVATION:
             return (
                 "out of bounds",
                 number,
                 (
-                    f"row {number} has the elevation {elevation:,} mm, and it has to be 0 to "
+                    f"row {number} has the elevation {elevation:,} mm, but it must be 0 to "
                     f"{formats.GREATEST_ELEVATION:,}"
                 ),
             )
@@ -61,7 +61,7 @@ def wrong_with_rows(rows: Table) -> tuple[str, int, str] | None:
                 "out of bounds",
                 number,
                 (
-                    f"row {number} has the volume {volume:,} m3, and it has to be 0 to "
+                    f"row {number} has the volume {volume:,} m3, but it must be 0 to "
                     f"{formats.GREATEST_VOLUME:,}"
                 ),
             )
@@ -70,7 +70,7 @@ def wrong_with_rows(rows: Table) -> tuple[str, int, str] | None:
                 "not rising",
                 number,
                 (
-                    f"row {number}, {shown([elevation, volume])}, isn't above the row before it, "
+                    f"row {number}, {shown([elevation, volume])}, is not above the row before it, "
                     f"{shown(rows[number - 2])}, in both elevation and volume"
                 ),
             )
@@ -87,7 +87,7 @@ def wrong_with_object(thing: BasinObject, model: Model) -> tuple[str, str, str] 
     if wrong:
         return "bad parameter", *wrong
     if earlier:
-        return "duplicate name", "name", f"the object of line {earlier.line} has that name already"
+        return "duplicate name", "name", f"the object in line {earlier.line} already has this name"
     if twice:
         return "duplicate name", "slots", f"two of its slots are named {twice}"
     if len(model.objects) >= formats.MOST_OBJECTS:
@@ -96,7 +96,7 @@ def wrong_with_object(thing: BasinObject, model: Model) -> tuple[str, str, str] 
         return (
             "too many",
             "name",
-            f"with it there are {slots:,} slots, and at most {formats.MOST_SLOTS:,} can be",
+            f"with it there are {slots:,} slots, but at most {formats.MOST_SLOTS:,} are allowed",
         )
     return None
 
@@ -105,13 +105,13 @@ def wrong_with_reservoir(thing: BasinObject) -> tuple[str, str] | None:
     """Why a reservoir whose keys are in order can't be: the key where it is seen, and why."""
     table, storage = thing.options.get("table"), thing.options["initial_storage"]
     if thing.options.get("evaporation") and table is None:
-        return "evaporation", "evaporation = true wants a table of elevations and volumes, and there is none"
+        return "evaporation", "evaporation = true needs a table of elevations and volumes, but there is none"
     if table is not None and not table[0][1] <= storage <= table[-1][1]:
         least, most = table[0][1], table[-1][1]
         return (
             "initial_storage",
             (
-                f"initial_storage is {storage:,} m3, and has to be one of the table's volumes, {least:,} to"
+                f"initial_storage is {storage:,} m3, but must be within the volumes of the table, {least:,} to"
                 f" {most:,} m3"
             ),
         )
@@ -135,23 +135,23 @@ def unknown_words(model: Model, name: str, nearest: Callable[[str, Iterable[str]
     owner = model.object_named(owner_name)
     if not dot:
         near = nearest(name, model.slots)
-        return f"{shown(name)} is no slot: it has to be Object.Slot." + (
-            f" {near} may be meant." if near else ""
+        return f"{shown(name)} is not a slot: write Object.Slot." + (
+            f" Did you mean {near}?" if near else ""
         )
     if not owner:
         near = nearest(owner_name, [thing.name for thing in model.objects])
-        return f"there is no object {shown(owner_name)}." + (f" {near} may be meant." if near else "")
+        return f"there is no object {shown(owner_name)}." + (f" Did you mean {near}?" if near else "")
     row = next((row for row in formats.KIND_SLOTS.get(owner.kind, ()) if row.name == slot_name), None)
     if row:
         return f"{owner_name} has the slot {slot_name} only with {formats.OPTION_TEXT[row.option]}."
     names = [slot.name for slot in owner.slots]
     near = nearest(slot_name, names + [row.name for row in formats.KIND_SLOTS.get(owner.kind, ())])
-    hint = f" {owner_name}.{near} may be meant" if near else ""
+    hint = f" Did you mean {owner_name}.{near}" if near else ""
     if near and near not in names:
         row = next(row for row in formats.KIND_SLOTS[owner.kind] if row.name == near)
         hint += f", which it has only with {formats.OPTION_TEXT[row.option]}"
     return (
-        f"{owner_name} ({owner.kind}) has no slot {shown(slot_name)}.{hint + '.' if hint else ''} "
+        f"{owner_name} ({owner.kind}) has no slot {shown(slot_name)}.{hint + '?' if hint else ''} "
         f"It has {', '.join(names)}."
     )
 

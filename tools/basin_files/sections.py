@@ -80,7 +80,7 @@ def read_sections(text: str) -> list[Section]:
             else:
                 columns = read_flags(sections[-1], line.split(","), columns, number)
     if not any(section.slots for section in sections):
-        raise ValueError("no table that basin wrote: a line step,stamp,.. is missing")
+        raise ValueError("this is not a table that basin wrote: the line step,stamp,.. is missing")
     return sections
 
 
@@ -91,7 +91,7 @@ def read_line(section: Section, fields: list[str], number: int) -> None:
         return
     stamp = moment_of(fields[1]) if len(fields) > 1 else None
     if not section.slots or len(fields) != len(section.slots) + 2 or not stamp or max(map(len, fields)) > LONGEST:
-        raise ValueError(f"line {number} isn't one of a table that basin wrote")
+        raise ValueError(f"line {number} is not part of a table that basin wrote")
     values = {slot: int(value) if value else None for slot, value in zip(section.slots, fields[2:])}
     section.rows.append(Row(int(fields[0]), stamp, values))
 
@@ -99,7 +99,7 @@ def read_line(section: Section, fields: list[str], number: int) -> None:
 def slots_of(fields: list[str], number: int) -> list[str]:
     """The slots of a line of columns. Whoever draws or prints them relies on it that they are names, and no commands."""
     if not all(map(SLOT.fullmatch, fields)):
-        raise ValueError(f"line {number} isn't one of a table that basin wrote: it names a column that is no slot")
+        raise ValueError(f"line {number} is not part of a table that basin wrote: it names a column that is not a slot")
     return fields
 
 
@@ -108,7 +108,7 @@ def read_flags(section: Section, fields: list[str], columns: list[str], number: 
     if fields[0] == "step":
         return slots_of(fields[1:], number)
     if len(fields) != len(columns) + 1 or not fields[0].isdigit():
-        raise ValueError(f"line {number} isn't one of flags that basin wrote")
+        raise ValueError(f"line {number} is not part of flags that basin wrote")
     section.flags[int(fields[0])] = {slot: flag for slot, flag in zip(columns, fields[1:]) if flag}
     return columns
 

@@ -28,7 +28,7 @@ def tell_empty(model: Model, inputs: Inputs, section: Section) -> list[str]:
     missed = {name for row in empty for name in empty_in(model, row)}
     names = [name for name in section.slots if name in missed]
     return lines + [
-        "No object waits for another value. These are only what nothing gives: " + ", ".join(names) + "."
+        "No object waits for another value. Nothing gives these slots: " + ", ".join(names) + "."
     ]
 
 
@@ -46,7 +46,7 @@ def settled_words(model: Model, section: Section) -> str:
     """What is told of a run in which nothing is to be mended."""
     size = f"{len(section.rows):,} timesteps, {len(section.slots):,} slots"
     unasked = dict.fromkeys(name for row in section.rows for name in unasked_in(model, row))
-    but = f" but those of {', '.join(unasked)}, for which nothing asks" if unasked else ""
+    but = f" except those of {', '.join(unasked)}, which nothing requests" if unasked else ""
     return f"The run settled: {size}, and no cell is empty{but}."
 
 
@@ -198,8 +198,7 @@ class Waiting:
         if any(name.endswith(" before") for name in fixed):
             name = past_name(thing)
             yield (
-                f"Missing: {thing.name}.{name} at timestep {self.past_step(thing)}, at which"
-                f" {thing.name} looks back."
+                f"Missing: {thing.name}.{name} at timestep {self.past_step(thing)}, which {thing.name} reads."
             )
         if (
             thing.kind == "water_user"
@@ -207,7 +206,7 @@ class Waiting:
             and self.first[f"{thing.name}.Diversion"] in self.known
         ):
             yield (
-                f"{thing.name} is supplied by request, so its Diversion alone isn't enough: with supply ="
+                f"{thing.name} is supplied by request, so its Diversion alone is not enough: with supply ="
                 ' "rule" it would be.'
             )
 

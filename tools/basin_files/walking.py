@@ -116,7 +116,7 @@ class Walk:
         if step > self.model.run.count:
             return None
         if not self.inputs:
-            raise NotTold(f"the run didn't close timestep {step}: --edits FILE tells what its inputs were")
+            raise NotTold(f"the run did not complete timestep {step}: give --edits FILE, which says what its inputs were")
         given = self.inputs.given(slot, step)
         return given.value if given else None
 
@@ -138,7 +138,7 @@ class Walk:
         """Those of a firing: its code is gone through again, with what the cells held."""
         firing = self.fired(event)
         if firing.ended != event.ended or not set(event.written) <= set(firing.puts):
-            raise OtherPolicy(f"rule {event.rule} of the policy does something else at timestep {event.step}")
+            raise OtherPolicy(f"rule {event.rule} of the policy does something different at timestep {event.step}")
         return list(firing.looks)
 
     def wanted(self, event: Event) -> list[Asked]:
@@ -215,7 +215,7 @@ def denials(walk: Walk, slot: str, step: int, before: float, level: int) -> Iter
         if event.place < before and put.held:
             value, flag = put.held
             when = "" if event.step == step else f", in timestep {event.step},"
-            lines[f"rule {event.rule} wanted {put.value} here{when} and was denied: {value} {flag} stood there"] = None
+            lines[f"rule {event.rule} asked for {put.value} here{when} and was denied: {value} {flag} was there already"] = None
     yield from (f"{'  ' * level}  {line}" for line in lines)
 
 

@@ -107,7 +107,7 @@ def read_sheet(text: str) -> Sheet:
     try:
         rows = [(number, row) for number, row in enumerate(reader, 1) if any(field.strip() for field in row)]
     except csv.Error as error:
-        raise ValueError(f"this is no table: {error}") from None
+        raise ValueError(f"this is not a table: {error}") from None
     rows = [(number, row) for number, row in rows if row != ["#"]]
     if named:
         rows = rows[1:]
@@ -146,7 +146,7 @@ def of_long(sheet: Sheet) -> Sheet:
         place = columns.setdefault(heading, len(columns) + 1)
         cells = rows.setdefault(row[time], (number, {0: row[time]}))[1]
         if place in cells:
-            raise ValueError(f"row {number} gives {plain(heading)} at {plain(row[time])} once more")
+            raise ValueError(f"row {number} gives {plain(heading)} at {plain(row[time])} again")
         cells[place] = row[value]
     whole = [(number, [cells.get(place, "") for place in range(len(columns) + 1)]) for number, cells in rows.values()]
     return Sheet([sheet.headings[time], *columns], whole, sheet.comma)
@@ -179,11 +179,11 @@ def factor_of(unit: str, slot_unit: str | None, timesteps: Lasting | None) -> Fa
     base, factor = formats.AMOUNTS[whole]
     wanted = slot_unit.removesuffix("/step") if slot_unit is not None else base
     if base != wanted or (time and slot_unit is not None and not slot_unit.endswith("/step")):
-        raise ValueError(f"[{unit}] isn't what the slot measures, which is {slot_unit or 'a plain number'}")
+        raise ValueError(f"[{unit}] is not what the slot measures, which is {slot_unit or 'a plain number'}")
     if time in ("", "step"):
         return lambda step: factor
     if not timesteps:
-        raise ValueError(f"[{unit}] wants --model: a timestep's length isn't known")
+        raise ValueError(f"[{unit}] needs --model, since the length of a timestep is not known")
     if time == "month" and timesteps.step == "1month":
         return lambda step: factor
     if time not in formats.SECONDS:
@@ -210,12 +210,12 @@ def number_of(text: str, comma: bool) -> Fraction | int:
     if len(bare) > MOST_DIGITS:
         raise ValueError(f"{shown(text)} has more than {MOST_DIGITS:,} letters")
     if not DECIMAL.fullmatch(bare):
-        raise ValueError(f"{shown(text)} isn't a number (marks of thousands aren't taken)")
+        raise ValueError(f"{shown(text)} is not a number (thousands separators are not accepted)")
     if "," in bare and not comma:
-        raise ValueError(f"{shown(text)} has a comma: is it a decimal comma, or a mark of thousands?")
+        raise ValueError(f"{shown(text)} has a comma: is it a decimal comma, or a thousands separator?")
     if "." in bare and comma:
         raise ValueError(
-            f"{shown(text)} has a point, and other cells have decimal commas: is it a mark of thousands?"
+            f"{shown(text)} has a point, and other cells have decimal commas: is it a thousands separator?"
         )
     return Fraction(Decimal(bare.replace(",", ".")))
 
@@ -270,14 +270,14 @@ def steps_in(text: str, heading: str, timesteps: Timesteps | None) -> tuple[int,
     if steps:
         last = timesteps.count if timesteps else formats.MOST_STEPS
         if not 1 <= steps[0] <= steps[1] <= last:
-            raise ValueError(f"{shown(text)} is no timestep of the run, which has 1 to {last}")
+            raise ValueError(f"{shown(text)} is not a timestep of the run, which has 1 to {last}")
         return steps
     moment = moment_in(bare)
     if not moment:
-        hint = ": 01/02/2020 may be two days, so write 2020-02-01 or 01.02.2020" if "/" in bare else ""
-        raise ValueError(f"{shown(text)} is no timestep and no date{hint}")
+        hint = ": 01/02/2020 can mean two dates, so write 2020-02-01 or 01.02.2020" if "/" in bare else ""
+        raise ValueError(f"{shown(text)} is neither a timestep nor a date{hint}")
     if not timesteps:
-        raise ValueError(f"{plain(bare)} is a date, which wants --model to become a timestep")
+        raise ValueError(f"{plain(bare)} is a date: give --model, which converts dates to timesteps")
     return (step_at(moment, word in END_WORDS, timesteps),) * 2
 
 

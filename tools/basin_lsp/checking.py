@@ -106,7 +106,7 @@ def diagnostic(document, weight, finding, reading=None):
     """A finding as the protocol has it."""
     begin, end = narrow(document, finding, reading)
     says = f"{lettered(finding.whose)}: {finding.says}." if finding.whose else f"{finding.says}."
-    hint = f"\nMay be meant: {finding.hint}." if finding.hint else ""
+    hint = f"\nHint: {finding.hint}." if finding.hint else ""
     more = "".join(f"\n{line}" for line in finding.more)
     told = {
         "range": document.range(begin, end),

@@ -209,7 +209,7 @@ def around(text, word, hint, before, here, behind, tokens, at):
                 break
             end = token.end
         yield "put the name in quotes", [(here.begin, end, f'"{text[here.begin : end]}"')]
-    if before and ("mark of thousands" in hint or "marks of thousands" in hint or "unit stands in quotes" in hint):
+    if before and ("thousands separator" in hint or "unit is in quotes" in hint):
         for last in (tokens[at + 2] if at + 2 < len(tokens) else None, behind, here):
             if last:
                 yield f"write {word}", [(before.begin, last.end, word)]
@@ -235,7 +235,7 @@ def of_meaning(document, model, finding):
     """Another name, another unit, or a value that is made to measure what is asked for."""
     text, hint = document.source.text, finding.hint
     here = text[finding.span.begin : finding.span.end]
-    near = re.search(r"(?:^|[ .])([A-Za-z_][A-Za-z0-9_]*(?:\.[A-Za-z_][A-Za-z0-9_]*)?) may be meant", finding.says)
+    near = re.search(r" Did you mean ([A-Za-z_][A-Za-z0-9_]*(?:\.[A-Za-z_][A-Za-z0-9_]*)?)[?,]", finding.says)
     if near:
         yield from nearer(here, near[1], finding)
     if re.fullmatch(r'"[^"]*"', hint):

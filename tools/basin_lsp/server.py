@@ -320,7 +320,7 @@ class Server:
     def differs(self, document, version, answer, expected):
         """The program answered otherwise than the tools: its words are told besides."""
         if document.version == version and self.documents.get(document.uri) is document:
-            says = f"{answer or 'basin accepts this'} (the tools' own reading: {expected or 'accepted'})"
+            says = f"{answer or 'basin accepts this'} (the tools' own check: {expected or 'accepted'})"
             one = {"range": document.range(0, 0), "severity": checking.FAULT if answer else checking.TOLD}
             self.tell(document, [{**one, "source": "basin check", "message": plain(says, LONG)}], again=False)
 

@@ -29,5 +29,5 @@ def remark(source: Source, sort: str, finding: Finding) -> dict[str, int | str]:
     end = source.begins[line] - 1 if line < len(source.begins) else len(source.content)
     letters = [len(source.content[begin:at].decode("utf-8", "replace")) for at in (finding.span.begin, min(finding.span.end, end))]
     whose = f"{finding.whose}: " if finding.whose else ""
-    hint = f" May be meant: {finding.hint}." if finding.hint else ""
+    hint = f" Hint: {finding.hint}." if finding.hint else ""
     return {"line": line, "from": letters[0], "to": letters[1], "sort": sort, "says": f"{whose}{finding.says}.{hint}"}

@@ -192,7 +192,7 @@ def of_file(finding: Finding, pieces: Pieces, heads: list[tuple[int, Requirement
     span = pieces.in_file(finding.span, whose.head if whose else Span(0, 0))
     says = finding.says.replace("an argument of Sign", "a measure")
     if whose and not whose.how:
-        says = says.replace("and a condition has to be", "and what is required has to be")
+        says = says.replace("but a condition must be", "but what is required must be")
     return Finding(finding.refusal, span, says, finding.hint, finding.more, f'"{whose.name}"' if whose else finding.whose)
 
 

@@ -132,7 +132,7 @@ def words_of(source: Source) -> list[Word]:
         if not match:
             end = text.find("\n", place)
             is_open = text[place] == '"'
-            says = "the text in quotes isn't closed in its line" if is_open else "no word of the language begins so"
+            says = "the text in quotes is not closed in its line" if is_open else "no word of the language begins so"
             raise Unreadable(Span(place, end if is_open and end >= 0 else place + 1), says)
         kind = match.lastgroup or "sign"
         found.append(Word(kind, match.group(), place, match.end()))
@@ -169,7 +169,7 @@ class Reader:
     def refuse(self, wanted: str) -> Word:
         """No reading goes on here."""
         stands = self.source.words(self.word.span) if self.word.kind != "end" else "the end of the file"
-        raise Unreadable(self.word.span, f"{stands} stands here, and {wanted} is expected")
+        raise Unreadable(self.word.span, f"{stands} stands here, but {wanted} is expected")
 
     def file(self) -> Requirements:
         """The whole file."""

@@ -18,9 +18,9 @@ MOST_TOLD = 20  # rules and objects
 FEW_PUTS = 3
 LED, AGAINST, NOWHERE = "led", "against", "nowhere"  # how a put pulled that stands behind a fault
 LOOKED_UP = {
-    "item": "there is no item of that number in the list",
-    "toelevation": "there is no such storage in the table that is asked",
-    "tostorage": "there is no such elevation in the table that is asked",
+    "item": "the list has no item with that number",
+    "toelevation": "the table does not reach that storage",
+    "tostorage": "the table does not reach that elevation",
 }
 
 
@@ -120,7 +120,7 @@ def lines_of_unknown(run: Run) -> list[str]:
         steps = f"{len(events):,} of {run.model.run.count:,} timesteps"
         first = min(events, key=lambda event: event.step)
         lines.append(f"    {run.rule(rule)} in {steps}, first in timestep {first.step}: {lacked(run, first)}")
-    return ["Rules that ended unknown, and put nothing:", *lines] if lines else []
+    return ["Rules that ended unknown, and set nothing:", *lines] if lines else []
 
 
 def lacked(run: Run, event: Event) -> str:
@@ -128,11 +128,11 @@ def lacked(run: Run, event: Event) -> str:
     try:
         firing = run.walk.fired(event)
     except (OtherPolicy, KeyError):
-        return "this tool can't tell why"
+        return "this tool cannot say why"
     if not firing.lacked:
-        return "the date of which it asks the month, the day or the year is outside the run"
+        return "it asks for the month, the day or the year of a date outside the run"
     slot, step = firing.lacked
-    return f"it reads {slot} of timestep {step}, which isn't known"
+    return f"it reads {slot} of timestep {step}, which is not known"
 
 
 # ---- which rule was fired most
@@ -149,9 +149,9 @@ def lines_of_most(run: Run) -> list[str]:
     steps = Counter(event.step for event in run.firings if event.rule == rule)
     step, most = max(steps.items(), key=lambda item: (item[1], -item[0]))
     if len(steps) == 1:
-        return [f"{run.rule(rule)} was fired most: {often(times)}, in timestep {step}."]
+        return [f"{run.rule(rule)} fired most often: {often(times)}, in timestep {step}."]
     count = f"{often(times)} in {len(steps):,} timesteps"
-    return [f"{run.rule(rule)} was fired most: {count}, and {often(most)} in timestep {step}."]
+    return [f"{run.rule(rule)} fired most often: {count}, and {often(most)} in timestep {step}."]
 
 
 def often(times: int) -> str:
@@ -180,7 +180,7 @@ def lines_of_rule(run: Run, number: int) -> list[str]:
     name = run.rule(number)
     if fault.startswith("division"):
         where = run.line(run.walk.refired(number, run.fault_step))
-        return [f"{name} divided by 0{where}. What may be 0 wants an IF before the quotient."]
+        return [f"{name} divided by 0{where}. Put an IF before a division by a number that may be 0."]
     if fault.startswith("limit"):
         times = int(run.part(r"after ([0-9]+)"))
         return [f"{name} had fired {often(times)}, and was due again: {what_changed(run, number)}", *to_and_fro(run)]
@@ -198,7 +198,7 @@ def what_changed(run: Run, number: int) -> str:
             if event.place > mine[0].place and (slot, step) in looks:
                 writers[(run.rule(event.rule) if event.rule else event.thing, slot)] += 1
     if not writers:
-        return "what it looked at was set again and again."
+        return "the slots that it reads were set again and again."
     (writer, slot), times = writers.most_common(1)[0]
     whose = "it itself" if writer == run.rule(number) else writer
     return f"it reads {slot}, which {whose} set {often(times)} meanwhile."
@@ -215,8 +215,8 @@ def to_and_fro(run: Run) -> list[str]:
     found = [f"{slot} between {held[0]:,} and {held[1]:,}" for slot, held in last if is_to_and_fro(held)]
     if not found:
         return []
-    mend = "Reckon it in one firing, by what was there before; or put it only where it is more than that apart."
-    return [f"To and fro it goes: {', '.join(found[:MOST_TOLD])}. {mend}"]
+    mend = "Compute the value in one firing, from the values before; or set it only where it changes by more than that."
+    return [f"Values go to and fro: {', '.join(found[:MOST_TOLD])}. {mend}"]
 
 
 def is_to_and_fro(held: list[int]) -> bool:
@@ -235,7 +235,7 @@ def looked_at(run: Run, event: Event) -> list[tuple[str, int]]:
 def out_of_range(run: Run, number: int, value: int) -> str:
     """What a rule wanted with a number that is out of range."""
     if abs(value) > GREATEST_QUANTITY:
-        return "numbers go from -10^17 to 10^17."
+        return "numbers are from -10^17 to 10^17."
     try:
         firing = run.walk.refired(number, run.fault_step)
     except KeyError:
@@ -243,7 +243,7 @@ def out_of_range(run: Run, number: int, value: int) -> str:
     for slot, _, wanted in firing.asked:
         low, high = run.model.bounds(slot)
         if wanted == value and not low <= wanted <= high:
-            return f"it puts that to {slot}, whose bounds are {amount(low)} to {amount(high)}."
+            return f"it sets {slot} to that value, whose bounds are {amount(low)} to {amount(high)}."
     if firing.ended != "out of range":
         return "that is out of range."
     assert firing.at  # it has come to something
@@ -254,7 +254,7 @@ def out_of_range(run: Run, number: int, value: int) -> str:
 def lines_of_object(run: Run, thing: BasinObject, step: int) -> list[str]:
     """What is told where an object ended the run: what it held, and whose put that came from."""
     swings = to_and_fro(run) if run.section.fault.startswith("limit") else []
-    lines = [what_of_object(run, thing), *swings, f"What {thing.name} ({thing.kind}) held then:"]
+    lines = [what_of_object(run, thing), *swings, f"The values of {thing.name} ({thing.kind}) then:"]
     for name in (slot.full_name for slot in thing.slots):
         content = run.walk.held(name, step, END)
         if content.value is not None:
@@ -262,12 +262,12 @@ def lines_of_object(run: Run, thing: BasinObject, step: int) -> list[str]:
     puts = [(how_it_pulled(run, thing, own, value), slot, event) for slot, event, own, value in puts_behind(run, thing, step)]
     for _, slot, event in [put for put in puts if put[0] == LED][:FEW_PUTS]:
         when = "this timestep" if event.step == step else f"timestep {event.step}"
-        lines.append(f"{run.rule(event.rule)} led there: it put {slot} = {value_put(event, slot, step):,} in {when}.")
+        lines.append(f"{run.rule(event.rule)} led to this: it set {slot} = {value_put(event, slot, step):,} in {when}.")
         lines += due_again(run, event)
     for _, slot, event in [put for put in puts if put[0] == AGAINST][:FEW_PUTS]:
-        lines.append(f"{run.rule(event.rule)} pulled the other way: it put {slot} = {value_put(event, slot, step):,}.")
+        lines.append(f"{run.rule(event.rule)} pulled the other way: it set {slot} = {value_put(event, slot, step):,}.")
     if not any(put[0] == LED for put in puts):
-        lines.append("No rule put for this timestep what that came from.")
+        lines.append("No rule set a value for this timestep that led to this.")
     return lines + too_late(run, thing, step)
 
 
@@ -305,7 +305,7 @@ def too_late(run: Run, thing: BasinObject, step: int) -> list[str]:
         return []
     value = int(run.part(r"value (-?[0-9]+)"))
     low, high = run.model.bounds(storage)
-    mend = f"Let the {'table' if low <= value <= high else 'bounds'} reach {value:,} m3" if value > 0 else "Release less"
+    mend = f"Extend the {'table' if low <= value <= high else 'bounds'} to {value:,} m3" if value > 0 else "Release less"
     return [
         f"{' and '.join(late)} would set {storage}, but reads it first, and the run ends before it can. {mend}, "
         'or compute the release from the previous storage; docs/LANGUAGE.md, "What happens in a timestep".'
@@ -341,12 +341,12 @@ def what_of_object(run: Run, thing: BasinObject) -> str:
     fault = run.section.fault
     numbers = [int(number) for number in re.findall(r"(?:held|solved|value|after) (-?[0-9]+)", fault)]
     if fault.startswith("limit"):
-        return f"{thing.name} was dispatched {often(numbers[0])}, and would have been again."
+        return f"{thing.name} was dispatched {often(numbers[0])}, and was due again."
     name = run.part(r"\bslot (\S+)")
     slot = run.model.slots[name]
     if fault.startswith("conflict"):
         held, solved = numbers
-        return f"{name} holds {held:,} {slot.unit}, and the others give {solved:,}: neither gives way."
+        return f"{name} is {held:,} {slot.unit}, but the other slots give {solved:,}, and neither is overridden."
     if slot.name == "EnergyRequest":
         before = run.walk.held(f"{thing.name}.Storage", run.fault_step - 1, END).value
         assert before is not None  # else nothing would be asked of it

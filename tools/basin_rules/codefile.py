@@ -19,8 +19,8 @@ from .verifier import Basin, Before, Block, Line, Misfit, Refused, Scope
 STAGES = {
     "top": "the first line is `CODE 1`",
     "between": "a block begins with `RULE` or `FUNCTION R P`",
-    "headed": "behind a block's first line stands `LOCALS K`",
-    "inside": "an instruction or `END` stands here",
+    "headed": "the line after a block's first line is `LOCALS K`",
+    "inside": "an instruction or `END` is expected here",
 }
 BEHIND: dict[Callable[[str], object], str] = {
     verifier.quantity_in: "a whole number from -10^17 to 10^17, without zeros in front",
@@ -90,8 +90,8 @@ def finding_of(refused: Refused, source: Source, model: Model) -> Finding:
         return Finding(str(refused), line_span(source, refused.line), *of_line(refused.line, source))
     end = len(source.content)
     last = not source.text.endswith("\n")
-    says = "the last line has no line feed" if last and end else "the text ends here, before an `END` that is due"
-    return Finding(str(refused), Span(end, end), says if end else "there is no line, and the first one is `CODE 1`")
+    says = "the last line has no line feed" if last and end else "the text ends here, and an `END` is missing"
+    return Finding(str(refused), Span(end, end), says if end else "there is no line, but the first one must be `CODE 1`")
 
 
 def line_span(source: Source, number: int) -> Span:
@@ -111,14 +111,14 @@ def of_line(number: int, source: Source) -> tuple[str, str]:
     if word not in verifier.LINES:
         near = nearest(word, verifier.ALLOWED[stage])
         hint = "no blank before the line" if not word else near or ""
-        return f"{shown(word)} begins no line of code: {STAGES[stage]}", hint
+        return f"{shown(word)} does not begin a line of code: {STAGES[stage]}", hint
     asked = verifier.LINES[word]
     if len(texts) != len(asked):
-        return f"behind `{word}` stand{'s' * (len(asked) < 2)} {many(len(asked))}, and here {many(len(texts))}", ""
+        return f"`{word}` needs {many(len(asked))} after it, and has {many(len(texts))}", ""
     for text, read in zip(texts, asked):
         if read(text) is None:
-            return f"{shown(text)} isn't {BEHIND[read]}", ""
-    return f"`{word}` isn't allowed here: {STAGES[stage]}", ""
+            return f"{shown(text)} is not {BEHIND[read]}", ""
+    return f"`{word}` is not allowed here: {STAGES[stage]}", ""
 
 
 def many(count: int) -> str:
@@ -209,32 +209,32 @@ def not_settable(site: Site) -> tuple[str, str]:
     """A slot that its object derives."""
     owner, name = site.things[0]
     names = [slot.full_name for slot in site.model.the_object(owner).slots if slot.settable]
-    return f"{owner} derives {owner}.{name} from its other slots, so no rule sets it", f"one of {', '.join(names)}"
+    return f"{owner} derives {owner}.{name} from its other slots, so a rule cannot set it", f"one of {', '.join(names)}"
 
 
 def target_step(site: Site) -> tuple[str, str]:
     """A put for another timestep."""
     says, hint = meant.target_step(site.model.ahead)
-    return f"{says}, which is 0 behind the slot" if not site.model.ahead else says, hint
+    return f"{says}, which is the 0 after the slot" if not site.model.ahead else says, hint
 
 
 def jumped(site: Site) -> tuple[str, str]:
     """A jump that leads to no place where it may."""
     to, lines = site.things[0], site.block.lines
     if to <= site.place:
-        return f"place {to} isn't behind this one, and a jump goes on", ""
+        return f"place {to} is not after this one, and a jump only goes forward", ""
     targets = [place for place, line in enumerate(lines) if line[0] == "target" and place > site.place]
     hint = f"{targets[0]}, the next target" if targets else ""
     if to >= len(lines):
         return f"the block has the places 0 to {len(lines) - 1}, and no place {to}", hint
     if lines[to][0] != "target":
-        return f"place {to} is `{spelt(lines[to])}`, and a jump goes to a `target`", hint
+        return f"place {to} is `{spelt(lines[to])}`, but a jump goes to a `target`", hint
     return f"the target at place {to} is in another loop", ""
 
 
 def later_call(site: Site) -> tuple[str, str]:
     """A function that stands here or later."""
-    return f"block {site.things[0]} stands here or later, and a block calls those before it", ""
+    return f"block {site.things[0]} is this one or a later one, but a block can only call earlier ones", ""
 
 
 def operands(site: Site) -> tuple[str, str]:
@@ -271,7 +271,7 @@ def shape(site: Site) -> tuple[str, str]:
     if word == "jump":
         behind = verifier.declared_at(block.lines, site.place + 1)
         if behind is None:
-            return "behind a `jump` stands a `target`, since no way leads there but a jump", ""
+            return "a `target` must follow a `jump`, since only a jump can reach the next place", ""
     if word in ("jump", "branch"):
         declared = verifier.declared_at(block.lines, things[0]) or []
         return f"the target at place {things[0]} declares {kinds_of(declared[::-1])}, and {site.operands}", ""
@@ -314,7 +314,7 @@ MISFITS: dict[str, Callable[[Site], tuple[str, str]]] = {
     "too many": lambda site: (f"there are at most {verifier.MOST_ALIKE} rules, and as many functions", ""),
     "no such name": no_name,
     "not settable": not_settable,
-    "put in function": lambda site: ("a function puts nothing: only rules do", ""),
+    "put in function": lambda site: ("a function cannot set slots: only a rule can", ""),
     "target step": target_step,
     "backward jump": jumped,
     "jump outside": jumped,

@@ -56,8 +56,8 @@ class Budget:
 
 def words_above(budget: Budget) -> str:
     """What is told of a budget that is above a limit."""
-    amounts = [f"{amount:,} {name}, and at most {limit:,} can be" for name, amount, limit in budget.above()]
-    return f"a firing may come to {'; to '.join(amounts)}"
+    amounts = [f"{amount:,} {name}, but at most {limit:,} are allowed" for name, amount, limit in budget.above()]
+    return f"a firing may need {'; '.join(amounts)}"
 
 
 NOTHING = Cost()

@@ -111,21 +111,23 @@ class Effects:
             most = max(moments, key=lambda one: one.apart)
             whose = "from what inputs give" if flag == "O0" else f"as strong as {self.names[int(flag[1:]) - 1]}"
             yield (
-                f"{self.names[rule - 1]}: {slot} gave way to the object {thing} ({flag}, {whose}) in {times(moments)},"
-                f" most in timestep {most.step}: {most.wanted:,} was put, and {most.holds:,} holds."
+                f"{self.names[rule - 1]}: {slot} was overridden by the object {thing} ({flag}, {whose}) in"
+                f" {times(moments)}, most in timestep {most.step}: the rule set {most.wanted:,}, and the table"
+                f" has {most.holds:,}."
             )
         for (rule, slot, by), moments in sorted(self.held.items())[:MOST_TOLD]:
             most = max(moments, key=lambda one: one.apart)
             yield (
-                f"{self.names[rule - 1]}: what it put to {slot} first was set again by {self.names[by - 1]}, so what"
-                f" it put later was denied, in {times(moments)}; most in timestep {most.step}: {most.wanted:,} was"
-                f" wanted, and {most.holds:,} holds."
+                f"{self.names[rule - 1]}: its first value of {slot} was set again by {self.names[by - 1]}, so its"
+                f" later values were denied, in {times(moments)}; most in timestep {most.step}: it asked for"
+                f" {most.wanted:,}, and the table has {most.holds:,}."
             )
         for (rule, slot, flag), moments in sorted(self.denied.items())[:MOST_TOLD]:
             most = max(moments, key=lambda one: one.apart)
             yield (
-                f"{self.names[rule - 1]}: {slot} was denied, since {self.whose(flag)} held it, in {times(moments)}; most in"
-                f" timestep {most.step}: {most.wanted:,} was wanted, and {most.holds:,} holds."
+                f"{self.names[rule - 1]}: its value of {slot} was denied, since {self.whose(flag)} had set it, in"
+                f" {times(moments)}; most in timestep {most.step}: it asked for {most.wanted:,}, and the table"
+                f" has {most.holds:,}."
             )
 
     def whose(self, flag: str) -> str:

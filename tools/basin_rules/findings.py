@@ -23,7 +23,7 @@ def told(finding: Finding, source: Source) -> list[str]:
     lines = [f"{source.path} {source.place(finding.span.begin)}{whose}: {finding.says}."]
     lines += source.marked(finding.span)
     lines += [f"    {line}" for line in finding.more]
-    return lines + ([f"May be meant: {finding.hint}."] if finding.hint else [])
+    return lines + ([f"Hint: {finding.hint}."] if finding.hint else [])
 
 
 def told_short(finding: Finding, source: Source) -> str:

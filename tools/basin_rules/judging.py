@@ -91,11 +91,11 @@ def soonest(wrongs: Iterable[Wrong | None]) -> None:
 def misfit(given: Type, asked: Type, called: str, whose: str) -> Wrong | None:
     """Why a value can't stand where one of another type is asked for, or `None`; `called` is the value."""
     if given.sort != asked.sort:
-        says = f"{called} is {given.words()}, and {whose} has to be {asked.words()}"
+        says = f"{called} is {given.words()}, but {whose} must be {asked.words()}"
         return Wrong("wrong type", says)
     wrongs = [unit_misfit(given, asked, called, whose)]
     if given.most > asked.most:
-        says = f"{called} may have {given.most:,} items, and {whose} has at most {asked.most:,}"
+        says = f"{called} may have {given.most:,} items, but {whose} has at most {asked.most:,}"
         wrongs.append(Wrong("list too long", says))
     return next((wrong for wrong in wrongs if wrong), None)
 
@@ -126,7 +126,7 @@ def written_type(written: trees.TypeName) -> Type:
     if written.word != "LIST":
         return of_one
     if not 1 <= written.most <= LONGEST:
-        raise Wrong("list too long", f"a list has room for 1 to {LONGEST:,} items, and not for {written.most:,}")
+        raise Wrong("list too long", f"a list can have 1 to {LONGEST:,} items, not {written.most:,}")
     return of_one.list_of(written.most)
 
 
@@ -183,7 +183,7 @@ class Judge:
         if function.name in PREDEFINED or function.name in self.earlier:
             raise Misfit(0, function.name_span, taken_name(function.name, self.earlier, self.source))
         if twice:
-            raise Misfit(0, twice.span, Wrong("duplicate name", f"an earlier parameter is named {twice.name}, too"))
+            raise Misfit(0, twice.span, Wrong("duplicate name", f"an earlier parameter is also named {twice.name}"))
         wrongs = []
         for written in [one.type for one in function.parameters] + [function.gives]:
             try:
@@ -210,7 +210,7 @@ class Judge:
             self.statements(scope, statement.no)
             if value != TRUTH:
                 condition = statement.parts[0]
-                says = f"{self.text(condition)} is {value.words()}, and a condition has to be a truth value"
+                says = f"{self.text(condition)} is {value.words()}, but a condition must be a truth value"
                 raise Misfit(statement.number, condition.span, Wrong("wrong type", says))
         elif isinstance(statement, trees.Assign):
             self.target(statement, value)
@@ -220,7 +220,7 @@ class Judge:
         try:
             slot = self.slot(statement.full_name)
             if not slot.settable:
-                says = f"{slot.owner} derives {slot.full_name} from its other slots, so no rule sets it"
+                says = f"{slot.owner} derives {slot.full_name} from its other slots, so a rule cannot set it"
                 raise Wrong("not settable", says, meant.settable(self.model, slot))
             if statement.ahead > self.model.ahead:
                 raise Wrong("target step", *meant.target_step(self.model.ahead))
@@ -261,7 +261,7 @@ class Judge:
         measure, factor = UNITS[unit]
         if node.value * factor > GREATEST_QUANTITY:
             says = f"{node.value:,} {unit} are {node.value * factor:,} {unit_words(measure)}"
-            raise Wrong("literal range", f"{says}, and the greatest number is 10^17")
+            raise Wrong("literal range", f"{says}, but the largest number is 10^17")
         return Type("number", measure)
 
     def slot_name(self, scope: Scope, node: trees.SlotName) -> Type:
@@ -296,7 +296,7 @@ class Judge:
         """Judges how many arguments a call has; the hint is for one that has too few."""
         if len(node.parts) != count:
             given = f"{len(node.parts)} argument{'s' * (len(node.parts) != 1)}"
-            says = f"{node.name} has {given} here, and takes {count}"
+            says = f"{node.name} has {given} here, but needs {count}"
             raise Wrong("wrong count", says, meant.COUNTS.get(node.name, "") if len(node.parts) > count else hint)
 
     def predefined(self, node: trees.Call, given: list[Type]) -> Type:
@@ -318,13 +318,13 @@ class Judge:
     def measuring(self, powers: Measure) -> Type:
         """A number that measures these powers of units, where it can."""
         if not is_measure(powers):
-            raise Wrong("wrong unit", f"it would measure {unit_words(powers)}, and powers go from -6 to 6")
+            raise Wrong("wrong unit", f"it would measure {unit_words(powers)}, but powers are from -6 to 6")
         return Type("number", powers)
 
     def is_number(self, node: trees.Node, given: Type, whose: str) -> None:
         """Judges whether a value is a number."""
         if given.sort != "number":
-            says = f"{self.text(node)} is {given.words()}, and {whose} has to be a number"
+            says = f"{self.text(node)} is {given.words()}, but {whose} must be a number"
             raise Wrong("wrong type", says, meant.of_value(node, given, NUMBER, self.source))
 
     def alike(self, nodes: list[trees.Node], given: list[Type]) -> None:
@@ -353,11 +353,11 @@ class Judge:
         given = self.all(scope, node.parts)
         first = given[0]
         if first.sort not in ("number", "slot"):
-            says = f"{self.text(node.parts[0])} is {first.words()}, and a list is of numbers or of slots"
+            says = f"{self.text(node.parts[0])} is {first.words()}, but a list contains numbers or slots"
             raise Wrong("wrong type", says)
         wrongs = []
         if len(given) > LONGEST:
-            says = f"the list has {len(given):,} items, and at most {LONGEST:,} can be"
+            says = f"the list has {len(given):,} items, but at most {LONGEST:,} are allowed"
             wrongs.append(Wrong("list too long", says))
         try:
             self.alike(node.parts, given)
@@ -370,7 +370,7 @@ class Judge:
         """An IF of expressions."""
         condition, yes, no = self.all(scope, node.parts)
         if condition != TRUTH:
-            says = f"{self.text(node.parts[0])} is {condition.words()}, and a condition has to be a truth value"
+            says = f"{self.text(node.parts[0])} is {condition.words()}, but a condition must be a truth value"
             raise Wrong("wrong type", says)
         of_lists = yes.is_list and yes.sort == no.sort
         wrong = (unit_misfit if of_lists else misfit)(no, yes, self.text(node.parts[2]), self.text(node.parts[1]))
@@ -385,7 +385,7 @@ class Judge:
     def items(self, node: trees.For | trees.Map, given: Type) -> Type:
         """The type of the items of the list of a loop."""
         if not given.is_list:
-            says = f"{self.text(node.parts[0])} is {given.words()}, and the loop goes through a list"
+            says = f"{self.text(node.parts[0])} is {given.words()}, but the loop needs a list"
             raise Wrong("wrong type", says)
         return given.item
 
@@ -404,7 +404,7 @@ class Judge:
         given = self.expression(scope, node.parts[0])
         names = {node.item: self.items(node, given)}
         body = self.expression(inside(scope, names), node.parts[1])
-        self.is_number(node.parts[1], body, "what MAP makes of an item")
+        self.is_number(node.parts[1], body, "the body of MAP")
         return body.list_of(given.most)
 
     def one(self, scope: Scope, node: trees.One) -> Type:
@@ -412,7 +412,7 @@ class Judge:
         part = node.parts[0]
         given = self.expression(scope, part)
         if node.word == "-":
-            self.is_number(part, given, "what stands behind -")
+            self.is_number(part, given, "the operand of -")
             return given
         if node.word == "KNOWN":
             if not isinstance(part, trees.At):
@@ -430,7 +430,7 @@ class Judge:
     def asked(self, node: trees.Node, given: Type, holds: bool, called: str) -> None:
         """Judges what a word asks for."""
         if not holds:
-            raise Wrong("wrong type", f"{self.text(node)} is {given.words()}, and {called} is asked for")
+            raise Wrong("wrong type", f"{self.text(node)} is {given.words()}, but {called} is needed")
 
     def two(self, scope: Scope, node: trees.Two) -> Type:
         """A word or an operator of two expressions."""
@@ -446,7 +446,7 @@ class Judge:
         if DATE in (left, right):
             return self.of_dates(node, left, right)
         for part, given in zip(node.parts, (left, right)):
-            self.is_number(part, given, f"what stands beside {node.word}")
+            self.is_number(part, given, f"the operand of {node.word}")
         self.same_unit(node, left, right)
         return left if node.word in ("+", "-") else TRUTH
 
@@ -454,7 +454,7 @@ class Judge:
         """Judges whether both sides measure the same."""
         if left.measure != right.measure:
             sides = [f"{self.text(part)} {measured(part.judged)}" for part in node.parts]
-            says = f"{sides[0]}, and {sides[1]}: both sides of {node.word} have to measure the same"
+            says = f"{sides[0]}, and {sides[1]}: both sides of {node.word} must measure the same quantity"
             raise Wrong("wrong unit", says, meant.of_sides(node, left, right, self.source))
 
     def of_dates(self, node: trees.Two, left: Type, right: Type) -> Type:
@@ -465,7 +465,7 @@ class Judge:
             return Type("number", TIMESTEP)
         if node.word in ("+", "-") and left == DATE and right.sort == "number":
             if right.measure != TIMESTEP:
-                says = f"{self.text(node.parts[1])} {measured(right)}, and a date is moved by timesteps"
+                says = f"{self.text(node.parts[1])} {measured(right)}, but a date is moved by a number of timesteps"
                 raise Wrong("wrong unit", says, meant.steps(node, self.source))
             return DATE
         sides = [f"{self.text(part)} is {part.judged.words()}" for part in node.parts]
@@ -474,7 +474,7 @@ class Judge:
     def product(self, node: trees.Two, left: Type, right: Type) -> Type:
         """A product or a quotient."""
         for part, given in zip(node.parts, (left, right)):
-            self.is_number(part, given, f"what stands beside {node.word}")
+            self.is_number(part, given, f"the operand of {node.word}")
         return self.measuring((times if node.word == "*" else per)(left.measure, right.measure))
 
     def append(self, node: trees.Two, items: Type, one: Type) -> Type:
@@ -503,7 +503,7 @@ class Judge:
         if not thing:
             raise Wrong("unknown name", *meant.owner(node.owner, self.model))
         if not thing.looked_up:
-            says = f"{node.owner} ({thing.kind}) has no table into which a rule may look"
+            says = f"{node.owner} ({thing.kind}) has no table that a rule can read"
             raise Wrong("no table", says, meant.with_table(thing, self.model))
         asked, answered = (Type("number", measure) for measure in TABLES[node.word])
         wrong = misfit(given, asked, self.text(node.parts[0]), f"what {node.word} takes")
@@ -514,7 +514,7 @@ class Judge:
         """The value of a slot at a date."""
         slot, date = self.all(scope, node.parts)
         if slot.sort != "slot":
-            says = f"{self.text(node.parts[0])} is {slot.words()}, and a slot stands before [ ]"
+            says = f"{self.text(node.parts[0])} is {slot.words()}, but only a slot can be before [ ]"
             raise Wrong("wrong type", says, meant.item(node, slot, self.source))
         if date != DATE:
             raise Wrong("wrong type", *meant.date(node, date, self.source))
@@ -531,7 +531,7 @@ def taken_name(name: str, earlier: dict[str, Signature], source: Source) -> Wron
     if name in PREDEFINED:
         return Wrong("duplicate name", f"{name} is a predefined function")
     line = source.line(earlier[name].declaration.name_span.begin)
-    return Wrong("duplicate name", f"the function of line {line} has the name {name} already")
+    return Wrong("duplicate name", f"the function in line {line} already has the name {name}")
 
 
 # Each takes the nodes of its own form.

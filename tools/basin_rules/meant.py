@@ -24,7 +24,7 @@ CUBIC_METRES_OF_1000_CFS = 28_316_847  # m3/s, times 10^6
 # What other systems write, and what it is here.
 OTHER_UNITS = {
     "m3/s": f"there is none, since a timestep's length depends on the model: 3 m3/s are {SECONDS}",
-    "cms": f"m3/s, which there is none of: 3 m3/s are {SECONDS}",
+    "cms": f"m3/s is not a unit of this language: 3 m3/s are {SECONDS}",
     "hm3": '"Mm3"',
     "MCM": '"Mm3"',
     "cfs": 'the units are metric: 1,000 cfs are 2446576 "m3/step" where a timestep is a day',
@@ -34,8 +34,8 @@ OTHER_UNITS = {
         ("acre-feet", "acre-foot", "ac-ft", "af", "AF"), 'the units are metric: 1,000 acre-feet are 1233482 "m3"'
     ),
     "feet": '"mm": the units are metric, and 10 ft are 3048 "mm"',
-    "m3/day": 'a flow is what comes in a timestep: "m3/step"',
-    "m3/month": 'a flow is what comes in a timestep: "m3/step"',
+    "m3/day": 'a flow is a volume per timestep: "m3/step"',
+    "m3/month": 'a flow is a volume per timestep: "m3/step"',
     "day": '"step", where a timestep is a day',
     "days": '"step", where a timestep is a day',
     "hour": '"step", where a timestep is an hour',
@@ -45,8 +45,8 @@ OTHER_UNITS = {
 }
 OTHER_FUNCTIONS = {
     "IsNaN": "NOT KNOWN(Object.Slot[t])",
-    "HOUR": "there is none: a slot of a data object that a rule counts up, from the one of the timestep before",
-    "GetHour": "there is none: a slot of a data object that a rule counts up, from the one of the timestep before",
+    "HOUR": "there is none: let a rule count up a slot of a data object, from its value in the previous timestep",
+    "GetHour": "there is none: let a rule count up a slot of a data object, from its value in the previous timestep",
     "DAYOFYEAR": "a list of the days before each month, ITEM(days, MONTH(t)) + DAY(t)",
     "GetDayOfYear": "a list of the days before each month, ITEM(days, MONTH(t)) + DAY(t)",
     "GetDaysInMonth": "a list of twelve, ITEM(days, MONTH(t)); docs/FUNCTIONS.md has leap years",
@@ -66,12 +66,12 @@ OTHER_FUNCTIONS = {
     "GetDayOfMonth": "DAY(t)",
     "GetYear": "YEAR(t)",
     "ElevToStorage": "ElevationToStorage(Object, x)",
-    "Sqrt": "there are whole numbers alone, and no roots",
+    "Sqrt": "there are only whole numbers, and no roots",
     "Pow": "x * x: there are no powers",
 }
 NOT_EARLIER = (
-    "the function stands here or later, and a function calls those that stand before it",
-    "move it up; what calls itself is a FOR with what it carries along",
+    "the function is this one or a later one, but a function can only call earlier ones",
+    "move it up; in place of recursion use a FOR that carries a value along",
 )
 OF_LISTS = {  # functions of two numbers that are given a list
     "Min": "FOR x IN list WITH least := ITEM(list, 1) DO Min(least, x) ENDFOR",
@@ -82,14 +82,14 @@ COUNTS = {
     "Max": "Max(a, Max(b, c)) for three",
     "Abs": "",
 }
-SHARE = ", a flow over so many timesteps"
+SHARE = ", a flow over that many timesteps"
 TIGHT = (trees.At, trees.Name, trees.Literal, trees.Call, trees.Brackets)
-DATES = {True: "a date is moved by a number of timesteps behind it", False: "dates are compared with dates"}
+DATES = {True: "a date is moved by a number of timesteps after it", False: "dates are compared with dates"}
 
 
 def unit(word: str, timesteps: Timesteps | None = None) -> tuple[str, str]:
     """Returns the message for an unknown unit and the suggestion, for a model with these timesteps."""
-    says = f"{shown(word)} is none of the units: {', '.join(one for one in UNITS if one)}"
+    says = f"{shown(word)} is not one of the units: {', '.join(one for one in UNITS if one)}"
     bare = word.strip().replace("^", "")
     if bare in OTHER_UNITS:
         return says, of_length(OTHER_UNITS[bare], timesteps)
@@ -111,9 +111,9 @@ def target_step(most: int) -> tuple[str, str]:
     """What is told of a slot that is set too far ahead, where rules set so many timesteps ahead at most."""
     later = 'a slot of a data object that is set now, and read at `[t - 1 "step"]` later'
     if most:
-        return f"a rule sets slots at most {most} timesteps ahead, `[t + {most}]`", later
+        return f"a rule can set slots at most {most} timesteps ahead, `[t + {most}]`", later
     hint = f"`format = 2` in the model, which lets rules set ahead; or {later}"
-    return "a rule sets slots at this timestep alone, `[t]`", hint
+    return "a rule can set slots only at this timestep, `[t]`", hint
 
 
 def settable(model: Model, slot: Slot) -> str:
@@ -162,7 +162,7 @@ def with_table(thing: BasinObject, model: Model) -> str:
 
 def known(part: trees.Node, given: Type, source: Source) -> tuple[str, str]:
     """What is told of KNOWN of what is no look at a slot."""
-    says = f"`{source.words(part.span)}` is no value of a slot at a date, and KNOWN asks of nothing else"
+    says = f"`{source.words(part.span)}` is not the value of a slot at a date, and KNOWN accepts nothing else"
     if given.sort == "slot":
         return says, f"KNOWN({source.words(part.span)}[t])"
     inner = part
@@ -174,10 +174,10 @@ def known(part: trees.Node, given: Type, source: Source) -> tuple[str, str]:
 def date(node: trees.At, given: Type, source: Source) -> tuple[str, str]:
     """What is told of a date that is none, and what may be meant."""
     slot, behind = (source.words(part.span) for part in node.parts)
-    says = f"`{behind}` is {given.words()}, and a date stands in [ ]"
+    says = f"`{behind}` is {given.words()}, but [ ] needs a date"
     if isinstance(node.parts[1], trees.One) and node.parts[1].word == "-":
         return says, f'{slot}[t - {source.words(node.parts[1].parts[0].span)} "step"]'
-    return says, f'{slot}[t], or {slot}[t - 1 "step"] of the timestep before' if given.sort == "number" else ""
+    return says, f'{slot}[t], or {slot}[t - 1 "step"] for the previous timestep' if given.sort == "number" else ""
 
 
 def item(node: trees.At, given: Type, source: Source) -> str:
@@ -216,12 +216,12 @@ def of_value(node: trees.Node, given: Type, asked: Type, source: Source) -> str:
         words = [word for word in UNITS if UNITS[word] == (asked.measure, 1)]
         return f'{text} "{words[0]}"' if words else ""
     if given.measure == FLOW and asked.measure == VOLUME:
-        return f'{tight} * 1 "step", what flows in a timestep'
+        return f'{tight} * 1 "step", the volume of one timestep'
     divisor = plain_divisor(node)
     if given.measure == VOLUME and asked.measure == FLOW and divisor:
         return f'{source.words(node.parts[0].span)} / {divisor.value} "step"{SHARE}'
     if given.measure == VOLUME and asked.measure == FLOW:
-        return f'{tight} / 1 "step", a flow of a timestep'
+        return f'{tight} / 1 "step", the flow over one timestep'
     if given.measure == PLAIN and asked.measure == TIMESTEP:
         return f'{tight} * 1 "step"'
     return plain_number(node, tight, given) if asked.measure == PLAIN else ""

@@ -15,7 +15,7 @@ from .places import Span
 from .policy import Policy
 from .rulesets import Ruleset
 
-WAITS = "make two rules of it, or give the value a name with WITH"
+WAITS = "split the rule in two, or give the value a name with WITH"
 
 
 def warnings(policy: Policy, model: Model, inputs: Inputs | None) -> list[Finding]:
@@ -135,8 +135,8 @@ class Never:
                 if self.first[look.slot] not in given:
                     unless = "" if self.inputs else " (unless inputs give it)"
                     cell = f"{look.slot}{look.time}"
-                    says = f"the rule never begins: {cell} isn't known at the first timestep, and then at none{unless}"
-                    hint = f"IF KNOWN({cell}) around it, or a lower rule or an input that sets the first one"
+                    says = f"the rule never begins: {cell} is not known at the first timestep, and so at none{unless}"
+                    hint = f"put IF KNOWN({cell}) around it, or set the first value by a lower rule or an input"
                     yield warn(look.span, says, hint, rule.called)
                     break
 
@@ -145,8 +145,8 @@ class Never:
         others = [other for other in self.set_by_rules(look.slot) if other.number != rule.number]
         unless = "" if self.inputs else " (unless inputs give it)"
         if rule in self.set_by_rules(look.slot) and not others:
-            what = f"{look.slot}{look.time} is what it alone sets"
-            return f"{what}, and no statement sees what another one puts{unless}", WAITS
+            what = f"it alone sets {look.slot}{look.time}"
+            return f"{what}, and a statement does not see what another one of the rule sets{unless}", WAITS
         if others:
             names = ", ".join(other.called for other in others)
             return f"only {names} sets {look.slot}[t], which never fires to its end either{unless}", ""
@@ -160,12 +160,12 @@ class Never:
             if thing.kind != "data" and is_solved(slot, thing):
                 fixed, terms = self.lacking(thing, self.known)
                 words = fixed + ([f"all but one of {', '.join(terms)}"] if terms else [])
-                return f"{given} {name}, and {thing.name} ({thing.kind}) never knows {' and '.join(words)}"
+                return f"{given} {name}, and {thing.name} ({thing.kind}) cannot solve it without {' and '.join(words)}"
         return f"{given} {name}, and no object solves it"
 
     def settable_hint(self, name: str) -> str:
         """How a slot may come to be known."""
-        return f"a rule that sets {name}, or inputs of it" if self.model.slots[name].settable else ""
+        return f"a rule that sets {name}, or inputs for it" if self.model.slots[name].settable else ""
 
     def over_inputs(self) -> Iterator[Finding]:
         """Puts that are denied at every timestep, or wherever an object solves the slot."""
@@ -173,31 +173,31 @@ class Never:
             for setting in rule.settings:
                 why, hint = self.why_denied(setting.slot)
                 if why:
-                    says = f"what is put here {why}, which stands above all rules"
+                    says = f"the value set here {why}, and inputs have priority over all rules"
                     yield warn(setting.span, says, hint, rule.called)
 
     def why_denied(self, name: str) -> tuple[str, str]:
         """Why a rule's put to a slot doesn't count, and what to do; two empty texts where it may count."""
         things = [(slot, self.model.owner(slot)) for slot in self.model.group(name)]
         by_request = next((thing for slot, thing in things if is_request(slot, thing)), None)
-        hint = f'supply = "rule" in the model, by which {by_request.name} waits for a rule' if by_request else ""
+        hint = f'supply = "rule" in the model, so that {by_request.name} waits for a rule' if by_request else ""
         if self.first[name] in self.always:
-            return f"never counts: the inputs give {name} at every timestep", hint
+            return f"never applies: the inputs give {name} at every timestep", hint
         if self.first[name] in self.of_inputs:
-            return f"never counts: {name} follows from inputs alone", hint
+            return f"never applies: {name} follows from inputs alone", hint
         if by_request:
-            unless = f"counts only where {by_request.name}.DiversionRequest isn't known"
+            unless = f"applies only where {by_request.name}.DiversionRequest is not known"
             return f"{unless}: its diversion follows from that", hint
         for slot, thing in things:
             if thing.kind == "reach" and slot.name == "Outflow" and thing.options["lag"]:
-                unless = f"counts only where an earlier inflow of {thing.name} isn't known"
+                unless = f"applies only where an earlier inflow of {thing.name} is not known"
                 return f"{unless}: its outflow follows from that", ""
             request, outflow = f"{thing.name}.EnergyRequest", f"{thing.name}.Outflow"
             if is_of_plant(slot, thing, "Outflow") and self.first[request] in self.always:
-                unless = f"counts only where the storage before of {thing.name} isn't known"
+                unless = f"applies only where the previous storage of {thing.name} is not known"
                 return f"{unless}: its outflow follows from {request}", ""
             if is_of_plant(slot, thing, "EnergyRequest") and self.first[outflow] in self.of_inputs:
-                return f"asks in vain: {outflow} follows from inputs alone", ""
+                return f"has no effect: {outflow} follows from inputs alone", ""
         return "", ""
 
     def never_count(self) -> Iterator[Finding]:
@@ -207,11 +207,11 @@ class Never:
                 if self.why_denied(slot)[0]:
                     continue
                 higher = next((one for one in self.rules[:place] if self.always_sets(one, slot)), None)
-                why = f"never counts: {higher.called} sets {slot} at every timestep" if higher else ""
+                why = f"never applies: {higher.called} sets {slot} at every timestep" if higher else ""
                 why = why or self.in_vain(rule, slot)
                 if why:
                     span = next(one.span for one in rule.settings if one.slot == slot)
-                    yield warn(span, f"what is put here {why}", "", rule.called)
+                    yield warn(span, f"the value set here {why}", "", rule.called)
 
     def in_vain(self, rule: RuleFacts, name: str) -> str:
         """Why a request for energy asks in vain beside an outflow that rules set, or an empty text."""
@@ -220,9 +220,9 @@ class Never:
         if thing.kind != "power_reservoir" or slot_name != "EnergyRequest":
             return ""
         if self.first[outflow] in (self.first[one] for one in rule.slots(sure=True)):
-            return f"asks in vain: the rule sets {outflow} with the same priority"
+            return f"has no effect: the rule sets {outflow} with the same priority"
         higher = next((one for one in self.rules[: rule.number - 1] if self.always_sets(one, outflow)), None)
-        return f"asks in vain: {higher.called} sets {outflow} at every timestep" if higher else ""
+        return f"has no effect: {higher.called} sets {outflow} at every timestep" if higher else ""
 
     def always_sets(self, rule: RuleFacts, slot: str) -> bool:
         """Whether each firing of a rule sets a slot, and looks at nothing but what inputs give at every timestep."""
@@ -246,8 +246,8 @@ def high_pools(judge: Never, ruleset: Ruleset) -> Iterator[Finding]:
             most = most_of(looking, value) if value else None
             end = end_of(model, slot) if is_pool and model.owner(slot).stores else None
             if value and end and most is not None and most > end[0]:
-                says = f"the limit {most:,} {slot.unit} never counts: {end[1]}, and a run that comes to more ends there"
-                hint = "a limit below that end, with room for what lower rules bring"
+                says = f"the limit {most:,} {slot.unit} never applies: {end[1]}, and a run that reaches more stops there"
+                hint = "a limit below that end, with room for what lower rules add"
                 yield warn(value.span, says, hint, rule.called)
 
 

@@ -99,7 +99,7 @@ def good_policy(path: str, model: Model, model_path: str) -> Policy:
     policy = read_policy(path, model)
     if policy.findings:
         finding, source = policy.findings[0], policy.source
-        more = f"(tools/doctor {plain(model_path, LONG)} --policy {plain(path, LONG)} says more)"
+        more = f"(for more: tools/doctor {plain(model_path, LONG)} --policy {plain(path, LONG)})"
         raise Unable(f"{source.path} {source.place(finding.span.begin)}: {finding.says} {more}")
     return policy
 

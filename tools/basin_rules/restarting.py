@@ -46,7 +46,7 @@ class Restart:
         """What a slot holds at a timestep. A model begins with what is known alone."""
         value = self.section.rows[step - 1].values[slot]
         if value is None:
-            raise Unable(f"{slot} isn't known at timestep {step}, and the next run has to begin with it")
+            raise Unable(f"{slot} is not known at timestep {step}, but the next run must begin with it")
         return value
 
     def rows(self, inputs: Inputs) -> Iterator[str]:
@@ -66,7 +66,7 @@ class Restart:
         for name in dict.fromkeys(names):
             slot = self.model.slots.get(name)
             if slot is None or not slot.settable:
-                raise Unable(f"{name} is no slot that inputs can give")
+                raise Unable(f"{name} is not a slot that inputs can give")
             if inputs.given(name, self.step + 1) is None:
                 yield f"{name},1,{self.held(name, self.step + 1)}"
 
@@ -78,7 +78,7 @@ class Restart:
             table = thing.options.get("table") if thing.stores else None
             level = self.section.rows[self.step - 1].values.get(f"{thing.name}.PoolElevation")
             if table and level is not None and level != elevation(table, self.held(f"{thing.name}.Storage", self.step)):
-                yield f"{thing.name} stands at {level} mm, and its table has its storage up to another elevation"
+                yield f"{thing.name} is at {level} mm, but its table gives another elevation for its storage"
 
     def left_by_rules(self, policy: Policy, carried: list[str]) -> Iterator[str]:
         """Yields what rules knew of timesteps up to this one that neither the model nor the slots that are carried give."""
@@ -90,13 +90,13 @@ class Restart:
         """Yields that of one rule, and what it had set ahead."""
         for look in rule.looks:
             if look.ahead is None:
-                yield f"looks at {look.slot or 'a slot'} at a time that only a run tells: it may be one before this run"
+                yield f"reads {look.slot or 'a slot'} at a time that only a run shows: it may be before the next run"
             elif look.ahead < 0 and not has_past(self.model, look.slot, -look.ahead):
                 if look.ahead < -1 or look.slot not in carried:
-                    yield f"looks at {look.slot}{look.time}, which no model gives before its first timestep{self.cure(look)}"
+                    yield f"reads {look.slot}{look.time}, which no model gives before its first timestep{self.cure(look)}"
         for setting in rule.settings:
             if setting.ahead:
-                yield f"sets {setting.cell}: what it set by timestep {self.step} for later ones is left behind"
+                yield f"sets {setting.cell}: what it set by timestep {self.step} for later ones is not carried over"
 
     def cure(self, look: Look) -> str:
         """Returns how the inputs of the next run give what a rule looks back at, or nothing where they can't."""

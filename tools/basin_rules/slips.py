@@ -18,11 +18,11 @@ AT_T = "`[t]`, this timestep, or in a model of `format = 2` `[t + 3]`, three of 
 # Signs that aren't there, and what is here for them.
 OTHER_SIGNS = {
     "@": 't, or t - 1 "step", in the brackets: [t - 1 "step"]; of a date MONTH(t) = 4 AND DAY(t) = 1',
-    "'": 'a string stands between two "',
+    "'": 'a string is between two "',
     "“": 'the straight quote "',
     "”": 'the straight quote "',
     "„": 'the straight quote "',
-    "!": "NOT, or <> for what isn't equal",
+    "!": "NOT, or <> for unequal",
     "&": "AND",
     "|": "OR",
     "%": "x * 30 / 100 for 30 percent of x",
@@ -37,22 +37,22 @@ OTHER_SIGNS = {
     "≠": "<>",
     "²": "x * x, or the unit m3/mm for an area",
     "³": 'the unit "m3"',
-    "\u00a0": "a common blank: this one is one that doesn't break",
+    "\u00a0": "an ordinary space: this one is a no-break space",
 }
 # Words of other languages, and what is here for them.
 OTHER_WORDS = {
-    "ELSEIF": "ELSE IF, and an ENDIF more at the end: each IF has its own",
-    "ELSIF": "ELSE IF, and an ENDIF more at the end: each IF has its own",
-    "ELIF": "ELSE IF, and an ENDIF more at the end: each IF has its own",
+    "ELSEIF": "ELSE IF, and one more ENDIF at the end: each IF has its own",
+    "ELSIF": "ELSE IF, and one more ENDIF at the end: each IF has its own",
+    "ELIF": "ELSE IF, and one more ENDIF at the end: each IF has its own",
     "FOREACH": "FOR x IN list WITH a := start DO .. ENDFOR, which is a value; a statement for each slot that is set",
-    "WHILE": "FOR over a list of as many turns as there can be",
+    "WHILE": "FOR over a list with as many items as there can be turns",
     "PRINT": "a slot of a data object that a rule sets: it is a column of the table",
-    "STOP_RUN": "a bound of a data object's slot: a put outside it ends the run",
+    "STOP_RUN": "a bound of a data object's slot: a value outside it stops the run",
     "RETURN": "the expression alone: a function is one expression",
     "IsNaN": "NOT KNOWN(Object.Slot[t])",
     "ISNAN": "NOT KNOWN(Object.Slot[t])",
     "MOD": "x - x / n * n",
-    "BEGIN": "nothing: the statements stand right behind the :",
+    "BEGIN": "nothing: the statements come directly after the :",
     "VAR": "WITH name := value DO .. ENDWITH",
 }
 OTHER_TYPES = {
@@ -79,24 +79,24 @@ def listed(words: list[str], last: str = "or") -> str:
 def of_token(bad: BadToken, source: Source) -> tuple[str, str]:
     """What is told of a place that has no token, and what may be meant."""
     if bad.sort == "string":
-        return "the string isn't closed in its line", 'a " is missing, or one is too many before it'
+        return "the string is not closed in its line", 'a " is missing, or one is too many before it'
     if bad.sort == "number":
         digits = bad.span.end - bad.span.begin
         if digits > DIGITS:
-            return f"the number has {digits} digits, and at most {DIGITS} can be", ""
+            return f"the number has {digits} digits, but at most {DIGITS} are allowed", ""
         return f"the number is above 10^17 = {GREATEST_QUANTITY:,}", ""
     mark, begin = source.content[:3], bad.span.begin
     if begin == 0 and mark[:2] in (b"\xff\xfe", b"\xfe\xff"):
         return "the file is UTF-16, and a ruleset is UTF-8", "save it as UTF-8"
     if begin == 0 and mark == b"\xef\xbb\xbf":
-        says = "the file begins with a byte order mark, which a ruleset doesn't have"
+        says = "the file begins with a byte order mark, which a ruleset must not have"
         return says, "save it as UTF-8 without a mark"
     letter = source.content[begin : begin + 4].decode("utf-8", "replace")[:1]
     said = readable(letter.encode()) if letter.isprintable() else f"the byte {source.content[begin]:#04x}"
     hint = OTHER_SIGNS.get(letter, "")
     if not hint and letter.isalpha():
-        hint = "a name with the letters A to Z and a to z; in comments and strings all letters may stand"
-    return f"{said if len(said) > 1 else f'`{said}`'} is no sign of the language", hint
+        hint = "a name with the letters A to Z and a to z; comments and strings may have all letters"
+    return f"{said if len(said) > 1 else f'`{said}`'} is not a symbol of the language", hint
 
 
 # ---- grammar
@@ -158,7 +158,7 @@ def of_grammar(refusal: str, wrong: NoReading | TooDeep, piece: list[Token], sou
 
 def of_depth(wrong: TooDeep) -> tuple[str, str]:
     """What is told of forms within forms that are too many, and what may be meant."""
-    says = f"forms within forms are more than {DEEPEST} deep here"
+    says = f"expressions and statements are nested more than {DEEPEST} deep here"
     if wrong.chain > DEEPEST // 2:
         says += f": this is the {wrong.chain}th operator in a row, and each of them is a level"
         return says, "brackets around parts of the row, (a + b) + (c + d), or a FOR over a list"
@@ -170,7 +170,7 @@ def expected(stop: Stop) -> str:
     token = stop.token()
     here = f"`{stop.source.words(token.span, 30)}` stands here" if token else "the text ends here"
     wanted = [word if " " in word else f"`{word}`" for word in stop.wrong.wanted]
-    says = f"{here}, and {listed(wanted)} is expected"
+    says = f"{here}, but {listed(wanted)} is expected"
     forms = [word for word in stop.wrong.going if " " in word]
     signs = [word for word in stop.wrong.going if " " not in word]
     going = forms + ([f"one of {' '.join(signs)}"] if signs else [])
@@ -192,7 +192,7 @@ def assignment(stop: Stop) -> str:
     if stop.wants(":=") and stop.is_mark(0, "=", ":"):
         return "`:=`, which sets; `=` compares"
     if stop.is_mark(0, "=") and stop.is_mark(1, "=", "<", ">"):
-        return "`=`, `<=` or `>=`, each of which is one sign"
+        return "`=`, `<=` or `>=`, each of which is one symbol"
     return ""
 
 
@@ -219,7 +219,7 @@ def function_heads(stop: Stop) -> str:
     if stop.is_kind(0, "string") and stop.is_mark(1, "FUNCTION"):
         return "a name without quotes, as FUNCTION Half(NUMERIC \"m3\" x) : NUMERIC \"m3\" IS"
     if stop.is_kind(0, "name") and stop.there().text.upper() in ("RETURN", "RETURNS") and stop.is_mark(1, ")"):
-        return "`:`, and behind it the type of what the function answers"
+        return "`:`, and after it the type that the function returns"
     return ""
 
 
@@ -240,7 +240,7 @@ def semicolon(stop: Stop) -> str:
     if stop.is_mark(1, "ENDIF", "ENDWITH", "THEN", "ELSE", "DO", ":", ";"):
         return f"no `;` behind `{stop.there(1).text}`"
     if stop.wrong.at == 0:
-        return "no `;` behind `ENDRULE` and `ENDFUNCTION`"
+        return "no `;` after `ENDRULE` and `ENDFUNCTION`"
     return "no `;` here: a function is one expression" if stop.wants("ENDFUNCTION") else ""
 
 
@@ -256,11 +256,11 @@ def numbers(stop: Stop) -> str:
     if not before or before.kind != "number":
         return ""
     if here.is_mark(",") and behind and behind.kind == "number" and len(behind.text) == 3:
-        return f"`{before.text}{behind.text}`, without a mark of thousands"
+        return f"`{before.text}{behind.text}`, without a thousands separator"
     if here.kind != "name":
         return ""
     if here.text[0] == "_" and stop.touches():
-        return f"`{before.text}{here.text.replace('_', '')}`, without marks of thousands"
+        return f"`{before.text}{here.text.replace('_', '')}`, without thousands separators"
     if here.text[0] in "eE" and here.text[1:].isdigit() and stop.touches():
         return "the number written out, with all its zeros"
     return unquoted(stop, before, here, behind)
@@ -274,7 +274,7 @@ def unquoted(stop: Stop, before: Token, here: Token, behind: Token | None) -> st
         whole = f"{here.text}/{last.text}"
     unit = whole if whole in UNITS or whole in meant.OTHER_UNITS else here.text
     if unit in UNITS:
-        return f'`{before.text} "{unit}"`: a unit stands in quotes'
+        return f'`{before.text} "{unit}"`: a unit is in quotes'
     return f"a unit in quotes: {meant.OTHER_UNITS[unit]}" if unit in meant.OTHER_UNITS else ""
 
 
@@ -309,7 +309,7 @@ def not_ended(stop: Stop) -> str:
         return "`ELSE` and a value: an IF within an expression has both" if stop.wants("ELSE") else ""
     if token and last.word in ("RULE", "FUNCTION") and token.is_mark("ENDRULE", "ENDFUNCTION"):
         return f"`{end}`, which ends {where}"
-    more = " (an IF behind an ELSE has its own)" if last.word == "IF" else ""
+    more = " (an IF after an ELSE has its own)" if last.word == "IF" else ""
     return f"`{end}` {'before it' if token else 'at the end'}: {where} isn't ended{more}"
 
 
@@ -331,9 +331,9 @@ def expressions(stop: Stop) -> str:
     if not here:
         return ""
     if here.is_mark(*OPERATORS[COMPARISON]) and not stop.wants(EXPRESSION):
-        return "`a < b AND b < c`: comparisons don't chain"
+        return "`a < b AND b < c`: comparisons do not chain"
     if here.is_mark("}") and stop.is_mark(1, "{"):
-        return "a list with an item at least: there is no empty one"
+        return "a list with at least one item: there is no empty list"
     if here.is_mark("/", "*") and stop.is_mark(1, "/"):
         return "`#`, which begins a comment"
     if here.is_mark("NOT") and stop.wants(EXPRESSION):
@@ -341,7 +341,7 @@ def expressions(stop: Stop) -> str:
     if here.is_mark("IS") and stop.is_kind(-1, "name"):
         return "`NOT KNOWN(Object.Slot[t])`"
     if here.kind == "string" and stop.wants(EXPRESSION):
-        return "a number: values are no strings, and a month is `MONTH(t) = 3`"
+        return "a number: values cannot be strings, and a month is `MONTH(t) = 3`"
     if here.is_mark("+") and stop.wants(EXPRESSION):
         return "the number without `+`"
     if here.is_mark("/") and stop.wants(STATEMENT):
@@ -359,11 +359,11 @@ def heads(stop: Stop) -> str:
     if stop.wants("(") and stop.is_mark(2, "FUNCTION"):
         return f"`{stop.there(1).text}()`, with brackets also where there are no parameters"
     if stop.wants("NUMERIC") and here.kind == "name":
-        return OTHER_TYPES.get(here.text, f'`NUMERIC "m3" {here.text}`: a type stands before the name')
+        return OTHER_TYPES.get(here.text, f'`NUMERIC "m3" {here.text}`: a type comes before the name')
     if stop.wants("a unit in quotes") and stop.is_mark(1, "NUMERIC", "SLOT"):
         return f'`{stop.there(1).text} "m3"`, with its unit, or `""` for a plain number'
     if here.kind == "mark" and here.text[0].isalpha() and stop.wants("a name"):
-        return f"another name: the language keeps the word {here.text} for itself"
+        return f"another name: the language reserves the word {here.text}"
     if stop.wants(":") and here.kind != "end":
         return "a `:` before it"
     if stop.wrong.at == 0:

@@ -13,7 +13,7 @@ from .looks import RuleFacts, Setting
 from .policy import Policy
 
 KEEPS = {"Max": "<", "Min": ">"}
-ON_TOP = "the rule above those decisions: what nobody decides stands on top, and the upper dam above the lower one"
+ON_TOP = "move the rule above those decisions: losses and inflows that nobody decides come first, then each dam before the next one downstream"
 
 
 def surprises(policy: Policy, model: Model) -> list[Finding]:
@@ -43,10 +43,10 @@ def taking_hold(policy: Policy, rules: list[RuleFacts]) -> Iterator[Finding]:
             if setting.sure and not setting.ahead and not is_lowest and is_own:
                 own = f"{setting.slot}[t]"
                 says = (
-                    f"the rule takes hold of {own} also where it changes nothing, so what comes there from lower"
-                    " rules later in the timestep doesn't count any more"
+                    f"the rule sets {own} even where it changes nothing, so lower rules can no longer change it"
+                    " later in the timestep"
                 )
-                yield surprise(rule, setting, says, f"{corrected(call, setting.slot, policy)}, which sets it where it has to")
+                yield surprise(rule, setting, says, f"{corrected(call, setting.slot, policy)}, which sets it only where it must")
 
 
 def without_brackets(node: trees.Node) -> trees.Node:
@@ -100,8 +100,9 @@ class Yielding:
     def says(self, thing: BasinObject, setting: Setting, pool: RuleFacts, weakest: RuleFacts) -> str:
         """What may happen to a setting."""
         return (
-            f"{setting.slot} may give way: where {pool.called} sets what {thing.name} holds, its inflow is solved anew,"
-            f" since {weakest.called}, which sets its outflow, stands higher than this rule"
+            f"{setting.slot} may be overridden: where {pool.called} sets what {thing.name} holds, its inflow is"
+            " solved again, since"
+            f" {weakest.called}, which sets its outflow, has a higher priority than this rule"
         )
 
     def setting(self, names: list[str]) -> list[RuleFacts]:

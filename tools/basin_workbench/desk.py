@@ -113,7 +113,7 @@ class Desk:
         except OSError as error:
             raise Unable(f"cannot read {plain(given)}: {error.strerror}") from None
         except UnicodeDecodeError:
-            raise Unable(f"{plain(given)} isn't UTF-8: save it as UTF-8 first") from None
+            raise Unable(f"{plain(given)} is not UTF-8: save the file as UTF-8 first") from None
         if len(content) > GREATEST_FILE:
             raise Unable(f"{plain(given)} has more than {GREATEST_FILE:,} bytes")
         if name == "policy" and content.startswith(b"CODE 1\n"):
