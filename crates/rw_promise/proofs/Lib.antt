@@ -26,3 +26,4 @@ mod Accepting
 mod Fronts
 mod Lengths
 mod FarTexts
+pub mod FarAsks

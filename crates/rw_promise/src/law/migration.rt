@@ -19,7 +19,11 @@ ghost use Rattle.rw_inputs.specs.Placings.{placings};
 ghost use Rattle.rw_inputs.specs.Reading.{Reads};
 ghost use Rattle.rw_run.specs.Log.{Log};
 ghost use Rattle.rw_run.specs.Runs.{IsRun};
+ghost use Rattle.rw_asked.specs.Asked.{asked_trace};
 ghost use Rattle.rw_ahead.specs.Ahead.{ahead_to};
+ghost use Rattle.rpl_code.specs.declared.block.Block.{Block};
+ghost use Rattle.rpl_policy.specs.Policy.{policy_of_code};
+ghost use Rattle.rpl_verify.specs.Verified.{Accepted, verified};
 ghost use Rattle.rpl_rulesets.specs.RulesPolicy.{policy_of_rules};
 ghost use Rattle.rw_commands.specs.Policy.{IsPolicyFileOf, PolicyFile};
 ghost use Rattle.rw_promise.specs.Migrated.{GoesAlike};
@@ -54,6 +58,16 @@ pub fn runs_of_rulesets()
     rulesets_have_runs();
     runs_of_code();
 }
+
+/// What a trace tells of each put that accepted code asks for is the same, line for line, in a basin that lets rules put further
+/// ahead.
+#[tactic(auto, using(crate::proofs::FarAsks::asks_of_code))]
+pub fn asks_of_code()
+    ensures { (basin : Draft) (most : ℕ) (code : List Block) (policy : Accepted) (log : Log)
+        → basin.control.ahead ≤ most → verified basin code ≡ Ok policy
+        → asked_trace (ahead_to most basin) (policy_of_code (ahead_to most basin) code) log
+        ≡ asked_trace basin (policy_of_code basin code) log }
+{}
 
 /// A model that is accepted is accepted when it is migrated; each policy and all inputs that are accepted for it are accepted then,
 /// and read as they were; and the run is the same, event for event, with the same texts.
