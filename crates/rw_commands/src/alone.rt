@@ -1,4 +1,4 @@
-// The section of a run that is told alone, handed over in pieces.
+//! Writes the section of a run that is told alone, handed over in pieces.
 ghost use Rattle.std.specs.Prelude.{◌≡◌, ◌≤◌, map, IfOk, MatchResult, None, Ok, Option, false};
 ghost use Rattle.rw_inputs.specs.Inputs.{Inputs as Rows, IsInputsOf};
 ghost use Rattle.rw_io.specs.Outside.{change};

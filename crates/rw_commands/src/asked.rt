@@ -1,4 +1,4 @@
-// The text of a run with what became of each put that was asked for.
+//! Makes the text of a run with what became of each put that was requested.
 ghost use Rattle.std.specs.Prelude.{◌≡◌, ◌≤◌, ◌++◌, [], ◌∷◌, false, true, map, IfOk, List, None, Ok, Option};
 ghost use Rattle.rw_inputs.specs.Inputs.{Inputs as Rows, IsInputsOf};
 ghost use Rattle.rw_inputs.specs.Placings.{placings};

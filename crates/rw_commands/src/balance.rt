@@ -1,4 +1,4 @@
-// The books of water of a run by verified code.
+//! Makes the water balance of a run by verified code.
 ghost use Rattle.std.specs.Prelude.{◌≡◌, map, IfOk, Ok};
 ghost use Rattle.rw_inputs.specs.Inputs.{IsInputsOf};
 ghost use Rattle.rw_method.specs.Catalogue.{AreInOrder};

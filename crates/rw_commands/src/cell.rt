@@ -1,4 +1,4 @@
-// The cell that the words of a command ask for.
+//! Finds the cell that the words of a command name.
 ghost use Rattle.std.specs.Prelude.{◌≡◌, option_and_then, option_map};
 ghost use Rattle.std.specs.Option.{ForSome};
 ghost use Rattle.rw_model.specs.Draft.{Draft, IsSlot};

@@ -1,4 +1,4 @@
-// Verified code that runs as the policy of a file does.
+//! Makes the verified code that runs as the policy of a file does.
 ghost use Rattle.std.specs.Prelude.{◌≡◌, IfOk, IsOk, List, Ok};
 ghost use Rattle.rw_model.specs.Draft.{Draft};
 ghost use Rattle.rpl_compile.specs.Translate.{translate};

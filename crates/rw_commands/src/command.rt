@@ -1,4 +1,4 @@
-// The files of a command: which it reads, and where the text of each comes from.
+//! Names the files of a command: which it reads, and where the text of each comes from.
 ghost use Rattle.std.specs.Prelude.{◌≡◌, map, option_map, slice_index_or, [], Some};
 ghost use Rattle.rw_commands.specs.Command.{command_said, extras_of, files_of, named_source, path_in, path_of, place_among, seeks_cell, source_at, source_of, source_seen, takes_code, wants_text};
 ghost use Rattle.rw_commands.specs.declared.refusal.File.TheVariants as F;

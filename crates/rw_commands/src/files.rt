@@ -1,4 +1,4 @@
-// The files of a command, read or made, and judged, each before the next.
+//! Reads or makes the files of a command, and judges each before the next.
 ghost use Rattle.std.specs.Prelude.{◌≡◌, ℕ, ◌≤◌, List, MatchResult, IfOk, IfSome, IsSome, IsSomeAnd, IsTrue, Ok, Some, length, option_map};
 ghost use Rattle.rw_base.specs.declared.limits.TheConstants.{TEXT_MAX};
 ghost use Rattle.rw_model.specs.Draft.{IsSlot};

@@ -1,4 +1,4 @@
-// What the texts of files are.
+//! Judges the texts of files: a model, inputs, edits, traces, a policy.
 ghost use Rattle.std.specs.Prelude.{◌≡◌, ◌≤◌, Ok, Err, MatchResult, IfOk, length, false, true};
 ghost use Rattle.rw_base.specs.declared.limits.TheConstants.{TEXT_MAX};
 ghost use Rattle.std.specs.Option.{ForSome};

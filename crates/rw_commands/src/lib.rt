@@ -1,10 +1,10 @@
-//! Does what the words ask for, with any machine: the words, the files that they name, and the text of the command: the sections of runs, without rules or by those
-//! of a policy, the budgets of a policy, the code of a ruleset, how a cell came to what it holds, a line on the run of the sample
-//! of a seed, books of water, the runs of traces and their summary, or a model in format 2. With status 0 or 1 it has written
-//! exactly the text that the definitions give for these files: one section for the inputs and one after each batch of edits, each
-//! that of a run from the first timestep on, also where timesteps are reused; and of runs by a policy each firing is one of verified
-//! code, within its budget. Of a model in format 2 the table is said, and not the bytes. Every other status has its cause, and one
-//! line that says so. `rw_promise` says what that comes to.
+//! Does what the words ask for, with any machine: reads the files that they name, and writes the text of the command: the
+//! sections of runs with and without rules, the budgets of a policy, the code of a ruleset, how a cell got its value, a line on
+//! the run of the sample of a seed, the water balance, the runs of traces and their summary, or a model in format 2. With status
+//! 0 or 1 it has written exactly the text that the definitions give for these files: one section for the inputs and one after
+//! each batch of edits, each that of a run from the first timestep on, also where timesteps are reused. In runs by a policy each
+//! firing is one of verified code, within its budget. Of a model in format 2 the table is said, and not the bytes. Every other
+//! status has its cause, and one line that names it. `rw_promise` says what follows from this.
 #![tactic(auto)]
 
 mod alone;

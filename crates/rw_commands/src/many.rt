@@ -1,4 +1,4 @@
-// The runs of scenarios by code, each told as soon as it is made, and their summary.
+//! Runs scenarios by code, writes the section of each as soon as it is made, and then their summary.
 ghost use Rattle.std.specs.Prelude.{◌≡◌, ◌≤◌, ◌<◌, ◌+◌, length, map, if◌then◌else◌, IfOk, MatchResult, Ok};
 ghost use Rattle.std.specs.List.{All};
 ghost use Rattle.rw_inputs.specs.Edits.{IsBatch};

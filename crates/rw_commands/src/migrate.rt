@@ -1,4 +1,4 @@
-// A model in format 2.
+//! Makes the text of a model in format 2.
 ghost use Rattle.std.specs.Prelude.{IfOk};
 ghost use Rattle.rw_model_toml.specs.Migrated.{IsMigrated};
 

@@ -1,4 +1,4 @@
-// The sections of a run by a policy that takes timesteps over after a batch of edits.
+//! Writes the sections of a run by a policy that reuses timesteps after a batch of edits.
 ghost use Rattle.std.specs.Prelude.{◌≡◌, ◌≤◌, ◌+◌, length, map, option_map, IfOk, MatchResult, Ok, is_some, true};
 ghost use Rattle.std.specs.List.{All};
 ghost use Rattle.rpl_verify.specs.Verified.{verified};

@@ -1,4 +1,4 @@
-// The section of a run by verified code.
+//! Makes the section of a run by verified code.
 ghost use Rattle.std.specs.Prelude.{◌≡◌, map, IfOk, Ok, Option, false};
 ghost use Rattle.rw_inputs.specs.Inputs.{Inputs as Rows, IsInputsOf};
 ghost use Rattle.rw_method.specs.Catalogue.{AreInOrder};

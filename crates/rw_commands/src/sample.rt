@@ -1,4 +1,4 @@
-// The sample of a seed: the texts of its files, and the line on its run.
+//! Makes the texts of the sample of a seed, and the line on its run.
 ghost use Rattle.std.specs.Prelude.{◌≡◌, map, IfOk, Ok};
 ghost use Rattle.rw_inputs.specs.Inputs.{IsInputsOf};
 ghost use Rattle.rw_method.specs.Catalogue.{AreInOrder};

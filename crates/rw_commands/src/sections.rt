@@ -1,4 +1,4 @@
-// The sections of a run by code, each written as soon as it is made.
+//! Writes the sections of a run by code, each as soon as it is made.
 ghost use Rattle.std.specs.Prelude.{◌≡◌, ◌≤◌, ◌+◌, [], ◌∷◌, false, true, length, map, IfOk, IsTrue, MatchOption, MatchResult, Ok, Option};
 ghost use Rattle.std.specs.List.{All};
 ghost use Rattle.rw_inputs.specs.Edits.{IsBatch, after_batch};

@@ -1,4 +1,4 @@
-// The section of a run without rules.
+//! Writes the section of a run without rules.
 ghost use Rattle.std.specs.Prelude.{◌≡◌, [], false, true, map, IfOk, MatchResult, None};
 ghost use Rattle.rw_inputs.specs.Inputs.{IsInputsOf};
 ghost use Rattle.rw_io.specs.Outside.{change};

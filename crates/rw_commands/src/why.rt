@@ -1,4 +1,4 @@
-// How a cell came to what it holds in a run by verified code.
+//! Tells how a cell got its value in a run by verified code.
 ghost use Rattle.std.specs.Prelude.{◌≡◌, map, IfOk, Ok};
 ghost use Rattle.rw_inputs.specs.Inputs.{IsInputsOf};
 ghost use Rattle.rw_method.specs.Catalogue.{AreInOrder};

@@ -1,4 +1,4 @@
-// What is kept of timesteps, before a run and after it.
+//! Exchanges what is kept of timesteps before a run for what is kept after it.
 ghost use Rattle.std.specs.Prelude.{◌≡◌, ℕ, IfOk, None, length, replicate};
 ghost use Rattle.rw_rerun.specs.Kept.{changed};
 ghost use Rattle.rw_rerun.specs.Touched.{ReachFrom};

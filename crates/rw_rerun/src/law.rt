@@ -1,4 +1,4 @@
-//! How a run begins again, as a law: a function that does nothing, and whose contract is the law.
+//! States how a run begins again, as laws: a law is a function that does nothing, and its contract says what holds.
 ghost use Rattle.std.specs.Prelude.{◌≡◌, ◌≤◌, ℕ, ◌+◌, ◌++◌, List, [], Contains, Option, Some, length, map, pos};
 ghost use Rattle.std.specs.List.{flat_map};
 ghost use Rattle.rw_base.specs.declared.number.Cell.{Cell};

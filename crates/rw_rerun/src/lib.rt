@@ -1,6 +1,6 @@
-//! A session: a run of some inputs, and batches of edits after which it is the run of the inputs as they are then. `Session::start`
-//! runs all timesteps; `apply` runs those that the batch touches, and takes the others over as they went. Either way the run is
-//! that from scratch, and `reran` tells which timesteps were run.
+//! Holds a session: a run of some inputs, and batches of edits after each of which it is the run of the inputs as they are then.
+//! `Session::start` runs all timesteps. `apply` runs those that the batch changes, and reuses the others. Both give the run from
+//! the first timestep on, and `reran` tells which timesteps were run.
 #![tactic(auto)]
 
 mod exchange;

@@ -1,4 +1,4 @@
-// The run after a batch, from behind the timesteps that the batch leaves.
+//! Runs the timesteps after those that a batch of edits leaves as they are.
 ghost use Rattle.std.specs.Prelude.{◌≡◌, All, IfOk, None, length, map, replicate};
 ghost use Rattle.rw_engine.specs.Passing.{CanRun};
 ghost use Rattle.rw_inputs.specs.Inputs.{IsInputsOf};

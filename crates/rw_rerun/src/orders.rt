@@ -1,4 +1,4 @@
-// In which orders the cells of timesteps rose.
+//! Keeps the orders in which the cells of timesteps rose.
 use rw_base::NoMemory;
 use rw_engine::KeptStep;
 use std::alloc::Global;

@@ -1,4 +1,4 @@
-// A run, timestep by timestep: each is taken over from an earlier run, or run.
+//! Passes the timesteps of a run: each is reused from an earlier run, or run.
 ghost use Rattle.std.specs.Prelude.{◌≡◌, ◌≤◌, ℕ, ⊤, map, IfSome, false, true, Ok, Some};
 ghost use Rattle.rpl_verify.specs.Verified.{verified};
 ghost use Rattle.rw_engine.specs.Passing.{CanRun};

@@ -1,4 +1,4 @@
-// From which timestep on cells are reached.
+//! Finds the timestep from which on cells are reached.
 ghost use Rattle.std.specs.Prelude.{◌≤◌};
 ghost use Rattle.rw_rerun.specs.Touched.{AreFrom, AreKeptOf, IsFrom, ReachFrom};
 

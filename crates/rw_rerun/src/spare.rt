@@ -1,4 +1,4 @@
-// An engine beside that of a session's run, from which the next run begins.
+//! Keeps an engine beside that of a session's run, from which the next run begins.
 ghost use Rattle.std.specs.Prelude.{◌≡◌, ◌≤◌, ◌+◌, ◌-◌, All, IfOk, IfSome, None, is_some, length, replicate, true};
 ghost use Rattle.rw_inputs.specs.Inputs.{IsInputsOf};
 ghost use Rattle.rw_series.specs.Series.{IsCell};

@@ -1,4 +1,4 @@
-// Which timesteps a batch touches.
+//! Finds the timesteps that a batch of edits changes.
 ghost use Rattle.std.specs.Prelude.{◌≡◌, ◌≤◌, ◌+◌, ◌^◌, ◌++◌, ◌∷◌, [], ◌↔◌, All, IfOk, IfSome, OnOk, length, map, true};
 ghost use Rattle.std.specs.List.{filter, flat_map, list_any, range_with_len};
 ghost use Rattle.rw_inputs.specs.Edits.{IsBatch, IsEdit};
