@@ -2,8 +2,6 @@
 use Rattle.rw_base.proofs.Common.{◌≡◌, ◌<◌, ℕ, zero, suc, Bool, true, false, List, [], ◌∷◌, ◌++◌, length, map, reverse, Option, None, Some, Bor, bytes_eq}
 use Rattle.rw_base.proofs.Common.{arith, unwrap_or, refl, sym, ap, ◌∙◌, if◌then◌else◌, option_and_then, option_map, slice_get, slice_get_read}
 use Rattle.rw_base.proofs.Common.{length-reverse, reverse-append}
-use Rattle.core.specs.Slice.{IsItemAt}
-use Rattle.std.proofs.lemmas.Option.{slice_get_past}
 use Rattle.rpl_tree.specs.Kinds.{kind_named}
 use Rattle.rpl_scope.specs.Scope.{first_named}
 use Rattle.rpl_budget.specs.declared.kind.TreeKind.{TreeKind}
@@ -69,9 +67,3 @@ pub function_found : (all : List Known) (x : List ℕ)
     → priced_or_none (at_place all (first_named (places_of all) x)) ≡ priced_named (map priced_seen all) x
 function_found [] x = refl
 function_found (f ∷ all) x = by_test (bytes_eq f.name.now x) f all x (function_found all x)
-
--- the function that a slice lends at a place
-pub item_at : (items : List Known) (place : ℕ) (item : Option (Bor Known)) → IsItemAt items place item
-    → option_map (λ (found : Bor Known). found.now) item ≡ slice_get items place
-item_at items place None lent = sym (slice_get_past items place lent.3)
-item_at items place (Some found) lent = sym (slice_get_read items (length items) place found.now refl lent.3.0 lent.1)

@@ -1,5 +1,5 @@
 //! Holds the functions that can be called, and finds them by their names.
-ghost use Rattle.std.specs.Prelude.{◌≡◌, ◌∷◌, [], OnErr, OnOk, option_map};
+ghost use Rattle.std.specs.Prelude.{◌≡◌, ◌∷◌, [], OnErr, OnOk, option_map, slice_get};
 ghost use Rattle.rpl_budget.specs.Pass as Pass;
 ghost use Rattle.rpl_budget.specs.Seen.{priced_or_none, priced_seen};
 
@@ -28,6 +28,13 @@ impl<'a> Model for Functions<'a> {
     ghost invariant = { λ f. f.places ≡ places_of (reverse f.known.items) };
 }
 
+// The function at a place, if there is one.
+fn function_at<'a, 'k>(known: &'k [Known<'a>], place: usize) -> Option<&'k Known<'a>>
+    ensures { option_map (λ function. function.now) result ≡ slice_get known.now place }
+{
+    known.get(place)
+}
+
 impl<'a> Functions<'a> {
     /// Returns no functions.
     pub(crate) fn new(alloc: Global) -> Functions<'a>
@@ -46,7 +53,7 @@ impl<'a> Functions<'a> {
     {
         match self.places.find(name) {
             None => None,
-            Some(place) => self.known.get(place),
+            Some(place) => function_at(self.known.as_slice(), place),
         }
     }
 

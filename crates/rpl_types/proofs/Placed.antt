@@ -1,8 +1,6 @@
 -- Functions, of which the first of each name is found by its place.
 use Rattle.rw_base.proofs.Common.{◌≡◌, ℕ, suc, Bool, true, false, List, [], ◌∷◌, ◌++◌, length, Option, None, Some, bytes_eq, refl, sym, ap, ◌∙◌, Bor}
 use Rattle.rw_base.proofs.Common.{bytes_eq-Decides, if◌then◌else◌, is_some, option_and_then, option_map, slice_get, slice_get_read}
-use Rattle.std.proofs.lemmas.Option.{slice_get_past}
-use Rattle.core.specs.Slice.{IsItemAt}
 use Rattle.rpl_scope.specs.Scope.{first_named}
 use Rattle.rpl_types.specs.Functions as F
 use Rattle.rpl_types.specs.Functions.{signature_named}
@@ -29,10 +27,11 @@ found_in_place [] x = refl
 found_in_place (s ∷ all) x = in_first_place (bytes_eq s.name.now x) s all x (found_in_place all x)
 
 -- the function that a slice lends at a place
-pub item_at : (all : List Signature) (place : ℕ) (item : Option (Bor Signature)) → IsItemAt all place item
+pub item_at : (all : List Signature) (place : ℕ) (item : Option (Bor Signature))
+    → option_map (λ (found : Bor Signature). found.now) item ≡ slice_get all place
     → option_map (λ (found : Bor Signature). signature_of found.now) item ≡ in_place all (Some place)
-item_at all place None lent = ap (option_map signature_of) (sym (slice_get_past all place lent.3))
-item_at all place (Some found) lent = ap (option_map signature_of) (sym (slice_get_read all (length all) place found.now refl lent.3.0 lent.1))
+item_at all place None lent = ap (option_map signature_of) lent
+item_at all place (Some found) lent = ap (option_map signature_of) lent
 
 -- ---- one more function, behind all others
 

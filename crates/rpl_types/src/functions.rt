@@ -1,5 +1,5 @@
 //! Holds the functions that are declared, and finds them by their names.
-ghost use Rattle.std.specs.Prelude.{◌≡◌, ◌++◌, ◌∷◌, [], OnErr, OnOk, option_map};
+ghost use Rattle.std.specs.Prelude.{◌≡◌, ◌++◌, ◌∷◌, [], OnErr, OnOk, option_map, slice_get};
 ghost use Rattle.rpl_types.specs.Functions.{signature_named};
 ghost use Rattle.rpl_types.specs.Seen.{signature_of, with_first};
 
@@ -51,6 +51,13 @@ fn add_first<'a>(
     }
 }
 
+// The function at a place, if there is one.
+fn signature_at<'a, 's>(signatures: &'s [Signature<'a>], place: usize) -> Option<&'s Signature<'a>>
+    ensures { option_map (λ signature. signature.now) result ≡ slice_get signatures.now place }
+{
+    signatures.get(place)
+}
+
 impl<'a> Functions<'a> {
     /// Returns no functions.
     pub(crate) fn new(alloc: Global) -> Functions<'a>
@@ -69,7 +76,7 @@ impl<'a> Functions<'a> {
     {
         match self.places.find(name) {
             None => None,
-            Some(place) => self.signatures.get(place),
+            Some(place) => signature_at(self.signatures.as_slice(), place),
         }
     }
 

@@ -111,8 +111,8 @@ pub(crate) fn pass_behind<L: Ledger, M: Fires>(
     requires known { AreKeptFrom kept.now 0 spare.behind }
     requires cells { All (IsCell setup.now.basin.now) next.cells.now }
     requires left { AreKeptFirst kept.now next.behind }
-    ensures { PassesBehind setup.now.basin.now setup.now.policy.now next.inputs.now next.cells.now kept.now
-        next.behind spare steps.old steps.new result }
+    ensures { PassesBehind setup.now.basin.now setup.now.policy.now next.entry.inputs.now
+        next.entry.cells.now kept.now next.entry.behind spare steps.old steps.new result }
 {
     answered_code_is_safe();
     code_keeps_promises();
