@@ -3,7 +3,7 @@ ghost use Rattle.std.specs.Prelude.{◌≡◌, ◌≤◌, Bool, false, ℕ, ℤ,
 ghost use Rattle.rw_base.specs.declared.number.StepNo.{StepNo};
 ghost use Rattle.rw_run.specs.declared.run.RunEnd.{RunEnd};
 ghost use Rattle.rw_commands.specs.Many.{many_texts};
-ghost use Rattle.rw_commands.specs.RunText.{IsBalanceText, IsRunText, IsWhyText, policy_in_run, tells_asks};
+ghost use Rattle.rw_commands.specs.RunText.{IsBalanceText, IsRunText, IsWhyText, asked_section_text, policy_in_run, tells_asks};
 ghost use Rattle.rw_commands.specs.declared.extras.Extras.{Extras};
 ghost use Rattle.rw_base.specs.declared.limits.TheConstants.{RULES_MAX};
 ghost use Rattle.rw_base.specs.declared.number.Cell.{Cell};
@@ -59,14 +59,20 @@ pub fn runs_of_rulesets()
     runs_of_code();
 }
 
-/// What a trace tells of each put that accepted code asks for is the same, line for line, in a basin that lets rules put further
-/// ahead.
-#[tactic(auto, using(crate::proofs::FarAsks::asks_of_code))]
+/// What a trace tells of each put that accepted code asks for is the same in a basin that lets rules put further ahead, line for
+/// line and byte for byte, and so is the section with it.
+#[tactic(auto, using(crate::proofs::FarAsks::asks_of_code, crate::proofs::FarAsks::sections_of_code))]
 pub fn asks_of_code()
-    ensures { (basin : Draft) (most : ℕ) (code : List Block) (policy : Accepted) (log : Log)
+    ensures lines { (basin : Draft) (most : ℕ) (code : List Block) (policy : Accepted) (log : Log)
         → basin.control.ahead ≤ most → verified basin code ≡ Ok policy
         → asked_trace (ahead_to most basin) (policy_of_code (ahead_to most basin) code) log
         ≡ asked_trace basin (policy_of_code basin code) log }
+    ensures text { (basin : Draft) (most number : ℕ) (code : List Block) (policy : Accepted)
+        (extras : Extras) (reran : Option (List StepNo)) (log : Log)
+        → basin.control.ahead ≤ most → verified basin code ≡ Ok policy
+        → asked_section_text (ahead_to most basin) (policy_of_code (ahead_to most basin) code) extras
+        number reran log
+        ≡ asked_section_text basin (policy_of_code basin code) extras number reran log }
 {}
 
 /// A model that is accepted is accepted when it is migrated; each policy and all inputs that are accepted for it are accepted then,
