@@ -190,11 +190,11 @@ fn write_from<K: Sink, L: Ledger, M: Fires>(
     ensures { (policy : Rules) (before : Option Rows)
         → IsCodeOf setup.now.basin.now policy setup.now.policy.now → MatchResult result
         (AppendsAll (IsRulesText setup.now.basin.now policy extras)
-        left.number (record { before = before; inputs = left.inputs }) left.batches.now
-        (change (K.seen out.old) (K.seen out.new)))
+        left.entry.number (record { before = before; inputs = left.entry.inputs })
+        left.entry.batches.now (change (K.seen out.old) (K.seen out.new)))
         (StopsAmong (IsRulesText setup.now.basin.now policy extras)
-        left.number (record { before = before; inputs = left.inputs }) left.batches.now
-        (change (K.seen out.old) (K.seen out.new))) }
+        left.entry.number (record { before = before; inputs = left.entry.inputs })
+        left.entry.batches.now (change (K.seen out.old) (K.seen out.new))) }
 {
     let Left {
         number,
