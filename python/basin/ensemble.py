@@ -18,6 +18,7 @@ from typing import TYPE_CHECKING, Any, Callable, Generator, Iterator, Literal, S
 
 import pandas as pd
 
+from basin_files.ending import kill_below
 from basin_files.reasons import plain
 
 from .answers import fault_of
@@ -27,7 +28,7 @@ from .files import Policy
 from .netcdf import host, opened
 from .parts import Done, Outcome, failure, outcomes, run_part
 from .plans import Plan, each_part, plan
-from .process import PathLike, ended_in_order, kill_below
+from .process import PathLike, ended_in_order
 from .slurm import slurm
 from .statistics import STATISTICS, Percent, merge, rank_of, texts_of
 from .tables import UNKNOWN

@@ -13,9 +13,9 @@ import tempfile
 import threading
 import time as clock
 from functools import lru_cache
-from pathlib import Path
 from typing import IO, Iterator, Sequence, Union
 
+from basin_files.ending import TERMINATED
 from basin_files.program import Unable, built
 from basin_files.reasons import plain
 
@@ -26,7 +26,6 @@ PIPE = 1 << 20  # so that the program and its reader work side by side
 TRIM = "MALLOC_TRIM_THRESHOLD_"  # dask's workers have it; the program would take a seventh more time by it
 ENDED = (0, 1)  # the statuses with which the program has answered
 NO_SUCH_WORDS = 2
-TERMINATED = 128 + signal.SIGTERM
 A_WHILE = 10  # seconds for which the sources count as unchanged
 HOW = (
     "name it by program=.., by BASIN in the environment, or put it on the PATH; in a checkout of the repository"
@@ -150,35 +149,6 @@ def _exit(*_: object) -> None:
     """Ends this process. A second signal, as `timeout` sends it, does not break off what is put in order."""
     signal.signal(signal.SIGTERM, signal.SIG_IGN)
     sys.exit(TERMINATED)
-
-
-def below(processes: set[int]) -> set[int]:
-    """Returns these processes, and all that were started by one of them."""
-    parents: dict[int, int] = {}
-    for path in Path("/proc").glob("[0-9]*/stat"):
-        with contextlib.suppress(OSError):  # one that has ended
-            parents[int(path.parent.name)] = int(path.read_bytes().rpartition(b")")[2].split()[1])
-    found, more = set(processes), set(processes)
-    while more:
-        more = {process for process, parent in parents.items() if parent in more} - found
-        found |= more
-    return found
-
-
-def signalled(processes: set[int], number: signal.Signals) -> None:
-    """Sends a signal to processes, some of which may have ended."""
-    for process in processes:
-        with contextlib.suppress(ProcessLookupError):
-            os.kill(process, number)
-
-
-def kill_below(processes: set[int]) -> None:
-    """Ends processes and all that they started. They are stopped before, so that none starts another meanwhile."""
-    stopped: set[int] = set()
-    while more := below(processes) - stopped:
-        signalled(more, signal.SIGSTOP)
-        stopped |= more
-    signalled(stopped, signal.SIGKILL)
 
 
 def has_command(command: str, files: int, program: PathLike | None = None) -> bool:
