@@ -19,7 +19,7 @@ from basin_files.ending import TERMINATED
 from basin_files.program import Unable, built
 from basin_files.reasons import plain
 
-from .errors import Error, NoProgram, Refused
+from .errors import Error, NoProgram, Refused, TimedOut
 
 PathLike = Union[str, "os.PathLike[str]"]
 PIPE = 1 << 20  # so that the program and its reader work side by side
@@ -61,7 +61,7 @@ class Program:
     def __init__(self, process: subprocess.Popen[bytes], errors: IO[bytes]) -> None:
         assert process.stdout is not None
         self.process, self.output, self.errors = process, process.stdout, errors
-        self.is_left = False
+        self.is_left, self.late = False, False
         with contextlib.suppress(OSError, AttributeError):  # where the system allows no such pipe
             fcntl.fcntl(self.output, fcntl.F_SETPIPE_SZ, PIPE)
 
@@ -81,18 +81,25 @@ class Program:
         self.is_left = True
         self.process.kill()
 
+    def end_late(self) -> None:
+        """Ends it, since its time is over."""
+        self.late = self.process.poll() is None
+        self.process.kill()
+
     def judge(self) -> None:
-        """Waits for its end. `Refused` where it answered nothing, unless it was left."""
+        """Waits for its end. `Refused` where it answered nothing, unless it was left, and `TimedOut` if it took too long."""
         status = self.process.wait()
+        if self.late and status < 0 and not self.is_left:
+            raise TimedOut("the program was ended, since it took longer than its timeout")
         if not self.is_left:
             self.errors.seek(0)
             judge(status, self.errors.read())
 
 
 @contextlib.contextmanager
-def at_work(words: Sequence[str], program: PathLike | None = None) -> Iterator[Program]:
+def at_work(words: Sequence[str], program: PathLike | None = None, timeout: float | None = None) -> Iterator[Program]:
     """The program while it writes to a pipe. Behind it `Refused` where it answered nothing; where its reader breaks
-    off it is ended."""
+    off, or after `timeout` seconds, it is ended."""
     path = find_program(program)
     with tempfile.TemporaryFile() as errors:
         try:
@@ -108,17 +115,27 @@ def at_work(words: Sequence[str], program: PathLike | None = None) -> Iterator[P
             raise NoProgram(f"cannot run {plain(path)}: {error.strerror}") from None
         with process:
             running = Program(process, errors)
+            clock_of = threading.Timer(timeout, running.end_late) if timeout is not None else None
             try:
+                if clock_of:
+                    clock_of.start()
                 yield running
             except BaseException:
                 running.leave()
                 raise
+            finally:
+                if clock_of and running.is_left:
+                    clock_of.cancel()
+        if clock_of:
+            clock_of.cancel()
         running.judge()
 
 
-def answer(words: Sequence[str], program: PathLike | None = None) -> tuple[int, str]:
+def answer(
+    words: Sequence[str], program: PathLike | None = None, timeout: float | None = None
+) -> tuple[int, str]:
     """The status, 0 or 1, and the text that was written. `Refused` with any other status."""
-    with at_work(words, program) as running:
+    with at_work(words, program, timeout) as running:
         text = running.read()
     return running.process.returncode, text.decode()
 
