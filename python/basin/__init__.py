@@ -6,7 +6,7 @@ Nothing is reckoned here that the program answers: each call runs the program an
 from . import beside  # noqa: F401, I001: the others find their modules by it
 from .answers import Answer, Book, Cell, Effects, Traces
 from .calls import balance, check, effects, mrm, run, simulate, why
-from .errors import Error, Fault, FaultedTraces, NoProgram, Refused, Stale
+from .errors import Error, Fault, FaultedTraces, NoProgram, Refused, Stale, TimedOut
 from .files import Model, Policy
 from .inputs import Inputs
 from .process import find_program
@@ -30,6 +30,7 @@ __all__ = [
     "Refused",
     "Requirements",
     "Stale",
+    "TimedOut",
     "Traces",
     "WrongRequirements",
     "balance",

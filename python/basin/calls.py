@@ -93,6 +93,7 @@ def run(
     numbers: Numbers = "float",
     errors: Errors = "raise",
     program: PathLike | None = None,
+    timeout: float | None = None,
 ) -> Answer:
     ...
 
@@ -111,6 +112,7 @@ def run(
     numbers: Numbers = "float",
     errors: Errors = "raise",
     program: PathLike | None = None,
+    timeout: float | None = None,
 ) -> list[Answer]:
     ...
 
@@ -128,18 +130,20 @@ def run(
     numbers: Numbers = "float",
     errors: Errors = "raise",
     program: PathLike | None = None,
+    timeout: float | None = None,
 ) -> Answer | list[Answer]:
     """A run as an `Answer`. With `edits` a list of them: the run from the inputs, and one after each batch.
 
     `edits` is a path, a frame (batch, slot, step or time, value; a missing value takes away), or frames with
-    slots by columns. `asked` wants `trace`, and goes without `reuse`. `Fault` where a run ends in one; with `errors="keep"` it is kept in its answer.
+    slots by columns. `asked` wants `trace`, and goes without `reuse`. After `timeout` seconds the
+    program is ended, and the call raises `TimedOut`; so in all calls. `Fault` where a run ends in one; with `errors="keep"` it is kept in its answer.
     """
     asked_for = {"--reuse": reuse, "--flags": flags, "--trace": trace, "--asked": asked}
     words = ["run", *(word for word, wanted in asked_for.items() if wanted)]
     with Files(model, policy, inputs) as files:
         if edits is not None:
             words.append(f"--edits={files.batches(edits, 'batch')[0]}")
-        answers = _answers(files, words, numbers, errors, program)
+        answers = _answers(files, words, numbers, errors, program, timeout)
     return answers[0] if edits is None else answers
 
 
@@ -154,21 +158,27 @@ def simulate(
     numbers: Numbers = "float",
     errors: Errors = "raise",
     program: PathLike | None = None,
+    timeout: float | None = None,
 ) -> Answer:
     """A run without rules. `order` says which of several objects that wait is dispatched first."""
     asked_for = {"--flags": flags, "--trace": trace, "--asked": asked, f"--order={order}": order is not None}
     words = ["simulate", *(word for word, wanted in asked_for.items() if wanted)]
     with Files(model, None, inputs) as files:
-        return _answers(files, words, numbers, errors, program)[0]
+        return _answers(files, words, numbers, errors, program, timeout)[0]
 
 
 def _answers(
-    files: Files, words: list[str], form: Numbers, errors: Errors, program: PathLike | None
+    files: Files,
+    words: list[str],
+    form: Numbers,
+    errors: Errors,
+    program: PathLike | None,
+    timeout: float | None,
 ) -> list[Answer]:
     """The runs that the program tells. A fault is raised where it isn't to be kept."""
     if errors not in ("raise", "keep"):
         raise ValueError(f'errors is "raise" or "keep", and not {errors!r}')
-    with process.at_work([*words, *files.paths], program) as running:
+    with process.at_work([*words, *files.paths], program, timeout) as running:
         found = sections(chapters(running))
         answers = [answer_of(files.model, files.policy, section, form) for section in found]
         for answer in answers if "--asked" in words else ():
@@ -189,20 +199,23 @@ def why(
     time: Any,
     *,
     program: PathLike | None = None,
+    timeout: float | None = None,
 ) -> Cell:
     """How a cell came to what it holds. `time` is a timestep's number, or the moment at which it begins."""
     with Files(model, policy, inputs) as files:
         assert files.policy is not None
         step = str(step_number(files.model, time))
-        status, text = process.answer(["why", *files.paths, slot, step], program)
+        status, text = process.answer(["why", *files.paths, slot, step], program, timeout)
         return cell_of(files.model, files.policy, text, status == 1)
 
 
-def check(model: ModelGiven, policy: PolicyGiven, *, program: PathLike | None = None) -> pd.DataFrame:
+def check(
+    model: ModelGiven, policy: PolicyGiven, *, program: PathLike | None = None, timeout: float | None = None
+) -> pd.DataFrame:
     """What a firing of each rule comes to at most, by the rule's number, with its name."""
     with Files(model, policy, None) as files:
         assert files.policy is not None
-        _, text = process.answer(["check", *files.paths], program)
+        _, text = process.answer(["check", *files.paths], program, timeout)
         names = files.policy.rule_names(files.model)
     rows = [[int(word) for word in line.split()[1::2]] for line in text.splitlines()[1:]]
     frame = pd.DataFrame(rows, columns=["rule", "instructions", "reads", "puts", "words"]).set_index("rule")
@@ -211,7 +224,12 @@ def check(model: ModelGiven, policy: PolicyGiven, *, program: PathLike | None = 
 
 
 def effects(
-    model: ModelGiven, policy: PolicyGiven, inputs: InputsGiven, *, program: PathLike | None = None
+    model: ModelGiven,
+    policy: PolicyGiven,
+    inputs: InputsGiven,
+    *,
+    program: PathLike | None = None,
+    timeout: float | None = None,
 ) -> Effects:
     """In how many timesteps the last firing of each rule got what it wanted of each slot, and else what became of it.
 
@@ -220,7 +238,7 @@ def effects(
     with Files(model, policy, inputs) as files:
         assert files.policy is not None
         names = files.policy.rule_names(files.model)
-        found = _effects(files, program)
+        found = _effects(files, program, timeout)
     headings = of_rules.HEADINGS
     rows = [
         (
@@ -236,15 +254,15 @@ def effects(
     return Effects(table, list(found.sentences()))
 
 
-def _effects(files: Files, program: PathLike | None) -> of_rules.Effects:
+def _effects(files: Files, program: PathLike | None, timeout: float | None) -> of_rules.Effects:
     """Goes through each firing of a run, as `tools/effect` does."""
     assert files.inputs is not None
     model, paths = files.model.read, files.paths
-    text, is_asked = _traced(paths, program)
+    text, is_asked = _traced(paths, program, timeout)
     rules = read_policy(paths[1], model)
     code = "" if is_asked or not rules.code else rules.source.text
     if not is_asked and not rules.code:
-        code = process.answer(["compile", *paths[:2]], program)[1]
+        code = process.answer(["compile", *paths[:2]], program, timeout)[1]
     given = read_inputs(files.inputs.content, model)
     walk = Walk(model, blocks_of(code), given, read_sections(text)[0], is_asked)
     try:
@@ -253,23 +271,28 @@ def _effects(files: Files, program: PathLike | None) -> of_rules.Effects:
         raise Error(str(error)) from None
 
 
-def _traced(paths: list[str], program: PathLike | None) -> tuple[str, bool]:
+def _traced(paths: list[str], program: PathLike | None, timeout: float | None) -> tuple[str, bool]:
     """A run with its trace, and whether that tells what was asked for: an older program's doesn't."""
     try:
-        return process.answer(["run", "--trace", "--asked", *paths], program)[1], True
+        return process.answer(["run", "--trace", "--asked", *paths], program, timeout)[1], True
     except Refused as refused:
         if refused.status != process.NO_SUCH_WORDS:
             raise
-    return process.answer(["run", "--trace", *paths], program)[1], False
+    return process.answer(["run", "--trace", *paths], program, timeout)[1], False
 
 
 def balance(
-    model: ModelGiven, policy: PolicyGiven, inputs: InputsGiven, *, program: PathLike | None = None
+    model: ModelGiven,
+    policy: PolicyGiven,
+    inputs: InputsGiven,
+    *,
+    program: PathLike | None = None,
+    timeout: float | None = None,
 ) -> Book:
     """The book of water of each object that stores some: initial, in, out, final."""
     with Files(model, policy, inputs) as files:
         assert files.policy is not None
-        _, text = process.answer(["balance", *files.paths], program)
+        _, text = process.answer(["balance", *files.paths], program, timeout)
         return book_of(files.model, files.policy, text.splitlines())
 
 
@@ -281,6 +304,7 @@ def mrm(
     *,
     numbers: Numbers = "float",
     program: PathLike | None = None,
+    timeout: float | None = None,
 ) -> Traces:
     """Up to 64 traces, each over the inputs as they are, and their summary. A trace that ends in a fault is kept, and
     warned of by name, since the summary does not count it.
@@ -290,7 +314,7 @@ def mrm(
     with Files(model, policy, inputs) as files:
         path, names = files.batches(traces, "trace")
         found = Traces([], pd.DataFrame())
-        with process.at_work(["mrm", *files.paths, path], program) as running:
+        with process.at_work(["mrm", *files.paths, path], program, timeout) as running:
             for chapter in chapters(running):
                 if section := section_of(chapter):
                     name = names[section.number - 1] if names else str(section.number)

@@ -18,6 +18,7 @@ from typing import TYPE_CHECKING, Any, Callable, Generator, Iterator, Literal, S
 
 import pandas as pd
 
+from basin_files.ending import kill_below
 from basin_files.reasons import plain
 
 from .answers import fault_of
@@ -27,7 +28,7 @@ from .files import Policy
 from .netcdf import host, opened
 from .parts import Done, Outcome, failure, outcomes, run_part
 from .plans import Plan, each_part, plan
-from .process import PathLike, ended_in_order, kill_below
+from .process import PathLike, ended_in_order
 from .slurm import slurm
 from .statistics import STATISTICS, Percent, merge, rank_of, texts_of
 from .tables import UNKNOWN
@@ -87,10 +88,11 @@ def run(
     workers: int | None = None,
     progress: Progress | None = None,
     program: PathLike | None = None,
+    timeout: float | None = None,
 ) -> Plan:
-    """Plans, executes and merges: the folder has all values, and the statistics, behind it."""
+    """Plans, executes and merges: the folder has all values, and the statistics, behind it. `timeout` as of `execute`."""
     told = plan(folder, model, policy, inputs, traces, slots=slots, program=program)
-    execute(told, client=client, workers=workers, progress=progress)
+    execute(told, client=client, workers=workers, progress=progress, timeout=timeout)
     merge(told, percentiles)
     return told
 
@@ -102,12 +104,14 @@ def execute(
     workers: int | None = None,
     retries: int = 3,
     progress: Progress | None = None,
+    timeout: float | None = None,
 ) -> list[Done]:
     """Runs the parts that are missing: by the client, by as many local processes, or here with `workers=0`.
 
     A part of a worker that died runs again, as often as `retries` says, and no part stops another. `Error`
     at the end where parts failed. Traces that are refused or end in a fault are warned of. SIGTERM and SIGINT end local
-    workers and their programs at once: parts that are done stay, and the next call runs the others.
+    workers and their programs at once: parts that are done stay, and the next call runs the others. A part whose program
+    takes longer than `timeout` seconds fails.
     """
     _clear(told)
     missing = told.missing()
@@ -115,7 +119,7 @@ def execute(
     done: list[Done] = []
     failed: list[tuple[int, BaseException]] = []
     here = client is None and workers == 0 or not missing
-    ended = outcomes(told.folder, missing) if here else _by_workers(told, missing, client, workers, retries)
+    ended = outcomes(told.folder, missing, timeout) if here else _by_workers(told, missing, client, workers, retries, timeout)
     try:
         with ended_in_order(), contextlib.closing(ended):
             for number, found in ended:
@@ -137,14 +141,19 @@ def execute(
 
 
 def _by_workers(
-    told: Plan, missing: list[int], client: Client | None, workers: int | None, retries: int
+    told: Plan,
+    missing: list[int],
+    client: Client | None,
+    workers: int | None,
+    retries: int,
+    timeout: float | None,
 ) -> Generator[Outcome, None, None]:
     """Runs parts on workers, and tells each as it ends."""
     from distributed import as_completed
 
     with _client(client, workers) as at_work:
         folders = [str(told.folder)] * len(missing)
-        futures = at_work.map(run_part, folders, missing, retries=retries, pure=False)
+        futures = at_work.map(run_part, folders, missing, timeout=timeout, retries=retries, pure=False)
         numbers = dict(zip((future.key for future in futures), missing))
         for future in as_completed(futures):
             error = future.exception()

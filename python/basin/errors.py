@@ -45,6 +45,10 @@ class NoProgram(Error):
     """There is no program to run, or it can't be run."""
 
 
+class TimedOut(Error):
+    """The program took longer than the `timeout` of the call, and was ended."""
+
+
 class Stale(Error):
     """A folder holds another ensemble: another model, policy, input, trace, slot or program."""
 

@@ -70,11 +70,11 @@ class Values:
         self.lacking.discard(trace)
 
 
-def outcomes(folder: Path, numbers: Iterable[int]) -> Generator[Outcome, None, None]:
+def outcomes(folder: Path, numbers: Iterable[int], timeout: float | None = None) -> Generator[Outcome, None, None]:
     """Runs parts one after another, of which none stops another."""
     for number in numbers:
         try:
-            yield number, run_part(str(folder), number)
+            yield number, run_part(str(folder), number, timeout)
         except Exception as error:
             yield number, error
 
@@ -85,20 +85,20 @@ def failure(failed: list[tuple[int, BaseException]], tried: int) -> Error:
     return Error(f"{len(failed)} of {tried} parts failed; part {number}: {error}")
 
 
-def run_part(folder: str, number: int) -> Done:
+def run_part(folder: str, number: int, timeout: float | None = None) -> Done:
     """Runs a part and writes its values. Where they are there it tells of them: a worker may die behind its writing."""
     begun, used = clock.time(), sum(os.times()[:4])
     plan = Plan.read(folder)
     names = plan.names[number]
-    faults, refused = kept(plan, number) if plan.part(number).exists() else run_anew(plan, number)
+    faults, refused = kept(plan, number) if plan.part(number).exists() else run_anew(plan, number, timeout)
     processor = sum(os.times()[:4]) - used
     return Done(number, len(names) - faults - refused, faults, refused, begun, clock.time(), processor)
 
 
-def run_anew(plan: Plan, number: int) -> tuple[int, int]:
+def run_anew(plan: Plan, number: int, timeout: float | None = None) -> tuple[int, int]:
     """Runs a part and writes its values: how many traces ended in a fault, and how many are refused."""
     model, names = model_of(plan.folder, plan.digest), plan.names[number]
-    values = values_of(plan, model, stored_rows(plan.folder, number, plan.first(number), len(names)))
+    values = values_of(plan, model, stored_rows(plan.folder, number, plan.first(number), len(names)), timeout)
     if values.lacking:
         raise Error(f"the program told nothing of {len(values.lacking)} of {len(names)} traces")
     write(plan, model, number, values)
@@ -111,28 +111,28 @@ def kept(plan: Plan, number: int) -> tuple[int, int]:
         return sum(map(bool, part["fault"][:])), sum(map(bool, part["refused"][:]))
 
 
-def values_of(plan: Plan, model: Model, rows: list[list[Row]]) -> Values:
+def values_of(plan: Plan, model: Model, rows: list[list[Row]], timeout: float | None = None) -> Values:
     """The values of traces: at once where the program can and the rows are few enough, or else one by one.
 
     `mrm` refuses all traces for a row of one of them, so that then, too, they are run one by one.
     """
     if plan.way == "mrm" and sum(map(len, rows)) <= MOST_ROWS and all(rows):
         try:
-            return at_once(plan, model, rows)
+            return at_once(plan, model, rows, timeout)
         except Refused as refused:
             if refused.file != "traces":
                 raise
-    return one_by_one(plan, model, rows)
+    return one_by_one(plan, model, rows, timeout)
 
 
-def at_once(plan: Plan, model: Model, rows: list[list[Row]]) -> Values:
+def at_once(plan: Plan, model: Model, rows: list[list[Row]], timeout: float | None) -> Values:
     """By `mrm`."""
     values = Values(plan, model, len(rows))
     with tempfile.NamedTemporaryFile("w", prefix="basin-", suffix=".csv") as file:
         file.write(batches_text(rows, "trace"))
         file.flush()
         words = ["mrm", *map(str, plan.files), file.name]
-        with process.at_work(words, plan.trusted_program()) as running:
+        with process.at_work(words, plan.trusted_program(), timeout) as running:
             for chapter in chapters(running, last=b"%d," % model.steps):
                 if section := section_of(chapter):
                     values.take(section.number - 1, section)
@@ -154,7 +154,7 @@ def inputs_of(folder: Path, digest: str) -> LaidOver:
     return LaidOver(model_of(folder, digest), Inputs(folder / NAMES[2]))
 
 
-def one_by_one(plan: Plan, model: Model, rows: list[list[Row]]) -> Values:
+def one_by_one(plan: Plan, model: Model, rows: list[list[Row]], timeout: float | None) -> Values:
     """By `run`, from inputs over which each trace is laid."""
     values = Values(plan, model, len(rows))
     inputs = inputs_of(plan.folder, plan.digest)
@@ -168,7 +168,7 @@ def one_by_one(plan: Plan, model: Model, rows: list[list[Row]]) -> Values:
             text = inputs.under(laid)
             path.write_text(text)
             try:
-                with process.at_work(words, plan.trusted_program()) as running:
+                with process.at_work(words, plan.trusted_program(), timeout) as running:
                     for section in sections(chapters(running)):
                         values.take(trace, section)
             except Refused as refused:

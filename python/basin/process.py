@@ -13,20 +13,19 @@ import tempfile
 import threading
 import time as clock
 from functools import lru_cache
-from pathlib import Path
 from typing import IO, Iterator, Sequence, Union
 
+from basin_files.ending import TERMINATED
 from basin_files.program import Unable, built
 from basin_files.reasons import plain
 
-from .errors import Error, NoProgram, Refused
+from .errors import Error, NoProgram, Refused, TimedOut
 
 PathLike = Union[str, "os.PathLike[str]"]
 PIPE = 1 << 20  # so that the program and its reader work side by side
 TRIM = "MALLOC_TRIM_THRESHOLD_"  # dask's workers have it; the program would take a seventh more time by it
 ENDED = (0, 1)  # the statuses with which the program has answered
 NO_SUCH_WORDS = 2
-TERMINATED = 128 + signal.SIGTERM
 A_WHILE = 10  # seconds for which the sources count as unchanged
 HOW = (
     "name it by program=.., by BASIN in the environment, or put it on the PATH; in a checkout of the repository"
@@ -62,7 +61,7 @@ class Program:
     def __init__(self, process: subprocess.Popen[bytes], errors: IO[bytes]) -> None:
         assert process.stdout is not None
         self.process, self.output, self.errors = process, process.stdout, errors
-        self.is_left = False
+        self.is_left, self.late = False, False
         with contextlib.suppress(OSError, AttributeError):  # where the system allows no such pipe
             fcntl.fcntl(self.output, fcntl.F_SETPIPE_SZ, PIPE)
 
@@ -82,18 +81,25 @@ class Program:
         self.is_left = True
         self.process.kill()
 
+    def end_late(self) -> None:
+        """Ends it, since its time is over."""
+        self.late = self.process.poll() is None
+        self.process.kill()
+
     def judge(self) -> None:
-        """Waits for its end. `Refused` where it answered nothing, unless it was left."""
+        """Waits for its end. `Refused` where it answered nothing, unless it was left, and `TimedOut` if it took too long."""
         status = self.process.wait()
+        if self.late and status < 0 and not self.is_left:
+            raise TimedOut("the program was ended, since it took longer than its timeout")
         if not self.is_left:
             self.errors.seek(0)
             judge(status, self.errors.read())
 
 
 @contextlib.contextmanager
-def at_work(words: Sequence[str], program: PathLike | None = None) -> Iterator[Program]:
+def at_work(words: Sequence[str], program: PathLike | None = None, timeout: float | None = None) -> Iterator[Program]:
     """The program while it writes to a pipe. Behind it `Refused` where it answered nothing; where its reader breaks
-    off it is ended."""
+    off, or after `timeout` seconds, it is ended."""
     path = find_program(program)
     with tempfile.TemporaryFile() as errors:
         try:
@@ -109,17 +115,27 @@ def at_work(words: Sequence[str], program: PathLike | None = None) -> Iterator[P
             raise NoProgram(f"cannot run {plain(path)}: {error.strerror}") from None
         with process:
             running = Program(process, errors)
+            clock_of = threading.Timer(timeout, running.end_late) if timeout is not None else None
             try:
+                if clock_of:
+                    clock_of.start()
                 yield running
             except BaseException:
                 running.leave()
                 raise
+            finally:
+                if clock_of and running.is_left:
+                    clock_of.cancel()
+        if clock_of:
+            clock_of.cancel()
         running.judge()
 
 
-def answer(words: Sequence[str], program: PathLike | None = None) -> tuple[int, str]:
+def answer(
+    words: Sequence[str], program: PathLike | None = None, timeout: float | None = None
+) -> tuple[int, str]:
     """The status, 0 or 1, and the text that was written. `Refused` with any other status."""
-    with at_work(words, program) as running:
+    with at_work(words, program, timeout) as running:
         text = running.read()
     return running.process.returncode, text.decode()
 
@@ -150,35 +166,6 @@ def _exit(*_: object) -> None:
     """Ends this process. A second signal, as `timeout` sends it, does not break off what is put in order."""
     signal.signal(signal.SIGTERM, signal.SIG_IGN)
     sys.exit(TERMINATED)
-
-
-def below(processes: set[int]) -> set[int]:
-    """Returns these processes, and all that were started by one of them."""
-    parents: dict[int, int] = {}
-    for path in Path("/proc").glob("[0-9]*/stat"):
-        with contextlib.suppress(OSError):  # one that has ended
-            parents[int(path.parent.name)] = int(path.read_bytes().rpartition(b")")[2].split()[1])
-    found, more = set(processes), set(processes)
-    while more:
-        more = {process for process, parent in parents.items() if parent in more} - found
-        found |= more
-    return found
-
-
-def signalled(processes: set[int], number: signal.Signals) -> None:
-    """Sends a signal to processes, some of which may have ended."""
-    for process in processes:
-        with contextlib.suppress(ProcessLookupError):
-            os.kill(process, number)
-
-
-def kill_below(processes: set[int]) -> None:
-    """Ends processes and all that they started. They are stopped before, so that none starts another meanwhile."""
-    stopped: set[int] = set()
-    while more := below(processes) - stopped:
-        signalled(more, signal.SIGSTOP)
-        stopped |= more
-    signalled(stopped, signal.SIGKILL)
 
 
 def has_command(command: str, files: int, program: PathLike | None = None) -> bool:

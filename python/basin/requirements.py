@@ -127,11 +127,13 @@ def requirements(
     edits: Any = None,
     traces: Any = None,
     program: PathLike | None = None,
+    timeout: float | None = None,
 ) -> Judged:
-    """Judges a policy over a run, over that of each batch of edits, or over each of at most 64 traces."""
+    """Judges a policy over a run, over that of each batch of edits, or over each of at most 64 traces. `timeout` is in
+    seconds for each call of the program."""
     if edits is not None and traces is not None:
         raise TypeError("edits or traces, and not both")
-    asking = Asking(model, policy, required, program)
+    asking = Asking(model, policy, required, program, timeout)
     calendar = asking.calendar
     found: list[Judgement] = []
     values: dict[tuple[str, str], float] = {}
@@ -158,8 +160,14 @@ class Asking:
     """A policy with its requirements beside it, ready to be run."""
 
     def __init__(
-        self, model: ModelGiven, policy: PolicyGiven, required: RequirementsGiven, program: PathLike | None
+        self,
+        model: ModelGiven,
+        policy: PolicyGiven,
+        required: RequirementsGiven,
+        program: PathLike | None,
+        timeout: float | None = None,
     ) -> None:
+        self.timeout = timeout
         self.model, self.program = Model.of(model), process.find_program(program)
         file = Requirements.of(required)
         name = "requirements" if file.path is None else plain(os.fspath(file.path))
@@ -186,7 +194,7 @@ class Asking:
             paths = [files.folder / f"file{number}" for number in range(len(contents))]
             for path, content in zip(paths, contents):
                 path.write_bytes(content)
-            return process.answer([command, *map(str, paths)], self.program)[1]
+            return process.answer([command, *map(str, paths)], self.program, self.timeout)[1]
 
     def runs(self, inputs: InputsGiven, edits: Any, traces: Any) -> Iterator[tuple[str, str, Any]]:
         """Of each run its name, its fault, and the margins by timestep and requirement."""
@@ -199,7 +207,7 @@ class Asking:
             elif traces is not None:
                 path, names = files.batches(traces, "trace")
                 words = ["mrm", *files.paths, path]
-            with process.at_work(words, self.program) as running:
+            with process.at_work(words, self.program, self.timeout) as running:
                 for section in filter(None, map(section_of, chapters(running))):
                     fault = self.fault_of(section)
                     kind = "trace" if traces is not None else "batch"
@@ -235,6 +243,7 @@ def over_ensemble(
     workers: int | None = None,
     client: Any = None,
     program: PathLike | None = None,
+    timeout: float | None = None,
 ) -> pd.DataFrame:
     """Judges a policy over any number of traces: an ensemble of which the folder keeps the margins alone.
 
@@ -246,11 +255,11 @@ def over_ensemble(
     from .plans import each_part
     from .slack import columns_of, frame_of
 
-    asking = Asking(model, policy, required, program)
+    asking = Asking(model, policy, required, program, timeout)
     slots = [asked.slot for asked in asking.beside.asked]
     given = inputs_of(asking.model, inputs)
     told = ensemble.plan(folder, asking.model_text, asking.code, given, traces, slots=slots, program=asking.program)
-    ensemble.execute(told, workers=workers, client=client)
+    ensemble.execute(told, workers=workers, client=client, timeout=timeout)
     frames = []
     for number, path in each_part(told):
         with opened(path) as part:

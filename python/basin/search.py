@@ -80,7 +80,7 @@ def run_rows(task: Task, rows: list[list[str]]) -> tuple[Numbers, list[str]]:
         for number, some in enumerate(rows, 1):
             file.writelines(f"{number},{row}" for row in some)
         file.flush()
-        with process.at_work(["mrm", *task.paths, file.name], asking.program) as running:
+        with process.at_work(["mrm", *task.paths, file.name], asking.program, asking.timeout) as running:
             for chapter in chapters(running, last=b"%d," % steps):
                 if section := section_of(chapter):
                     found = numbers(section.rows, range(asking.width))
@@ -100,7 +100,7 @@ class Study:
     """Points that are run, and a file that keeps what each came to. `Stale` where the file is of another study.
 
     `space` has what is varied: ranges by slot, or a list of `Range` and `Percent`. `workers` is how many programs run side by
-    side; `client` is a dask client whose workers run them instead.
+    side; `client` is a dask client whose workers run them instead. `timeout` is in seconds for each call of the program.
     """
 
     def __init__(
@@ -116,11 +116,12 @@ class Study:
         client: Client | None = None,
         progress: bool = True,
         program: PathLike | None = None,
+        timeout: float | None = None,
     ) -> None:
         read = Model.of(model)
         given = inputs_of(read, inputs)
         self.knobs = knobs_of(read, given, space)
-        self.asking = Asking(read, policy, required, program)
+        self.asking = Asking(read, policy, required, program, timeout)
         self.task = Task(self.asking, given.content)
         self.workers, self.client, self.progress, self.ran = workers, client, progress, 0
         self.store = Store(path, self.digest(), len(self.columns))

@@ -3,18 +3,22 @@
 from __future__ import annotations
 
 import pickle
+import shlex
+import time
 from pathlib import Path
+from typing import Any, Callable
 
 import numpy as np
 import pandas as pd
 import pytest
 
 import basin
+from basin import ensemble
 from basin import files as of_files
 from basin.errors import Refused
 from basin.process import answer
 
-from small import EXAMPLES, INPUTS, MODEL, STEPS, VALLEY, inputs, model, outflow, policy, wants
+from small import EXAMPLES, INPUTS, MODEL, STEPS, VALLEY, inflows, inputs, model, outflow, planned, policy, rows, wants
 
 NOTHING = "slot,step,value\n"
 
@@ -325,3 +329,46 @@ def test_the_program_of_a_checkout_is_looked_for_once(monkeypatch: pytest.Monkey
     assert [basin.find_program() for _ in range(3)] == [path] * 3 and len(looks) == 1
     monkeypatch.setattr("basin.process.clock.monotonic", lambda: 2e9)
     assert basin.find_program() == path and len(looks) == 2
+
+
+def hanging(tmp_path: Path, words: str = "*") -> str:
+    """A program that never ends where its words are like this, and else is the program."""
+    path = tmp_path / "hanging"
+    path.write_text(f'#!/bin/sh\ncase "$*" in {words}) echo; exec sleep 300;; esac\nexec {shlex.quote(basin.find_program())} "$@"\n')
+    path.chmod(0o755)
+    return str(path)
+
+
+def test_a_call_that_takes_too_long(tmp_path: Path) -> None:
+    given: dict[str, Any] = {"program": hanging(tmp_path), "timeout": 0.2}
+    required = basin.Requirements(text='REQUIRE "wet": Lower.Inflow[t] >= 0 "m3/step";\n')
+    began = time.monotonic()
+    calls: list[Callable[[], object]] = [
+        lambda: basin.run(*VALLEY, **given),
+        lambda: basin.run(*VALLEY, edits=rows((1, "Lower.Inflow", 1, 5)).rename(columns={"trace": "batch"}), **given),
+        lambda: basin.simulate(VALLEY[0], VALLEY[2], **given),
+        lambda: basin.why(*VALLEY, "Lower.Outflow", 3, **given),
+        lambda: basin.check(*VALLEY[:2], **given),
+        lambda: basin.effects(*VALLEY, **given),
+        lambda: basin.balance(*VALLEY, **given),
+        lambda: basin.mrm(*VALLEY, rows((1, "Lower.Inflow", 1, 5)), **given),
+        lambda: basin.requirements(*VALLEY, required, **given),
+    ]
+    for call in calls:
+        with pytest.raises(basin.TimedOut, match="the program was ended, since it took longer than its timeout"):
+            call()
+    assert time.monotonic() - began < 60
+
+
+def test_a_call_that_is_quick_enough() -> None:
+    answer = basin.run(*VALLEY, timeout=300)
+    assert answer.table.equals(basin.run(*VALLEY).table)
+
+
+def test_a_part_of_an_ensemble_that_takes_too_long(tmp_path: Path) -> None:
+    for way in ("mrm", "run"):
+        inflow = inflows(4)
+        told = planned(tmp_path / way, inflow, size=2, way=way, program=hanging(tmp_path, f'"{way} "*parts*|"{way} "*basin-*'))
+        with pytest.raises(basin.Error, match="2 of 2 parts failed; part 0: the program was ended, since it took longer"):
+            ensemble.execute(told, workers=0, timeout=0.2)
+        assert told.missing() == [0, 1] and not list((told.folder / "parts").glob("*"))

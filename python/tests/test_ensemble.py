@@ -20,9 +20,9 @@ import xarray
 import basin
 from basin import ensemble, netcdf
 from basin.plans import shares
-from basin.process import below
 from basin.statistics import blocks, percentile
 from basin.tables import UNKNOWN
+from basin_files.ending import below
 
 from small import (
     INPUTS,

@@ -9,7 +9,6 @@ sys.path[:0] = [str(TOP / "tools"), str(TOP / "tests" / "mutated")]
 import rulesets  # noqa: E402
 from basin_files.judging import read_model  # noqa: E402
 from basin_lsp.reading import read  # noqa: E402
-from basin_rules import trees  # noqa: E402
 from basin_rules.places import Source  # noqa: E402
 from basin_rules.rulesets import read_ruleset  # noqa: E402
 

@@ -6,7 +6,7 @@ import tempfile
 import time
 from pathlib import Path
 
-from talking import TOP, Editor
+from talking import Editor
 
 MODEL = """format = 1
 run = { start = "2024-03-30T00:00", step = "24h", steps = 3 }

@@ -1,6 +1,5 @@
 """The pages of tools/report, tried in a browser: see `run` in this folder."""
 
-import json
 import os
 import random
 import re

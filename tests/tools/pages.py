@@ -57,12 +57,19 @@ def as_unpacked(folder: Path, program: str) -> None:
     (folder / "basin").symlink_to(program)
 
 
+def times_in(folder: Path) -> dict[str, int]:
+    """When each file of a release was last written, by its path."""
+    files = (path for top in ("examples", "docs") for path in (folder / top).rglob("*") if path.is_file())
+    return {str(path.relative_to(folder)): path.stat().st_mtime_ns for path in files}
+
+
 def of_page(page: Path, program: str) -> Iterator[tuple[str, str | None]]:
-    """The commands of a page print what is shown there."""
+    """The commands of a page print what is shown there, and change no file that was there: a release keeps its sums."""
     text, name = page.read_text(), page.relative_to(TOP)
     lacking = [tool for tool, draws, package in DRAWS if not shutil.which(draws) and may_lack(package)]
     with tempfile.TemporaryDirectory() as place:
         as_unpacked(Path(place), program)
+        before = times_in(Path(place))
 
         def done(command: str) -> subprocess.CompletedProcess[bytes]:
             return subprocess.run(["bash", "-c", command], cwd=place, capture_output=True, check=False)
@@ -79,6 +86,8 @@ def of_page(page: Path, program: str) -> Iterator[tuple[str, str | None]]:
                 due = 1 if command.startswith("tools/require") else 0
                 wrong = f"status {ended.returncode}, {ended.stderr.decode()}" if ended.returncode != due else None
                 yield f"{name}: {command}", wrong or (lost and f"does not print\n{lost}")
+        changed = sorted(path for path, _ in before.items() - times_in(Path(place)).items())
+        yield f"{name}: what was there", f"is written over: {', '.join(changed)}" if changed else None
 
 
 def of_commands(program: str) -> Iterator[tuple[str, str | None]]:

@@ -3,6 +3,7 @@
 import argparse
 import io
 import os
+import signal
 import subprocess
 import sys
 from collections.abc import Callable, Iterator
@@ -11,6 +12,7 @@ from pathlib import Path
 from time import monotonic
 from typing import Any, NoReturn
 
+from .ending import end_children, terminated
 from .judging import read_model
 from .model import Model
 from .reasons import LONG, plain
@@ -122,6 +124,8 @@ class Progress:
 def tool(main: Callable[[], int]) -> None:
     """Runs a tool's `main`, which answers its status; what it can't do is one line on the error stream."""
     name = Path(sys.argv[0]).name
+    if signal.getsignal(signal.SIGTERM) is signal.SIG_DFL:
+        signal.signal(signal.SIGTERM, terminated)
     try:
         status = main()
         if isinstance(sys.stdout, Held) and status != CANNOT:
@@ -131,6 +135,7 @@ def tool(main: Callable[[], int]) -> None:
         print(f"{name}: {plain(str(unable), LONG)}", file=sys.stderr)
         status = CANNOT
     except KeyboardInterrupt:
+        end_children()
         status = INTERRUPTED
     except BrokenPipeError:
         os.dup2(os.open(os.devnull, os.O_WRONLY), sys.stdout.fileno())

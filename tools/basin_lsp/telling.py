@@ -1,7 +1,6 @@
 """What is told of the name under the cursor: what it measures, who sets and who reads it, and what a rule costs."""
 
 from basin_files import formats
-from basin_files.firing import PREDEFINED
 from basin_files.formats import amount
 from basin_rules import trees
 from basin_rules.looks import facts_of

@@ -99,6 +99,11 @@ class Runner:
             if older := self.running.pop(sort, None):
                 older.kill()
 
+    def end(self) -> None:
+        """Ends all runs that are under way."""
+        for sort in list(self.running):
+            self.ended(sort)
+
     def apart(self, sort: str, act: Callable, *words: object) -> object:
         """What a function answers in a process of its own, which a newer one of the sort ends."""
         self.ended(sort)

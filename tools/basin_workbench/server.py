@@ -59,6 +59,8 @@ class Workbench(ThreadingHTTPServer):
             self.serve_forever()
         except KeyboardInterrupt:
             pass
+        finally:
+            self.runner.end()
 
 
 class Handler(BaseHTTPRequestHandler):
