@@ -64,7 +64,7 @@ def words_of() -> argparse.Namespace:
     of_task.add_argument("task", type=int, metavar="I", help="which task it is, from 1 on")
     of_task.add_argument("tasks", type=int, metavar="N", help="how many there are")
     of_run.add_argument(
-        "--workers", type=int, metavar="N", help="how many processes; 0 is none beside this one"
+        "--workers", type=int, metavar="N", help="the number of worker processes; 0 runs in this process alone"
     )
     of_merge.add_argument("percentiles", nargs="*", metavar="PERCENT")
     return words.parse_args()

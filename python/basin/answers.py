@@ -54,7 +54,7 @@ class Answer:
 
 @dataclass
 class Cell:
-    """How a cell came to what it holds (`None` where that isn't known): each put, by a rule or an object."""
+    """The assignments to a cell, by rules and objects, in order; its value is `None` where it is not known."""
 
     history: pd.DataFrame
     value: int | None
@@ -113,7 +113,7 @@ def whole_array(values: Whole) -> pd.arrays.IntegerArray:
 
 
 def answer_of(model: Model, policy: Policy | None, section: Section, form: Numbers, name: str = "") -> Answer:
-    """The run that a section tells."""
+    """Returns the run of a section."""
     columns = section.columns
     table = frame_of(model, columns, numbers(section.rows, range(len(columns))), form)
     answer = Answer(section.number, table, name=name, trace=section.trace, reran=section.reran)
@@ -126,9 +126,9 @@ def answer_of(model: Model, policy: Policy | None, section: Section, form: Numbe
 
 
 def asked_of(model: Model, policy: Policy | None, trace: list[str]) -> pd.DataFrame:
-    """Each put that a trace tells of, in order: who asked for it when, the cell, its fate, and what was held before.
+    """Returns each assignment in an event log, in order: who asked for it and when, the cell, its outcome, and the value before.
 
-    Fates are written, kept, denied, again and late; a put that was late has no time.
+    Outcomes are written, kept, denied, again and late; a late assignment has no time.
     """
     rows: list[tuple[object, ...]] = []
     puts: list[Asked] = []
@@ -185,7 +185,7 @@ def cell_of(model: Model, policy: Policy, text: str, fault: bool) -> Cell:
             name = words[3] if rule is pd.NA else rule_name(names, rule)
             history.append((int(words[1]), words[2], rule, name, int(words[4]), words[5]))
         else:
-            raise Error(f"why wrote a line that this package doesn't know: {words}")
+            raise Error(f"`why` wrote a line that this package does not know: {words}")
     frame = pd.DataFrame(history, columns=["step", "by", "rule", "name", "value", "flag"])
     frame = frame.astype({"step": np.int64, "rule": "Int64", "value": np.int64})
     frame.insert(1, "time", model.index()[frame["step"].to_numpy() - 1])

@@ -65,7 +65,7 @@ class Files:
 
     @property
     def paths(self) -> list[str]:
-        """The paths in the order in which the program wants them."""
+        """Returns the paths in the order in which the program needs them."""
         given = ((self.model, "model.toml"), (self.policy, "policy.rpl"), (self.inputs, "inputs.csv"))
         return [file.at(self.folder, name) for file, name in given if file is not None]
 
@@ -165,7 +165,7 @@ def simulate(
 def _answers(
     files: Files, words: list[str], form: Numbers, errors: Errors, program: PathLike | None
 ) -> list[Answer]:
-    """The runs that the program tells. A fault is raised where it isn't to be kept."""
+    """Returns the runs that the program wrote. Raises a fault unless faults are to be kept."""
     if errors not in ("raise", "keep"):
         raise ValueError(f'errors is "raise" or "keep", and not {errors!r}')
     with process.at_work([*words, *files.paths], program) as running:
@@ -174,7 +174,7 @@ def _answers(
         for answer in answers if "--asked" in words else ():
             answer.asked = asked_of(files.model, files.policy, answer.trace)
     if not answers:
-        raise Error("the program told of no run")
+        raise Error("the program wrote no run")
     for answer in answers:
         if answer.fault and errors == "raise":
             raise answer.fault
@@ -190,7 +190,7 @@ def why(
     *,
     program: PathLike | None = None,
 ) -> Cell:
-    """How a cell came to what it holds. `time` is a timestep's number, or the moment at which it begins."""
+    """Returns the assignments to a cell. `time` is the number of a timestep, or the moment at which it begins."""
     with Files(model, policy, inputs) as files:
         assert files.policy is not None
         step = str(step_number(files.model, time))
@@ -199,7 +199,7 @@ def why(
 
 
 def check(model: ModelGiven, policy: PolicyGiven, *, program: PathLike | None = None) -> pd.DataFrame:
-    """What a firing of each rule comes to at most, by the rule's number, with its name."""
+    """Returns the cost limits of each rule, by its number, with its name."""
     with Files(model, policy, None) as files:
         assert files.policy is not None
         _, text = process.answer(["check", *files.paths], program)
@@ -254,7 +254,7 @@ def _effects(files: Files, program: PathLike | None) -> of_rules.Effects:
 
 
 def _traced(paths: list[str], program: PathLike | None) -> tuple[str, bool]:
-    """A run with its trace, and whether that tells what was asked for: an older program's doesn't."""
+    """Returns a run with its event log, and whether the log has requested assignments; that of an older program has none."""
     try:
         return process.answer(["run", "--trace", "--asked", *paths], program)[1], True
     except Refused as refused:
@@ -266,7 +266,7 @@ def _traced(paths: list[str], program: PathLike | None) -> tuple[str, bool]:
 def balance(
     model: ModelGiven, policy: PolicyGiven, inputs: InputsGiven, *, program: PathLike | None = None
 ) -> Book:
-    """The book of water of each object that stores some: initial, in, out, final."""
+    """Returns the water balance of each object that stores water, in m3: initial, in, out, final."""
     with Files(model, policy, inputs) as files:
         assert files.policy is not None
         _, text = process.answer(["balance", *files.paths], program)
@@ -303,7 +303,7 @@ def mrm(
 
 
 def _summary(model: Model, slots: pd.Index, chapter: bytearray) -> pd.DataFrame:
-    """The summary behind the sections of `mrm`: slot by slot as a table has them, and of each its timesteps."""
+    """Returns the statistics after the sections of `mrm`: slots in the order of a table, and for each its timesteps."""
     values = numbers(table_in(chapter)[1], range(4))
     index = pd.MultiIndex.from_product([slots, model.index()], names=["slot", "time"])
     if len(values) != len(index):

@@ -47,7 +47,7 @@ FAULT_COLUMNS = ("kind", "object", "slot", "rule", "rule_name", "step", "time", 
 
 
 class RefusedTraces(UserWarning):
-    """Some traces are refused, and count in no statistic. `refusals` tells them by name."""
+    """Warns that some traces are refused, which no statistic includes. `refusals` lists them by name."""
 
 
 class Lines:
@@ -77,7 +77,7 @@ def run(
     progress: Progress | None = None,
     program: PathLike | None = None,
 ) -> Plan:
-    """Plans, executes and merges: the folder has all values, and the statistics, behind it."""
+    """Plans, executes and merges: afterwards the folder has all values and the statistics."""
     told = plan(folder, model, policy, inputs, traces, slots=slots, program=program)
     execute(told, client=client, workers=workers, progress=progress)
     merge(told, percentiles)
@@ -116,7 +116,7 @@ def execute(
     if count := sum(part.refused for part in done):
         warnings.warn(RefusedTraces(f"{count} traces are refused: basin.ensemble.refusals(..)"), stacklevel=2)
     if count := sum(part.faults for part in done):
-        words = f"{count} traces ended in a fault, and no statistic counts them: basin.ensemble.faults(..)"
+        words = f"{count} traces ended in a fault, and no statistic includes them: basin.ensemble.faults(..)"
         warnings.warn(FaultedTraces(words), stacklevel=2)
     return done
 
@@ -124,7 +124,7 @@ def execute(
 def _by_workers(
     told: Plan, missing: list[int], client: Client | None, workers: int | None, retries: int
 ) -> Iterator[Outcome]:
-    """Runs parts on workers, and tells each as it ends."""
+    """Runs parts on workers, and yields each as it ends."""
     from distributed import as_completed
 
     with _client(client, workers) as at_work:

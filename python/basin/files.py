@@ -68,18 +68,18 @@ class Model(File):
 
     @cached_property
     def read(self) -> ReadModel:
-        """The model as the scripts beside the program read it."""
+        """Returns the model, as the scripts under tools/ read it."""
         try:
             return read_model(self.content)
         except ValueError as error:
-            raise Error(f"the model is no TOML: {plain(str(error))}") from None
+            raise Error(f"the model is not TOML: {plain(str(error))}") from None
 
     @property
     def timesteps(self) -> Timesteps:
         """The timesteps of the run, numbered from 1."""
         if self.read.timesteps is None:
             finding = self.read.findings[0]
-            raise Error(f"the model can't be read, line {finding.line}: {finding.says}")
+            raise Error(f"the model cannot be read, line {finding.line}: {finding.says}")
         return self.read.timesteps
 
     @property
@@ -108,7 +108,7 @@ class Model(File):
             return pd.date_range(timesteps.start, periods=periods, freq=frequency, name="time")
         except (pd.errors.OutOfBoundsDatetime, OverflowError):
             raise ValueError(
-                f"the run begins in {timesteps.start.year}, and pandas has the dates of 1678 to 2261 alone"
+                f"the run begins in {timesteps.start.year}, but pandas has only the dates of 1678 to 2261"
             ) from None
 
     def ends(self, count: int | None = None) -> pd.DatetimeIndex:

@@ -66,7 +66,7 @@ class LaidOver:
         return None
 
     def under(self, rows: Iterable[Row]) -> str:
-        """The inputs with these rows over them. What the program would refuse of a row stands at the end."""
+        """Returns the inputs with these rows in place of theirs. A row that the program would refuse is at the end."""
         laid: dict[str, dict[int, str]] = {}
         wrong = []
         for row in rows:

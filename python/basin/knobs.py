@@ -114,5 +114,5 @@ def of_percent(model: Model, inputs: InputsGiven, one: Percent) -> Iterator[Knob
 
 
 def percents(slot: str, steps: Whole, given: Whole, value: int) -> Iterator[Row]:
-    """The rows of so many percent of what is given."""
+    """Returns the rows of this percentage of the given values."""
     return folded(slot, steps, given * value // 100)

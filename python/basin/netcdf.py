@@ -1,6 +1,6 @@
-"""NetCDF files by the CF conventions: the axis of time, units, and what stands for an unknown value.
+"""NetCDF files by the CF conventions: the axis of time, units, and the value for an unknown one.
 
-A file is opened within `with` alone: netCDF4 isn't safe where one is closed by the collector of garbage.
+A file is opened only in a `with` statement: netCDF4 is not safe where the garbage collector closes one.
 """
 
 from __future__ import annotations
@@ -62,7 +62,7 @@ def appearing(path: Path) -> Iterator[Any]:
 
 @contextlib.contextmanager
 def opened(path: Path) -> Iterator[Any]:
-    """A file whose whole numbers are read as they stand, with `UNKNOWN` where nothing is known."""
+    """Opens a file whose whole numbers are read as they are, with `UNKNOWN` where nothing is known."""
     with netCDF4.Dataset(path) as data:
         data.set_auto_mask(False)
         yield data
@@ -119,7 +119,7 @@ def add_whole(out: Any, name: str, dimensions: tuple[str, ...], model: Model, sl
 
 
 def describe(cells: Any, model: Model, slot: str) -> None:
-    """Units and methods of a slot's values. What a slot of a data object tells of time isn't known."""
+    """Returns units and cell methods of a slot's values. For a slot of a data object the method is not known."""
     unit = model.unit(slot)
     cells.long_name, cells.basin_unit, cells.units = slot, unit, UNITS.get(unit, unit)
     if model.read.the_object(slot.split(".")[0]).kind != "data":

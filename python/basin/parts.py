@@ -41,7 +41,7 @@ Outcome = tuple[int, "Done | BaseException"]
 
 
 class Values:
-    """What the traces of a part come to."""
+    """The values of the traces of a part."""
 
     def __init__(self, plan: Plan, model: Model, traces: int) -> None:
         self.slots, self.header = plan.slots, ",".join(("step", "stamp", *model.slots)).encode()
@@ -57,7 +57,7 @@ class Values:
     def take(self, trace: int, section: Section) -> None:
         """Takes the section of a trace, by its place."""
         if section.header != self.header:
-            raise Error("the program's columns aren't the slots that this package reads in the model")
+            raise Error("the columns of the program are not the slots that this package reads in the model")
         found = numbers(section.rows, self.picks)
         self.exact_as_float64 &= is_exact(found)
         self.cells[:, trace, : len(found)] = found.T
@@ -86,7 +86,7 @@ def failure(failed: list[tuple[int, BaseException]], tried: int) -> Error:
 
 
 def run_part(folder: str, number: int) -> Done:
-    """Runs a part and writes its values. Where they are there it tells of them: a worker may die behind its writing."""
+    """Runs a part and writes its values. If they are there already it returns them: a worker may die after writing them."""
     begun, used = clock.time(), sum(os.times()[:4])
     plan = Plan.read(folder)
     names = plan.names[number]
@@ -100,7 +100,7 @@ def run_anew(plan: Plan, number: int) -> tuple[int, int]:
     model, names = model_of(plan.folder, plan.digest), plan.names[number]
     values = values_of(plan, model, stored_rows(plan.folder, number, plan.first(number), len(names)))
     if values.lacking:
-        raise Error(f"the program told nothing of {len(values.lacking)} of {len(names)} traces")
+        raise Error(f"the program wrote nothing for {len(values.lacking)} of {len(names)} traces")
     write(plan, model, number, values)
     return sum(map(bool, values.faults)), sum(map(bool, values.refused))
 

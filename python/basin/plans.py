@@ -83,7 +83,7 @@ class Plan:
         return self.folder / f"parts/{number:05}.nc"
 
     def first(self, number: int) -> int:
-        """How many traces stand before those of a part."""
+        """Returns the number of traces before those of a part."""
         return sum(map(len, self.names[:number]))
 
     def missing(self) -> list[int]:
@@ -146,7 +146,7 @@ def chosen_slots(model: Model, slots: Sequence[str] | Literal["all"]) -> list[st
     for slot in chosen:
         model.unit(slot)
     if not chosen:
-        raise ValueError("no slot is to be kept")
+        raise ValueError("slots is empty: name a slot to keep, or give 'all'")
     return chosen
 
 
@@ -176,7 +176,7 @@ def store(
 
 
 def shares(count: int, size: int) -> list[slice]:
-    """So many in as few parts as have that size at most, all of about one size, so that no worker waits for another."""
+    """Splits this number of traces into the fewest parts of at most that size, all about equal, so that no worker waits for another."""
     parts = -(-count // size)
     return [slice(count * k // parts, count * (k + 1) // parts) for k in range(parts)]
 
@@ -186,7 +186,7 @@ def settle(new: Plan, folder: Path) -> None:
     where = plain(str(new.folder), LONG)
     if (new.folder / "plan.json").exists():
         if Plan.read(new.folder).digest != new.digest:
-            raise Stale(f"{where} holds another ensemble: take another folder, or remove it")
+            raise Stale(f"{where} has another ensemble: use another folder, or remove it")
         return
     told = asdict(new)
     del told["folder"]

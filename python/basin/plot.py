@@ -72,7 +72,7 @@ def trace(table: pd.DataFrame, slot: str, ax: Axes | None = None, **line: Any) -
 
 
 def front(points: pd.DataFrame, across: str, up: str, colour: str | None = None, ax: Axes | None = None, **marks: Any) -> Axes:
-    """Points of a study by two of their columns, coloured by a third one where it is told."""
+    """Plots points of a study by two of their columns, coloured by a third one if it is given."""
     drawn = _axes(ax)
     if colour is None:
         drawn.plot(points[across], points[up], "o", **marks)
@@ -85,7 +85,7 @@ def front(points: pd.DataFrame, across: str, up: str, colour: str | None = None,
 
 
 def indices(found: pd.DataFrame, ax: Axes | None = None) -> Axes:
-    """Sobol indices by knob, first and total order beside one another, with their intervals."""
+    """Plots Sobol indices by knob, first and total order next to each other, with their intervals."""
     drawn = _axes(ax)
     places = np.arange(len(found))
     for place, (name, side) in enumerate((("first", -0.2), ("total", 0.2))):

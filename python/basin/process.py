@@ -87,8 +87,8 @@ class Program:
 
 @contextlib.contextmanager
 def at_work(words: Sequence[str], program: PathLike | None = None) -> Iterator[Program]:
-    """The program while it writes to a pipe. Behind it `Refused` where it answered nothing; where its reader breaks
-    off it is ended."""
+    """Runs the program while it writes to a pipe. Raises `Refused` at the end if it wrote nothing; ends the program if its reader
+    stops."""
     path = find_program(program)
     with tempfile.TemporaryFile() as errors:
         try:
@@ -128,7 +128,7 @@ def judge(status: int, errors: bytes) -> None:
 
 
 def has_command(command: str, files: int, program: PathLike | None = None) -> bool:
-    """Whether the program knows a command of so many files, by what it says of empty ones."""
+    """Returns whether the program knows a command with this number of files, by its message for empty ones."""
     try:
         answer([command, *[os.devnull] * files], program)
     except Refused as refused:

@@ -1,4 +1,4 @@
-"""Requirements of a policy, judged by the program beside it: what `tools/require` does, as frames and as tests.
+"""Requirements of a policy, checked by the program in its runs: what `tools/require` does, as frames and as tests.
 
     import basin, pytest
     JUDGED = basin.requirements("model.toml", "policy.rpl", "inputs.csv", "valley.require")
@@ -86,7 +86,7 @@ class Judgement:
 
 
 class Judged(Sequence[Judgement]):
-    """All requirements over all runs, in their order; and what measures come to, by run and name."""
+    """The requirements over all runs, in their order, and the values of measures, by run and name."""
 
     def __init__(self, judgements: list[Judgement], measures: pd.DataFrame, over_runs: dict[str, str]) -> None:
         self.judgements, self.measures, self.over_runs = judgements, measures, over_runs
@@ -155,7 +155,7 @@ def requirements(
 
 
 class Asking:
-    """A policy with its requirements beside it, ready to be run."""
+    """Returns a policy joined with its requirements, ready to be run."""
 
     def __init__(
         self, model: ModelGiven, policy: PolicyGiven, required: RequirementsGiven, program: PathLike | None

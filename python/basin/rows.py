@@ -37,7 +37,7 @@ class Row(NamedTuple):
 
 
 def slot_name(name: Hashable) -> str:
-    """A name that can be a slot's: what else stands in a frame's heading is never written into a row."""
+    """Returns a name that a slot can have. Any other heading of a frame is refused, and never written into a row."""
     if not isinstance(name, str) or not SLOT.fullmatch(name):
         raise ValueError(f"{plain(str(name))} is not a slot: write Object.Slot")
     return name
@@ -52,7 +52,7 @@ def step_number(model: Model, time: Any) -> int:
     except ValueError:
         moment = pd.NaT
     if moment is pd.NaT:
-        raise ValueError(f"{plain(str(time))} is no timestep and no moment")
+        raise ValueError(f"{plain(str(time))} is neither a timestep nor a moment")
     number = None if moment.tz else model.timesteps.beginning_at(moment.to_pydatetime(warn=False))
     if number is None:
         raise ValueError(f"no timestep begins at {moment}")
@@ -74,7 +74,7 @@ def whole(value: Any, where: str) -> int:
         raise ValueError(f"{where}: {value} is beyond 2^53 and not exact as a float: give whole numbers")
     number = int(value)
     if number != value or isinstance(value, (bool, np.bool_)):
-        raise ValueError(f"{where}: {value} isn't a whole number of base units (round it first)")
+        raise ValueError(f"{where}: {value} is not a whole number of base units (round it first)")
     return number
 
 
@@ -144,7 +144,7 @@ def wide_rows(model: Model, frame: pd.DataFrame) -> Iterator[Row]:
 def long_rows(model: Model, frame: pd.DataFrame, word: str) -> Batches:
     """The rows by batch or trace of a frame in the form of the file: its name, slot, step or time, and value."""
     if frame.shape[1] != 4:
-        raise ValueError(f"the frame has to have four columns: {word}, slot, step or time, and value")
+        raise ValueError(f"the frame must have four columns: {word}, slot, step or time, and value")
     found: Batches = {}
     for name, slot, time, value in frame.itertuples(index=False):
         first, last = steps_of(model, time)
@@ -171,6 +171,6 @@ def batches_text(batches: Iterable[list[Row]], word: str) -> str:
     lines = []
     for number, rows in enumerate(batches, 1):
         if not rows:
-            raise ValueError(f"{word} {number} has no value, and a file can't have such a one")
+            raise ValueError(f"{word} {number} has no value, which a file cannot express")
         lines += [f"{number},{row.text}\n" for row in rows]
     return f"{word},slot,step,value\n" + "".join(lines)

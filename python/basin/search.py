@@ -1,8 +1,8 @@
-"""Searches: sweeps, samples, sensitivities, fronts and worst cases, over what a policy or its inputs may be.
+"""Searches: sweeps, samples, sensitivities, fronts and worst cases, over values of a policy or its inputs.
 
-Each point of a search is a trace over the inputs, 64 of which run at once by `mrm` with the requirements beside the policy; of
-each only what measures and requirements come to is kept. A `Study` keeps all points that were run in one file, so that a search
-that was broken off, and is begun again with its seed, goes on where it was.
+Each point of a search is a trace over the inputs. `mrm` runs 64 of them at once, with the policy and its requirements; of
+each only the values of measures and requirements are kept. A `Study` keeps all points that were run in one file, so that a
+search that was interrupted continues if it is started again with its seed.
 """
 
 from __future__ import annotations
@@ -50,7 +50,7 @@ ON_WORKERS = 200  # shares that wait for a client
 
 @dataclass
 class Task:
-    """What a worker needs to run points: the texts, and what is reckoned of each run."""
+    """The texts and measures that a worker needs to run points."""
 
     asking: Asking
     inputs: bytes
@@ -70,7 +70,7 @@ class Task:
 
 
 def run_rows(task: Task, rows: list[list[str]]) -> tuple[Numbers, list[str]]:
-    """What the runs of some points come to, and their faults."""
+    """Returns the values of the runs of some points, and their faults."""
     asking = task.asking
     steps = asking.calendar.steps
     margins = np.full((len(rows), asking.width, steps), UNKNOWN)
@@ -97,10 +97,10 @@ def run_rows(task: Task, rows: list[list[str]]) -> tuple[Numbers, list[str]]:
 
 
 class Study:
-    """Points that are run, and a file that keeps what each came to. `Stale` where the file is of another study.
+    """Runs points, and keeps the values of each in a file. Raises `Stale` if the file belongs to another study.
 
-    `space` has what is varied: ranges by slot, or a list of `Range` and `Percent`. `workers` is how many programs run side by
-    side; `client` is a dask client whose workers run them instead.
+    `space` says what is varied: ranges by slot, or a list of `Range` and `Percent`. `workers` is the number of programs that run
+    at the same time; `client` is a dask client whose workers run them instead.
     """
 
     def __init__(
@@ -132,7 +132,7 @@ class Study:
 
     @cached_property
     def columns(self) -> list[str]:
-        """What is reckoned of each run: measures, and of each requirement its slack, its failures and its verdict."""
+        """The columns of each run: measures, and for each requirement its slack, its failures and its verdict."""
         return names_of(self.asking.beside)
 
     @property
@@ -157,7 +157,7 @@ class Study:
     # ---- running
 
     def at(self, points: npt.ArrayLike) -> pd.DataFrame:
-        """What points come to, a row each: the knobs, the columns, and the fault. Each point is run once."""
+        """Returns a frame with a row for each point: the knobs, the columns, and the fault. Runs each point once."""
         asked = self.whole(points)
         held, faults = self.results(asked)
         return pd.concat([pd.DataFrame(asked, columns=self.names), frame_of(self.asking.beside, held, faults)], axis=1)
@@ -184,7 +184,7 @@ class Study:
         return found
 
     def results(self, points: Points) -> tuple[Numbers, list[str]]:
-        """What points come to, and their faults, in their order."""
+        """Returns the values of points and their faults, in the order of the points."""
         keys = [point.tobytes() for point in points.astype("<i8")]
         known = self.store.known(keys)
         lacking = {key: point for key, point in zip(keys, points) if key not in known}
@@ -256,7 +256,7 @@ class Study:
     # ---- samples
 
     def grid(self, count: int) -> Points:
-        """A grid with so many places in each direction."""
+        """Returns a grid of points with this number of places in each direction."""
         places = [np.unique(np.rint(np.linspace(knob.low, knob.high, count)).astype(np.int64)) for knob in self.knobs]
         return np.stack([axis.ravel() for axis in np.meshgrid(*places, indexing="ij")], axis=1)
 
@@ -271,13 +271,13 @@ class Study:
         return np.stack([axis.ravel() for axis in np.meshgrid(*axes, indexing="ij")], axis=1)
 
     def latin(self, count: int, seed: int) -> Points:
-        """A Latin hypercube of so many points."""
+        """Returns a Latin hypercube of this number of points."""
         from scipy.stats import qmc
 
         return self.placed(qmc.LatinHypercube(len(self.knobs), seed=seed).random(count))
 
     def sobol(self, count: int, seed: int) -> Points:
-        """So many points of a scrambled Sobol sequence, a power of two."""
+        """Returns this number of points, a power of two, of a scrambled Sobol sequence."""
         from scipy.stats import qmc
 
         return self.placed(qmc.Sobol(len(self.knobs), seed=seed).random(count))
@@ -293,7 +293,7 @@ class Study:
         """A column that is to be as small as can be; with a - in front, as great. A run that faults is the worst."""
         sign, name = (-1, of[1:]) if of.startswith("-") else (1, of)
         if name not in self.columns or name.endswith(".verdict"):
-            raise ValueError(f"{name} isn't reckoned here: {', '.join(self.columns)}")
+            raise ValueError(f"the study has no column {name}; it has {', '.join(self.columns)}")
         values = sign * frame[name].to_numpy(np.float64)
         return np.where((frame["fault"] != "") | np.isnan(values), np.inf, values)
 
@@ -370,7 +370,7 @@ class Study:
     def front(self, goals: Sequence[str], runs: int, seed: int, size: int = 64, held: Sequence[str] = ()) -> pd.DataFrame:
         """The points of which no other that was tried is better in all goals: NSGA-II of deap.
 
-        `held` are requirements that have to be held: a point that doesn't hold one is worse than all that do, the more so the
+        `held` are requirements that must be held: a point that does not hold one is worse than all that do, the more so the
         more often it fails.
         """
         size -= size % 4

@@ -39,16 +39,16 @@ def share_of(percent: Percent) -> Fraction:
 
 
 def rank_of(known: Any, percent: Percent) -> Any:
-    """Which of so many known values in order, from 1 on, is the percentile: the least with enough at most it.
+    """Returns the rank, from 1 on, of the percentile among known values in order: the smallest with enough values up to it.
 
-    By whole numbers: 28 of 100 times 25 values is 7 and not a little more.
+    Computed with whole numbers: 28 of 100 times 25 values is exactly 7.
     """
     share = share_of(percent)
     return np.maximum(-(-known * share.numerator // share.denominator), 1)
 
 
 def percentile(ordered: Whole, known: npt.NDArray[np.int64], percent: Percent) -> Whole:
-    """Of columns in order, what isn't known first: the least value that so many percent of the known are at most."""
+    """Returns, of sorted columns with unknown values first, the smallest value that this percentage of the known values do not exceed."""
     if not len(ordered):
         return np.full(len(known), UNKNOWN)
     place = np.clip(len(ordered) - known + rank_of(known, percent) - 1, 0, len(ordered) - 1)

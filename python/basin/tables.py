@@ -55,7 +55,7 @@ class Section:
         return self.header.decode().split(",")[BESIDE_CELLS:]
 
     def take(self, chapter: bytearray) -> None:
-        """Takes one of its chapters: the table stands behind its own heading, or behind that of what was run again."""
+        """Reads one of its chapters: the table is after its own heading, or after that of the timesteps that were rerun."""
         begin = chapter.index(b"\n") + 1
         heading = bytes(chapter[:begin])
         if heading == b"# flags\n":
@@ -77,9 +77,9 @@ def table_in(chapter: bytearray) -> tuple[bytes, Text]:
 
 
 def chapters(stream: Readable, last: bytes = b"") -> Iterator[bytearray]:
-    """What stands from a line that begins with # up to the next one, of which one alone is held.
+    """Yields the text from each line that begins with # up to the next one, and holds only one at a time.
 
-    A row that begins with `last` ends its chapter, too, so that nothing behind it is waited for.
+    A row that begins with `last` also ends its chapter, so that the reader does not wait for more.
     """
     held = bytearray(ROOM)
     begin = end = 0
@@ -98,7 +98,7 @@ def chapters(stream: Readable, last: bytes = b"") -> Iterator[bytearray]:
 
 
 def read_behind(held: bytearray, end: int, stream: Readable) -> int:
-    """Reads behind what is held already."""
+    """Reads more, after the text that is held already."""
     with memoryview(held) as room, room[end:] as behind:
         return stream.readinto(behind) or 0
 
@@ -137,9 +137,9 @@ def sections(told: Iterable[bytearray]) -> Iterator[Section]:
 
 
 def numbers(rows: Text, picks: Sequence[int]) -> Whole:
-    """The values of the picked columns of rows, by timestep and column; `UNKNOWN` where nothing stands.
+    """Returns the values of the picked columns of rows, by timestep and column; `UNKNOWN` where a cell is empty.
 
-    Of each row only the front is gone through, up to the last of these columns: about as far as in the first row.
+    Of each row only the beginning is read, up to the last of these columns: about as far as in the first row.
     """
     if len(rows) and rows[-1] != LINE_FEED:
         raise ValueError("the last row is cut")
@@ -164,8 +164,8 @@ def numbers(rows: Text, picks: Sequence[int]) -> Whole:
 def cells_of(
     rows: Text, begins: Places, ends: Places, width: int, wanted: Places
 ) -> tuple[Text, Places, Places] | None:
-    """A text, and where in it the wanted cells begin and end, by column and row: of each row the front, of so many
-    bytes. `None` where one is too short."""
+    """Returns a text, and where the cells begin and end in it, by column and row: of each row the beginning, of this number of
+    bytes. `None` if one is too short."""
     starts = np.minimum(begins, len(rows) - width)
     windows: Text = np.ndarray((len(rows) - width + 1, width), np.uint8, rows, strides=(1, 1))  # one from each byte on
     fronts = windows[starts]
@@ -182,7 +182,7 @@ def cells_of(
 
 
 def whole_numbers(text: Text, begins: Places, ends: Places) -> Whole:
-    """The numbers that stand between places of a text, `UNKNOWN` where nothing does."""
+    """Returns the numbers between places of a text, `UNKNOWN` where there is none."""
     minus = text[begins] == MINUS
     size = ends - begins - minus
     padded = np.concatenate([np.zeros(AT_ONCE, np.uint8), text])
@@ -197,7 +197,7 @@ def whole_numbers(text: Text, begins: Places, ends: Places) -> Whole:
 
 
 def last_digits(words: Words, size: Places) -> Whole:
-    """The numbers that the last bytes of words spell, so many of them, or all where a number is longer.
+    """Returns the numbers that the last bytes of words spell: this number of bytes, or all where a number is longer.
 
     All digits of a word at once: each pair of neighbours becomes one number, which becomes one of the next pair.
     """

@@ -146,12 +146,12 @@ def series_of(model: Model, data: xarray.Dataset) -> Series:
 
 
 def rows_path(folder: Path, number: int) -> Path:
-    """Where the rows of a part stand."""
+    """Returns where the rows of a part are."""
     return folder / f"traces/{number:05}.csv"
 
 
 def stored_rows(folder: Path, number: int, first: int, count: int) -> list[list[Row]]:
-    """The rows of each trace of a part, of which `first` traces stand before."""
+    """Returns the rows of each trace of a part, after the `first` traces before it."""
     if (folder / SERIES).exists():
         return series_rows(folder / SERIES, slice(first, first + count))
     found: list[list[Row]] = [[] for _ in range(count)]

@@ -341,7 +341,7 @@ def test_faults_and_refusals_by_name(tmp_path: Path, way: str) -> None:
         "twice": {"reason": "twice", "row": "Below.GageInflow,3,1"},
     }
     ensemble.merge(told, [50])
-    with pytest.warns(ensemble.FaultedTraces, match="^1 of 7 traces ended in a fault, and no statistic counts them: dry$"):
+    with pytest.warns(ensemble.FaultedTraces, match="^1 of 7 traces ended in a fault, and no statistic includes them: dry$"):
         found = ensemble.statistics(told)
     assert [found.attrs[word] for word in ("traces", "settled", "faulted", "refused")] == [8 - 1, 2, 1, 4]
     assert list(found["faulted"].values) == ["dry"] and sorted(found["refused"].values) == ["below", "late", "other", "twice"]

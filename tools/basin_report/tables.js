@@ -11,7 +11,7 @@ const tableOf = (name, headings, rows, left = 1) => {
 };
 const tellEffects = (run) => {
   const { headings, rows, lines } = D.runs[run].effects, box = element("effects");
-  const words = "In how many timesteps what a rule's last firing wanted of a slot came to what. docs/GUIDE.md says what each heading means.";
+  const words = "The number of timesteps with each outcome of a rule's last firing for a slot. docs/GUIDE.md says what each heading means.";
   box.replaceChildren(make("p", { className: "note" }, words));
   box.append(tableOf("What each rule did", headings, rows.map((row) => row.map((cell, at) => (at < 2 ? cell : grouped(cell)))), 2));
   if (lines.length) box.append(make("ul", {}, ...lines.map((line) => make("li", {}, line))));

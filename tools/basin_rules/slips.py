@@ -322,7 +322,7 @@ def missing_semicolon(stop: Stop) -> str:
     is_word = here and here.is_mark("IF", "WITH", "ELSE", "RULE", "FUNCTION", *ENDS.values())
     if here and not is_statement and not is_word and stop.line(here.span) == stop.line(before.span):
         return ""
-    return f"a `;` behind `{stop.source.words(before.span, 30)}` in line {stop.line(before.span)}"
+    return f"a `;` after `{stop.source.words(before.span, 30)}` in line {stop.line(before.span)}"
 
 
 def expressions(stop: Stop) -> str:

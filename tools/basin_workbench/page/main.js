@@ -531,7 +531,7 @@ const did = async () => {
     const { headings, rows, lines } = await ask("effects", { texts: seen.good.texts }, "effects");
     const list = rows.map((row) => make("li", {}, make("strong", {}, row[0]), " sets ", buttonOf(row[1], () => choose(row[1].split(".")[0]), "plain"), ": ",
       headings.map((name, at) => (at > 1 && Number(row[at]) ? `${name} ${grouped(row[at])}` : "")).filter((one) => one).join(", ") || "never"));
-    box.replaceChildren(make("p", { className: "note" }, "In how many timesteps what a rule's last firing wanted of a slot came to what."),
+    box.replaceChildren(make("p", { className: "note" }, "The number of timesteps with each outcome of a rule's last firing for a slot."),
       make("ul", { className: "told" }, ...list),
       ...(lines.length ? [make("h3", {}, "Worth a look"), make("ul", { className: "told" }, ...lines.map((line) => make("li", {}, line)))] : []));
   } catch (error) { failed(error); }
