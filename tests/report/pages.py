@@ -372,7 +372,7 @@ def of_denials(folder: Path) -> Iterator[Outcome]:
         shown = browser.text("#why h2")
         yield "denials: a timestep that is no whole number", None if shown == "Why Lower.Outflow is 50 m3/step" else shown
         found = browser.text("#effects")
-        yield "denials: effects", None if "so what it put later was denied, in 3 timesteps" in found else found
+        yield "denials: effects", None if "so its later values were denied, in 3 timesteps" in found else found
 
 
 def of_hostile(folder: Path) -> Iterator[Outcome]:

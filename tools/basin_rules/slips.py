@@ -333,7 +333,7 @@ def expressions(stop: Stop) -> str:
     if here.is_mark(*OPERATORS[COMPARISON]) and not stop.wants(EXPRESSION):
         return "`a < b AND b < c`: comparisons do not chain"
     if here.is_mark("}") and stop.is_mark(1, "{"):
-        return "a list with at least one item: there is no empty list"
+        return "a list that has an item: there is no empty list"
     if here.is_mark("/", "*") and stop.is_mark(1, "/"):
         return "`#`, which begins a comment"
     if here.is_mark("NOT") and stop.wants(EXPRESSION):
