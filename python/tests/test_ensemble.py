@@ -98,7 +98,7 @@ def test_a_program_is_left_where_all_traces_are_told(tmp_path: Path, last: str) 
 @pytest.mark.parametrize(
     "cut, ending, why",
     [
-        (0, "exit 0", "told nothing of 1 of 3 traces"),
+        (0, "exit 0", "wrote nothing for 1 of 3 traces"),
         (0, "kill -9 $$", "ended by signal 9"),
         (5, "kill -9 $$", "ended by signal 9"),  # within a row, of which nobody sees the half
         (0, "echo basin: want of memory >&2; exit 5", "want of memory"),
