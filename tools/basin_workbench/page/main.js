@@ -33,7 +33,7 @@ const buttonOf = (text, act, look = "") => {
   return button;
 };
 const gone = () => banner("gone", [
-  make("p", {}, "The workbench's server has ended. What you changed is still in this page, and all but the very last change in its draft: start tools/workbench again and take the draft up, or keep your texts as files."),
+  make("p", {}, "The workbench's server has ended. Your changes are still in this page, and all but the last one in its draft: start tools/workbench again and open the draft, or keep your texts as files."),
   ...dirty().map((part) => buttonOf(`Keep ${work.files[part].name}`, () => download(part))),
 ], true);
 const download = (part) => {
