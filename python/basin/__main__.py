@@ -44,7 +44,7 @@ def merge(words: argparse.Namespace) -> None:
 
 
 def plan_of(folder: str) -> Plan:
-    """The plan of a folder."""
+    """Returns the plan of a folder."""
     try:
         return Plan.read(folder)
     except Error as error:
@@ -52,7 +52,7 @@ def plan_of(folder: str) -> Plan:
 
 
 def words_of() -> argparse.Namespace:
-    """The words."""
+    """Returns the arguments."""
     words = argparse.ArgumentParser(prog="python3 -m basin", description=__doc__, epilog=EXAMPLE)
     jobs = words.add_subparsers(required=True, metavar="JOB")
     of_task = jobs.add_parser("task", help="one task of Slurm's array")
@@ -71,7 +71,7 @@ def words_of() -> argparse.Namespace:
 
 
 def main() -> int:
-    """Does what the words say; what can't be done is one line, with status 2."""
+    """Does what the words say; what cannot be done is one line, with status 2."""
     words = words_of()
     # When `timeout` or Slurm asks this process to end, it ends the program that it runs, and leaves no file.
     signal.signal(signal.SIGTERM, lambda *_: sys.exit(TERMINATED))

@@ -39,7 +39,7 @@ class Answer:
 
     @property
     def units(self) -> dict[str, str]:
-        """The base unit of each slot."""
+        """Returns the base unit of each slot."""
         return dict(self.table.attrs["units"])
 
     def __repr__(self) -> str:
@@ -88,12 +88,12 @@ class Traces:
 
     @property
     def faulted(self) -> list[str]:
-        """The names of the traces that ended in a fault, of which the summary counts nothing."""
+        """Returns the names of the traces that ended in a fault, which the statistics leave out."""
         return [answer.name for answer in self.answers if answer.fault]
 
 
 def frame_of(model: Model, columns: list[str], values: Whole, form: Numbers) -> pd.DataFrame:
-    """A table of values by timestep and slot."""
+    """Returns a table of values by timestep and slot."""
     index = model.index(len(values))
     if form == "float":
         frame = pd.DataFrame(as_floats(values), index=index, columns=columns)
@@ -158,19 +158,19 @@ def asked_of(model: Model, policy: Policy | None, trace: list[str]) -> pd.DataFr
 
 
 def fault_of(model: Model, names: Sequence[str], words: str, answer: Answer | None = None) -> Fault:
-    """The fault that these words say, with the moment of its timestep and the name of its rule."""
+    """Returns the fault that these words say, with the moment of its timestep and the name of its rule."""
     fault = Fault(words)
     time = model.index()[fault.step - 1] if fault.step else None
     return Fault(words, time, rule_name(names, fault.rule or 0), answer)
 
 
 def rule_name(names: Sequence[str], number: int) -> str:
-    """The name of a rule by its number, or "" where it has none, as in code, or where there is no rule: 0."""
+    """Returns the name of a rule by its number, or "" where it has none, as in code, or where there is no rule: 0."""
     return names[number - 1] if 1 <= number <= len(names) else ""
 
 
 def cell_of(model: Model, policy: Policy, text: str, fault: bool) -> Cell:
-    """The cell that the lines of `why` tell."""
+    """Returns the cell in the lines of `why`."""
     names = policy.rule_names(model)
     history: list[tuple[object, ...]] = []
     given = False
@@ -193,7 +193,7 @@ def cell_of(model: Model, policy: Policy, text: str, fault: bool) -> Cell:
 
 
 def book_of(model: Model, policy: Policy, lines: list[str]) -> Book:
-    """The book that the lines of `balance` tell. Sums are Python's whole numbers: they may pass 64 bits."""
+    """Returns the water balance in the lines of `balance`, in m3. Sums are Python's whole numbers: they may pass 64 bits."""
     ending = lines[0].split(" ", 3)[3]
     rows = [line.split() for line in lines[1:]]
     columns = ("initial", "in", "out", "final")

@@ -60,7 +60,7 @@ class Files:
 
     @property
     def folder(self) -> Path:
-        """Where files are made."""
+        """Returns where files are made."""
         return Path(self.made.name)
 
     @property
@@ -70,7 +70,7 @@ class Files:
         return [file.at(self.folder, name) for file, name in given if file is not None]
 
     def batches(self, given: Any, word: str) -> tuple[str, list[str]]:
-        """The path of edits or traces, and their names where they are made of frames."""
+        """Returns the path of edits or traces, and their names where they are made of frames."""
         if isinstance(given, (str, os.PathLike)):
             return str(Path(given).absolute()), []
         named = batches_of(self.model, given, word)
@@ -129,7 +129,7 @@ def run(
     errors: Errors = "raise",
     program: PathLike | None = None,
 ) -> Answer | list[Answer]:
-    """A run as an `Answer`. With `edits` a list of them: the run from the inputs, and one after each batch.
+    """Returns a run as an `Answer`. With `edits` a list of them: the run from the inputs, and one after each batch.
 
     `edits` is a path, a frame (batch, slot, step or time, value; a missing value takes away), or frames with
     slots by columns. `asked` wants `trace`, and goes without `reuse`. `Fault` where a run ends in one; with `errors="keep"` it is kept in its answer.
@@ -155,7 +155,7 @@ def simulate(
     errors: Errors = "raise",
     program: PathLike | None = None,
 ) -> Answer:
-    """A run without rules. `order` says which of several objects that wait is dispatched first."""
+    """Returns a run without rules. `order` says which of several objects that wait is dispatched first."""
     asked_for = {"--flags": flags, "--trace": trace, "--asked": asked, f"--order={order}": order is not None}
     words = ["simulate", *(word for word, wanted in asked_for.items() if wanted)]
     with Files(model, None, inputs) as files:

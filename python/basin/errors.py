@@ -42,7 +42,7 @@ class FaultedTraces(UserWarning):
 
 
 class NoProgram(Error):
-    """There is no program to run, or it can't be run."""
+    """There is no program to run, or it cannot be run."""
 
 
 class Stale(Error):
@@ -110,7 +110,7 @@ def left_out(faulted: list[str], traces: int) -> FaultedTraces:
 
 
 def _number(found: dict[str, str | None], name: str) -> int | None:
-    """A number of a refusal's line, where the line has it."""
+    """Returns a number of a refusal's line, where the line has it."""
     number = found.get(name)
     return int(number) if number else None
 

@@ -91,14 +91,14 @@ class Axis:
 
 @lru_cache(maxsize=1)
 def axis_of(model: Model) -> Axis:
-    """The axis of a model's run, which is made once for all parts."""
+    """Returns the axis of a model's run, which is made once for all parts."""
     index = model.index()
     bounds = np.stack([hours(moments, index[0]) for moments in (index, model.ends())], axis=1)
     return Axis(f"hours since {index[0]:%Y-%m-%d %H:%M}", bounds)
 
 
 def hours(moments: pd.DatetimeIndex, start: pd.Timestamp) -> Whole:
-    """How many hours after the start moments are."""
+    """Returns how many hours after the start moments are."""
     return np.asarray((moments - start) // pd.Timedelta("1h"), dtype=np.int64)
 
 
@@ -111,7 +111,7 @@ def add_texts(out: Any, name: str, texts: Iterable[str], long_name: str = "") ->
 
 
 def add_whole(out: Any, name: str, dimensions: tuple[str, ...], model: Model, slot: str) -> Any:
-    """A variable of whole numbers in a slot's base unit, with CF's words for it."""
+    """Returns a variable of whole numbers in a slot's base unit, with CF's words for it."""
     cells = out.createVariable(name, "i8", dimensions, fill_value=UNKNOWN)
     cells.set_auto_mask(False)
     describe(cells, model, slot)

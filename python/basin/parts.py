@@ -65,7 +65,7 @@ class Values:
         self.lacking.discard(trace)
 
     def refuse(self, trace: int, why: str) -> None:
-        """Keeps why a trace isn't run."""
+        """Keeps why a trace is not run."""
         self.refused[trace] = why
         self.lacking.discard(trace)
 
@@ -80,7 +80,7 @@ def outcomes(folder: Path, numbers: Iterable[int]) -> Iterator[Outcome]:
 
 
 def failure(failed: list[tuple[int, BaseException]], tried: int) -> Error:
-    """What is said where parts failed."""
+    """Returns what is said where parts failed."""
     number, error = failed[0]
     return Error(f"{len(failed)} of {tried} parts failed; part {number}: {error}")
 
@@ -106,13 +106,13 @@ def run_anew(plan: Plan, number: int) -> tuple[int, int]:
 
 
 def kept(plan: Plan, number: int) -> tuple[int, int]:
-    """The same of a part that is there."""
+    """Returns the outcome of a part that is there."""
     with opened(plan.part(number)) as part:
         return sum(map(bool, part["fault"][:])), sum(map(bool, part["refused"][:]))
 
 
 def values_of(plan: Plan, model: Model, rows: list[list[Row]]) -> Values:
-    """The values of traces: at once where the program can and the rows are few enough, or else one by one.
+    """Returns the values of traces: at once where the program can and the rows are few enough, or else one by one.
 
     `mrm` refuses all traces for a row of one of them, so that then, too, they are run one by one.
     """
@@ -144,13 +144,13 @@ def at_once(plan: Plan, model: Model, rows: list[list[Row]]) -> Values:
 
 @lru_cache(maxsize=1)
 def model_of(folder: Path, _digest: str) -> Model:
-    """The model of a plan, which a worker reads once for all its parts."""
+    """Returns the model of a plan, which a worker reads once for all its parts."""
     return Model(folder / NAMES[0])
 
 
 @lru_cache(maxsize=1)
 def inputs_of(folder: Path, digest: str) -> LaidOver:
-    """The inputs of a plan, likewise."""
+    """Returns the inputs of a plan, which a worker reads once for all its parts."""
     return LaidOver(model_of(folder, digest), Inputs(folder / NAMES[2]))
 
 

@@ -30,7 +30,7 @@ HOW = (
 
 
 def find_program(path: PathLike | None = None) -> str:
-    """The program's path: the one that is named, that of BASIN, that of the checkout, or that of the PATH."""
+    """Returns the program's path: the one that is named, that of BASIN, that of the checkout, or that of the PATH."""
     named = path or os.environ.get("BASIN")
     if named:
         if os.path.isdir(named) or not os.access(named, os.X_OK):
@@ -62,14 +62,14 @@ class Program:
             fcntl.fcntl(self.output, fcntl.F_SETPIPE_SZ, PIPE)
 
     def readinto(self, room: memoryview, /) -> int:
-        """How many bytes were read, 0 at the end: of a program that answered nothing, or died, nobody sees that."""
+        """Returns how many bytes were read, 0 at the end: of a program that answered nothing, or died, nobody sees that."""
         count = self.output.readinto(room)  # type: ignore[attr-defined]
         if not count:
             self.judge()
         return int(count)
 
     def read(self) -> bytes:
-        """All that it writes."""
+        """Returns all that it writes."""
         return self.output.read()
 
     def leave(self) -> None:
@@ -78,7 +78,7 @@ class Program:
         self.process.kill()
 
     def judge(self) -> None:
-        """Waits for its end. `Refused` where it answered nothing, unless it was left."""
+        """Waits for its end. Raises `Refused` where it answered nothing, unless it was left."""
         status = self.process.wait()
         if not self.is_left:
             self.errors.seek(0)
@@ -113,7 +113,7 @@ def at_work(words: Sequence[str], program: PathLike | None = None) -> Iterator[P
 
 
 def answer(words: Sequence[str], program: PathLike | None = None) -> tuple[int, str]:
-    """The status, 0 or 1, and the text that was written. `Refused` with any other status."""
+    """Returns the status, 0 or 1, and the text that was written. Raises `Refused` with any other status."""
     with at_work(words, program) as running:
         text = running.read()
     return running.process.returncode, text.decode()

@@ -26,7 +26,7 @@ AT_ONCE = 1 << 22  # values of windows that are held
 
 
 def slack_of(one: Requirement, margins: Whole, calendar: Calendar, unknown: float) -> Slack:
-    """The slack of each run, of margins by run and timestep. What isn't known counts as `unknown`: inf or -inf."""
+    """Returns the slack of each run, of margins by run and timestep. What is not known counts as `unknown`: inf or -inf."""
     values = margins.astype(np.float64)
     values[margins == UNKNOWN] = unknown
     asked = margins != NOT_ASKED
@@ -44,7 +44,7 @@ def slack_of(one: Requirement, margins: Whole, calendar: Calendar, unknown: floa
 
 
 def of_share(clause: Share, values: Slack, asked: npt.NDArray[np.bool_]) -> Slack:
-    """The least margin that has to be at least 0, so that the share is reached."""
+    """Returns the smallest margin that must be at least 0 for the share to be reached."""
     count = asked.sum(axis=1)
     percent = clause.percent
     wanted = -(-count * percent.numerator // (100 * percent.denominator))  # rounded up

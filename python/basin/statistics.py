@@ -31,7 +31,7 @@ class Block:
 
 
 def share_of(percent: Percent) -> Fraction:
-    """A percentage as a part of 1, exactly as it is written."""
+    """Returns a percentage as a part of 1, exactly as it is written."""
     share = Fraction(str(percent)) / 100
     if not 0 <= share <= 1:
         raise ValueError(f"a percentile is from 0 to 100, and not {percent}")
@@ -124,7 +124,7 @@ def blocks(slots: list[str], steps: int, traces: int, room: int) -> Iterator[Blo
 
 
 def values_in(plan: Plan, block: Block, settled: list[npt.NDArray[np.bool_]], count: int) -> Whole:
-    """The values of a block by slot, settled trace and timestep. Each part is opened, read and closed again."""
+    """Returns the values of a block by slot, settled trace and timestep. Each part is opened, read and closed again."""
     held = np.empty((len(block.slots), count, block.steps.stop - block.steps.start), np.int64)
     before = 0
     for (_, path), some in zip(each_part(plan), settled):

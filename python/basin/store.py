@@ -31,7 +31,7 @@ class Store:
             raise Stale(f"{path} has another study: use another file, or remove it")
 
     def known(self, keys: list[bytes]) -> dict[bytes, tuple[Numbers, str]]:
-        """What is kept of these points."""
+        """Returns what is kept of these points."""
         found: dict[bytes, tuple[Numbers, str]] = {}
         for begin in range(0, len(keys), FEW):
             some = keys[begin : begin + FEW]

@@ -51,7 +51,7 @@ class Section:
 
     @property
     def columns(self) -> list[str]:
-        """The slots of the table."""
+        """Returns the slots of the table."""
         return self.header.decode().split(",")[BESIDE_CELLS:]
 
     def take(self, chapter: bytearray) -> None:
@@ -70,7 +70,7 @@ class Section:
 
 
 def table_in(chapter: bytearray) -> tuple[bytes, Text]:
-    """The header and the rows of a chapter's table."""
+    """Returns the header and the rows of a chapter's table."""
     begin = chapter.index(b"\n") + 1
     end = chapter.index(b"\n", begin)
     return bytes(chapter[begin:end]), np.frombuffer(chapter, np.uint8)[end + 1 :]
@@ -104,7 +104,7 @@ def read_behind(held: bytearray, end: int, stream: Readable) -> int:
 
 
 def end_of_chapter(held: bytearray, begin: int, seen: int, end: int, last: bytes) -> int:
-    """Where the chapter ends that begins there, or 0; so far it was seen before. No line has a # but in front."""
+    """Returns where the chapter ends that begins there, or 0; so far it was seen before. No line has a # but in front."""
     stop = held.find(b"#", max(begin + 1, seen), end)
     if stop > 0:
         return stop
@@ -113,7 +113,7 @@ def end_of_chapter(held: bytearray, begin: int, seen: int, end: int, last: bytes
 
 
 def section_of(chapter: bytearray) -> Section | None:
-    """The section that a chapter begins, or `None` where it begins none."""
+    """Returns the section that a chapter begins, or `None` where it begins none."""
     found = HEADING.match(chapter)
     if not found:
         return None
@@ -123,7 +123,7 @@ def section_of(chapter: bytearray) -> Section | None:
 
 
 def sections(told: Iterable[bytearray]) -> Iterator[Section]:
-    """The sections that chapters make, of which one alone is held."""
+    """Yields the sections that chapters make, of which one alone is held."""
     now: Section | None = None
     for chapter in told:
         if begun := section_of(chapter):
@@ -208,7 +208,7 @@ def last_digits(words: Words, size: Places) -> Whole:
 
 
 def as_floats(values: Whole) -> npt.NDArray[np.float64]:
-    """float64 with NaN for what isn't known. `OverflowError` where a value wouldn't be exact."""
+    """float64 with NaN for what is not known. Raises `OverflowError` where a value would not be exact."""
     if not is_exact(values):
         raise OverflowError('a value beyond 2^53 isn\'t exact as float64: ask for numbers="Int64"')
     floats = values.astype(np.float64)
@@ -217,5 +217,5 @@ def as_floats(values: Whole) -> npt.NDArray[np.float64]:
 
 
 def is_exact(values: Whole) -> bool:
-    """Whether float64 has each known value. `UNKNOWN` is its own absolute value, and below all."""
+    """Returns whether float64 has each known value. `UNKNOWN` is its own absolute value, and below all."""
     return bool((np.abs(values) <= EXACT).all())

@@ -117,7 +117,7 @@ def test_a_program_that_tells_too_little(tmp_path: Path, cut: int, ending: str, 
 def test_a_program_with_other_columns(tmp_path: Path) -> None:
     text = written((1, "settled")).replace("Dam.Inflow,Dam.Outflow", "Dam.Outflow,Dam.Inflow")
     told = planned(tmp_path / "a", inflows(1), way="mrm", program=telling(tmp_path, text, "exit 0"))
-    with pytest.raises(basin.Error, match="columns aren't the slots"):
+    with pytest.raises(basin.Error, match="columns of the program are not the slots"):
         ensemble.execute(told, workers=0)
 
 
