@@ -1,6 +1,6 @@
 """Tables of `basin` as data frames, and ensembles of many traces.
 
-Nothing is reckoned here that the program answers: each call runs the program and reads what it writes.
+Each call runs the program and reads what it writes; the package repeats none of its computations.
 """
 
 from . import beside  # noqa: F401, I001: the others find their modules by it

@@ -44,7 +44,7 @@ def merge(words: argparse.Namespace) -> None:
 
 
 def plan_of(folder: str) -> Plan:
-    """The plan of a folder."""
+    """Returns the plan of a folder."""
     try:
         return Plan.read(folder)
     except Error as error:
@@ -52,7 +52,7 @@ def plan_of(folder: str) -> Plan:
 
 
 def words_of() -> argparse.Namespace:
-    """The words."""
+    """Returns the arguments."""
     words = argparse.ArgumentParser(prog="python3 -m basin", description=__doc__, epilog=EXAMPLE)
     jobs = words.add_subparsers(required=True, metavar="JOB")
     of_task = jobs.add_parser("task", help="one task of Slurm's array")
@@ -64,14 +64,14 @@ def words_of() -> argparse.Namespace:
     of_task.add_argument("task", type=int, metavar="I", help="which task it is, from 1 on")
     of_task.add_argument("tasks", type=int, metavar="N", help="how many there are")
     of_run.add_argument(
-        "--workers", type=int, metavar="N", help="how many processes; 0 is none beside this one"
+        "--workers", type=int, metavar="N", help="the number of worker processes; 0 runs in this process alone"
     )
     of_merge.add_argument("percentiles", nargs="*", metavar="PERCENT")
     return words.parse_args()
 
 
 def main() -> int:
-    """Does what the words say; what can't be done is one line, with status 2."""
+    """Does what the words say; what cannot be done is one line, with status 2."""
     words = words_of()
     try:
         with ended_in_order():  # when `timeout` or Slurm asks for it

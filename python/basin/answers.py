@@ -39,7 +39,7 @@ class Answer:
 
     @property
     def units(self) -> dict[str, str]:
-        """The base unit of each slot."""
+        """Returns the base unit of each slot."""
         return dict(self.table.attrs["units"])
 
     def __repr__(self) -> str:
@@ -54,7 +54,7 @@ class Answer:
 
 @dataclass
 class Cell:
-    """How a cell came to what it holds (`None` where that isn't known): each put, by a rule or an object."""
+    """The assignments to a cell, by rules and objects, in order; its value is `None` where it is not known."""
 
     history: pd.DataFrame
     value: int | None
@@ -88,12 +88,12 @@ class Traces:
 
     @property
     def faulted(self) -> list[str]:
-        """The names of the traces that ended in a fault, of which the summary counts nothing."""
+        """Returns the names of the traces that ended in a fault, which the statistics leave out."""
         return [answer.name for answer in self.answers if answer.fault]
 
 
 def frame_of(model: Model, columns: list[str], values: Whole, form: Numbers) -> pd.DataFrame:
-    """A table of values by timestep and slot."""
+    """Returns a table of values by timestep and slot."""
     index = model.index(len(values))
     if form == "float":
         frame = pd.DataFrame(as_floats(values), index=index, columns=columns)
@@ -113,7 +113,7 @@ def whole_array(values: Whole) -> pd.arrays.IntegerArray:
 
 
 def answer_of(model: Model, policy: Policy | None, section: Section, form: Numbers, name: str = "") -> Answer:
-    """The run that a section tells."""
+    """Returns the run of a section."""
     columns = section.columns
     table = frame_of(model, columns, numbers(section.rows, range(len(columns))), form)
     answer = Answer(section.number, table, name=name, trace=section.trace, reran=section.reran)
@@ -126,9 +126,9 @@ def answer_of(model: Model, policy: Policy | None, section: Section, form: Numbe
 
 
 def asked_of(model: Model, policy: Policy | None, trace: list[str]) -> pd.DataFrame:
-    """Each put that a trace tells of, in order: who asked for it when, the cell, its fate, and what was held before.
+    """Returns each assignment in an event log, in order: who asked for it and when, the cell, its outcome, and the value before.
 
-    Fates are written, kept, denied, again and late; a put that was late has no time.
+    Outcomes are written, kept, denied, again and late; a late assignment has no time.
     """
     rows: list[tuple[object, ...]] = []
     puts: list[Asked] = []
@@ -158,19 +158,19 @@ def asked_of(model: Model, policy: Policy | None, trace: list[str]) -> pd.DataFr
 
 
 def fault_of(model: Model, names: Sequence[str], words: str, answer: Answer | None = None) -> Fault:
-    """The fault that these words say, with the moment of its timestep and the name of its rule."""
+    """Returns the fault that these words say, with the moment of its timestep and the name of its rule."""
     fault = Fault(words)
     time = model.index()[fault.step - 1] if fault.step else None
     return Fault(words, time, rule_name(names, fault.rule or 0), answer)
 
 
 def rule_name(names: Sequence[str], number: int) -> str:
-    """The name of a rule by its number, or "" where it has none, as in code, or where there is no rule: 0."""
+    """Returns the name of a rule by its number, or "" where it has none, as in code, or where there is no rule: 0."""
     return names[number - 1] if 1 <= number <= len(names) else ""
 
 
 def cell_of(model: Model, policy: Policy, text: str, fault: bool) -> Cell:
-    """The cell that the lines of `why` tell."""
+    """Returns the cell in the lines of `why`."""
     names = policy.rule_names(model)
     history: list[tuple[object, ...]] = []
     given = False
@@ -185,7 +185,7 @@ def cell_of(model: Model, policy: Policy, text: str, fault: bool) -> Cell:
             name = words[3] if rule is pd.NA else rule_name(names, rule)
             history.append((int(words[1]), words[2], rule, name, int(words[4]), words[5]))
         else:
-            raise Error(f"why wrote a line that this package doesn't know: {words}")
+            raise Error(f"`why` wrote a line that this package does not know: {words}")
     frame = pd.DataFrame(history, columns=["step", "by", "rule", "name", "value", "flag"])
     frame = frame.astype({"step": np.int64, "rule": "Int64", "value": np.int64})
     frame.insert(1, "time", model.index()[frame["step"].to_numpy() - 1])
@@ -193,7 +193,7 @@ def cell_of(model: Model, policy: Policy, text: str, fault: bool) -> Cell:
 
 
 def book_of(model: Model, policy: Policy, lines: list[str]) -> Book:
-    """The book that the lines of `balance` tell. Sums are Python's whole numbers: they may pass 64 bits."""
+    """Returns the water balance in the lines of `balance`, in m3. Sums are Python's whole numbers: they may pass 64 bits."""
     ending = lines[0].split(" ", 3)[3]
     rows = [line.split() for line in lines[1:]]
     columns = ("initial", "in", "out", "final")

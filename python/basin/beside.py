@@ -1,4 +1,4 @@
-"""Where the modules are by which the scripts under tools/ read files: in a checkout there, in an installed package beside this one."""
+"""The place of the modules with which the scripts under tools/ read files: there in a checkout, next to this package once installed."""
 
 import sys
 from pathlib import Path

@@ -60,17 +60,17 @@ class Files:
 
     @property
     def folder(self) -> Path:
-        """Where files are made."""
+        """Returns where files are made."""
         return Path(self.made.name)
 
     @property
     def paths(self) -> list[str]:
-        """The paths in the order in which the program wants them."""
+        """Returns the paths in the order in which the program needs them."""
         given = ((self.model, "model.toml"), (self.policy, "policy.rpl"), (self.inputs, "inputs.csv"))
         return [file.at(self.folder, name) for file, name in given if file is not None]
 
     def batches(self, given: Any, word: str) -> tuple[str, list[str]]:
-        """The path of edits or traces, and their names where they are made of frames."""
+        """Returns the path of edits or traces, and their names where they are made of frames."""
         if isinstance(given, (str, os.PathLike)):
             return str(Path(given).absolute()), []
         named = batches_of(self.model, given, word)
@@ -132,7 +132,7 @@ def run(
     program: PathLike | None = None,
     timeout: float | None = None,
 ) -> Answer | list[Answer]:
-    """A run as an `Answer`. With `edits` a list of them: the run from the inputs, and one after each batch.
+    """Returns a run as an `Answer`. With `edits` a list of them: the run from the inputs, and one after each batch.
 
     `edits` is a path, a frame (batch, slot, step or time, value; a missing value takes away), or frames with
     slots by columns. `asked` wants `trace`, and goes without `reuse`. After `timeout` seconds the
@@ -160,7 +160,7 @@ def simulate(
     program: PathLike | None = None,
     timeout: float | None = None,
 ) -> Answer:
-    """A run without rules. `order` says which of several objects that wait is dispatched first."""
+    """Returns a run without rules. `order` says which of several objects that wait is dispatched first."""
     asked_for = {"--flags": flags, "--trace": trace, "--asked": asked, f"--order={order}": order is not None}
     words = ["simulate", *(word for word, wanted in asked_for.items() if wanted)]
     with Files(model, None, inputs) as files:
@@ -175,7 +175,7 @@ def _answers(
     program: PathLike | None,
     timeout: float | None,
 ) -> list[Answer]:
-    """The runs that the program tells. A fault is raised where it isn't to be kept."""
+    """Returns the runs that the program wrote. Raises a fault unless faults are to be kept."""
     if errors not in ("raise", "keep"):
         raise ValueError(f'errors is "raise" or "keep", and not {errors!r}')
     with process.at_work([*words, *files.paths], program, timeout) as running:
@@ -184,7 +184,7 @@ def _answers(
         for answer in answers if "--asked" in words else ():
             answer.asked = asked_of(files.model, files.policy, answer.trace)
     if not answers:
-        raise Error("the program told of no run")
+        raise Error("the program wrote no run")
     for answer in answers:
         if answer.fault and errors == "raise":
             raise answer.fault
@@ -201,7 +201,7 @@ def why(
     program: PathLike | None = None,
     timeout: float | None = None,
 ) -> Cell:
-    """How a cell came to what it holds. `time` is a timestep's number, or the moment at which it begins."""
+    """Returns the assignments to a cell. `time` is the number of a timestep, or the moment at which it begins."""
     with Files(model, policy, inputs) as files:
         assert files.policy is not None
         step = str(step_number(files.model, time))
@@ -212,7 +212,7 @@ def why(
 def check(
     model: ModelGiven, policy: PolicyGiven, *, program: PathLike | None = None, timeout: float | None = None
 ) -> pd.DataFrame:
-    """What a firing of each rule comes to at most, by the rule's number, with its name."""
+    """Returns the cost limits of each rule, by its number, with its name."""
     with Files(model, policy, None) as files:
         assert files.policy is not None
         _, text = process.answer(["check", *files.paths], program, timeout)
@@ -272,7 +272,7 @@ def _effects(files: Files, program: PathLike | None, timeout: float | None) -> o
 
 
 def _traced(paths: list[str], program: PathLike | None, timeout: float | None) -> tuple[str, bool]:
-    """A run with its trace, and whether that tells what was asked for: an older program's doesn't."""
+    """Returns a run with its event log, and whether the log has requested assignments; that of an older program has none."""
     try:
         return process.answer(["run", "--trace", "--asked", *paths], program, timeout)[1], True
     except Refused as refused:
@@ -289,7 +289,7 @@ def balance(
     program: PathLike | None = None,
     timeout: float | None = None,
 ) -> Book:
-    """The book of water of each object that stores some: initial, in, out, final."""
+    """Returns the water balance of each object that stores water, in m3: initial, in, out, final."""
     with Files(model, policy, inputs) as files:
         assert files.policy is not None
         _, text = process.answer(["balance", *files.paths], program, timeout)
@@ -327,7 +327,7 @@ def mrm(
 
 
 def _summary(model: Model, slots: pd.Index, chapter: bytearray) -> pd.DataFrame:
-    """The summary behind the sections of `mrm`: slot by slot as a table has them, and of each its timesteps."""
+    """Returns the statistics after the sections of `mrm`: slots in the order of a table, and for each its timesteps."""
     values = numbers(table_in(chapter)[1], range(4))
     index = pd.MultiIndex.from_product([slots, model.index()], names=["slot", "time"])
     if len(values) != len(index):

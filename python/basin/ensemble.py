@@ -1,7 +1,7 @@
 """Ensembles of any number of traces: `plan`, `execute` and `merge`, and `run` for the three of them.
 
 A plan is cut into parts, which run in this process, in local ones, on the workers of a dask client, or as
-tasks of Slurm. A part that is there isn't run again.
+tasks of Slurm. A part that is there is not run again.
 """
 
 from __future__ import annotations
@@ -48,7 +48,7 @@ FAULT_COLUMNS = ("kind", "object", "slot", "rule", "rule_name", "step", "time", 
 
 
 class RefusedTraces(UserWarning):
-    """Some traces are refused, and count in no statistic. `refusals` tells them by name."""
+    """Warns that some traces are refused, which no statistic includes. `refusals` lists them by name."""
 
 
 class Room:
@@ -90,7 +90,7 @@ def run(
     program: PathLike | None = None,
     timeout: float | None = None,
 ) -> Plan:
-    """Plans, executes and merges: the folder has all values, and the statistics, behind it. `timeout` as of `execute`."""
+    """Plans, executes and merges: afterwards the folder has all values and the statistics. `timeout` is that of `execute`."""
     told = plan(folder, model, policy, inputs, traces, slots=slots, program=program)
     execute(told, client=client, workers=workers, progress=progress, timeout=timeout)
     merge(told, percentiles)
@@ -135,7 +135,7 @@ def execute(
     if count := sum(part.refused for part in done):
         warnings.warn(RefusedTraces(f"{count} traces are refused: basin.ensemble.refusals(..)"), stacklevel=2)
     if count := sum(part.faults for part in done):
-        words = f"{count} traces ended in a fault, and no statistic counts them: basin.ensemble.faults(..)"
+        words = f"{count} traces ended in a fault, and no statistic includes them: basin.ensemble.faults(..)"
         warnings.warn(FaultedTraces(words), stacklevel=2)
     return done
 
@@ -148,7 +148,7 @@ def _by_workers(
     retries: int,
     timeout: float | None,
 ) -> Generator[Outcome, None, None]:
-    """Runs parts on workers, and tells each as it ends."""
+    """Runs parts on workers, and yields each as it ends."""
     from distributed import as_completed
 
     with _client(client, workers) as at_work:
@@ -163,7 +163,7 @@ def _by_workers(
 
 @contextlib.contextmanager
 def _client(client: Client | None, workers: int | None) -> Iterator[Client]:
-    """The client that is given, or one of local processes, each with one thread: netCDF4 isn't safe with more.
+    """The client that is given, or one of local processes, each with one thread: netCDF4 is not safe with more.
 
     They speak TLS, with keys made for this call: over plain TCP any user of the machine could run code in them.
     """
@@ -219,7 +219,7 @@ def _kill(cluster: LocalCluster) -> None:
 
 @contextlib.contextmanager
 def _hidden_main() -> Iterator[None]:
-    """Workers don't run the caller's script: without `if __name__ == "__main__"` each would start workers again."""
+    """Workers do not run the caller's script: without `if __name__ == "__main__"` each would start workers again."""
     main = sys.modules["__main__"].__dict__
     kept = {name: main.pop(name) for name in ("__file__", "__spec__") if name in main}
     main["__spec__"] = None
@@ -239,7 +239,7 @@ def _clear(told: Plan) -> None:
 
 
 def _is_left(path: Path) -> bool:
-    """Whether nobody writes a file any more: its process has ended, or on another machine it is an hour old."""
+    """Returns whether nobody writes a file any more: its process has ended, or on another machine it is an hour old."""
     before, _, process = path.name.rpartition(".")
     if before.endswith(f".{host()}"):
         return not Path(f"/proc/{process}").exists()
@@ -247,7 +247,7 @@ def _is_left(path: Path) -> bool:
 
 
 def faults(told: Plan) -> pd.DataFrame:
-    """The traces that ended in a fault, by name: kind, object, slot, rule, timestep, value, and the words."""
+    """Returns the traces that ended in a fault, by name: kind, object, slot, rule, timestep, value, and the words."""
     model, rows = told.model, []
     names = Policy(told.files[1]).rule_names(model)
     for name, words in texts_of(told, "fault"):
@@ -258,15 +258,15 @@ def faults(told: Plan) -> pd.DataFrame:
 
 
 def refusals(told: Plan) -> pd.DataFrame:
-    """The traces that the program refused, by name: why, and the row."""
+    """Returns the traces that the program refused, by name: why, and the row."""
     rows = [(name, *words.split(": ", 1)) for name, words in texts_of(told, "refused")]
     return pd.DataFrame(rows, columns=["trace", "reason", "row"]).set_index("trace")
 
 
 def values(told: Plan, numbers: Kept = "float") -> xarray.Dataset:
-    """All values by trace and time, a variable for each slot, read from the parts when they are looked at.
+    """Returns all values by trace and time, a variable for each slot, read from the parts when they are looked at.
 
-    `OverflowError` where a value is beyond 2^53 and `numbers` is "float"; with "int64" what isn't known is
+    `OverflowError` where a value is beyond 2^53 and `numbers` is "float"; with "int64" what is not known is
     the least of all whole numbers.
     """
     import xarray
@@ -286,9 +286,9 @@ def values(told: Plan, numbers: Kept = "float") -> xarray.Dataset:
 
 
 def statistics(told: Plan, numbers: Kept = "float") -> xarray.Dataset:
-    """What `merge` wrote, by time: SLOT.known, SLOT.min, SLOT.max, SLOT.mean, SLOT.percentile.
+    """Returns what `merge` wrote, by time: SLOT.known, SLOT.min, SLOT.max, SLOT.mean, SLOT.percentile.
 
-    `numbers` as of `values`. `Error` where nothing is merged yet. Traces that ended in a fault are warned of, by name:
+    `numbers` as of `values`. Raises `Error` where nothing is merged yet. Traces that ended in a fault are warned of, by name:
     no statistic counts them. `faulted` and `refused` hold all their names where there are some.
     """
     import xarray
@@ -304,13 +304,13 @@ def statistics(told: Plan, numbers: Kept = "float") -> xarray.Dataset:
 
 
 def _judge(numbers: str) -> None:
-    """`ValueError` where numbers are asked for in another form."""
+    """Raises `ValueError` where numbers are asked for in another form."""
     if numbers not in ("float", "int64"):
         raise ValueError(f'numbers is "float" or "int64", and not {numbers!r}')
 
 
 def _exact(data: xarray.Dataset, numbers: Kept) -> xarray.Dataset:
-    """The data, where floats have each of its values or none are wanted."""
+    """Returns the data, where floats have each of its values or none are wanted."""
     if numbers == "float" and not data.attrs["exact_as_float64"]:
         data.close()
         raise OverflowError('a value beyond 2^53 isn\'t exact as float64: ask for numbers="int64"')
@@ -318,7 +318,7 @@ def _exact(data: xarray.Dataset, numbers: Kept) -> xarray.Dataset:
 
 
 def nearest(told: Plan, slot: str, percent: Percent, over: Literal["mean", "last"] = "mean") -> str:
-    """The settled trace whose mean of a slot (or last known value) is that percentile of all of them, by name."""
+    """Returns the settled trace whose mean of a slot (or last known value) is that percentile of all of them, by name."""
     if over not in ("mean", "last"):
         raise ValueError(f'over is "mean" or "last", and not {over!r}')
     if slot not in told.slots:

@@ -42,7 +42,7 @@ class FaultedTraces(UserWarning):
 
 
 class NoProgram(Error):
-    """There is no program to run, or it can't be run."""
+    """There is no program to run, or it cannot be run."""
 
 
 class TimedOut(Error):
@@ -110,16 +110,16 @@ def some_of(names: list[str]) -> str:
 
 def left_out(faulted: list[str], traces: int) -> FaultedTraces:
     """Returns the warning that names the traces which no statistic counts."""
-    return FaultedTraces(f"{len(faulted)} of {traces} traces ended in a fault, and no statistic counts them: {some_of(faulted)}")
+    return FaultedTraces(f"{len(faulted)} of {traces} traces ended in a fault, and no statistic includes them: {some_of(faulted)}")
 
 
 def _number(found: dict[str, str | None], name: str) -> int | None:
-    """A number of a refusal's line, where the line has it."""
+    """Returns a number of a refusal's line, where the line has it."""
     number = found.get(name)
     return int(number) if number else None
 
 
 def _word(words: str, name: str) -> str | None:
-    """What stands behind a word of a fault."""
+    """Returns what follows a word of a fault."""
     found = re.search(rf"(?:^| ){name} (\S+)", words)
     return found[1] if found else None

@@ -44,19 +44,19 @@ class File:
 
     @classmethod
     def of(cls: type[Given], given: Given | PathLike) -> Given:
-        """What is given, or the file at that path."""
+        """Returns the given object, or the one of the file at that path."""
         return given if isinstance(given, cls) else cls(given)  # type: ignore[arg-type]
 
     @property
     def content(self) -> bytes:
-        """The bytes of the file."""
+        """Returns the bytes of the file."""
         if self.path is None:
             assert self._text is not None
             return self._text
         return self.path.read_bytes()
 
     def at(self, folder: Path, name: str) -> str:
-        """A path at which the program finds it: its own, or that of a file which is made in the folder."""
+        """Returns a path at which the program finds it: its own, or that of a file which is made in the folder."""
         if self.path is not None:
             return os.fspath(self.path.absolute())
         (folder / name).write_bytes(self.content)
@@ -68,39 +68,39 @@ class Model(File):
 
     @cached_property
     def read(self) -> ReadModel:
-        """The model as the scripts beside the program read it."""
+        """Returns the model, as the scripts under tools/ read it."""
         try:
             return read_model(self.content)
         except ValueError as error:
-            raise Error(f"the model is no TOML: {plain(str(error))}") from None
+            raise Error(f"the model is not TOML: {plain(str(error))}") from None
 
     @property
     def timesteps(self) -> Timesteps:
-        """The timesteps of the run, numbered from 1."""
+        """Returns the timesteps of the run, numbered from 1."""
         if self.read.timesteps is None:
             finding = self.read.findings[0]
-            raise Error(f"the model can't be read, line {finding.line}: {finding.says}")
+            raise Error(f"the model cannot be read, line {finding.line}: {finding.says}")
         return self.read.timesteps
 
     @property
     def steps(self) -> int:
-        """How many timesteps the run has."""
+        """Returns how many timesteps the run has."""
         return int(self.timesteps.count)
 
     @property
     def slots(self) -> list[str]:
-        """Every slot, in the order of a table's columns."""
+        """Returns every slot, in the order of a table's columns."""
         return list(self.read.slots)
 
     def unit(self, slot: str) -> str:
-        """A slot's base unit, in the program's words."""
+        """Returns a slot's base unit, in the program's words."""
         try:
             return str(self.read.slots[slot].unit)
         except KeyError:
             raise Error(f"the model has no slot {plain(slot)}") from None
 
     def index(self, count: int | None = None) -> pd.DatetimeIndex:
-        """When each timestep begins. `ValueError` outside the years 1678 to 2261, of which pandas has the dates."""
+        """Returns when each timestep begins. Raises `ValueError` outside the years 1678 to 2261, of which pandas has the dates."""
         timesteps = self.timesteps
         frequency = FREQUENCIES[timesteps.step]
         periods = timesteps.count if count is None else count
@@ -108,11 +108,11 @@ class Model(File):
             return pd.date_range(timesteps.start, periods=periods, freq=frequency, name="time")
         except (pd.errors.OutOfBoundsDatetime, OverflowError):
             raise ValueError(
-                f"the run begins in {timesteps.start.year}, and pandas has the dates of 1678 to 2261 alone"
+                f"the run begins in {timesteps.start.year}, but pandas has only the dates of 1678 to 2261"
             ) from None
 
     def ends(self, count: int | None = None) -> pd.DatetimeIndex:
-        """When each timestep ends: the program's stamp."""
+        """Returns when each timestep ends: the program's stamp."""
         index = self.index(count)
         return (index + index.freq).rename("end")
 
@@ -121,7 +121,7 @@ class Policy(File):
     """A ruleset, or code."""
 
     def rule_names(self, model: Model) -> list[str]:
-        """The name of each rule by its number; of code, which has none, nothing."""
+        """Returns the name of each rule by its number; of code, which has none, nothing."""
         content = self.content
         if is_code(content):
             return []

@@ -12,7 +12,7 @@ Numbers = npt.NDArray[np.float64]
 
 
 def indices(parts: Numbers) -> Numbers:
-    """First and total order indices by knob, of the values at two samples and at those mixed of both."""
+    """Returns first and total order indices by knob, of the values at two samples and at those mixed of both."""
     first, second, *mixed = parts
     spread = np.var(np.concatenate([first, second]))
     if not spread:
@@ -23,7 +23,7 @@ def indices(parts: Numbers) -> Numbers:
 
 
 def nondominated(values: Numbers) -> npt.NDArray[np.bool_]:
-    """Which rows no other row is better than: at most it everywhere, and below it somewhere."""
+    """Returns which rows no other row is better than: at most it everywhere, and below it somewhere."""
     found = np.ones(len(values), bool)
     for place, row in enumerate(values):
         if found[place]:

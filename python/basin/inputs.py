@@ -20,12 +20,12 @@ class Inputs(File):
 
     @classmethod
     def from_frame(cls, model: Model | PathLike, frame: pd.DataFrame) -> Inputs:
-        """Inputs of a frame with timesteps by rows and slots by columns; what isn't known gives nothing."""
+        """Inputs of a frame with timesteps by rows and slots by columns; what is not known gives nothing."""
         return cls(text=HEADER + "".join(f"{row.text}\n" for row in wide_rows(Model.of(model), frame)))
 
 
 def inputs_of(model: Model, given: Any) -> Inputs:
-    """The inputs of a frame, of a path, or those that are given."""
+    """Returns the inputs of a frame, of a path, or those that are given."""
     return Inputs.from_frame(model, given) if isinstance(given, pd.DataFrame) else Inputs.of(given)
 
 
@@ -46,7 +46,7 @@ class LaidOver:
         self.texts = {group: "".join(f"{row.text}\n" for row in rows) for group, rows in self.rows.items()}
 
     def cells(self, group: str) -> dict[int, str]:
-        """The cells of linked slots, each as a line of inputs. They are made once, where a trace first names them."""
+        """Returns the cells of linked slots, each as a line of inputs. They are made once, where a trace first names them."""
         if group not in self.made:
             self.made[group] = {}
             for row in self.rows.get(group, ()):
@@ -54,7 +54,7 @@ class LaidOver:
         return self.made[group]
 
     def twice(self, rows: Iterable[Row]) -> Row | None:
-        """The first row that names a cell which one before it names, too: a file of traces has none such."""
+        """Returns the first row that names a cell which one before it names, too: a file of traces has none such."""
         named: dict[str, set[int]] = {}
         for row in rows:
             if row.slot in self.groups:
@@ -66,7 +66,7 @@ class LaidOver:
         return None
 
     def under(self, rows: Iterable[Row]) -> str:
-        """The inputs with these rows over them. What the program would refuse of a row stands at the end."""
+        """Returns the inputs with these rows in place of theirs. A row that the program would refuse is at the end."""
         laid: dict[str, dict[int, str]] = {}
         wrong = []
         for row in rows:

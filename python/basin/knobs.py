@@ -63,7 +63,7 @@ Space = Union[Mapping[str, "tuple[int, int]"], Sequence[Given]]
 
 
 def knobs_of(model: Model, inputs: InputsGiven, space: Space) -> list[Knob]:
-    """What is varied, knob by knob."""
+    """Returns what is varied, knob by knob."""
     listed = [Range(slot, *bounds) for slot, bounds in space.items()] if isinstance(space, Mapping) else space
     found: list[Knob] = []
     for one in listed:
@@ -84,20 +84,20 @@ def knobs_of(model: Model, inputs: InputsGiven, space: Space) -> list[Knob]:
 
 
 def of_range(model: Model, one: Range) -> Knob:
-    """The knob of a slot's value."""
+    """Returns the knob of a slot's value."""
     model.unit(slot_name(one.slot))
     return Knob(one.slot, one.low, one.high, lambda value: [Row(one.slot, 1, model.steps, value)])
 
 
 def of_choice(model: Model, one: Choice) -> Knob:
-    """The knob of several frames."""
+    """Returns the knob of several frames."""
     rows = [list(wide_rows(model, frame)) for frame in one.frames]
     text = "".join(f"{place},{row.text}\n" for place, some in enumerate(rows) for row in some)
     return Knob(one.name, 0, len(rows) - 1, rows.__getitem__, text)
 
 
 def of_percent(model: Model, inputs: InputsGiven, one: Percent) -> Iterator[Knob]:
-    """The knobs of what the inputs give to a slot. Percents are rounded down."""
+    """Yields the knobs of what the inputs give to a slot. Percents are rounded down."""
     model.unit(slot_name(one.slot))
     cells = read_inputs(inputs_of(model, inputs).content, model.read).all_given(one.slot)
     steps = np.array(list(cells), dtype=np.int64)
@@ -114,5 +114,5 @@ def of_percent(model: Model, inputs: InputsGiven, one: Percent) -> Iterator[Knob
 
 
 def percents(slot: str, steps: Whole, given: Whole, value: int) -> Iterator[Row]:
-    """The rows of so many percent of what is given."""
+    """Returns the rows of this percentage of the given values."""
     return folded(slot, steps, given * value // 100)

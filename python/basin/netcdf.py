@@ -1,6 +1,6 @@
-"""NetCDF files by the CF conventions: the axis of time, units, and what stands for an unknown value.
+"""NetCDF files by the CF conventions: the axis of time, units, and the value for an unknown one.
 
-A file is opened within `with` alone: netCDF4 isn't safe where one is closed by the collector of garbage.
+A file is opened only in a `with` statement: netCDF4 is not safe where the garbage collector closes one.
 """
 
 from __future__ import annotations
@@ -62,7 +62,7 @@ def appearing(path: Path) -> Iterator[Any]:
 
 @contextlib.contextmanager
 def opened(path: Path) -> Iterator[Any]:
-    """A file whose whole numbers are read as they stand, with `UNKNOWN` where nothing is known."""
+    """Opens a file whose whole numbers are read as they are, with `UNKNOWN` where nothing is known."""
     with netCDF4.Dataset(path) as data:
         data.set_auto_mask(False)
         yield data
@@ -91,14 +91,14 @@ class Axis:
 
 @lru_cache(maxsize=1)
 def axis_of(model: Model) -> Axis:
-    """The axis of a model's run, which is made once for all parts."""
+    """Returns the axis of a model's run, which is made once for all parts."""
     index = model.index()
     bounds = np.stack([hours(moments, index[0]) for moments in (index, model.ends())], axis=1)
     return Axis(f"hours since {index[0]:%Y-%m-%d %H:%M}", bounds)
 
 
 def hours(moments: pd.DatetimeIndex, start: pd.Timestamp) -> Whole:
-    """How many hours after the start moments are."""
+    """Returns how many hours after the start moments are."""
     return np.asarray((moments - start) // pd.Timedelta("1h"), dtype=np.int64)
 
 
@@ -111,7 +111,7 @@ def add_texts(out: Any, name: str, texts: Iterable[str], long_name: str = "") ->
 
 
 def add_whole(out: Any, name: str, dimensions: tuple[str, ...], model: Model, slot: str) -> Any:
-    """A variable of whole numbers in a slot's base unit, with CF's words for it."""
+    """Returns a variable of whole numbers in a slot's base unit, with CF's words for it."""
     cells = out.createVariable(name, "i8", dimensions, fill_value=UNKNOWN)
     cells.set_auto_mask(False)
     describe(cells, model, slot)
@@ -119,7 +119,7 @@ def add_whole(out: Any, name: str, dimensions: tuple[str, ...], model: Model, sl
 
 
 def describe(cells: Any, model: Model, slot: str) -> None:
-    """Units and methods of a slot's values. What a slot of a data object tells of time isn't known."""
+    """Returns units and cell methods of a slot's values. For a slot of a data object the method is not known."""
     unit = model.unit(slot)
     cells.long_name, cells.basin_unit, cells.units = slot, unit, UNITS.get(unit, unit)
     if model.read.the_object(slot.split(".")[0]).kind != "data":

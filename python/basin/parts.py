@@ -41,7 +41,7 @@ Outcome = tuple[int, "Done | BaseException"]
 
 
 class Values:
-    """What the traces of a part come to."""
+    """The values of the traces of a part."""
 
     def __init__(self, plan: Plan, model: Model, traces: int) -> None:
         self.slots, self.header = plan.slots, ",".join(("step", "stamp", *model.slots)).encode()
@@ -57,7 +57,7 @@ class Values:
     def take(self, trace: int, section: Section) -> None:
         """Takes the section of a trace, by its place."""
         if section.header != self.header:
-            raise Error("the program's columns aren't the slots that this package reads in the model")
+            raise Error("the columns of the program are not the slots that this package reads in the model")
         found = numbers(section.rows, self.picks)
         self.exact_as_float64 &= is_exact(found)
         self.cells[:, trace, : len(found)] = found.T
@@ -65,7 +65,7 @@ class Values:
         self.lacking.discard(trace)
 
     def refuse(self, trace: int, why: str) -> None:
-        """Keeps why a trace isn't run."""
+        """Keeps why a trace is not run."""
         self.refused[trace] = why
         self.lacking.discard(trace)
 
@@ -80,13 +80,13 @@ def outcomes(folder: Path, numbers: Iterable[int], timeout: float | None = None)
 
 
 def failure(failed: list[tuple[int, BaseException]], tried: int) -> Error:
-    """What is said where parts failed."""
+    """Returns what is said where parts failed."""
     number, error = failed[0]
     return Error(f"{len(failed)} of {tried} parts failed; part {number}: {error}")
 
 
 def run_part(folder: str, number: int, timeout: float | None = None) -> Done:
-    """Runs a part and writes its values. Where they are there it tells of them: a worker may die behind its writing."""
+    """Runs a part and writes its values. If they are there already it returns them: a worker may die after writing them."""
     begun, used = clock.time(), sum(os.times()[:4])
     plan = Plan.read(folder)
     names = plan.names[number]
@@ -100,19 +100,19 @@ def run_anew(plan: Plan, number: int, timeout: float | None = None) -> tuple[int
     model, names = model_of(plan.folder, plan.digest), plan.names[number]
     values = values_of(plan, model, stored_rows(plan.folder, number, plan.first(number), len(names)), timeout)
     if values.lacking:
-        raise Error(f"the program told nothing of {len(values.lacking)} of {len(names)} traces")
+        raise Error(f"the program wrote nothing for {len(values.lacking)} of {len(names)} traces")
     write(plan, model, number, values)
     return sum(map(bool, values.faults)), sum(map(bool, values.refused))
 
 
 def kept(plan: Plan, number: int) -> tuple[int, int]:
-    """The same of a part that is there."""
+    """Returns the outcome of a part that is there."""
     with opened(plan.part(number)) as part:
         return sum(map(bool, part["fault"][:])), sum(map(bool, part["refused"][:]))
 
 
 def values_of(plan: Plan, model: Model, rows: list[list[Row]], timeout: float | None = None) -> Values:
-    """The values of traces: at once where the program can and the rows are few enough, or else one by one.
+    """Returns the values of traces: at once where the program can and the rows are few enough, or else one by one.
 
     `mrm` refuses all traces for a row of one of them, so that then, too, they are run one by one.
     """
@@ -144,13 +144,13 @@ def at_once(plan: Plan, model: Model, rows: list[list[Row]], timeout: float | No
 
 @lru_cache(maxsize=1)
 def model_of(folder: Path, _digest: str) -> Model:
-    """The model of a plan, which a worker reads once for all its parts."""
+    """Returns the model of a plan, which a worker reads once for all its parts."""
     return Model(folder / NAMES[0])
 
 
 @lru_cache(maxsize=1)
 def inputs_of(folder: Path, digest: str) -> LaidOver:
-    """The inputs of a plan, likewise."""
+    """Returns the inputs of a plan, which a worker reads once for all its parts."""
     return LaidOver(model_of(folder, digest), Inputs(folder / NAMES[2]))
 
 

@@ -38,7 +38,7 @@ class Plan:
 
     @classmethod
     def read(cls, folder: PathLike) -> Plan:
-        """The plan of a folder. `Error` where it holds none."""
+        """Returns the plan of a folder. Raises `Error` where it holds none."""
         place = Path(folder).absolute()
         try:
             return cls(folder=place, **json.loads((place / "plan.json").read_text()))
@@ -51,17 +51,17 @@ class Plan:
 
     @property
     def parts(self) -> int:
-        """How many parts there are."""
+        """Returns how many parts there are."""
         return len(self.names)
 
     @property
     def traces(self) -> int:
-        """How many traces there are."""
+        """Returns how many traces there are."""
         return sum(map(len, self.names))
 
     @property
     def files(self) -> list[Path]:
-        """The model, the policy and the inputs."""
+        """Returns the model, the policy and the inputs."""
         return [self.folder / name for name in NAMES]
 
     def trusted_program(self) -> str:
@@ -75,19 +75,19 @@ class Plan:
 
     @property
     def model(self) -> Model:
-        """The model."""
+        """Returns the model."""
         return Model(self.files[0])
 
     def part(self, number: int) -> Path:
-        """The values of a part, which appear whole."""
+        """Returns the values of a part, which appear whole."""
         return self.folder / f"parts/{number:05}.nc"
 
     def first(self, number: int) -> int:
-        """How many traces stand before those of a part."""
+        """Returns the number of traces before those of a part."""
         return sum(map(len, self.names[:number]))
 
     def missing(self) -> list[int]:
-        """The parts that aren't there."""
+        """Returns the parts that are not there."""
         return [number for number in range(self.parts) if not self.part(number).exists()]
 
 
@@ -131,7 +131,7 @@ def plan(
 
 
 def judge(folder: Path, program: str) -> None:
-    """`Refused` where the program refuses a file of the runs, by the run without any trace."""
+    """Raises `Refused` where the program refuses a file of the runs, by the run without any trace."""
     room = memoryview(bytearray(process.PIPE))
     with process.at_work(["run", *(str(folder / name) for name in NAMES)], program) as running:
         while running.readinto(room):
@@ -139,24 +139,24 @@ def judge(folder: Path, program: str) -> None:
 
 
 def chosen_slots(model: Model, slots: Sequence[str] | Literal["all"]) -> list[str]:
-    """The slots that are kept, each of which the model has."""
+    """Returns the slots that are kept, each of which the model has."""
     if isinstance(slots, str) and slots != "all":
         raise TypeError('slots is a list, or "all"')
     chosen = model.slots if slots == "all" else list(dict.fromkeys(slots))
     for slot in chosen:
         model.unit(slot)
     if not chosen:
-        raise ValueError("no slot is to be kept")
+        raise ValueError("slots is empty: name a slot to keep, or give 'all'")
     return chosen
 
 
 def way_of(program: str) -> Way:
-    """How the program runs a part."""
+    """Returns how the program runs a part."""
     return "mrm" if process.has_command("mrm", 4, program) else "run"
 
 
 def digested(file: File) -> bytes:
-    """What is digested of a file: its length, so that no two lists of files look alike, and its bytes."""
+    """Returns what is digested of a file: its length, so that no two lists of files look alike, and its bytes."""
     return b"%d\0" % len(file.content) + file.content
 
 
@@ -176,7 +176,7 @@ def store(
 
 
 def shares(count: int, size: int) -> list[slice]:
-    """So many in as few parts as have that size at most, all of about one size, so that no worker waits for another."""
+    """Splits this number of traces into the fewest parts of at most that size, all about equal, so that no worker waits for another."""
     parts = -(-count // size)
     return [slice(count * k // parts, count * (k + 1) // parts) for k in range(parts)]
 
@@ -186,7 +186,7 @@ def settle(new: Plan, folder: Path) -> None:
     where = plain(str(new.folder), LONG)
     if (new.folder / "plan.json").exists():
         if Plan.read(new.folder).digest != new.digest:
-            raise Stale(f"{where} holds another ensemble: take another folder, or remove it")
+            raise Stale(f"{where} has another ensemble: use another folder, or remove it")
         return
     told = asdict(new)
     del told["folder"]
@@ -205,7 +205,7 @@ def umask() -> int:
 
 
 def each_part(told: Plan) -> Iterator[tuple[int, Path]]:
-    """Each part with its file. `Error` where one is missing."""
+    """Yields each part with its file. Raises `Error` where one is missing."""
     if missing := told.missing():
         raise Error(f"{len(missing)} of {told.parts} parts are missing, the first is {missing[0]}")
     for number in range(told.parts):

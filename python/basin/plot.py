@@ -17,7 +17,7 @@ PALEST, DARKEST = 0.15, 0.45  # how strong the bands' colour is
 
 
 def bands(told: Plan, slot: str, ax: Axes | None = None, colour: str = "C0") -> Axes:
-    """A band between each pair of the merged percentiles, the outermost first, and the middle one as a line.
+    """Plots a band between each pair of the merged percentiles, the outermost first, and the middle one as a line.
 
     Each value is drawn over its timestep, from its begin to its end.
     """
@@ -50,7 +50,7 @@ def bands(told: Plan, slot: str, ax: Axes | None = None, colour: str = "C0") -> 
 
 
 def exceedance(values: Any, ax: Axes | None = None, **line: Any) -> Axes:
-    """How many percent of the known values are at least so high: of a DataArray, a frame or an array."""
+    """Plots the percentage of known values that reach each height, a duration curve: of a DataArray, a frame or an array."""
     held = np.asarray(values, dtype=np.float64).ravel()
     held = np.sort(held[~np.isnan(held)])[::-1]
     drawn = _axes(ax)
@@ -64,7 +64,7 @@ def exceedance(values: Any, ax: Axes | None = None, **line: Any) -> Axes:
 
 
 def trace(table: pd.DataFrame, slot: str, ax: Axes | None = None, **line: Any) -> Axes:
-    """A slot of one run over its timesteps."""
+    """Plots a slot of one run over its timesteps."""
     drawn = _axes(ax)
     drawn.step(table.index, table[slot], where="post", **line)
     drawn.set_ylabel(_label(slot, table.attrs["units"][slot]))
@@ -72,7 +72,7 @@ def trace(table: pd.DataFrame, slot: str, ax: Axes | None = None, **line: Any) -
 
 
 def front(points: pd.DataFrame, across: str, up: str, colour: str | None = None, ax: Axes | None = None, **marks: Any) -> Axes:
-    """Points of a study by two of their columns, coloured by a third one where it is told."""
+    """Plots points of a study by two of their columns, coloured by a third one if it is given."""
     drawn = _axes(ax)
     if colour is None:
         drawn.plot(points[across], points[up], "o", **marks)
@@ -85,7 +85,7 @@ def front(points: pd.DataFrame, across: str, up: str, colour: str | None = None,
 
 
 def indices(found: pd.DataFrame, ax: Axes | None = None) -> Axes:
-    """Sobol indices by knob, first and total order beside one another, with their intervals."""
+    """Plots Sobol indices by knob, first and total order next to each other, with their intervals."""
     drawn = _axes(ax)
     places = np.arange(len(found))
     for place, (name, side) in enumerate((("first", -0.2), ("total", 0.2))):
@@ -100,12 +100,12 @@ def indices(found: pd.DataFrame, ax: Axes | None = None) -> Axes:
 
 
 def _axes(ax: Axes | None) -> Axes:
-    """The axes that are given, or those at which is drawn."""
+    """Returns the axes that are given, or the current ones."""
     import matplotlib.pyplot as plt
 
     return plt.gca() if ax is None else ax
 
 
 def _label(slot: str, unit: str) -> str:
-    """What an axis says. A slot's name has no sign by which matplotlib would set formulas."""
+    """Returns what an axis says. A slot's name has no sign by which matplotlib would set formulas."""
     return f"{slot} [{unit}]" if unit else slot

@@ -34,7 +34,7 @@ HOW = (
 
 
 def find_program(path: PathLike | None = None) -> str:
-    """The program's path: the one that is named, that of BASIN, that of the checkout, or that of the PATH."""
+    """Returns the program's path: the one that is named, that of BASIN, that of the checkout, or that of the PATH."""
     named = path or os.environ.get("BASIN")
     if named:
         if os.path.isdir(named) or not os.access(named, os.X_OK):
@@ -66,14 +66,14 @@ class Program:
             fcntl.fcntl(self.output, fcntl.F_SETPIPE_SZ, PIPE)
 
     def readinto(self, room: memoryview, /) -> int:
-        """How many bytes were read, 0 at the end: of a program that answered nothing, or died, nobody sees that."""
+        """Returns how many bytes were read, 0 at the end: of a program that answered nothing, or died, nobody sees that."""
         count = self.output.readinto(room)  # type: ignore[attr-defined]
         if not count:
             self.judge()
         return int(count)
 
     def read(self) -> bytes:
-        """All that it writes."""
+        """Returns all that it writes."""
         return self.output.read()
 
     def leave(self) -> None:
@@ -87,7 +87,7 @@ class Program:
         self.process.kill()
 
     def judge(self) -> None:
-        """Waits for its end. `Refused` where it answered nothing, unless it was left, and `TimedOut` if it took too long."""
+        """Waits for its end. Raises `Refused` where it answered nothing, unless it was left, and `TimedOut` if it took too long."""
         status = self.process.wait()
         if self.late and status < 0 and not self.is_left:
             raise TimedOut("the program was ended, since it took longer than its timeout")
@@ -98,8 +98,8 @@ class Program:
 
 @contextlib.contextmanager
 def at_work(words: Sequence[str], program: PathLike | None = None, timeout: float | None = None) -> Iterator[Program]:
-    """The program while it writes to a pipe. Behind it `Refused` where it answered nothing; where its reader breaks
-    off, or after `timeout` seconds, it is ended."""
+    """Runs the program while it writes to a pipe. Raises `Refused` at the end if it wrote nothing; ends the program if its reader
+    stops, or after `timeout` seconds."""
     path = find_program(program)
     with tempfile.TemporaryFile() as errors:
         try:
@@ -134,7 +134,7 @@ def at_work(words: Sequence[str], program: PathLike | None = None, timeout: floa
 def answer(
     words: Sequence[str], program: PathLike | None = None, timeout: float | None = None
 ) -> tuple[int, str]:
-    """The status, 0 or 1, and the text that was written. `Refused` with any other status."""
+    """Returns the status, 0 or 1, and the text that was written. Raises `Refused` with any other status."""
     with at_work(words, program, timeout) as running:
         text = running.read()
     return running.process.returncode, text.decode()
@@ -169,7 +169,7 @@ def _exit(*_: object) -> None:
 
 
 def has_command(command: str, files: int, program: PathLike | None = None) -> bool:
-    """Whether the program knows a command of so many files, by what it says of empty ones."""
+    """Returns whether the program knows a command with this number of files, by its message for empty ones."""
     try:
         answer([command, *[os.devnull] * files], program)
     except Refused as refused:

@@ -1,4 +1,4 @@
-"""Requirements of a policy, judged by the program beside it: what `tools/require` does, as frames and as tests.
+"""Requirements of a policy, checked by the program in its runs: what `tools/require` does, as frames and as tests.
 
     import basin, pytest
     JUDGED = basin.requirements("model.toml", "policy.rpl", "inputs.csv", "valley.require")
@@ -45,7 +45,7 @@ RequirementsGiven = Union[Requirements, PathLike]
 
 
 class WrongRequirements(Error):
-    """Requirements that can't be read or judged, or one that ended a run itself: the lines that tell where."""
+    """Requirements that cannot be read or judged, or one that ended a run itself: the lines that tell where."""
 
 
 @dataclass(frozen=True)
@@ -65,16 +65,16 @@ class Judgement:
 
     @property
     def held(self) -> bool:
-        """Whether it is held, or was never asked."""
+        """Returns whether it is held, or was never asked."""
         return self.verdict.verdict in (HELD, NEVER)
 
     def check(self) -> None:
-        """`AssertionError` where it isn't held, and why."""
+        """Raises `AssertionError` where it is not held, and why."""
         assert self.held, self.message
 
     @property
     def message(self) -> str:
-        """What became of it."""
+        """Returns one line: the name, the verdict and the first failure."""
         verdict = self.verdict
         says = f'"{plain(self.name, LONG)}" is {verdict.verdict} ({self.run}; {self.wanted})'
         if verdict.first is not None:
@@ -86,7 +86,7 @@ class Judgement:
 
 
 class Judged(Sequence[Judgement]):
-    """All requirements over all runs, in their order; and what measures come to, by run and name."""
+    """The requirements over all runs, in their order, and the values of measures, by run and name."""
 
     def __init__(self, judgements: list[Judgement], measures: pd.DataFrame, over_runs: dict[str, str]) -> None:
         self.judgements, self.measures, self.over_runs = judgements, measures, over_runs
@@ -99,12 +99,12 @@ class Judged(Sequence[Judgement]):
 
     @property
     def held(self) -> bool:
-        """Whether all are held, those with `OF TRACES` in as many traces as that says."""
+        """Returns whether all are held, those with `OF TRACES` in as many traces as that says."""
         return all(verdict in (HELD, NEVER) for verdict in self.over_runs.values())
 
     @property
     def table(self) -> pd.DataFrame:
-        """A row for each requirement and run. Shares are floats."""
+        """Returns a row for each requirement and run. Shares are floats."""
         rows = []
         for one in self.judgements:
             values = [getattr(one.verdict, column) for column in COLUMNS]
@@ -114,7 +114,7 @@ class Judged(Sequence[Judgement]):
         return frame.astype(whole).set_index(["run", "requirement"])
 
     def check(self) -> None:
-        """`AssertionError` where one isn't held, with all that aren't."""
+        """Raises `AssertionError` where one is not held, with all that are not."""
         assert self.held, "\n".join(one.message for one in self.judgements if not one.held)
 
 
@@ -157,7 +157,7 @@ def requirements(
 
 
 class Asking:
-    """A policy with its requirements beside it, ready to be run."""
+    """Returns a policy joined with its requirements, ready to be run."""
 
     def __init__(
         self,
@@ -185,11 +185,11 @@ class Asking:
         self.code = Policy(text=self.beside.code.encode("latin-1"))
 
     def wrong(self, wrong: Unreadable | Wrong) -> WrongRequirements:
-        """What is wrong, with its places."""
+        """Returns what is wrong, with its places."""
         return WrongRequirements("\n".join(line for one in wrong.findings for line in told(one, self.source)))
 
     def answered(self, command: str, *contents: bytes) -> str:
-        """What the program answers to a command and the contents of its files."""
+        """Returns what the program answers to a command and the contents of its files."""
         with Files(self.model, None, None) as files:
             paths = [files.folder / f"file{number}" for number in range(len(contents))]
             for path, content in zip(paths, contents):
@@ -215,11 +215,11 @@ class Asking:
                     yield name, fault, numbers(section.rows, range(self.width))
 
     def fault_of(self, section: Section) -> str:
-        """The words of the fault of a section."""
+        """Returns the words of the fault of a section."""
         return self.words_of(section.number, section.fault)
 
     def words_of(self, run: int, fault: str) -> str:
-        """The words of a fault as the policy has them. `WrongRequirements` where a requirement itself ended the run."""
+        """Returns the words of a fault as the policy has them. Raises `WrongRequirements` where a requirement itself ended the run."""
         words, whose = self.beside.of_fault(fault)
         if whose:
             raise WrongRequirements(f'requirement "{plain(whose.item.name, LONG)}" itself ended run {run}: {words}')
@@ -227,7 +227,7 @@ class Asking:
 
 
 def as_number(value: Any) -> Any:
-    """A share as a float, and all else as it is."""
+    """Returns a share as a float, and all else as it is."""
     return float(value) if isinstance(value, Fraction) else value
 
 
@@ -247,7 +247,7 @@ def over_ensemble(
 ) -> pd.DataFrame:
     """Judges a policy over any number of traces: an ensemble of which the folder keeps the margins alone.
 
-    A row for each trace: what measures come to, of each requirement its slack (below 0 where it isn't held), `.failed` and
+    A row for each trace: what measures come to, of each requirement its slack (below 0 where it is not held), `.failed` and
     `.verdict`, and the fault. An ensemble that was broken off goes on.
     """
     from . import ensemble

@@ -1,4 +1,4 @@
-"""Frames as rows of inputs, of edits and of traces. Nothing is rounded: what isn't whole is refused."""
+"""Frames as rows of inputs, of edits and of traces. Nothing is rounded: what is not whole is refused."""
 
 from __future__ import annotations
 
@@ -31,20 +31,20 @@ class Row(NamedTuple):
 
     @property
     def text(self) -> str:
-        """The row as a file of inputs has it."""
+        """Returns the row as a file of inputs has it."""
         steps = str(self.first) if self.first == self.last else f"{self.first}-{self.last}"
         return f"{self.slot},{steps},{'' if self.value is None else self.value}"
 
 
 def slot_name(name: Hashable) -> str:
-    """A name that can be a slot's: what else stands in a frame's heading is never written into a row."""
+    """Returns a name that a slot can have. Any other heading of a frame is refused, and never written into a row."""
     if not isinstance(name, str) or not SLOT.fullmatch(name):
         raise ValueError(f"{plain(str(name))} is not a slot: write Object.Slot")
     return name
 
 
 def step_number(model: Model, time: Any) -> int:
-    """The number of a timestep, by its number or by the moment at which it begins."""
+    """Returns the number of a timestep, by its number or by the moment at which it begins."""
     if isinstance(time, Real) and not isinstance(time, (bool, np.bool_)) and time == time // 1:
         return int(time)
     try:
@@ -52,7 +52,7 @@ def step_number(model: Model, time: Any) -> int:
     except ValueError:
         moment = pd.NaT
     if moment is pd.NaT:
-        raise ValueError(f"{plain(str(time))} is no timestep and no moment")
+        raise ValueError(f"{plain(str(time))} is neither a timestep nor a moment")
     number = None if moment.tz else model.timesteps.beginning_at(moment.to_pydatetime(warn=False))
     if number is None:
         raise ValueError(f"no timestep begins at {moment}")
@@ -60,7 +60,7 @@ def step_number(model: Model, time: Any) -> int:
 
 
 def steps_of(model: Model, time: Any) -> tuple[int, int]:
-    """The first and the last timestep that a number, a text such as 3-5, or a moment names."""
+    """Returns the first and the last timestep that a number, a text such as 3-5, or a moment names."""
     if isinstance(time, str) and STEPS.fullmatch(time):
         first, _, last = time.partition("-")
         return int(first), int(last or first)
@@ -69,17 +69,17 @@ def steps_of(model: Model, time: Any) -> tuple[int, int]:
 
 
 def whole(value: Any, where: str) -> int:
-    """A value as a whole number. `ValueError` where it isn't one, or may have been rounded before."""
+    """Returns a value as a whole number. Raises `ValueError` where it is not one, or may have been rounded before."""
     if isinstance(value, (float, np.floating)) and not -EXACT <= value <= EXACT:
         raise ValueError(f"{where}: {value} is beyond 2^53 and not exact as a float: give whole numbers")
     number = int(value)
     if number != value or isinstance(value, (bool, np.bool_)):
-        raise ValueError(f"{where}: {value} isn't a whole number of base units (round it first)")
+        raise ValueError(f"{where}: {value} is not a whole number of base units (round it first)")
     return number
 
 
 def whole_of_64(value: Any, where: str) -> int:
-    """The same, of at most 64 bits."""
+    """Returns a value as a whole number of at most 64 bits."""
     number = whole(value, where)
     if not -MOST <= number <= MOST:
         raise ValueError(f"{where}: {number} is beyond 64 bits")
@@ -87,7 +87,7 @@ def whole_of_64(value: Any, where: str) -> int:
 
 
 def whole_series(column: pd.Series, where: str, steps: npt.NDArray[np.int64]) -> Whole:
-    """A column's values as whole numbers, `UNKNOWN` where there is none."""
+    """Returns a column's values as whole numbers, `UNKNOWN` where there is none."""
     known = column.notna().to_numpy()
     found = np.full(len(column), UNKNOWN)
     if pd.api.types.is_integer_dtype(column.dtype):
@@ -120,7 +120,7 @@ def folded(slot: str, steps: npt.NDArray[np.int64], values: Whole) -> Iterator[R
 
 
 def steps_of_index(model: Model, index: pd.Index) -> npt.NDArray[np.int64]:
-    """The timesteps of a frame's rows, which are numbered or named by the moments at which they begin."""
+    """Returns the timesteps of a frame's rows, which are numbered or named by the moments at which they begin."""
     if isinstance(index, pd.PeriodIndex):
         index = index.to_timestamp()
     if pd.api.types.is_integer_dtype(index.dtype):
@@ -134,7 +134,7 @@ def steps_of_index(model: Model, index: pd.Index) -> npt.NDArray[np.int64]:
 
 
 def wide_rows(model: Model, frame: pd.DataFrame) -> Iterator[Row]:
-    """The rows of a frame with timesteps by rows and slots by columns; what isn't known has none."""
+    """Yields the rows of a frame with timesteps by rows and slots by columns; what is not known has none."""
     steps = steps_of_index(model, frame.index)
     for place, name in enumerate(frame.columns):
         slot = slot_name(name)
@@ -142,9 +142,9 @@ def wide_rows(model: Model, frame: pd.DataFrame) -> Iterator[Row]:
 
 
 def long_rows(model: Model, frame: pd.DataFrame, word: str) -> Batches:
-    """The rows by batch or trace of a frame in the form of the file: its name, slot, step or time, and value."""
+    """Returns the rows by batch or trace of a frame in the form of the file: its name, slot, step or time, and value."""
     if frame.shape[1] != 4:
-        raise ValueError(f"the frame has to have four columns: {word}, slot, step or time, and value")
+        raise ValueError(f"the frame must have four columns: {word}, slot, step or time, and value")
     found: Batches = {}
     for name, slot, time, value in frame.itertuples(index=False):
         first, last = steps_of(model, time)
@@ -167,10 +167,10 @@ def batches_of(model: Model, given: Any, word: str) -> Batches:
 
 
 def batches_text(batches: Iterable[list[Row]], word: str) -> str:
-    """The file of edits or traces that these rows make, numbered from 1 on."""
+    """Returns the file of edits or traces that these rows make, numbered from 1 on."""
     lines = []
     for number, rows in enumerate(batches, 1):
         if not rows:
-            raise ValueError(f"{word} {number} has no value, and a file can't have such a one")
+            raise ValueError(f"{word} {number} has no value, which a file cannot express")
         lines += [f"{number},{row.text}\n" for row in rows]
     return f"{word},slot,step,value\n" + "".join(lines)

@@ -1,8 +1,8 @@
-"""Searches: sweeps, samples, sensitivities, fronts and worst cases, over what a policy or its inputs may be.
+"""Searches: sweeps, samples, sensitivities, fronts and worst cases, over values of a policy or its inputs.
 
-Each point of a search is a trace over the inputs, 64 of which run at once by `mrm` with the requirements beside the policy; of
-each only what measures and requirements come to is kept. A `Study` keeps all points that were run in one file, so that a search
-that was broken off, and is begun again with its seed, goes on where it was.
+Each point of a search is a trace over the inputs. `mrm` runs 64 of them at once, with the policy and its requirements; of
+each only the values of measures and requirements are kept. A `Study` keeps all points that were run in one file, so that a
+search that was interrupted continues if it is started again with its seed.
 """
 
 from __future__ import annotations
@@ -50,19 +50,19 @@ ON_WORKERS = 200  # shares that wait for a client
 
 @dataclass
 class Task:
-    """What a worker needs to run points: the texts, and what is reckoned of each run."""
+    """The texts and measures that a worker needs to run points."""
 
     asking: Asking
     inputs: bytes
 
     @cached_property
     def files(self) -> Files:
-        """The files, which a worker writes once."""
+        """Returns the files, which a worker writes once."""
         return Files(self.asking.model_text, self.asking.code, Inputs(text=self.inputs))
 
     @cached_property
     def paths(self) -> list[str]:
-        """Their paths."""
+        """Returns their paths."""
         return self.files.paths
 
     def __getstate__(self) -> dict[str, Any]:
@@ -70,7 +70,7 @@ class Task:
 
 
 def run_rows(task: Task, rows: list[list[str]]) -> tuple[Numbers, list[str]]:
-    """What the runs of some points come to, and their faults."""
+    """Returns the values of the runs of some points, and their faults."""
     asking = task.asking
     steps = asking.calendar.steps
     margins = np.full((len(rows), asking.width, steps), UNKNOWN)
@@ -97,10 +97,10 @@ def run_rows(task: Task, rows: list[list[str]]) -> tuple[Numbers, list[str]]:
 
 
 class Study:
-    """Points that are run, and a file that keeps what each came to. `Stale` where the file is of another study.
+    """Runs points, and keeps the values of each in a file. Raises `Stale` if the file belongs to another study.
 
-    `space` has what is varied: ranges by slot, or a list of `Range` and `Percent`. `workers` is how many programs run side by
-    side; `client` is a dask client whose workers run them instead. `timeout` is in seconds for each call of the program.
+    `space` says what is varied: ranges by slot, or a list of `Range` and `Percent`. `workers` is the number of programs that run
+    at the same time; `client` is a dask client whose workers run them instead. `timeout` is in seconds for each call.
     """
 
     def __init__(
@@ -128,26 +128,26 @@ class Study:
 
     @property
     def names(self) -> list[str]:
-        """The names of what is varied."""
+        """Returns the names of what is varied."""
         return [knob.name for knob in self.knobs]
 
     @cached_property
     def columns(self) -> list[str]:
-        """What is reckoned of each run: measures, and of each requirement its slack, its failures and its verdict."""
+        """Returns the columns of each run: measures, and for each requirement its slack, its failures and its verdict."""
         return names_of(self.asking.beside)
 
     @property
     def low(self) -> Points:
-        """The least of each knob."""
+        """Returns the minimum of each knob."""
         return np.array([knob.low for knob in self.knobs])
 
     @property
     def high(self) -> Points:
-        """The greatest of each knob."""
+        """Returns the maximum of each knob."""
         return np.array([knob.high for knob in self.knobs])
 
     def digest(self) -> str:
-        """What the results go by."""
+        """Returns the digest to which the results belong."""
         asking, found = self.asking, hashlib.sha256(Path(self.asking.program).read_bytes())
         for text in (asking.beside.model, asking.beside.code.encode("latin-1"), self.task.inputs, asking.source.content):
             found.update(b"%d\0" % len(text) + text)
@@ -158,18 +158,18 @@ class Study:
     # ---- running
 
     def at(self, points: npt.ArrayLike) -> pd.DataFrame:
-        """What points come to, a row each: the knobs, the columns, and the fault. Each point is run once."""
+        """Returns a frame with a row for each point: the knobs, the columns, and the fault. Runs each point once."""
         asked = self.whole(points)
         held, faults = self.results(asked)
         return pd.concat([pd.DataFrame(asked, columns=self.names), frame_of(self.asking.beside, held, faults)], axis=1)
 
     def rows(self, point: Points) -> Iterator[Row]:
-        """The rows of a point's trace."""
+        """Yields the rows of a point's trace."""
         for knob, value in zip(self.knobs, point.tolist()):
             yield from knob.rows(value)
 
     def inputs(self, point: Sequence[int] | pd.Series) -> Inputs:
-        """The inputs of a point, to be looked at with `basin.run`, `basin.why` or `tools/report`."""
+        """Returns the inputs of a point, to be looked at with `basin.run`, `basin.why` or `tools/report`."""
         numbers = [point[name] for name in self.names] if isinstance(point, pd.Series) else point
         laid = LaidOver(self.asking.model, Inputs(text=self.task.inputs))
         return Inputs(text=laid.under(self.rows(self.whole([numbers])[0])))
@@ -185,7 +185,7 @@ class Study:
         return found
 
     def results(self, points: Points) -> tuple[Numbers, list[str]]:
-        """What points come to, and their faults, in their order."""
+        """Returns the values of points and their faults, in the order of the points."""
         keys = [point.tobytes() for point in points.astype("<i8")]
         known = self.store.known(keys)
         lacking = {key: point for key, point in zip(keys, points) if key not in known}
@@ -231,7 +231,7 @@ class Study:
             yield executor.submit, 2 * self.workers
 
     def ended(self, waiting: Mapping[Any, Any]) -> list[Any]:
-        """Those that are done, of which there is one at least."""
+        """Returns those that are done, of which there is one at least."""
         if self.client is not None:
             from distributed import wait as wait_for
 
@@ -257,28 +257,28 @@ class Study:
     # ---- samples
 
     def grid(self, count: int) -> Points:
-        """A grid with so many places in each direction."""
+        """Returns a grid of points with this number of places in each direction."""
         places = [np.unique(np.rint(np.linspace(knob.low, knob.high, count)).astype(np.int64)) for knob in self.knobs]
         return np.stack([axis.ravel() for axis in np.meshgrid(*places, indexing="ij")], axis=1)
 
     @property
     def size(self) -> int:
-        """How many points there are."""
+        """Returns how many points there are."""
         return math.prod(knob.high - knob.low + 1 for knob in self.knobs)
 
     def every(self) -> Points:
-        """Each point, where they are few."""
+        """Returns each point, where they are few."""
         axes = [np.arange(knob.low, knob.high + 1) for knob in self.knobs]
         return np.stack([axis.ravel() for axis in np.meshgrid(*axes, indexing="ij")], axis=1)
 
     def latin(self, count: int, seed: int) -> Points:
-        """A Latin hypercube of so many points."""
+        """Returns a Latin hypercube of this number of points."""
         from scipy.stats import qmc
 
         return self.placed(qmc.LatinHypercube(len(self.knobs), seed=seed).random(count))
 
     def sobol(self, count: int, seed: int) -> Points:
-        """So many points of a scrambled Sobol sequence, a power of two."""
+        """Returns this number of points, a power of two, of a scrambled Sobol sequence."""
         from scipy.stats import qmc
 
         return self.placed(qmc.Sobol(len(self.knobs), seed=seed).random(count))
@@ -291,17 +291,17 @@ class Study:
     # ---- searches
 
     def goal(self, frame: pd.DataFrame, of: str) -> Numbers:
-        """A column that is to be as small as can be; with a - in front, as great. A run that faults is the worst."""
+        """Returns the column to minimize; with a - in front, to maximize. A run that faults is the worst."""
         sign, name = (-1, of[1:]) if of.startswith("-") else (1, of)
         if name not in self.columns or name.endswith(".verdict"):
-            raise ValueError(f"{name} isn't reckoned here: {', '.join(self.columns)}")
+            raise ValueError(f"the study has no column {name}; it has {', '.join(self.columns)}")
         values = sign * frame[name].to_numpy(np.float64)
         return np.where((frame["fault"] != "") | np.isnan(values), np.inf, values)
 
     def sensitivity(self, of: str, count: int, seed: int, resamples: int = 200) -> pd.DataFrame:
-        """Sobol indices of a column by count x (knobs + 2) runs, by knob: `first` and `total`, with 90 % intervals.
+        """Returns Sobol indices of a column by count x (knobs + 2) runs, by knob: `first` and `total`, with 90 % intervals.
 
-        Of Saltelli's scheme with Jansen's estimators. `ValueError` where a run faults or isn't known.
+        Of Saltelli's scheme with Jansen's estimators. Raises `ValueError` where a run faults or is not known.
         """
         from scipy.stats import qmc
 
@@ -325,11 +325,11 @@ class Study:
         return pd.DataFrame(told, index=pd.Index(self.names, name="knob"))
 
     def least(self, of: str, runs: int, seed: int) -> pd.DataFrame:
-        """The points that were tried for the least of a column, the best first: scipy's differential evolution, or each point
+        """Returns the points that were tried for the minimum of a column, the best first: scipy's differential evolution, or each point
         where they are at most so many as runs.
 
         With a - in front of the column it is the greatest. The search for a requirement's worst case is that for the least of
-        its slack, which is below 0 where it isn't held.
+        its slack, which is below 0 where it is not held.
         """
         from scipy.optimize import differential_evolution
 
@@ -337,7 +337,7 @@ class Study:
         tried: list[pd.DataFrame] = []
 
         def cost(frame: pd.DataFrame) -> Numbers:
-            """The goal. Of a requirement with the same slack, that which fails more often is worse, and a fault is the worst."""
+            """Returns the goal. Of a requirement with the same slack, that which fails more often is worse, and a fault is the worst."""
             found = np.clip(self.goal(frame, of), -1e300, 1e300)
             if f"{of}.verdict" not in self.columns:
                 return found
@@ -369,9 +369,9 @@ class Study:
         return frame.iloc[order].reset_index(drop=True)
 
     def front(self, goals: Sequence[str], runs: int, seed: int, size: int = 64, held: Sequence[str] = ()) -> pd.DataFrame:
-        """The points of which no other that was tried is better in all goals: NSGA-II of deap.
+        """Returns the points of which no other that was tried is better in all goals: NSGA-II of deap.
 
-        `held` are requirements that have to be held: a point that doesn't hold one is worse than all that do, the more so the
+        `held` are requirements that must be held: a point that does not hold one is worse than all that do, the more so the
         more often it fails.
         """
         size -= size % 4
@@ -393,7 +393,7 @@ class Study:
         return frame[best].sort_values([*(goal.removeprefix("-") for goal in goals), *self.names]).reset_index(drop=True)
 
     def _goals(self, frame: pd.DataFrame, goals: Sequence[str], held: Sequence[str]) -> Numbers:
-        """The goals of points by columns; of a point that doesn't hold what is to be held, how far off it is."""
+        """Returns the goals of points by columns; of a point that does not hold what is to be held, how far off it is."""
         found = np.stack([self.goal(frame, goal) for goal in goals], axis=1)
         for one in held:
             is_held = frame[f"{one}.verdict"].isin([HELD, NEVER]).to_numpy()

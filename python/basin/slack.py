@@ -1,8 +1,8 @@
-"""By how much a requirement is held, over many runs at once: below 0 where it isn't.
+"""The slack of requirements, over many runs at once: the margin by which one is held, below 0 where it is not.
 
-Of a clause that is the margin which decides it: of `FAILS AT MOST 3` the fourth least one, of `IN A ROW` the least of what is
-greatest in four that follow one another. It is what a search for the worst goes by, also where nothing fails yet. `counting.py`
-has the same verdicts by counting.
+The slack of a clause is the margin that decides it: for `FAILS AT MOST 3` the fourth smallest one, for `IN A ROW` the smallest
+of the largest margins in each four consecutive timesteps. A search for the worst case follows it, also where nothing fails yet.
+`counting.py` gives the same verdicts by counting.
 """
 
 from __future__ import annotations
@@ -26,7 +26,7 @@ AT_ONCE = 1 << 22  # values of windows that are held
 
 
 def slack_of(one: Requirement, margins: Whole, calendar: Calendar, unknown: float) -> Slack:
-    """The slack of each run, of margins by run and timestep. What isn't known counts as `unknown`: inf or -inf."""
+    """Returns the slack of each run, of margins by run and timestep. What is not known counts as `unknown`: inf or -inf."""
     values = margins.astype(np.float64)
     values[margins == UNKNOWN] = unknown
     asked = margins != NOT_ASKED
@@ -44,7 +44,7 @@ def slack_of(one: Requirement, margins: Whole, calendar: Calendar, unknown: floa
 
 
 def of_share(clause: Share, values: Slack, asked: npt.NDArray[np.bool_]) -> Slack:
-    """The least margin that has to be at least 0, so that the share is reached."""
+    """Returns the smallest margin that must be at least 0 for the share to be reached."""
     count = asked.sum(axis=1)
     percent = clause.percent
     wanted = -(-count * percent.numerator // (100 * percent.denominator))  # rounded up
@@ -55,7 +55,7 @@ def of_share(clause: Share, values: Slack, asked: npt.NDArray[np.bool_]) -> Slac
 
 
 def of_most(clause: Most, values: Slack) -> Slack:
-    """The margin by which so many fail, or none more."""
+    """Returns the margin by which this number of timesteps fail, or no more."""
     runs, periods = values.shape
     if clause.count >= periods:
         return np.full(runs, np.inf)
@@ -78,14 +78,14 @@ def of_most(clause: Most, values: Slack) -> Slack:
 
 
 def names_of(beside: Beside) -> list[str]:
-    """The names of what is reckoned of a run: of a measure its value, of a requirement its slack, failures and verdict."""
+    """Returns the names of a run's columns: the value of a measure, and slack, failures and verdict of a requirement."""
     items = [asked.item for asked in beside.asked]
     names = ([one.name] if one.how else [one.name, f"{one.name}.failed", f"{one.name}.verdict"] for one in items)
     return [name for some in names for name in some]
 
 
 def columns_of(beside: Beside, calendar: Calendar, margins: Whole, faults: npt.NDArray[np.bool_]) -> Slack:
-    """What runs come to, of margins by run, item and timestep; `faults` are the runs that ended in one."""
+    """Returns the values of runs, from margins by run, item and timestep; `faults` are the runs that ended in one."""
     columns: list[npt.NDArray[Any]] = []
     for place, asked in enumerate(beside.asked):
         held, one = margins[:, place], asked.item
@@ -102,7 +102,7 @@ def columns_of(beside: Beside, calendar: Calendar, margins: Whole, faults: npt.N
 
 
 def measured(one: Requirement, values: Whole) -> Slack:
-    """What a measure comes to, NaN where a timestep isn't known."""
+    """Returns the value of a measure, NaN where a timestep is not known."""
     known = (values != UNKNOWN).all(axis=1)
     asked = values != NOT_ASKED
     if one.how in ("SUM", "MEAN"):
@@ -119,7 +119,7 @@ def measured(one: Requirement, values: Whole) -> Slack:
 
 
 def frame_of(beside: Beside, values: Slack, faults: list[str]) -> pd.DataFrame:
-    """The frame of what runs come to."""
+    """Returns the frame of the values of runs."""
     frame = pd.DataFrame(values, columns=names_of(beside))
     for name in frame.columns:
         if name.endswith(".verdict"):

@@ -1,4 +1,4 @@
-"""Slurm's scripts for an ensemble: an array of tasks, and the merge behind it."""
+"""Slurm's scripts for an ensemble: an array of tasks, and the merge after it."""
 
 from __future__ import annotations
 
@@ -37,7 +37,7 @@ def slurm(plan: Plan, *, tasks: int | None = None, memory: int = 2_000) -> tuple
     """
     folder = str(plan.folder)
     if not PLAIN_PATH.fullmatch(folder):
-        raise ValueError("Slurm's scripts want a folder with letters, digits and _./+=@,- alone in its path")
+        raise ValueError("Slurm's scripts need a folder whose path has only letters, digits and _./+=@,-")
     count = max(1, min(plan.parts, tasks or MOST_TASKS, MOST_TASKS))
     array, last = plan.folder / "array.sh", plan.folder / "merge.sh"
     words = {"folder": folder, "python": shlex.quote(sys.executable), "path": found_by()}

@@ -31,7 +31,7 @@ class Block:
 
 
 def share_of(percent: Percent) -> Fraction:
-    """A percentage as a part of 1, exactly as it is written."""
+    """Returns a percentage as a part of 1, exactly as it is written."""
     share = Fraction(str(percent)) / 100
     if not 0 <= share <= 1:
         raise ValueError(f"a percentile is from 0 to 100, and not {percent}")
@@ -39,16 +39,16 @@ def share_of(percent: Percent) -> Fraction:
 
 
 def rank_of(known: Any, percent: Percent) -> Any:
-    """Which of so many known values in order, from 1 on, is the percentile: the least with enough at most it.
+    """Returns the rank, from 1 on, of the percentile among known values in order: the smallest with enough values up to it.
 
-    By whole numbers: 28 of 100 times 25 values is 7 and not a little more.
+    Computed with whole numbers: 28 of 100 times 25 values is exactly 7.
     """
     share = share_of(percent)
     return np.maximum(-(-known * share.numerator // share.denominator), 1)
 
 
 def percentile(ordered: Whole, known: npt.NDArray[np.int64], percent: Percent) -> Whole:
-    """Of columns in order, what isn't known first: the least value that so many percent of the known are at most."""
+    """Returns, of sorted columns with unknown values first, the smallest value that this percentage of the known values do not exceed."""
     if not len(ordered):
         return np.full(len(known), UNKNOWN)
     place = np.clip(len(ordered) - known + rank_of(known, percent) - 1, 0, len(ordered) - 1)
@@ -124,7 +124,7 @@ def blocks(slots: list[str], steps: int, traces: int, room: int) -> Iterator[Blo
 
 
 def values_in(plan: Plan, block: Block, settled: list[npt.NDArray[np.bool_]], count: int) -> Whole:
-    """The values of a block by slot, settled trace and timestep. Each part is opened, read and closed again."""
+    """Returns the values of a block by slot, settled trace and timestep. Each part is opened, read and closed again."""
     held = np.empty((len(block.slots), count, block.steps.stop - block.steps.start), np.int64)
     before = 0
     for (_, path), some in zip(each_part(plan), settled):

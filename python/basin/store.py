@@ -1,4 +1,4 @@
-"""The file of a study: what each of its points came to."""
+"""The file of a study, with the values of each of its points."""
 
 from __future__ import annotations
 
@@ -16,7 +16,7 @@ FEW = 500  # keys of one look into the file
 
 
 class Store:
-    """A file that keeps what points came to: SQLite's, which holds all of a write or nothing."""
+    """An SQLite file that keeps the values of points, all of a write or nothing."""
 
     def __init__(self, path: PathLike, digest: str, columns: int) -> None:
         self.file = sqlite3.connect(path)
@@ -28,10 +28,10 @@ class Store:
             if not held:
                 self.file.execute("INSERT INTO study VALUES (?)", (digest,))
         if held and held != [(digest,)]:
-            raise Stale(f"{path} holds another study: take another file, or remove it")
+            raise Stale(f"{path} has another study: use another file, or remove it")
 
     def known(self, keys: list[bytes]) -> dict[bytes, tuple[Numbers, str]]:
-        """What is kept of these points."""
+        """Returns what is kept of these points."""
         found: dict[bytes, tuple[Numbers, str]] = {}
         for begin in range(0, len(keys), FEW):
             some = keys[begin : begin + FEW]
@@ -41,7 +41,7 @@ class Store:
         return found
 
     def keep(self, new: Mapping[bytes, tuple[Numbers, str]]) -> None:
-        """Keeps what points came to, all of them or none."""
+        """Keeps the values of points, all of them or none."""
         rows = [(key, values.astype("<f8").tobytes(), fault) for key, (values, fault) in new.items()]
         with self.file:
             self.file.executemany("INSERT OR IGNORE INTO runs VALUES (?, ?, ?)", rows)

@@ -51,11 +51,11 @@ class Section:
 
     @property
     def columns(self) -> list[str]:
-        """The slots of the table."""
+        """Returns the slots of the table."""
         return self.header.decode().split(",")[BESIDE_CELLS:]
 
     def take(self, chapter: bytearray) -> None:
-        """Takes one of its chapters: the table stands behind its own heading, or behind that of what was run again."""
+        """Reads one of its chapters: the table is after its own heading, or after that of the timesteps that were rerun."""
         begin = chapter.index(b"\n") + 1
         heading = bytes(chapter[:begin])
         if heading == b"# flags\n":
@@ -70,16 +70,16 @@ class Section:
 
 
 def table_in(chapter: bytearray) -> tuple[bytes, Text]:
-    """The header and the rows of a chapter's table."""
+    """Returns the header and the rows of a chapter's table."""
     begin = chapter.index(b"\n") + 1
     end = chapter.index(b"\n", begin)
     return bytes(chapter[begin:end]), np.frombuffer(chapter, np.uint8)[end + 1 :]
 
 
 def chapters(stream: Readable, last: bytes = b"") -> Iterator[bytearray]:
-    """What stands from a line that begins with # up to the next one, of which one alone is held.
+    """Yields the text from each line that begins with # up to the next one, and holds only one at a time.
 
-    A row that begins with `last` ends its chapter, too, so that nothing behind it is waited for.
+    A row that begins with `last` also ends its chapter, so that the reader does not wait for more.
     """
     held = bytearray(ROOM)
     begin = end = 0
@@ -98,13 +98,13 @@ def chapters(stream: Readable, last: bytes = b"") -> Iterator[bytearray]:
 
 
 def read_behind(held: bytearray, end: int, stream: Readable) -> int:
-    """Reads behind what is held already."""
+    """Reads more, after the text that is held already."""
     with memoryview(held) as room, room[end:] as behind:
         return stream.readinto(behind) or 0
 
 
 def end_of_chapter(held: bytearray, begin: int, seen: int, end: int, last: bytes) -> int:
-    """Where the chapter ends that begins there, or 0; so far it was seen before. No line has a # but in front."""
+    """Returns where the chapter ends that begins there, or 0; so far it was seen before. No line has a # but in front."""
     stop = held.find(b"#", max(begin + 1, seen), end)
     if stop > 0:
         return stop
@@ -113,7 +113,7 @@ def end_of_chapter(held: bytearray, begin: int, seen: int, end: int, last: bytes
 
 
 def section_of(chapter: bytearray) -> Section | None:
-    """The section that a chapter begins, or `None` where it begins none."""
+    """Returns the section that a chapter begins, or `None` where it begins none."""
     found = HEADING.match(chapter)
     if not found:
         return None
@@ -123,7 +123,7 @@ def section_of(chapter: bytearray) -> Section | None:
 
 
 def sections(told: Iterable[bytearray]) -> Iterator[Section]:
-    """The sections that chapters make, of which one alone is held."""
+    """Yields the sections that chapters make, of which one alone is held."""
     now: Section | None = None
     for chapter in told:
         if begun := section_of(chapter):
@@ -137,9 +137,9 @@ def sections(told: Iterable[bytearray]) -> Iterator[Section]:
 
 
 def numbers(rows: Text, picks: Sequence[int]) -> Whole:
-    """The values of the picked columns of rows, by timestep and column; `UNKNOWN` where nothing stands.
+    """Returns the values of the picked columns of rows, by timestep and column; `UNKNOWN` where a cell is empty.
 
-    Of each row only the front is gone through, up to the last of these columns: about as far as in the first row.
+    Of each row only the beginning is read, up to the last of these columns: about as far as in the first row.
     """
     if len(rows) and rows[-1] != LINE_FEED:
         raise ValueError("the last row is cut")
@@ -164,8 +164,8 @@ def numbers(rows: Text, picks: Sequence[int]) -> Whole:
 def cells_of(
     rows: Text, begins: Places, ends: Places, width: int, wanted: Places
 ) -> tuple[Text, Places, Places] | None:
-    """A text, and where in it the wanted cells begin and end, by column and row: of each row the front, of so many
-    bytes. `None` where one is too short."""
+    """Returns a text, and where the cells begin and end in it, by column and row: of each row the beginning, of this number of
+    bytes. `None` if one is too short."""
     starts = np.minimum(begins, len(rows) - width)
     windows: Text = np.ndarray((len(rows) - width + 1, width), np.uint8, rows, strides=(1, 1))  # one from each byte on
     fronts = windows[starts]
@@ -182,7 +182,7 @@ def cells_of(
 
 
 def whole_numbers(text: Text, begins: Places, ends: Places) -> Whole:
-    """The numbers that stand between places of a text, `UNKNOWN` where nothing does."""
+    """Returns the numbers between places of a text, `UNKNOWN` where there is none."""
     minus = text[begins] == MINUS
     size = ends - begins - minus
     padded = np.concatenate([np.zeros(AT_ONCE, np.uint8), text])
@@ -197,7 +197,7 @@ def whole_numbers(text: Text, begins: Places, ends: Places) -> Whole:
 
 
 def last_digits(words: Words, size: Places) -> Whole:
-    """The numbers that the last bytes of words spell, so many of them, or all where a number is longer.
+    """Returns the numbers that the last bytes of words spell: this number of bytes, or all where a number is longer.
 
     All digits of a word at once: each pair of neighbours becomes one number, which becomes one of the next pair.
     """
@@ -208,7 +208,7 @@ def last_digits(words: Words, size: Places) -> Whole:
 
 
 def as_floats(values: Whole) -> npt.NDArray[np.float64]:
-    """float64 with NaN for what isn't known. `OverflowError` where a value wouldn't be exact."""
+    """float64 with NaN for what is not known. Raises `OverflowError` where a value would not be exact."""
     if not is_exact(values):
         raise OverflowError('a value beyond 2^53 isn\'t exact as float64: ask for numbers="Int64"')
     floats = values.astype(np.float64)
@@ -217,5 +217,5 @@ def as_floats(values: Whole) -> npt.NDArray[np.float64]:
 
 
 def is_exact(values: Whole) -> bool:
-    """Whether float64 has each known value. `UNKNOWN` is its own absolute value, and below all."""
+    """Returns whether float64 has each known value. `UNKNOWN` is its own absolute value, and below all."""
     return bool((np.abs(values) <= EXACT).all())

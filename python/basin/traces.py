@@ -49,7 +49,7 @@ class Rows:
     rows: list[list[Row]]
 
     def store(self, folder: Path, parts: list[slice]) -> Iterator[bytes]:
-        """A text a part, in the form of the program's file of traces."""
+        """Yields a text a part, in the form of the program's file of traces."""
         (folder / "traces").mkdir()
         for number, some in enumerate(parts):
             text = batches_text(self.rows[some], "trace").encode()
@@ -86,11 +86,11 @@ class Series:
                     yield slot.encode() + steps.tobytes() + values.tobytes()
 
     def is_series(self, name: Any) -> bool:
-        """Whether a variable goes by trace and time."""
+        """Returns whether a variable has the dimensions trace and time."""
         return set(self.data[name].dims) == {"trace", "time"}
 
     def checked(self, name: Any) -> str:
-        """The slot of that name, in its base unit and not packed."""
+        """Returns the slot of that name, in its base unit and not packed."""
         slot = slot_name(name)
         attributes = self.data[slot].attrs
         unit = self.model.unit(slot)
@@ -104,7 +104,7 @@ class Series:
         return slot
 
     def values(self, slot: str, some: slice, steps: npt.NDArray[np.int64]) -> Whole:
-        """The whole numbers of some traces."""
+        """Returns the whole numbers of some traces."""
         held = self.data[slot].transpose("trace", "time")[some].load()
         lacking = np.zeros(held.shape, bool)
         for word in FILLS:
@@ -135,7 +135,7 @@ def traces_of(model: Model, given: Any) -> Iterator[Traces]:
 
 
 def series_of(model: Model, data: xarray.Dataset) -> Series:
-    """The series of a Dataset, by the names of its traces, or by number where they have none."""
+    """Returns the series of a Dataset, by the names of its traces, or by number where they have none."""
     if not {"trace", "time"} <= set(data.dims):
         raise ValueError("traces have the dimensions trace and time")
     count = data.sizes["trace"]
@@ -146,12 +146,12 @@ def series_of(model: Model, data: xarray.Dataset) -> Series:
 
 
 def rows_path(folder: Path, number: int) -> Path:
-    """Where the rows of a part stand."""
+    """Returns where the rows of a part are."""
     return folder / f"traces/{number:05}.csv"
 
 
 def stored_rows(folder: Path, number: int, first: int, count: int) -> list[list[Row]]:
-    """The rows of each trace of a part, of which `first` traces stand before."""
+    """Returns the rows of each trace of a part, after the `first` traces before it."""
     if (folder / SERIES).exists():
         return series_rows(folder / SERIES, slice(first, first + count))
     found: list[list[Row]] = [[] for _ in range(count)]
@@ -164,7 +164,7 @@ def stored_rows(folder: Path, number: int, first: int, count: int) -> list[list[
 
 
 def series_rows(path: Path, some: slice) -> list[list[Row]]:
-    """The rows of some traces of the file of series."""
+    """Returns the rows of some traces of the file of series."""
     found: list[list[Row]] = [[] for _ in range(some.stop - some.start)]
     with opened(path) as data:
         steps = data["step"][:]

@@ -254,7 +254,7 @@ def test_mrm_with_a_fault() -> None:
     given = inputs(f"{NOTHING}Dam.Outflow,1,0\n")
     frames = {f"{k}": pd.DataFrame({"Dam.Inflow": [k]}, index=[1]) for k in (10, 30, 20)}
     frames["dry"] = pd.DataFrame({"Dam.Inflow": [20], "Dam.Outflow": [1100]}, index=[1])
-    with pytest.warns(basin.FaultedTraces, match="^1 of 4 traces ended in a fault, and no statistic counts them: dry$"):
+    with pytest.warns(basin.FaultedTraces, match="^1 of 4 traces ended in a fault, and no statistic includes them: dry$"):
         many = basin.mrm(one_day, policy(""), given, frames)
     assert many.faulted == ["dry"]
     assert [answer.name for answer in many.answers] == ["10", "30", "20", "dry"]

@@ -99,7 +99,7 @@ def test_a_program_is_left_where_all_traces_are_told(tmp_path: Path, last: str) 
 @pytest.mark.parametrize(
     "cut, ending, why",
     [
-        (0, "exit 0", "told nothing of 1 of 3 traces"),
+        (0, "exit 0", "wrote nothing for 1 of 3 traces"),
         (0, "kill -9 $$", "ended by signal 9"),
         (5, "kill -9 $$", "ended by signal 9"),  # within a row, of which nobody sees the half
         (0, "echo basin: want of memory >&2; exit 5", "want of memory"),
@@ -118,7 +118,7 @@ def test_a_program_that_tells_too_little(tmp_path: Path, cut: int, ending: str, 
 def test_a_program_with_other_columns(tmp_path: Path) -> None:
     text = written((1, "settled")).replace("Dam.Inflow,Dam.Outflow", "Dam.Outflow,Dam.Inflow")
     told = planned(tmp_path / "a", inflows(1), way="mrm", program=telling(tmp_path, text, "exit 0"))
-    with pytest.raises(basin.Error, match="columns aren't the slots"):
+    with pytest.raises(basin.Error, match="columns of the program are not the slots"):
         ensemble.execute(told, workers=0)
 
 
@@ -384,7 +384,7 @@ def test_faults_and_refusals_by_name(tmp_path: Path, way: str) -> None:
         "twice": {"reason": "twice", "row": "Below.GageInflow,3,1"},
     }
     ensemble.merge(told, [50])
-    with pytest.warns(ensemble.FaultedTraces, match="^1 of 7 traces ended in a fault, and no statistic counts them: dry$"):
+    with pytest.warns(ensemble.FaultedTraces, match="^1 of 7 traces ended in a fault, and no statistic includes them: dry$"):
         found = ensemble.statistics(told)
     assert [found.attrs[word] for word in ("traces", "settled", "faulted", "refused")] == [8 - 1, 2, 1, 4]
     assert list(found["faulted"].values) == ["dry"] and sorted(found["refused"].values) == ["below", "late", "other", "twice"]

@@ -101,7 +101,7 @@ def test_a_fault_is_never_held() -> None:
 def test_what_is_refused() -> None:
     for text, says in (
         ('REQUIRE "a": Dam.Outflow[t] > 3;', "line 1, column 14 .\"a\".: .* both sides of > must measure the same quantity"),
-        ('REQUIRE "a": Dam.Outflow[t];', "what is required has to be a truth value"),
+        ('REQUIRE "a": Dam.Outflow[t];', "what is required must be a truth value"),
         ('REQUIRE "a" HOLDS 101 %: Dam.Outflow[t] > 3 "m3/step";', "at most 100 %"),
         ('REQUIRE "a": 1 / (Dam.Outflow[t] - 4 "m3/step") = 0 "m3/step";', "wrong|measure"),
         ('REQUIRE "a": 1 "m3/step" / (Dam.Outflow[t] - 4 "m3/step") = 0;', "itself ended run 0: division by zero"),

@@ -185,9 +185,9 @@ def test_timesteps_of_frames() -> None:
         frame = pd.DataFrame({"Dam.Inflow": [5, 6]}, index=pd.Index(index))
         assert [row.text for row in wide_rows(model(), frame)] == wanted
     for odd in (1.5, np.nan, None, pd.NaT, "soon", True):
-        with pytest.raises(ValueError, match="no timestep"):
+        with pytest.raises(ValueError, match="no timestep begins|neither a timestep nor a moment"):
             list(wide_rows(model(), pd.DataFrame({"Dam.Inflow": [5, 6]}, index=pd.Index([1, odd], dtype=object))))
-    with pytest.raises(ValueError, match="no timestep"):
+    with pytest.raises(ValueError, match="no timestep begins|neither a timestep nor a moment"):
         list(wide_rows(model(), pd.DataFrame({"Dam.Inflow": [5, 6]}, index=[1, 1.5])))
 
 
@@ -201,16 +201,16 @@ def test_no_trace_is_lost_for_its_name() -> None:
     "name", ["Dam", "Dam.Inflow,1,5\nDam.Outflow", '=1+1"', "Dam.In flow", 5, "Dam.\x1b[31m"]
 )
 def test_a_heading_that_is_no_slot_reaches_no_file(name: object) -> None:
-    with pytest.raises(ValueError, match="is no slot") as told:
+    with pytest.raises(ValueError, match="is not a slot") as told:
         list(wide_rows(model(), pd.DataFrame({name: [1]}, index=[1])))
     assert "\x1b" not in str(told.value) and "\n" not in str(told.value)
-    with pytest.raises(ValueError, match="is no slot"):
+    with pytest.raises(ValueError, match="is not a slot"):
         long_rows(model(), pd.DataFrame([("a", name, 1, 1)]), "trace")
 
 
 @pytest.mark.parametrize("time", ["2019-12-31", "2020-01-01T01:00", "2020-01-01T00:00+01:00", "soon"])
 def test_moments_at_which_no_timestep_begins(time: str) -> None:
-    with pytest.raises(ValueError, match="no timestep"):
+    with pytest.raises(ValueError, match="no timestep begins|neither a timestep nor a moment"):
         long_rows(model(), pd.DataFrame([("a", "Dam.Inflow", time, 1)]), "trace")
 
 

@@ -188,7 +188,7 @@ def of_cells(browser: Browser, shown: Shown) -> Iterator[Outcome]:
     browser.choose("run", 0)
 
 
-FATES = {"written": "set", "kept": "stood there already", "denied": "was denied", "again": "again in the same firing"}
+FATES = {"written": "set", "kept": "was there already", "denied": "was denied", "again": "again in the same firing"}
 
 
 def of_reasons(browser: Browser, shown: Shown) -> Iterator[Outcome]:
@@ -363,7 +363,7 @@ def of_denials(folder: Path) -> Iterator[Outcome]:
         told = [one.text.split(". It looked at")[0].replace("\n", " ") for one in browser.all("#why > ol > li")]
         wanted = ['rule 3 "pass on" set 50 m3/step (R3)', 'rule 2 "least" set 50 m3/step (R2), which holds']
         if is_asked:
-            wanted.append('rule 3 "pass on" wanted 100 m3/step (R3) and was denied: 50 of rule 2 "least" (R2) is held')
+            wanted.append('rule 3 "pass on" asked for 100 m3/step (R3) and was denied: the cell has 50 of rule 2 "least" (R2)')
         yield "denials: why", None if told == wanted else f"{told}"
         note = "no --asked" in browser.text("#why")
         yield "denials: note", None if note != is_asked else "says nothing of --asked, or too much"
@@ -371,7 +371,7 @@ def of_denials(folder: Path) -> Iterator[Outcome]:
         shown = browser.text("#why h2")
         yield "denials: a timestep that is no whole number", None if shown == "Why Lower.Outflow is 50 m3/step" else shown
         found = browser.text("#effects")
-        yield "denials: effects", None if "so what it put later was denied, in 3 timesteps" in found else found
+        yield "denials: effects", None if "so its later values were denied, in 3 timesteps" in found else found
 
 
 def of_hostile(folder: Path) -> Iterator[Outcome]:
@@ -450,7 +450,7 @@ def of_long(folder: Path, pictures: Path | None) -> Iterator[Outcome]:
         taken = least_opened(browser, page, 12)
         yield f"long: opens in {taken:.1f} s", None if taken <= QUICK else "too slow"
         told = browser.text("#why")
-        yield "long: what is left out is said", None if "Who put what is told here" in told or "set" in told else told
+        yield "long: what is left out is said", None if "The page says who set each value" in told or "set" in told else told
         began = monotonic()
         browser.choose("search", "River20")
         taken = monotonic() - began

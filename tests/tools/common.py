@@ -52,7 +52,7 @@ TOLD = (
     (0, ("plot", "table.csv", "Lower.*", "--unit", "Mm3", "--text"), ("set ylabel \"storage [Mm3]\"", "set ylabel \"flow [Mm3/step]\"")),
     (0, ("inputs", "bare.csv", "--model", "model.toml", "--unit", "Mm3", "--unit", "m3/s"), ("Upper.Storage,1,20000000000",)),
     (2, ("inputs", "bare.csv", "--unit", "m3/s"), ("inputs: --unit needs --model, since the length of a timestep is not known",)),
-    (2, ("plot", "table.csv", "--unit", "furlong"), ("plot: [furlong] is no unit that this tool knows",)),
+    (2, ("plot", "table.csv", "--unit", "furlong"), ("plot: this tool does not know the unit [furlong]",)),
     (2, ("table", "table.csv", "--model", "model.toml", "--from", "2031"), ("table: 2031 is not a date: write 2021-06-01 or 2021-06",)),
     (2, ("table", "table.csv", "--model", "model.toml", "--from", "2031-01"), ("table: the period has no timestep",)),
     (2, ("rules", "model.toml", "policy.rpl", "--policy", "policy.rpl"), ("rules: unrecognized arguments: policy.rpl (--help lists the arguments)",)),

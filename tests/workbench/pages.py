@@ -284,7 +284,7 @@ def of_models(browser: Browser, bench: Bench) -> Iterator[Outcome]:
     field = browser.one("#form [name=initial_storage]")
     after(browser, lambda: field.send_keys(Keys.CONTROL + "a" + Keys.NULL, "-1" + Keys.TAB), is_refused=True)
     told = browser.said("#modelfindings", "initial_storage", PATIENCE)
-    yield "a wrong key", None if "has to be a whole number from 0" in told else told
+    yield "a wrong key", None if "must be a whole number from 0" in told else told
     after(browser, lambda: browser.one("#undo").click())
     browser.one("#rename").click()
     browser.one("#dialog input").send_keys(Keys.CONTROL + "a" + Keys.NULL, "Town")

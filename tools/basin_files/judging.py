@@ -471,7 +471,7 @@ class ModelReader:
         """Notes what is wrong with the finished basin."""
         model = self.model
         if self.table.get("object") == []:
-            self.bad_parameter("basin", "a model has at least one object.")
+            self.bad_parameter("basin", "a model must have an object.")
         steps = model.timesteps.count if model.timesteps else 0
         if len(model.slots) * steps > formats.MOST_VALUES:
             self.find(

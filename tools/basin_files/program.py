@@ -167,7 +167,7 @@ def good_model(path: str | Path) -> Model:
         model = read_model(bytes_of(path))
     except ValueError as error:
         raise Unable(
-            f"{plain(str(path))} is no TOML: {plain(str(error))} (for more: tools/doctor {plain(str(path), LONG)})"
+            f"{plain(str(path))} is not TOML: {plain(str(error))} (for more: tools/doctor {plain(str(path), LONG)})"
         ) from None
     if model.findings:
         finding = model.findings[0]

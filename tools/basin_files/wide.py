@@ -197,7 +197,7 @@ def unknown_unit(unit: str) -> str:
     amounts = ", ".join(word for word in formats.AMOUNTS if word)
     times = ", ".join(f"/{time}" for time in (*formats.SECONDS, "step"))
     return (
-        f"[{unit}] is no unit that this tool knows; it knows {amounts}, a flow or a rate with {times} behind"
+        f"this tool does not know the unit [{unit}]. It knows {amounts}, a flow or a rate with {times} after it"
         f" (/month in a model of months), and {' and '.join(formats.RATES)}"
     )
 

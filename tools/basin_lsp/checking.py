@@ -15,7 +15,7 @@ from .reading import read
 FAULT, WARNING, TOLD, HINT = 1, 2, 3, 4
 MOST = 200  # diagnostics of a text
 LONGEST = 4_000  # letters of a message
-NO_MODEL = "no model beside this file, or something is wrong with it: names, units and costs aren't judged"
+NO_MODEL = "there is no model next to this file, or it has an error: names, units and costs are not checked"
 UNNEEDED = 1  # a tag of the protocol
 
 

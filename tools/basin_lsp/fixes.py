@@ -153,7 +153,7 @@ def of_grammar(document, model, finding):
 
     if hint.startswith("no `;`") and here:
         yield "leave the ; out", [(before.end if before and not text[before.end : here.begin].strip() else here.begin, here.end, "")]
-    if hint.startswith("a `;` behind") and before:
+    if hint.startswith("a `;` after") and before:
         yield "put a ; here", [(before.end, before.end, ";")]
     if hint.startswith("a `:` before it") and before:
         yield "put a : here", [(before.end, before.end, ":")]

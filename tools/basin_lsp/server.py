@@ -110,7 +110,7 @@ class Server:
             raise Failed(INVALID_REQUEST, "this server is shut down")
         act = ASKED.get(method)
         if not act:
-            raise Failed(METHOD_NOT_FOUND, f"{plain(str(method))} isn't known here")
+            raise Failed(METHOD_NOT_FOUND, f"{plain(str(method))} is not known here")
         return act(self, params)
 
     def is_cancelled(self):
@@ -197,7 +197,7 @@ class Server:
         """The open text of a request."""
         uri = params["textDocument"]["uri"]
         if uri not in self.documents:
-            raise Failed(INVALID_PARAMS, "the text isn't open")
+            raise Failed(INVALID_PARAMS, "the text is not open")
         return self.documents[uri]
 
     def is_model(self, document):
@@ -467,7 +467,7 @@ class Server:
         """Whether a name can be another one."""
         document, use, model = self.key_at(params)
         if not use or use.sort not in renaming.RENAMED or use.key == ("local", -1):
-            raise Failed(REQUEST_FAILED, "no name stands here that can be another one")
+            raise Failed(REQUEST_FAILED, "there is no name here that can be renamed")
         if use.sort == "slot":
             if not model:
                 raise Failed(REQUEST_FAILED, "there is no model in which the slot is made")

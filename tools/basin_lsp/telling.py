@@ -13,7 +13,7 @@ from .names import uses_of
 FORMS = {
     "KNOWN": "`KNOWN(s[d])`: whether the slot s has a value at d",
     "LENGTH": "`LENGTH(l)`: how many items a list has",
-    "APPEND": "`APPEND(l, e)`: a list with e behind it",
+    "APPEND": "`APPEND(l, e)`: the list with e added at its end",
     "ITEM": "`ITEM(l, i)`: the i-th item of a list, from 1 on",
     "MONTH": "`MONTH(d)`: the month in which the timestep begins, a plain number",
     "DAY": "`DAY(d)`: the day on which the timestep begins, a plain number",
@@ -23,8 +23,8 @@ FORMS = {
     "t": "`t`: the date of this timestep; others are `t - 1 \"step\"`",
     "FOR": "`FOR x IN l WITH a := e DO b ENDFOR`: a is e first, and for each item x of l it becomes b",
     "MAP": "`MAP x IN l DO b ENDMAP`: the list of the numbers b, one for each item x",
-    "LET": "`LET name := e IN x ENDLET`: x, where the name stands for e",
-    "WITH": "`WITH name := e DO .. ENDWITH`: reckons e once, for the statements in it",
+    "LET": "`LET name := e IN x ENDLET`: x, in which the name means e",
+    "WITH": "`WITH name := e DO .. ENDWITH`: computes e once, for the statements in it",
     "IF": "`IF c THEN .. ELSE .. ENDIF`: statements, or within an expression a value, with an ELSE then",
 }
 FUNCTIONS = {
@@ -164,7 +164,7 @@ def of_declaration(document, reading, model, declaration):
     cost = (
         f"At most {budget.instructions:,} instructions, {budget.reads:,} reads, {budget.puts:,} puts, {budget.words:,} words."
         if budget
-        else "What it costs isn't known while something is wrong."
+        else "Its cost is not known while there is an error."
     )
     if not declaration.is_rule:
         text = document.source.content[declaration.head.begin : declaration.head.end].decode("utf-8", "replace")

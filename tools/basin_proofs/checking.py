@@ -46,7 +46,7 @@ def unable(why: str) -> NoReturn:
 def toolchain() -> tuple[Path, ModuleType]:
     """The folder of the toolchain, and its module on crates."""
     if not shutil.which("rt"):
-        unable("it wants the toolchain, whose command rt isn't there")
+        unable("it needs the toolchain, whose command rt is missing")
     page = subprocess.run(["rt", "doc"], capture_output=True, text=True, check=True).stdout
     kit = Path(page.strip()).parent
     sys.path.insert(0, str(kit / "bin"))

@@ -32,7 +32,7 @@ class Needs:
         """All of it in sentences."""
         runs, lacks = self.debians(True), self.debians(False)
         return (
-            f"Linux on x86-64. Shared libraries: {', '.join(self.libraries) or 'none'}. The newest symbols that it wants of the C\n"
+            f"Linux on x86-64. Shared libraries: {', '.join(self.libraries) or 'none'}. The newest symbols that it needs of the C\n"
             f"library are those of glibc {self.glibc_text}. By these symbols it runs on Debian {runs or 'no release from 11 to 13'}"
             f"{f', and not on Debian {lacks}' if lacks and runs else ''}."
         )
@@ -46,9 +46,9 @@ def readelf(program: Path, *words: str) -> str:
             env={"PATH": "/usr/bin:/bin", "LC_ALL": "C"},
         )
     except OSError:
-        raise Unable("readelf isn't there (Debian's package binutils)") from None
+        raise Unable("readelf is missing (Debian's package binutils)") from None
     if done.returncode:
-        raise Unable(f"readelf doesn't read {program}")
+        raise Unable(f"readelf cannot read {program}")
     return done.stdout
 
 

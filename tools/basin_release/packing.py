@@ -38,7 +38,7 @@ Priority: optional
 Description: proved simulator of regulated river basins
  Tables of reservoirs, reaches, water users, canals and gages over hours, days
  or months, with operating rules and without. The program is proved to write
- what its definitions give; the scripts beside it are not.
+ what its definitions give; its scripts are not.
 """
 # What Python keeps of the scripts that were run is no file of the package, and would stay behind.
 REMOVAL = """#!/bin/sh

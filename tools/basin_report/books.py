@@ -13,7 +13,7 @@ from basin_files.sections import Section
 
 LINE = re.compile(r"(\S+) (?:(unknown)|initial (-?[0-9]+) in (-?[0-9]+) out (-?[0-9]+) final (-?[0-9]+))")
 PARTS = ("Release", "Spill")  # parts of an Outflow
-NO_BALANCE = "This program has no command balance, so the books aren't told."
+NO_BALANCE = "This program has no command `balance`, so no water balance is shown."
 
 
 @dataclass
@@ -47,7 +47,7 @@ def book_of(model: Model, files: tuple[str, str], inputs: Inputs, section: Secti
     if status == WORDS_REFUSED:
         return Book(NO_BALANCE)
     if status > 1:
-        return Book(f"The program answered: {refusal}")
+        return Book(f"The program printed: {refusal}")
     book = Book()
     for line in output.splitlines()[1:]:
         found = LINE.fullmatch(line)

@@ -81,4 +81,4 @@ def map_of(model: Model) -> str:
         picture = drawn(text_of(model), ".svg").decode()
         return picture[picture.index("<svg") :]
     rows = "".join(f'<li><button type="button">{escape(thing.name)}</button></li>' for thing in model.objects)
-    return f'<p class="note">The map wants Graphviz, Debian\'s package graphviz.</p><ul>{rows}</ul>'
+    return f'<p class="note">The map needs Graphviz (Debian\'s package graphviz).</p><ul>{rows}</ul>'

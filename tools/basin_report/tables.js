@@ -11,7 +11,7 @@ const tableOf = (name, headings, rows, left = 1) => {
 };
 const tellEffects = (run) => {
   const { headings, rows, lines } = D.runs[run].effects, box = element("effects");
-  const words = "In how many timesteps what a rule's last firing wanted of a slot came to what. docs/GUIDE.md says what each heading means.";
+  const words = "The number of timesteps with each outcome of a rule's last firing for a slot. docs/GUIDE.md says what each heading means.";
   box.replaceChildren(make("p", { className: "note" }, words));
   box.append(tableOf("What each rule did", headings, rows.map((row) => row.map((cell, at) => (at < 2 ? cell : grouped(cell)))), 2));
   if (lines.length) box.append(make("ul", {}, ...lines.map((line) => make("li", {}, line))));
@@ -49,7 +49,7 @@ const tellBook = (run) => {
   const basin = [...brought.map(([name, sum]) => [`came in: ${name}`, grouped(sum)]), ...taken.map(([name, sum]) => [`left: ${name}`, grouped(sum)])];
   basin.push(["came in, all", grouped(came)], ["left, all", grouped(left)], ["held more at the end", grouped(more)]);
   basin.push(["on its way at the end, less at first; or not known", grouped(came - left - more)]);
-  box.append(make("h3", {}, "The whole basin"), tableOf("The book of the whole basin", ["what", "m3"], basin));
+  box.append(make("h3", {}, "The whole basin"), tableOf("The water balance of the whole basin", ["what", "m3"], basin));
 };
 
 // ---- statistics
@@ -104,7 +104,7 @@ const tellTable = (runs, thing, from, to, now, say) => {
   const headings = ["step", "ends", ...columns.map((one) => headingOf(one, runs.length === 1))];
   const table = tableOf(`The table of ${thing.name}`, headings, rows, 2), button = make("button", { type: "button", id: "copy" }, "Copy the table");
   button.addEventListener("click", () => copy(plainTable(columns, from, to), say));
-  const more = to > last ? ` The first ${grouped(MOST_ROWS)} of them stand here; dates choose others, and all are copied.` : "";
+  const more = to > last ? ` The first ${grouped(MOST_ROWS)} of them are shown; dates choose others, and all are copied.` : "";
   const words = `${thing.name}, timesteps ${from + 1} to ${to}, in whole base units, as the program wrote them.${more}`;
   element("table").replaceChildren(make("p", { className: "note" }, words), button, table);
   const mark = table.querySelectorAll("tbody tr")[now - from];

@@ -23,9 +23,9 @@ const lookOf = ([place, step, value, flag]) => {
 const fateOf = (put, isLast) => {
   const [fate, place, , value, flag, was, whose] = put, unit = D.slots[place].unit;
   const amount = `${exact(value)} ${unit}`.trim(), held = whose ? `${exact(was)} of ${whoOf(whose)} (${whose})` : "";
-  if (fate === KEPT) return [`wanted ${amount} (${flag}), which stood there already`, held ? `: ${held}` : ""].join("");
-  if (fate === DENIED) return `wanted ${amount} (${flag}) and was denied: ${held} is held`;
-  if (fate === AGAIN) return `wanted ${amount} (${flag}), and set this cell again in the same firing`;
+  if (fate === KEPT) return [`asked for ${amount} (${flag}), which was there already`, held ? `: ${held}` : ""].join("");
+  if (fate === DENIED) return `asked for ${amount} (${flag}) and was denied: the cell has ${held}`;
+  if (fate === AGAIN) return `asked for ${amount} (${flag}), and set this cell again in the same firing`;
   return `set ${amount} (${flag})${isLast ? ", which holds" : ""}${held ? `${isLast ? ";" : ", and"} it took the place of ${held}` : ""}`;
 };
 const givenOf = (slot, flags, step) => {
@@ -59,12 +59,12 @@ const tellWhy = (run, slot, step) => {
   const box = element("why"), info = D.runs[run], text = textsOf(run, slot)[step - 1], flags = flagsOf(run, slot);
   box.replaceChildren(make("h2", {}, step > info.closed ? `Why ${slot.name}` : `Why ${slot.name} is ${exact(text)} ${text ? slot.unit : ""}`));
   const when = `Timestep ${step}, from ${beginOf(step - 1)} to ${D.stamps[step - 1]}, ${runName(run)}.`;
-  box.append(make("p", { className: "note" }, when + (step > info.closed ? " It wasn't closed." : ` Flag ${flags[step - 1] || "none"}: ${whoOf(flags[step - 1])}.`)));
+  box.append(make("p", { className: "note" }, when + (step > info.closed ? " It was not completed." : ` Flag ${flags[step - 1] || "none"}: ${whoOf(flags[step - 1])}.`)));
   const [first, last] = info.why;
   if (step < first || step > last) {
-    const which = last < first ? "no timestep of this run" : `the timesteps ${first} to ${last} alone`;
-    const other = `of ${which}, or it would be too long. --why ${step} of tools/report has it tell of others, and tools/why tells of one cell.`;
-    box.append(make("p", {}, `Who put what is told here ${other}`));
+    const which = last < first ? "for no timestep of this run" : `only for the timesteps ${first} to ${last}`;
+    const other = `${which}, since the page would be too long with all. Give tools/report --why ${step} for others, or use tools/why for one cell.`;
+    box.append(make("p", {}, `The page says who set each value ${other}`));
     return;
   }
   const items = putsOf(run, slot, step);

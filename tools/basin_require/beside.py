@@ -88,7 +88,7 @@ class Beside:
         self.policy_rules = len(RULE.findall(theirs))
         if self.policy_rules + len(self.asked) > MOST_RULES:
             most = MOST_RULES - self.policy_rules
-            says = f"the policy has {self.policy_rules} rules, so at most {most} requirements and measures go beside it"
+            says = f"the policy has {self.policy_rules} rules, so it can have at most {most} requirements and measures"
             raise Wrong([Finding("", found.items[max(most, 0)].head, says)])
         run = values_of(model.decode()).get("run")
         agenda = run.get("agenda", "321") if isinstance(run, dict) else "321"

@@ -186,7 +186,7 @@ class Reader:
         """Goes up to a mark, which isn't taken."""
         while self.word.text != mark or self.word.kind == "string":
             if self.word.kind == "end" or (self.word.kind == "word" and self.word.text in never):
-                raise Unreadable(opened.span, f"what begins here has no {mark} behind it")
+                raise Unreadable(opened.span, f"what begins here has no {mark} after it")
             self.at += 1
         return self.word
 

@@ -87,7 +87,7 @@ class Broken(Wrong):
         step = STEP_OF_FAULT.search(words)
         says = (
             f"in {where} at timestep {step[1] if step else '?'} it ended the run: {words.split(' rule ')[0]}."
-            " A requirement has to come to an end whatever it looks at"
+            " A requirement must end without a fault whatever it reads"
         )
         super().__init__([Finding("", whose.item.expression, says, whose=f'"{whose.item.name}"')])
         self.whose = whose

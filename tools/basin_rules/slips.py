@@ -322,7 +322,7 @@ def missing_semicolon(stop: Stop) -> str:
     is_word = here and here.is_mark("IF", "WITH", "ELSE", "RULE", "FUNCTION", *ENDS.values())
     if here and not is_statement and not is_word and stop.line(here.span) == stop.line(before.span):
         return ""
-    return f"a `;` behind `{stop.source.words(before.span, 30)}` in line {stop.line(before.span)}"
+    return f"a `;` after `{stop.source.words(before.span, 30)}` in line {stop.line(before.span)}"
 
 
 def expressions(stop: Stop) -> str:
@@ -333,7 +333,7 @@ def expressions(stop: Stop) -> str:
     if here.is_mark(*OPERATORS[COMPARISON]) and not stop.wants(EXPRESSION):
         return "`a < b AND b < c`: comparisons do not chain"
     if here.is_mark("}") and stop.is_mark(1, "{"):
-        return "a list with at least one item: there is no empty list"
+        return "a list that has an item: there is no empty list"
     if here.is_mark("/", "*") and stop.is_mark(1, "/"):
         return "`#`, which begins a comment"
     if here.is_mark("NOT") and stop.wants(EXPRESSION):

@@ -96,7 +96,7 @@ class Desk:
             fcntl.flock(self.lock, fcntl.LOCK_EX | fcntl.LOCK_NB)
         except OSError:
             os.close(self.lock)
-            raise Unable(f"another workbench has {plain(str(self.folder))} open: end that one first") from None
+            raise Unable(f"another workbench has {plain(str(self.folder))} open: end the other one first") from None
 
     def __enter__(self) -> "Desk":
         return self
@@ -190,7 +190,7 @@ class Desk:
             if part.unsaved:
                 raise Refused(name, f"{part.path.name} isn't saved: {part.unsaved}.")
             if part.path.resolve() != part.path:
-                raise Refused(name, f"{part.path.name} isn't saved: it has become a link to another file.")
+                raise Refused(name, f"{part.path.name} is not saved: it has become a link to another file.")
             if mark_of(part.on_disk()) != part.mark:
                 raise Refused(name, f"{part.path.name} was changed by another program since it was opened, so nothing was saved.")
         for name, part in changed.items():
@@ -198,7 +198,7 @@ class Desk:
             try:
                 written(part.path, content)
             except OSError as error:
-                raise Refused(name, f"{part.path.name} can't be written: {error.strerror}.") from None
+                raise Refused(name, f"{part.path.name} cannot be written: {error.strerror}.") from None
             part.content = content
         self.forget()
         return {"saved": [part.path.name for part in changed.values()], "marks": {name: part.mark for name, part in self.parts.items()}}

@@ -32,7 +32,7 @@ class ModelText:
             reader = LineReader(self.text)
             self.lines, self.spans = reader.read(), reader.spans
         except ValueError as error:
-            raise Wrong(f"The model's text is no TOML, so it has to be mended as text first: {plain(str(error))}") from None
+            raise Wrong(f"The model's text is not TOML, so correct the text first: {plain(str(error))}") from None
 
     # ---- lines
 
@@ -47,7 +47,7 @@ class ModelText:
             raise Wrong(f"{path} isn't there.")
         rows, begin = self.text.split("\n"), self.lines[path]
         if not rows[begin - 1].lstrip().startswith("["):
-            raise Wrong("The model's tables are written within lines, so this has to be changed in its text.")
+            raise Wrong("The model's tables are written within lines, so change this in its text.")
         end = min(line for line in self.begins() if line > begin) - 1
         end = min(end, len(rows))
         last = end
@@ -95,7 +95,7 @@ class ModelText:
             end = begin + self.text[slice(*self.spans[at])].count("\n") + 1
             return self.with_lines(begin, end, [])
         if at in self.lines:
-            raise Wrong(f"{key} is written as tables of its own, so it has to be changed in the text.")
+            raise Wrong(f"{key} is written as tables of its own, so change it in the text.")
         if value is None:
             return self.text
         begin, end = self.block(path)
@@ -139,7 +139,7 @@ def put(texts: dict[str, str], text: str, wanted: dict) -> None:
     except ValueError:
         is_right = False
     if not is_right:
-        raise Wrong("This tool can't make that change in the text as it is laid out: change it as text.")
+        raise Wrong("This tool cannot make that change in the text as it is laid out: change the text.")
     texts["model"] = text
 
 
@@ -156,7 +156,7 @@ def values_wanted(value: object) -> object:
     if isinstance(value, str) and re.fullmatch("-?[0-9]{1,18}", value):
         return int(value)
     if isinstance(value, float):
-        raise Wrong("A number has to be whole.")
+        raise Wrong("A number must be whole.")
     return [values_wanted(one) for one in value] if isinstance(value, list) else value
 
 
@@ -212,7 +212,7 @@ def good_name(table: dict, name: str) -> None:
     if wrong:
         raise Wrong(f"{plain(name) or 'Nothing'} is no name of an object: {wrong}.")
     if any(isinstance(one, dict) and one.get("name") == name for one in table.get("object", ())):
-        raise Wrong(f"There is an object {name} already.")
+        raise Wrong(f"There is already an object {name}.")
 
 
 def rename(texts: dict[str, str], change: dict) -> str:
@@ -244,7 +244,7 @@ def renamed_rules(text: str, old: str, new: str) -> str:
     try:
         tokens = tokens_of(letters)
     except BadToken:
-        raise Wrong("The rules have to be mended first: a word of them can't be read.") from None
+        raise Wrong("Correct the rules first: a word of them cannot be read.") from None
     pieces, behind = [], 0
     for before, token in zip([None, *tokens], tokens):
         if token.kind == "name" and token.text == old and not (before and before.is_mark(".")):
@@ -265,7 +265,7 @@ def delete(texts: dict[str, str], change: dict) -> str:
     number = number_of(model.table, name)
     wanted = deepcopy(model.table)
     if len(wanted["object"]) == 1:
-        raise Wrong(f"{name} is the only object, and a model has one at least.")
+        raise Wrong(f"{name} is the only object, and a model must have one.")
     del wanted["object"][number - 1]
     text = model.without(f"object[{number}]")
     links = []
@@ -298,7 +298,7 @@ def link(texts: dict[str, str], change: dict) -> str:
     places = {slot: place for place, row in enumerate(links) for slot in row.get("slots", ())}
     mine = [places[slot] for slot in (one, other) if slot in places]
     if len(mine) == 2:
-        raise Wrong("Both slots are linked already: take one of these links away first.")
+        raise Wrong("Both slots are already linked: remove one of these links first.")
     if mine:
         slots = [*links[mine[0]]["slots"], one if other in places else other]
         links[mine[0]]["slots"] = slots

@@ -141,7 +141,7 @@ class Handler(BaseHTTPRequestHandler):
         except (Unable, OSError) as error:
             self.sent_json(500, {"says": str(error)})
         except (KeyError, TypeError, ValueError, AttributeError) as error:
-            self.sent_json(400, {"says": f"the request isn't understood: {type(error).__name__} {error}"})
+            self.sent_json(400, {"says": f"the request is not understood: {type(error).__name__} {error}"})
 
 
 def texts_of(server: Workbench, asked: dict) -> running.Texts:

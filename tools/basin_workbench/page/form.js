@@ -16,7 +16,7 @@ export const formOf = (thing, { kinds, links, run, change, dialogs }) => {
   remove.addEventListener("click", () => dialogs.remove(thing));
   parts.push(make("div", { className: "bar", style: "padding-left: 0" }, rename, remove));
   for (const key of keys) parts.push(fieldOf(key, thing.keys[key.name], (value) => set(key.name, value)));
-  if (!keys.length) parts.push(make("p", { className: "note" }, "This kind has no keys besides its name."));
+  if (!keys.length) parts.push(make("p", { className: "note" }, "This type of object has no keys but its name."));
   const mine = links.filter((link) => link.some((slot) => slot.split(".")[0] === thing.name));
   parts.push(make("h3", {}, "Links"));
   const rows = mine.map((link) => {
@@ -24,7 +24,7 @@ export const formOf = (thing, { kinds, links, run, change, dialogs }) => {
     button.addEventListener("click", () => change({ act: "unlink", slots: link }));
     return make("li", {}, make("span", {}, link.join(" = ")), button);
   });
-  parts.push(rows.length ? make("ul", { className: "links" }, ...rows) : make("p", { className: "note" }, "None. Press Link two objects, beside the map."));
+  parts.push(rows.length ? make("ul", { className: "links" }, ...rows) : make("p", { className: "note" }, "None. Press Link two objects, next to the map."));
   parts.push(make("h3", {}, "Timesteps of the run"));
   for (const key of RUN) parts.push(fieldOf({ ...key, required: true, words: key.words || [] }, run[key.name], (value) => change({ act: "key", object: null, key: key.name, value })));
   return parts;

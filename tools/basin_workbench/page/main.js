@@ -33,7 +33,7 @@ const buttonOf = (text, act, look = "") => {
   return button;
 };
 const gone = () => banner("gone", [
-  make("p", {}, "The workbench's server has ended. What you changed is still in this page, and all but the very last change in its draft: start tools/workbench again and take the draft up, or keep your texts as files."),
+  make("p", {}, "The workbench's server has ended. Your changes are still in this page, and all but the last one in its draft: start tools/workbench again and open the draft, or keep your texts as files."),
   ...dirty().map((part) => buttonOf(`Keep ${work.files[part].name}`, () => download(part))),
 ], true);
 const download = (part) => {
@@ -531,7 +531,7 @@ const did = async () => {
     const { headings, rows, lines } = await ask("effects", { texts: seen.good.texts }, "effects");
     const list = rows.map((row) => make("li", {}, make("strong", {}, row[0]), " sets ", buttonOf(row[1], () => choose(row[1].split(".")[0]), "plain"), ": ",
       headings.map((name, at) => (at > 1 && Number(row[at]) ? `${name} ${grouped(row[at])}` : "")).filter((one) => one).join(", ") || "never"));
-    box.replaceChildren(make("p", { className: "note" }, "In how many timesteps what a rule's last firing wanted of a slot came to what."),
+    box.replaceChildren(make("p", { className: "note" }, "The number of timesteps with each outcome of a rule's last firing for a slot."),
       make("ul", { className: "told" }, ...list),
       ...(lines.length ? [make("h3", {}, "Worth a look"), make("ul", { className: "told" }, ...lines.map((line) => make("li", {}, line)))] : []));
   } catch (error) { failed(error); }
