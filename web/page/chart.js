@@ -1,7 +1,8 @@
 // The chart of one slot: a line of this run, and a dashed one of the run before.
 
 const SVG = 'http://www.w3.org/2000/svg';
-const [WIDTH, HEIGHT, LEFT, TOP, BOTTOM] = [900, 240, 110, 12, 22];
+const [HEIGHT, LEFT, RIGHT, TOP, BOTTOM] = [240, 110, 10, 12, 22];
+const NARROWEST = 240;
 
 /**
  * @param {string} kind
@@ -36,12 +37,13 @@ function showChart(place, slot, table, before) {
   const all = [seriesOf(before, slot), seriesOf(table, slot)];
   const known = all.flat().filter(Number.isFinite);
   const [least, greatest] = [Math.min(...known), Math.max(...known)];
-  const right = value => LEFT + (WIDTH - LEFT - 10) * (value / Math.max(1, table.steps.length - 1));
+  const end = Math.max(NARROWEST, place.clientWidth) - RIGHT;
+  const right = value => LEFT + (end - LEFT) * (value / Math.max(1, table.steps.length - 1));
   const down = value => TOP + (HEIGHT - TOP - BOTTOM) * (greatest === least ? 0.5 : (greatest - value) / (greatest - least));
-  const picture = drawn('svg', { viewBox: `0 0 ${WIDTH} ${HEIGHT}`, preserveAspectRatio: 'none', role: 'img', 'aria-label': `${slot} over time` });
+  const picture = drawn('svg', { viewBox: `0 0 ${end + RIGHT} ${HEIGHT}`, role: 'img', 'aria-label': `${slot} over time` });
   if (known.length) {
     for (const value of new Set([least, greatest])) {
-      picture.append(drawn('line', { class: 'axis', x1: LEFT, x2: WIDTH - 10, y1: down(value), y2: down(value) }));
+      picture.append(drawn('line', { class: 'axis', x1: LEFT, x2: end, y1: down(value), y2: down(value) }));
       picture.append(drawn('text', { x: LEFT - 8, y: down(value) + 4, 'text-anchor': 'end' }, value.toLocaleString('en')));
     }
     all.forEach((series, number) => {
@@ -51,6 +53,6 @@ function showChart(place, slot, table, before) {
   }
   const [first, last] = [table.steps[0], table.steps[table.steps.length - 1]];
   if (first) picture.append(drawn('text', { x: LEFT, y: HEIGHT - 4 }, first.stamp.slice(0, 10)));
-  if (last) picture.append(drawn('text', { x: WIDTH - 10, y: HEIGHT - 4, 'text-anchor': 'end' }, last.stamp.slice(0, 10)));
+  if (last) picture.append(drawn('text', { x: end, y: HEIGHT - 4, 'text-anchor': 'end' }, last.stamp.slice(0, 10)));
   place.replaceChildren(picture);
 }

@@ -19,6 +19,7 @@ class Engine {
   /** @type {Map<number, {done: (said: Said) => void, failed: (error: Error) => void}>} */ #waiting = new Map();
   /** @type {Promise<ArrayBuffer>} */ #module;
   #number = 0;
+  #stops = 0;
 
   /** @param {string} packed the module, as the page has it */
   constructor(packed) {
@@ -37,7 +38,9 @@ class Engine {
    * @returns {Promise<Said>}
    */
   async run(words, files) {
+    const stops = this.#stops;
     const module = await this.#module;
+    if (stops !== this.#stops) throw new Stopped('stopped');
     const worker = this.#worker ?? this.#begun(module);
     this.#number += 1;
     const number = this.#number;
@@ -49,6 +52,7 @@ class Engine {
 
   /** Ends what is under way. The next call begins anew. */
   stop() {
+    this.#stops += 1;
     this.#worker?.terminate();
     this.#worker = null;
     for (const { failed } of this.#waiting.values()) failed(new Stopped('stopped'));

@@ -7,8 +7,8 @@ const engine = new Engine(part('engine').textContent ?? '');
 const TEXTS = { 'model.toml': part('model'), 'policy.rpl': part('rules'), 'inputs.csv': part('inputs') };
 // A policy without a rule, by which a model without rules is asked why.
 const NO_RULES = 'CODE 1\n';
-/** @type {{example: number, first: Table | null, shown: Table | null}} */
-const state = { example: 0, first: null, shown: null };
+/** @type {{example: number, first: Table | null, shown: Table | null, runs: number}} */
+const state = { example: 0, first: null, shown: null, runs: 0 };
 
 /** The texts as they stand, under their names; rules only where there are some. */
 function filesNow() {
@@ -62,18 +62,20 @@ function changed(number, field) {
 /** Runs the texts, and shows the table, or why there is none. What was shown stays where the program refuses. */
 async function run() {
   if (engine.isBusy) engine.stop();
+  state.runs += 1;
+  const mine = state.runs;
   const files = filesNow();
   const words = 'policy.rpl' in files ? ['run', 'model.toml', 'policy.rpl', 'inputs.csv'] : ['simulate', 'model.toml', 'inputs.csv'];
   part('stop').disabled = false;
+  part('undo').disabled = Object.entries(TEXTS).every(([name, area]) => area.value === (EXAMPLES[state.example].files[name] ?? ''));
   say('Running..');
-  try {
-    const began = performance.now();
-    const said = await engine.run(words, files);
-    ended(said, performance.now() - began);
-  } catch (error) {
-    say(error instanceof Stopped ? 'Stopped.' : String(error), true);
-  }
-  part('stop').disabled = !engine.isBusy;
+  const began = performance.now();
+  const said = await engine.run(words, files).catch(error => error);
+  // A newer run says what there is to say.
+  if (mine !== state.runs) return;
+  part('stop').disabled = true;
+  if (said instanceof Error) say(said instanceof Stopped ? 'Stopped. The table below is of the run before.' : said.message, true);
+  else ended(said, performance.now() - began);
 }
 
 /** @param {Said} said @param {number} took */
@@ -86,7 +88,6 @@ function ended(said, took) {
   state.first ??= table;
   state.shown = table;
   say(said.status ? `The run ended in a fault: ${table.ended}` : `The run settled in ${Math.round(took)} ms.`, said.status === 1);
-  part('undo').disabled = Object.entries(TEXTS).every(([name, area]) => area.value === (EXAMPLES[state.example].files[name] ?? ''));
   showSlots(table);
   showResults();
 }
@@ -140,6 +141,7 @@ part('run').addEventListener('click', () => {
 part('stop').addEventListener('click', () => engine.stop());
 part('undo').addEventListener('click', open);
 part('slot').addEventListener('change', showResults);
+addEventListener('resize', showResults);
 Object.values(TEXTS).forEach(area => area.addEventListener('change', () => {
   showNumbers();
   run();
