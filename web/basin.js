@@ -1,9 +1,9 @@
 // @ts-check
 // The program `basin` in Node and in browsers: `const basin = await load(bytes)`, then `basin.run(words, files)`.
 
-/** @typedef {import('./basin.d.ts').Answer} Answer */
-/** @typedef {import('./basin.d.ts').Files} Files */
-/** @typedef {import('./basin.d.ts').Choices} Choices */
+/** @typedef {import('./basin').Answer} Answer */
+/** @typedef {import('./basin').Files} Files */
+/** @typedef {import('./basin').Choices} Choices */
 /** @typedef {{memory: WebAssembly.Memory, exports: any, data: Uint8Array, from: number}} Instance */
 
 const PAGE = 65536;

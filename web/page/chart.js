@@ -38,8 +38,8 @@ function showChart(place, slot, table, before) {
   const known = all.flat().filter(Number.isFinite);
   const [least, greatest] = [Math.min(...known), Math.max(...known)];
   const end = Math.max(NARROWEST, place.clientWidth) - RIGHT;
-  const right = value => LEFT + (end - LEFT) * (value / Math.max(1, table.steps.length - 1));
-  const down = value => TOP + (HEIGHT - TOP - BOTTOM) * (greatest === least ? 0.5 : (greatest - value) / (greatest - least));
+  const right = (/** @type {number} */ value) => LEFT + (end - LEFT) * (value / Math.max(1, table.steps.length - 1));
+  const down = (/** @type {number} */ value) => TOP + (HEIGHT - TOP - BOTTOM) * (greatest === least ? 0.5 : (greatest - value) / (greatest - least));
   const picture = drawn('svg', { viewBox: `0 0 ${end + RIGHT} ${HEIGHT}`, role: 'img', 'aria-label': `${slot} over time` });
   if (known.length) {
     for (const value of new Set([least, greatest])) {

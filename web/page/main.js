@@ -2,6 +2,8 @@
 
 /** @template {HTMLElement} T @param {string} name @returns {T} */
 const part = name => /** @type {T} */ (document.getElementById(name));
+/** @param {string} name */
+const button = name => /** @type {HTMLButtonElement} */ (part(name));
 const engine = new Engine(part('engine').textContent ?? '');
 /** @type {Record<string, HTMLTextAreaElement>} */
 const TEXTS = { 'model.toml': part('model'), 'policy.rpl': part('rules'), 'inputs.csv': part('inputs') };
@@ -66,14 +68,14 @@ async function run() {
   const mine = state.runs;
   const files = filesNow();
   const words = 'policy.rpl' in files ? ['run', 'model.toml', 'policy.rpl', 'inputs.csv'] : ['simulate', 'model.toml', 'inputs.csv'];
-  part('stop').disabled = false;
-  part('undo').disabled = Object.entries(TEXTS).every(([name, area]) => area.value === (EXAMPLES[state.example].files[name] ?? ''));
+  button('stop').disabled = false;
+  button('undo').disabled = Object.entries(TEXTS).every(([name, area]) => area.value === (EXAMPLES[state.example].files[name] ?? ''));
   say('Running..');
   const began = performance.now();
   const said = await engine.run(words, files).catch(error => error);
   // A newer run says what there is to say.
   if (mine !== state.runs) return;
-  part('stop').disabled = true;
+  button('stop').disabled = true;
   if (said instanceof Error) say(said instanceof Stopped ? 'Stopped. The table below is of the run before.' : said.message, true);
   else ended(said, performance.now() - began);
 }
@@ -119,7 +121,7 @@ async function askWhy(slot, step) {
 }
 
 /** Opens an example, and runs it. */
-function open() {
+function openExample() {
   const { title, files } = EXAMPLES[state.example];
   part('title').textContent = title;
   for (const [name, area] of Object.entries(TEXTS)) area.value = files[name] ?? '';
@@ -132,18 +134,18 @@ function open() {
 part('example').append(...EXAMPLES.map(({ name }, at) => new Option(name, String(at))));
 part('example').addEventListener('change', () => {
   state.example = Number(/** @type {HTMLSelectElement} */ (part('example')).value);
-  open();
+  openExample();
 });
 part('run').addEventListener('click', () => {
   showNumbers();
   run();
 });
 part('stop').addEventListener('click', () => engine.stop());
-part('undo').addEventListener('click', open);
+part('undo').addEventListener('click', openExample);
 part('slot').addEventListener('change', showResults);
 addEventListener('resize', showResults);
 Object.values(TEXTS).forEach(area => area.addEventListener('change', () => {
   showNumbers();
   run();
 }));
-open();
+openExample();
