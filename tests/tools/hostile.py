@@ -94,7 +94,7 @@ CALLS = {
     "why": ["{model} {policy} {inputs} Dam.Outflow 1", "{model} {policy} {inputs} {name} 1"],
 }
 OF_CSV = ("inputs", "table")  # tools that write CSV without --csv
-ELSEWHERE = {"recheck", "release", "unproved", "workbench"}  # tools of the repository itself, and a server, which has its own tests
+ELSEWHERE = {"recheck", "release", "unproved", "web", "workbench"}  # tools of the repository itself, and a server, which has its own tests
 
 
 @dataclass
