@@ -17,6 +17,7 @@ returns-in-Some c =
     let all = reverse c.self.inside.known.items in
     let place = sym c.in-Some.is ∙ c.find.ensures ∙ ap (λ places. first_named places c.args.name.now) c.self.invariant in
     ap priced_or_none
-    (c.function_at.ensures ∙ ap (λ items. slice_get items c.in-Some.place) (sym (reverse-reverse c.self.inside.known.items)))
+    (c.function_at.ensures ∙ ap (λ items. slice_get items c.in-Some.place) c.as_slice.ensures.value
+    ∙ ap (λ items. slice_get items c.in-Some.place) (sym (reverse-reverse c.self.inside.known.items)))
     ∙ ap (λ found. priced_or_none (at_place all found)) place ∙ function_found all c.args.name.now
     ∙ ap (λ functions. priced_named functions c.args.name.now) c.self.view_is
