@@ -156,7 +156,9 @@ impl<'a> State<'a> {
             cells,
             behind,
         };
-        pass_behind(alloc, machine, setup, &self.kept, spare, orders, next, steps)
+        pass_behind(
+            alloc, machine, setup, &self.kept, spare, orders, next, steps,
+        )
     }
 
     // Gives way to the run after a batch. Its engine becomes the spare one, for the run after that.
