@@ -50,16 +50,19 @@ write_from-requires g t c κs within =
       (
         within.0,
         (
-          within.1,
+          within.1.0,
           (
-            record {
-              made = rw kept c.in-Ok-apply.ensures.applied.is;
-              reuse = c.requires.can.reuse;
-              traced = c.in-Ok-apply.ensures.applied.kept.trace ∙ c.requires.can.traced;
-              own = rw kept (c.in-Ok.ensures.sheet ∙ c.requires.can.own);
-              same = rw kept same;
-            },
-            (rw kept c.requires.order, (rw kept batches, omega (arith, few, shorter))),
+            within.1.1,
+            (
+              record {
+                made = rw kept c.in-Ok-apply.ensures.applied.is;
+                reuse = c.requires.can.reuse;
+                traced = c.in-Ok-apply.ensures.applied.kept.trace ∙ c.requires.can.traced;
+                own = rw kept (c.in-Ok.ensures.sheet ∙ c.requires.can.own);
+                same = rw kept same;
+              },
+              (rw kept c.requires.order, (rw kept batches, omega (arith, few, shorter))),
+            ),
           ),
         ),
       ),

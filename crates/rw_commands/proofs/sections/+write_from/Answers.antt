@@ -39,14 +39,17 @@ write_from-requires g t c κs within =
       (
         within.0,
         (
-          within.1,
+          within.1.0,
           (
-            c.requires.order,
+            within.1.1,
             (
-              c.requires.fits,
+              c.requires.order,
               (
-                c.in-Ok-changed.ensures.made,
-                (batches, (omega (arith, few, shorter), (c.requires.plain, c.in-Ok.ensures.sheet ∙ c.requires.sheet))),
+                c.requires.fits,
+                (
+                  c.in-Ok-changed.ensures.made,
+                  (batches, (omega (arith, few, shorter), (c.requires.plain, c.in-Ok.ensures.sheet ∙ c.requires.sheet))),
+                ),
               ),
             ),
           ),
