@@ -16,7 +16,8 @@ from .counting import NEVER, NOT_HELD, UNKNOWN, Verdict
 from .running import Run
 
 FEW_TRACES = 5
-HEADINGS = ("requirement", "wanted", "verdict", "held", "asked", "reliable", "resilient", "vulnerable", "longest")
+LEFT = ("requirement", "wanted", "verdict")
+RIGHT = ("held", "asked", "reliability", "resilience", "vulnerability", "longest", "worst margin", "first failure")
 
 
 @dataclass
@@ -42,11 +43,14 @@ def aligned(rows: list[tuple[str, ...]], left: int) -> Iterator[str]:
         yield "  ".join(cells).rstrip()
 
 
-def row_of(one: Judgement) -> tuple[str, ...]:
+def row_of(one: Judgement, model: Model) -> tuple[str, ...]:
     """A line of the table."""
     verdict = one.verdict
     unit = f" {one.asked.unit}" if one.asked.unit else ""
-    amount = f"{number(verdict.vulnerability)}{unit}" if one.asked.is_amount and verdict.vulnerability else "-"
+    vulnerable, margin = (
+        "-" if value is None or not one.asked.is_amount else f"{number(Fraction(value))}{unit}"
+        for value in (verdict.vulnerability, verdict.margin)
+    )
     return (
         plain(one.name, LONG),
         one.asked.item.wanted,
@@ -55,8 +59,10 @@ def row_of(one: Judgement) -> tuple[str, ...]:
         f"{verdict.asked:,}" + (f" ({verdict.unknown:,} unknown)" if verdict.unknown else ""),
         percent(verdict.reliability),
         percent(verdict.resilience),
-        amount,
+        vulnerable,
         f"{verdict.longest:,}",
+        margin,
+        "-" if verdict.first is None else f"{verdict.first} ({stamp_of(model.run.begin(verdict.first))})",
     )
 
 
@@ -73,9 +79,9 @@ def number(value: Fraction) -> str:
     return f"{int(value):,}" if value.denominator == 1 else f"{float(value):,.1f}"
 
 
-def table(judgements: list[Judgement]) -> Iterator[str]:
-    """The table of a run."""
-    yield from aligned([HEADINGS, *map(row_of, judgements)], left=3)
+def table(judgements: list[Judgement], model: Model) -> Iterator[str]:
+    """Yields the lines of the table of a run."""
+    yield from aligned([(*LEFT, *RIGHT), *(row_of(one, model) for one in judgements)], left=len(LEFT))
 
 
 def failure(one: Judgement, model: Model) -> Iterator[str]:
