@@ -34,7 +34,7 @@ from .process import PathLike
 from .tables import UNKNOWN, Section, chapters, numbers, section_of
 
 SHARES = ("reliability", "resilience", "vulnerability")
-COLUMNS = ("asked", "held", "failed", "unknown", *SHARES, "worst", "worst_step", "first", "stretches", "longest")
+COLUMNS = ("asked", "held", "failed", "unknown", *SHARES, "worst", "worst_step", "margin", "first", "stretches", "longest")
 
 
 class Requirements(File):
@@ -110,7 +110,7 @@ class Judged(Sequence[Judgement]):
             values = [getattr(one.verdict, column) for column in COLUMNS]
             rows.append((one.run, one.name, one.verdict.verdict, *map(as_number, values), one.unit, one.fault))
         frame = pd.DataFrame(rows, columns=["run", "requirement", "verdict", *COLUMNS, "unit", "fault"])
-        whole = dict.fromkeys(("worst_step", "first"), "Int64")
+        whole = dict.fromkeys(("worst_step", "margin", "first"), "Int64")
         return frame.astype(whole).set_index(["run", "requirement"])
 
     def check(self) -> None:

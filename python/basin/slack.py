@@ -13,9 +13,10 @@ import numpy as np
 import numpy.typing as npt
 import pandas as pd
 
-from basin_require.beside import NOT_ASKED, Beside
+from basin_require.beside import Beside
 from basin_require.counting import HELD, NEVER, NOT_HELD, Calendar
 from basin_require.counting import UNKNOWN as UNSURE
+from basin_require.measures import NOT_ASKED
 from basin_require.reading import Most, Requirement, Share
 
 from .tables import UNKNOWN, Whole

@@ -13,8 +13,8 @@ import pytest
 import basin
 from basin.slack import slack_of
 from basin.tables import UNKNOWN
-from basin_require.beside import NOT_ASKED
 from basin_require.counting import HELD, NEVER, NOT_HELD, Calendar, judged
+from basin_require.measures import NOT_ASKED
 from basin_require.reading import PERIODS, Most, Requirement, Share
 from basin_rules.places import Span
 

@@ -12,6 +12,7 @@ from pathlib import Path
 from time import monotonic
 
 from browser import Browser
+from required import of_required
 from selenium.webdriver.common.keys import Keys
 
 TOP = Path(__file__).resolve().parents[2]
@@ -473,7 +474,7 @@ def main() -> int:
         if pictures:
             pictures.mkdir(exist_ok=True)
         tests = [of_example(shown_of(example, folder), pictures) for example in EXAMPLES]
-        tests += [of_faults(folder), of_denials(folder), of_hostile(folder), of_long(folder, pictures)]
+        tests += [of_required(folder, pictures), of_faults(folder), of_denials(folder), of_hostile(folder), of_long(folder, pictures)]
         for outcomes in tests:
             for what, wrong in outcomes:
                 passed, failed = (passed + 1, failed) if wrong is None else (passed, failed + 1)

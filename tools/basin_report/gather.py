@@ -26,6 +26,7 @@ from basin_rules.surprises import surprises
 
 from . import remarks
 from .books import Book, book_of
+from .required import requiring
 from .series import series_of
 from .story import Story, Teller
 
@@ -47,11 +48,12 @@ class Files:
     policy: str
     inputs: str
     edits: str | None = None
+    required: str | None = None
 
     @property
     def names(self) -> list[str]:
         """Their names without folders, for people to read."""
-        return [plain(Path(name).name, LONG) for name in (self.model, self.policy, self.inputs, self.edits) if name]
+        return [plain(Path(name).name, LONG) for name in (self.model, self.policy, self.inputs, self.edits, self.required) if name]
 
 
 @dataclass
@@ -63,6 +65,7 @@ class Told:
     effects: dict[str, object]
     book: Book
     story: Story
+    required: dict[str, object] | None = None
 
 
 @dataclass
@@ -99,10 +102,13 @@ class Gathered:
         self.blocks = self.policy.blocks(self.files.model, self.files.policy)
         compiled = self.policy.compiled(self.files.model, self.files.policy)
         self.places = lines_of(self.policy.ruleset, compiled) if self.policy.ruleset else None
+        paths = (self.files.model, self.files.policy, self.files.inputs)
+        asking = requiring(self.model, paths, self.files.required, self.files.edits) if self.files.required else None
         room = WHY_ROOM
         for section in read_sections(output):
             self.runs.append(self.told(section, room))
             room -= len(self.runs[-1].story.text)
+            self.runs[-1].required = asking.told(section.batch) if asking else None
             section.trace = []
 
     def inputs(self, batch: int) -> Inputs:
@@ -205,6 +211,7 @@ def run_of(told: Told) -> dict[str, object]:
         "lines": told.lines,
         "effects": told.effects,
         "book": told.book.told(),
+        "required": told.required,
         "why": [told.story.first, told.story.last],
     }
 

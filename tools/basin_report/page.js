@@ -123,6 +123,7 @@ const showObject = () => {
   tellStatistics(state.run, state.thing, state.from, state.to);
   tellTable(runsShown(), state.thing, state.from, state.to, state.at, say);
   tellWhy(state.run, state.slot, state.at + 1);
+  tellRequired(state.run);
 };
 const go = (slot, step) => {
   state.slot = slot;
@@ -204,7 +205,7 @@ const listen = () => {
     on(`unit${place}`, "change", () => { chosen[base] = units[Number(element(`unit${place}`).value)]; showObject(); });
   });
   addEventListener("hashchange", goByAddress);
-  addEventListener("resize", () => drawCharts());
+  addEventListener("resize", () => { drawCharts(); tellRequired(state.run); });
   addEventListener("beforeprint", () => document.querySelectorAll("details").forEach((one) => { one.open = true; }));
 };
 const begin = () => {

@@ -16,7 +16,7 @@ from .gather import Gathered
 from .stills import stills
 
 HERE = Path(__file__).resolve().parent
-SCRIPTS = ("look.js", "charts.js", "why.js", "tables.js", "page.js")
+SCRIPTS = ("look.js", "charts.js", "why.js", "tables.js", "required.js", "page.js")
 MARK = re.compile("@(TITLE|STYLE|HEAD|MAP|POLICY|STILLS|DATA|RUNS|SCRIPT)@")
 PROVED = (
     "What the program wrote is exactly what the definitions give for this model, these rules and these inputs, each timestep"

@@ -11,7 +11,6 @@ from collections.abc import Callable, Iterator
 from dataclasses import dataclass
 from typing import Any
 
-from basin_files.formats import GREATEST_QUANTITY
 from basin_files.judging import read_model
 from basin_files.lines import lines_of, values_of
 from basin_files.model import Model
@@ -22,9 +21,9 @@ from basin_rules.measures import UNITS
 from basin_rules.places import Source, Span
 from basin_rules.rulesets import Ruleset, read_ruleset
 
+from .measures import NOT_ASKED
 from .reading import Requirement, Requirements
 
-NOT_ASKED = GREATEST_QUANTITY
 SLOTS_OF_AN_OBJECT = 8
 MOST_RULES = 200
 BASE = {measure: unit for unit, (measure, factor) in UNITS.items() if factor == 1}

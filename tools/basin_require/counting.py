@@ -10,7 +10,7 @@ from datetime import datetime
 from fractions import Fraction
 from itertools import groupby
 
-from .beside import NOT_ASKED
+from .measures import NOT_ASKED, reliability, resilience, stretches, vulnerability
 from .reading import PERIODS, Most, Requirement, Share
 
 HELD, NOT_HELD, UNKNOWN, NEVER = "held", "not held", "unknown", "never asked"
@@ -27,10 +27,8 @@ NUMBERS: dict[str, Callable[[datetime], int]] = {
 class Verdict:
     """What became of a requirement over a run.
 
-    `reliability` is the share of the timesteps in which it is asked and known that hold. `resilience` is the share of the
-    failing ones behind which the next one holds (Hashimoto 1982); one at the end of a run, or behind which nothing is
-    asked or known, counts in neither. `vulnerability` is the mean, over stretches of failures, of the greatest
-    shortfall in each. They are `None` where there is nothing to divide by.
+    `margin` is the least one, and `worst` the greatest shortfall, in timestep `worst_step`. `first` is the first timestep
+    that fails. `reliability`, `resilience` and `vulnerability` are those of `measures.py`.
     """
 
     verdict: str
@@ -41,6 +39,7 @@ class Verdict:
     longest: int = 0
     worst: int = 0
     worst_step: int | None = None
+    margin: int | None = None
     first: int | None = None
     reliability: Fraction | None = None
     resilience: Fraction | None = None
@@ -80,30 +79,17 @@ def judged(one: Requirement, margins: Margins, calendar: Calendar, fault: bool =
 
 
 def measured(margins: Margins, states: Sequence[int | None]) -> Verdict:
-    """The numbers of a verdict."""
+    """Returns the numbers of a verdict."""
     found = Verdict(HELD, sum(state != 2 for state in states), states.count(1), states.count(None))
-    worsts: list[int] = []
-    place = 0
-    for fails, some in groupby(states, lambda state: state == 0):
-        length = len(list(some))
-        if fails:
-            below = [(margin, step) for step in range(place, place + length) if (margin := margins[step]) is not None]
-            least, worst = min(below)
-            worsts.append(-least)
-            found.longest = max(found.longest, length)
-            if found.first is None:
-                found.first = place + 1
-            if worsts[-1] > found.worst:
-                found.worst, found.worst_step = worsts[-1], worst + 1
-        place += length
-    found.stretches = len(worsts)
-    if found.asked > found.unknown:
-        found.reliability = Fraction(found.held, found.asked - found.unknown)
-    behind = [after for state, after in zip(states, states[1:]) if state == 0 and after in (0, 1)]
-    if behind:
-        found.resilience = Fraction(sum(behind), len(behind))
-    if worsts:
-        found.vulnerability = Fraction(sum(worsts), len(worsts))
+    for begin, length, least, at in stretches(margins):
+        found.stretches += 1
+        found.longest = max(found.longest, length)
+        found.first = found.first or begin + 1
+        if -least > found.worst:
+            found.worst, found.worst_step = int(-least), at + 1
+    found.margin = min((margin for margin in margins if margin is not None and margin != NOT_ASKED), default=None)
+    found.reliability, found.resilience = reliability(margins), resilience(margins)
+    found.vulnerability = vulnerability(margins)
     return found
 
 

@@ -16,7 +16,8 @@ from .counting import NEVER, NOT_HELD, UNKNOWN, Verdict
 from .running import Run
 
 FEW_TRACES = 5
-HEADINGS = ("requirement", "wanted", "verdict", "held", "asked", "reliable", "resilient", "vulnerable", "longest")
+LEFT = ("requirement", "wanted", "verdict")
+RIGHT = ("held", "asked", "reliability", "resilience", "vulnerability", "longest", "worst margin", "first failure")
 
 
 @dataclass
@@ -42,11 +43,9 @@ def aligned(rows: list[tuple[str, ...]], left: int) -> Iterator[str]:
         yield "  ".join(cells).rstrip()
 
 
-def row_of(one: Judgement) -> tuple[str, ...]:
+def row_of(one: Judgement, model: Model) -> tuple[str, ...]:
     """A line of the table."""
     verdict = one.verdict
-    unit = f" {one.asked.unit}" if one.asked.unit else ""
-    amount = f"{number(verdict.vulnerability)}{unit}" if one.asked.is_amount and verdict.vulnerability else "-"
     return (
         plain(one.name, LONG),
         one.asked.item.wanted,
@@ -55,8 +54,10 @@ def row_of(one: Judgement) -> tuple[str, ...]:
         f"{verdict.asked:,}" + (f" ({verdict.unknown:,} unknown)" if verdict.unknown else ""),
         percent(verdict.reliability),
         percent(verdict.resilience),
-        amount,
+        amount(one.asked, verdict.vulnerability),
         f"{verdict.longest:,}",
+        amount(one.asked, verdict.margin),
+        "-" if verdict.first is None else f"{verdict.first} ({stamp_of(model.run.begin(verdict.first))})",
     )
 
 
@@ -68,14 +69,19 @@ def percent(share: Fraction | None) -> str:
     return f"{whole}.{places:02} %"
 
 
+def amount(asked: Asked, value: int | Fraction | None) -> str:
+    """Returns a margin, or a mean of margins, with its unit; `-` if there is none."""
+    return "-" if value is None or not asked.is_amount else f"{number(Fraction(value))} {asked.unit}".rstrip()
+
+
 def number(value: Fraction) -> str:
     """A number with at most one place."""
     return f"{int(value):,}" if value.denominator == 1 else f"{float(value):,.1f}"
 
 
-def table(judgements: list[Judgement]) -> Iterator[str]:
-    """The table of a run."""
-    yield from aligned([HEADINGS, *map(row_of, judgements)], left=3)
+def table(judgements: list[Judgement], model: Model) -> Iterator[str]:
+    """Yields the lines of the table of a run."""
+    yield from aligned([(*LEFT, *RIGHT), *(row_of(one, model) for one in judgements)], left=len(LEFT))
 
 
 def failure(one: Judgement, model: Model) -> Iterator[str]:
@@ -96,9 +102,24 @@ def failure(one: Judgement, model: Model) -> Iterator[str]:
         yield f"  {one.why}"
 
 
+def cell_of(one: Asked, given: set[str]) -> str:
+    """Returns the slot whose value explains a requirement: the first one that it reads and inputs do not give."""
+    return next((slot for slot in one.looks if slot not in given), one.looks[0] if one.looks else "")
+
+
+def measure_unit(one: Asked) -> str:
+    """Returns the unit of a measure."""
+    return one.unit.removesuffix("/step") if one.item.how == "SUM" else one.unit
+
+
+def measure_text(one: Asked, value: Fraction | None) -> str:
+    """Returns the value of a measure with its unit."""
+    return "unknown" if value is None else f"{number(value)} {measure_unit(one)}".rstrip()
+
+
 def why_words(paths: tuple[str, str, str], one: Asked, verdict: Verdict, given: set[str], changes: str, run: Run) -> str:
     """The words that tell how the first failure came about, by tools/why: of a trace as a batch of edits, which it is."""
-    slot = next((slot for slot in one.looks if slot not in given), one.looks[0] if one.looks else "")
+    slot = cell_of(one, given)
     if not slot or verdict.first is None:
         return ""
     why = ["tools/why", *paths, slot, str(verdict.first)]
