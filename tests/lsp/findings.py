@@ -44,9 +44,32 @@ def costs() -> list[str]:
     return found
 
 
+MARKED = {  # what is wrong, and what of it is marked
+    'Max(Dam.Inflow[t], 40)': "40",
+    'Half(40)': "40",
+    '{1 "m3/step", Dam.Storage[t]}': '1 "m3/step"',
+    'IF TRUE THEN Dam.Inflow[t] ELSE 7 ENDIF': "7",
+    'Max(40, Dam.Inflow[t])': "40",
+}
+HALF = 'FUNCTION Half(NUMERIC "m3/step" x) : NUMERIC "m3/step" IS x / 2 ENDFUNCTION\n'
+
+
+def names_and_marks() -> list[str]:
+    """What the tools show of a rule's name, and what they mark of a value that doesn't fit."""
+    model = read_model((TOP / "tests/language/first/model.toml").read_bytes())
+    found = []
+    for value, marked in MARKED.items():
+        ruleset = ruleset_of(f'{HALF}RULE "Größe 😀": Dam.Outflow[t] := {value}; ENDRULE', model)
+        first = ruleset.findings[0]
+        if ruleset.source.text[first.span.begin : first.span.end] != marked or first.whose != 'rule 1 "Größe 😀"':
+            found.append(f"{value}: {first}")
+    policy = Policy(Source("x", 'RULE "Größe": ENDRULE'.encode()), ruleset_of('RULE "Größe": ENDRULE', model))
+    return found + [f"the rule is called {row.name}" for row in policy.rows(model) if row.name != "Größe"]
+
+
 def main() -> bool:
     """Tries it all."""
-    wrong = costs()
+    wrong = [*costs(), *names_and_marks()]
     print(*(f"lsp: {one}" for one in wrong), sep="\n", end="\n" * bool(wrong))
     print(f"lsp: what the server takes over from the tools, {len(wrong)} wrong")
     return not wrong
