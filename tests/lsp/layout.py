@@ -51,6 +51,43 @@ def scattered(draw, text):
     return "".join(pieces) + text[last:]
 
 
+CHAIN = """RULE "chain":
+  IF TRUE THEN
+    Dam.Outflow[t] := 1 "m3/step";
+  ELSE IF FALSE THEN
+    Dam.Outflow[t] := 2 "m3/step";  # two
+  ELSE
+    Dam.Outflow[t] := 3 "m3/step";
+  ENDIF ENDIF
+ENDRULE
+"""
+
+
+def of_rules(folder):
+    """How `tools/rules --format` differs from what it has to do with files."""
+    spread, laid, broken, code = (folder / name for name in ("spread.rpl", "laid.rpl", "broken.rpl", "code"))
+    given = CHAIN.replace("ELSE IF", "ELSE\n IF").replace("ENDIF ENDIF", "ENDIF\nENDIF").encode()
+    for path, content in ((spread, given), (laid, CHAIN.encode()), (broken, b'RULE "a'), (code, b"CODE 1\n")):
+        path.write_bytes(content)
+
+    def told(*words, given=b""):
+        done = subprocess.run([TOP / "tools/rules", *words], capture_output=True, input=given, check=False)
+        return done.returncode, done.stdout.decode(), done.stderr.decode()
+
+    found = [
+        ("a file that would change", told("--format", "--check", spread, laid) == (1, f"{spread}\n", "")),
+        ("stays with --check", spread.read_bytes() == given),
+        ("the standard input", told("--format", "-", given=given) == (0, CHAIN, "")),
+        ("files that change", told("--format", spread, laid) == (0, f"{spread}\n", "")),
+        ("the layout", spread.read_text() == CHAIN and laid.read_text() == CHAIN),
+        ("nothing more changes", told("--format", "--check", spread, laid) == (0, "", "")),
+        ("a slip", told("--format", broken, code, folder / "none")[0] == 2 and broken.read_bytes() == b'RULE "a'),
+        ("code", told("--format", code)[2] == f"rules: {code} is a file of code, which has no other layout\n"),
+        ("--check alone", told("--check", "a", "b")[0] == 2),
+    ]
+    return [f"tools/rules --format: {what}" for what, holds in found if not holds]
+
+
 def main(turns=3):
     """Tries them."""
     program = os.environ.get("BASIN") or str(TOP / "crates/basin/out/basin")
@@ -58,6 +95,9 @@ def main(turns=3):
     count = same = scatters = wrong = left = 0
     with tempfile.TemporaryDirectory() as folder:
         folder = Path(folder)
+        for one in of_rules(folder):
+            wrong += 1
+            print(f"lsp: {one}")
         for name, model, content in texts(folder):
             text = content.decode("latin-1")
             if any(one.refusal.endswith(("bad token", "bad declaration", "too many")) for one in read(Source("", content), None).findings):

@@ -8,9 +8,17 @@ from pathlib import Path
 
 from talking import Editor
 
-MODEL = """format = 1
-run = { start = "2024-03-30T00:00", step = "24h", steps = 3 }
-""" + "".join(f'[[object]]\nname = "Dam{k}"\nkind = "reservoir"\ninitial_storage = 1000\n[[object]]\nname = "Plan{k}"\nkind = "data"\nslots = [{{ name = "Least", unit = "m3/step" }}, {{ name = "Aim", unit = "m3" }}]\n' for k in range(50))
+OBJECTS = 50
+
+
+def model(count=OBJECTS):
+    """A model with so many reservoirs and as many data objects."""
+    head = 'format = 1\nrun = { start = "2024-03-30T00:00", step = "24h", steps = 3 }\n'
+    dam = '[[object]]\nname = "Dam{}"\nkind = "reservoir"\ninitial_storage = 1000\n'
+    plan = '[[object]]\nname = "Plan{}"\nkind = "data"\nslots = [{{ name = "Least", unit = "m3/step" }}, {{ name = "Aim", unit = "m3" }}]\n'
+    return head + "".join(dam.format(k) + plan.format(k) for k in range(count))
+
+
 HEAD = """# A large ruleset.
 FUNCTION Least(NUMERIC "m3/step" x) : NUMERIC "m3/step" IS
   IF MONTH(t) >= 4 AND MONTH(t) <= 6 THEN Max(x, 300 "m3/step") ELSE Min(x, 200 "m3/step") ENDIF
@@ -19,9 +27,9 @@ ENDFUNCTION
 """
 
 
-def rule(k):
-    """A rule of some lines."""
-    d = k % 50
+def rule(k, count=OBJECTS):
+    """A rule of some lines, for so many objects."""
+    d = k % count
     return [
         f'RULE "flood pool {k}":\n  IF Dam{d}.Storage[t] > 1020 "m3" THEN\n    Dam{d}.Storage[t] := 1020 "m3";\n  ENDIF\nENDRULE\n\n',
         f'RULE "plan {k}":\n  Plan{d}.Least[t] := Least(Dam{d}.Inflow[t]);\n  Plan{d}.Aim[t] := Dam{d}.Storage[t - 1 "step"] + Dam{d}.Inflow[t] * 1 "step" - 20 "m3";\nENDRULE\n\n',
@@ -33,7 +41,7 @@ def rule(k):
 def main(count=200, turns=15):
     """Measures."""
     with tempfile.TemporaryDirectory() as folder:
-        (Path(folder) / "model.toml").write_text(MODEL)
+        (Path(folder) / "model.toml").write_text(model())
         uri = f"file://{folder}/policy.rpl"
         good = HEAD + "".join(rule(k) for k in range(count))
         print(f"{count} rules, {good.count(chr(10))} lines, {len(good)} bytes")

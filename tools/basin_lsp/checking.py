@@ -1,6 +1,5 @@
 """What is wrong with a text, and what to look at in it, as an editor shows it."""
 
-import re
 
 from basin_files.inputs import read_inputs
 from basin_files.reasons import LONG, plain
@@ -71,49 +70,23 @@ def findings_of(document, model, inputs=None):
 def diagnostics_of(document, model, inputs=None, with_model=True):
     """The diagnostics of a ruleset."""
     told = findings_of(document, model, inputs)[:MOST]
-    reading = None if is_code(document) else reading_of(document, model)
-    found = [diagnostic(document, weight, finding, reading) for weight, finding in told]
+    found = [diagnostic(document, weight, finding) for weight, finding in told]
     if with_model and not model:
         found.append({"range": document.range(0, 0), "severity": TOLD, "source": "basin", "message": NO_MODEL})
     return found
 
 
-def lettered(text):
-    """Words of the tools, which have a letter for each byte, or its number, with the letters that are meant."""
-
-    def decoded(found):
-        return bytes.fromhex(found[0].replace("\\x", "")).decode("utf-8", "replace")
-
-    return re.sub(r"(?:\\x[89a-f][0-9a-f])+", decoded, text)
-
-
-def narrow(document, finding, reading):
-    """The stretch of the value that a finding begins with, where one alone within its stretch is that."""
-    named = re.match(r"`(.*?)` (?:is|measures|may have|goes)", finding.says)
-    whole = finding.span.begin, finding.span.end
-    if not named or not reading or "both sides" in finding.says:
-        return whole
-    declaration = reading.at(finding.span.begin)
-    found = {
-        (node.span.begin, node.span.end)
-        for node in (declaration.nodes() if declaration else ())
-        if whole[0] <= node.span.begin and node.span.end <= whole[1] and document.source.words(node.span) == named[1]
-    }
-    return found.pop() if len(found) == 1 else whole
-
-
-def diagnostic(document, weight, finding, reading=None):
+def diagnostic(document, weight, finding):
     """A finding as the protocol has it."""
-    begin, end = narrow(document, finding, reading)
-    says = f"{lettered(finding.whose)}: {finding.says}." if finding.whose else f"{finding.says}."
+    says = f"{finding.whose}: {finding.says}." if finding.whose else f"{finding.says}."
     hint = f"\nHint: {finding.hint}." if finding.hint else ""
     more = "".join(f"\n{line}" for line in finding.more)
     told = {
-        "range": document.range(begin, end),
+        "range": document.range(finding.span.begin, finding.span.end),
         "severity": weight,
         "code": finding.refusal.rpartition(": ")[2] or ("never" if weight == WARNING else "surprise"),
         "source": "basin",
-        "message": (lettered(says) + more + hint)[:LONGEST],
+        "message": (says + more + hint)[:LONGEST],
     }
     if finding.says.startswith("no rule calls the function"):
         told["tags"] = [UNNEEDED]

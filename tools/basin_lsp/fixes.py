@@ -74,7 +74,8 @@ def mends(document, model, finding, edits, changed):
     new = [one for one in after.findings if (one.refusal, one.says) not in old or one.says == finding.says]
     first = min(new, key=lambda one: one.span.begin, default=None)
     if not first or not is_grammar:
-        return not first or (first.says != finding.says and first.refusal.rpartition(": ")[2] != kind)
+        others = ("bad token", "bad declaration", kind)
+        return not first or (first.says != finding.says and first.refusal.rpartition(": ")[2] not in others)
     edge = min(begin for begin, _, _ in edits)
     return len([token for token in after.tokens if edge <= token.begin < first.span.begin]) >= FURTHER
 
@@ -274,12 +275,16 @@ def nearer(here, near, finding):
 
 
 def nodes_in(document, model, finding):
-    """The nodes within what a finding is of, with the outer ones first."""
+    """The nodes within what a finding is of, with the outer ones first, and then those beside it in the same form."""
+    begin, end = finding.span.begin, finding.span.end
     for declaration in read(document.source, model).ruleset.declarations:
-        if declaration.head.begin <= finding.span.begin <= declaration.end:
-            for node in declaration.nodes():
-                if finding.span.begin <= node.span.begin and node.span.end <= finding.span.end:
-                    yield node
+        if not declaration.head.begin <= begin <= declaration.end:
+            continue
+        nodes = list(declaration.nodes())
+        yield from (node for node in nodes if begin <= node.span.begin and node.span.end <= end)
+        for node in nodes:
+            if any((part.span.begin, part.span.end) == (begin, end) for part in node.parts) and not isinstance(node, trees.STATEMENTS):
+                yield from (part for part in node.parts if part.span.end <= begin or end <= part.span.begin)
 
 
 def of_values(document, model, finding):

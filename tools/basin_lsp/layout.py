@@ -3,9 +3,14 @@
 Words, names, numbers and strings stay as they are: blanks and line ends alone become other ones.
 """
 
-from basin_rules.grammar import OF_ONE, OF_TWO, CONVERSIONS
+from basin_files.program import Unable
+from basin_rules import codefile
+from basin_rules.grammar import CONVERSIONS, OF_ONE, OF_TWO
+from basin_rules.places import Source
 
-from .reading import lexed
+from .reading import lexed, read
+
+NOT_GRAMMAR = ("bad token", "bad declaration", "too many")
 
 WIDTH = 120  # letters of a line
 STEP = 2  # of indentation
@@ -30,6 +35,20 @@ class Word:
     def is_mark(self, *texts):
         """Whether it is one of these marks."""
         return self.token.is_mark(*texts)
+
+
+def layout_of(content, path):
+    """The bytes of a ruleset in its layout. `Unable` where they are code, or have a slip in their grammar."""
+    if codefile.is_code(content):
+        raise Unable(f"{path} is a file of code, which has no other layout")
+    source = Source(path, content)
+    wrong = next((one for one in read(source, None).findings if one.refusal.endswith(NOT_GRAMMAR)), None)
+    if wrong:
+        raise Unable(f"{path} {source.place(wrong.span.begin)}: {wrong.says}")
+    try:
+        return laid_out(source.text).encode("latin-1")
+    except Same:
+        raise Unable(f"{path} has no layout that says the same") from None
 
 
 def laid_out(text):
@@ -204,20 +223,34 @@ class Laying:
                 self.end()
 
     def branch(self, indent):
-        """An IF of statements."""
+        """An IF of statements, with each IF that is all that stands behind an ELSE on the line of that ELSE."""
+        ends = 1
         self.expression([self.words[self.at], *self.behind("THEN")], indent)
-        self.end()
-        self.fresh = True
-        self.statements(indent + STEP)
-        if self.word.is_mark("ELSE"):
+        self.inner(indent)
+        while self.word.is_mark("ELSE"):
             self.end()
             self.indent = indent
             self.put(self.word, False)
             self.at += 1
-            self.end()
-            self.fresh = True
-            self.statements(indent + STEP)
-        self.closing(indent)
+            if not self.goes_on():
+                self.inner(indent)
+                break
+            self.broken([self.words[self.at], *self.behind("THEN")], indent, blank=True)
+            self.inner(indent)
+            ends += 1
+        self.closing(indent, ends)
+
+    def inner(self, indent):
+        """The statements below a head."""
+        self.end()
+        self.fresh = True
+        self.statements(indent + STEP)
+
+    def goes_on(self):
+        """Whether an IF is all that stands behind the ELSE that was taken last, with no remark between them."""
+        if not self.word.is_mark("IF") or self.word.before or self.words[self.at - 1].behind:
+            return False
+        return self.words[closing_at(self.words, self.at) + 1].is_mark("ENDIF")
 
     def behind(self, end):
         """The words behind the next one up to a word."""
@@ -227,17 +260,16 @@ class Laying:
     def naming(self, indent):
         """A WITH of statements."""
         self.expression([self.words[self.at], *self.behind("DO")], indent)
-        self.end()
-        self.fresh = True
-        self.statements(indent + STEP)
+        self.inner(indent)
         self.closing(indent)
 
-    def closing(self, indent):
-        """The word that ends a form of statements."""
+    def closing(self, indent, count=1):
+        """The words that end forms of statements, in a row."""
         self.end()
         self.indent = indent
-        self.put(self.word, False)
-        self.at += 1
+        for number in range(count):
+            self.put(self.word, bool(number))
+            self.at += 1
         self.end()
 
     # ---- expressions
@@ -364,12 +396,16 @@ class Laying:
             depth = deeper(word, words[at - 1], depth)
         parts.append(words[begin:-1])
         base = self.indent if not self.line else indent
+        chained = False
         for number, part in enumerate(parts):
-            if number:
+            chained = number == 2 and is_one_if(part) and not parts[1][-1].behind
+            if number and not chained:
                 self.end()
                 self.indent = base + STEP
             *inner, last = part if number < len(parts) - 1 else [*part, None]
-            if not number:
+            if chained:
+                self.of_words(part, base, True)
+            elif not number:
                 self.head(inner, base, blank)
             else:
                 self.broken(inner, base + STEP)
@@ -378,9 +414,15 @@ class Laying:
                     self.end()
                     self.indent = base
                 self.put(last, True)
-        self.end()
-        self.indent = base
-        self.put(words[-1], False)
+        if not chained:
+            self.end()
+            self.indent = base
+        self.put(words[-1], chained)
+
+
+def is_one_if(words):
+    """Whether words are one IF with no remark before it."""
+    return bool(words) and words[0].is_mark("IF") and not words[0].before and closing_at(words, 0) == len(words) - 1
 
 
 def deeper(word, before, depth):

@@ -384,7 +384,7 @@ class Server:
                     {
                         "title": title,
                         "kind": "quickfix",
-                        "diagnostics": [checking.diagnostic(document, weight, finding, checking.reading_of(document, model))],
+                        "diagnostics": [checking.diagnostic(document, weight, finding)],
                         "isPreferred": len(offered) == 1 and weight == checking.FAULT,
                         "edit": {"changes": {document.uri: changes}},
                     }

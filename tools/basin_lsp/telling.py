@@ -141,14 +141,14 @@ def who(document, reading, model, names):
     """Lines that tell which rules set and read slots that carry one value."""
     known = facts(document, reading, model)
     if known is not None:
-        sets = [checking.lettered(rule.called) for rule in known if names & set(rule.slots())]
-        reads = [checking.lettered(rule.called) for rule in known if names & {look.slot for look in rule.looks}]
+        sets = [rule.called for rule in known if names & set(rule.slots())]
+        reads = [rule.called for rule in known if names & {look.slot for look in rule.looks}]
     else:
         sets, reads = [], []
         for use in uses(document, reading):
             if use.sort == "slot" and f"{use.whose}.{use.text}" in names:
                 whose = reading.at(use.begin)
-                called = checking.lettered(whose.called) if whose else f"line {reading.source.line(use.begin)}"
+                called = whose.called if whose else f"line {reading.source.line(use.begin)}"
                 (sets if use.sets else reads).append(called)
     lines = []
     for word, rules in (("Set by", sets), ("Read by", reads)):
@@ -170,7 +170,7 @@ def of_declaration(document, reading, model, declaration):
         text = document.source.content[declaration.head.begin : declaration.head.end].decode("utf-8", "replace")
         return f"```basin-rules\n{' '.join(text.split())}\n```\n\n{cost}"
     known = facts(document, reading, model)
-    lines = [f"**{checking.lettered(declaration.called)}**: rule 1 has the highest priority.", cost]
+    lines = [f"**{declaration.called}**: rule 1 has the highest priority.", cost]
     if known:
         rule = next((one for one in known if one.number == declaration.rule), None)
         if rule:

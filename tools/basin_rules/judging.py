@@ -338,10 +338,11 @@ class Judge:
     def hinted(
         self, wrong: Wrong | None, node: trees.Node, given: Type, asked: Type, other: trees.Node | None = None
     ) -> Wrong | None:
-        """What is wrong, with what may be meant."""
+        """What is wrong, with what may be meant, marked at the value that the hint is for."""
         if wrong:
-            of_other = meant.of_value(other, asked, given, self.source) if other else ""
-            wrong.hint = meant.best(meant.of_value(node, given, asked, self.source), of_other)
+            of_this = meant.of_value(node, given, asked, self.source)
+            wrong.hint = meant.best(of_this, meant.of_value(other, asked, given, self.source) if other else "")
+            wrong.span = other.span if other and wrong.hint != of_this else node.span
         return wrong
 
     def brackets(self, scope: Scope, node: trees.Brackets) -> Type:

@@ -126,11 +126,12 @@ class Never:
 
     def never_begin(self) -> Iterator[Finding]:
         """Rules that look at what they alone set at an earlier timestep, which isn't known at the first one."""
+        alone = self.spread(self.may_be_given(), [])
         for rule in self.rules:
             needs = [(look, -look.ahead) for look in rule.needs() if look.ahead is not None and look.ahead < 0]
             early = [look for look, ago in needs if not has_past(self.model, look.slot, ago)]
-            others = [one for one in self.rules if one is not rule]
-            given = self.spread(self.may_be_given(), others) if early else set()
+            early = [look for look in early if self.first[look.slot] not in alone]
+            given = self.spread(alone, [one for one in self.rules if one is not rule]) if early else alone
             for look in early:
                 if self.first[look.slot] not in given:
                     unless = "" if self.inputs else " (unless inputs give it)"

@@ -112,7 +112,7 @@ def rows_of_ruleset(ruleset: Ruleset, model: Model) -> list[RuleRow]:
         budget = rule.comes_to
         amounts = (budget.instructions, budget.reads, budget.puts, budget.words)
         sets = list(dict.fromkeys(setting.cell for setting in facts.settings))
-        rows.append(RuleRow(rule.rule, plain(rule.name, LONG), sets, looks, amounts))
+        rows.append(RuleRow(rule.rule, rule.shown_name, sets, looks, amounts))
     return rows
 
 

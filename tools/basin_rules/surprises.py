@@ -1,7 +1,7 @@
 """What of a policy may do something else than is meant, though nothing is wrong with it: two traps that are silent."""
 
 from collections.abc import Iterator
-from dataclasses import dataclass
+from dataclasses import dataclass, field
 
 from basin_files.dispatch import past_name
 from basin_files.formats import LEVELS
@@ -82,6 +82,13 @@ class Yielding:
 
     model: Model
     rules: list[RuleFacts]
+    settings: dict[str, list[tuple[RuleFacts, Setting]]] = field(default_factory=dict)  # by the first slot of a link
+
+    def __post_init__(self) -> None:
+        """Keeps what rules set, so that each object finds its own without going through all rules."""
+        for rule in self.rules:
+            for one in rule.settings:
+                self.settings.setdefault(self.first(one.slot), []).append((rule, one))
 
     def findings(self) -> Iterator[Finding]:
         """What may give way, each setting once."""
@@ -108,7 +115,8 @@ class Yielding:
     def setting(self, names: list[str]) -> list[RuleFacts]:
         """The rules that set one of these slots, or one that is linked with it, the highest first."""
         firsts = {self.first(name) for name in names if name in self.model.slots}
-        return [rule for rule in self.rules if firsts & {self.first(slot) for slot in rule.slots()}]
+        found = {rule.number: rule for first in firsts for rule, _ in self.settings.get(first, ())}
+        return [found[number] for number in sorted(found)]
 
     def first(self, name: str) -> str:
         """The first slot of a slot's link."""
@@ -119,8 +127,7 @@ class Yielding:
         waiting, seen = [f"{thing.name}.Inflow"], {thing.name}
         while waiting:
             first = self.first(waiting.pop())
-            for rule in self.rules:
-                yield from ((rule, one) for one in rule.settings if self.first(one.slot) == first and not one.ahead)
+            yield from ((rule, one) for rule, one in self.settings.get(first, ()) if not one.ahead)
             for slot in self.model.group(first):
                 owner = self.model.owner(slot)
                 if owner.name not in seen and not past_name(owner) and owner.kind not in ("data", "water_user"):

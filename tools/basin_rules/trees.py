@@ -245,7 +245,12 @@ class Declaration:
     @property
     def called(self) -> str:
         """The declaration for people to read."""
-        return f'rule {self.rule} "{plain(self.name, LONG)}"' if self.is_rule else f"function {self.name}"
+        return f'rule {self.rule} "{self.shown_name}"' if self.is_rule else f"function {self.name}"
+
+    @property
+    def shown_name(self) -> str:
+        """The name for people to read: its bytes as letters."""
+        return plain(self.name.encode("latin-1").decode("utf-8", "backslashreplace"), LONG)
 
     def nodes(self) -> Iterator[Node]:
         """All its nodes, in the order of their numbers."""
