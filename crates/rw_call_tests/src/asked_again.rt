@@ -9,15 +9,14 @@ ghost use Rattle.rw_rerun.specs.Session.{IsSessionOf};
 use crate::methods::{all_methods, predefs};
 use crate::shared::{basin, has_bytes, lasting};
 use rpl_code::read_code;
-use rpl_machine::Machine;
 use rpl_predef::Predefs;
 use rpl_verify::{Verified, verify};
 use rw_base::{Blank, Ledger, NoMemory, Steps};
+use rw_calls::{Session, run_all};
 use rw_inputs::{Batch, read_edits, read_inputs};
 use rw_method::Catalogue;
 use rw_model::Basin;
 use rw_report::section;
-use rw_rerun::Session;
 use std::alloc::Global;
 use std::marker::Brand;
 use std::mem::drop;
@@ -197,26 +196,25 @@ fn accepted<'a>(rt: &impl Abort, alloc: Global, basin: &Basin, text: &str) -> &'
 fn apply<L: Ledger>(
     rt: &impl Abort,
     basin: &Basin,
-    machine: &mut Machine,
     session: &mut Session<'_>,
     batch: &Batch,
     steps: &mut Steps<L>,
 )
-    requires basin { session.old.setup.basin.now ≡ basin.now }
-    requires made { IsSessionOf session.old.setup.basin.now session.old.setup.policy.now
-        session.old.state }
+    requires basin { session.old.session.setup.basin.now ≡ basin.now }
+    requires made { IsSessionOf session.old.session.setup.basin.now session.old.session.setup.policy.now
+        session.old.session.state }
     requires order { AreInOrder
-        (map (λ b. code (b.vtable, b.value)) session.old.setup.methods.now.methods.items) }
+        (map (λ b. code (b.vtable, b.value)) session.old.session.setup.methods.now.methods.items) }
     requires batch { IsBatch basin.now batch.now }
-    ensures basin { session.new.setup.basin.now ≡ basin.now }
-    ensures made { IsSessionOf session.new.setup.basin.now session.new.setup.policy.now
-        session.new.state }
+    ensures basin { session.new.session.setup.basin.now ≡ basin.now }
+    ensures made { IsSessionOf session.new.session.setup.basin.now session.new.session.setup.policy.now
+        session.new.session.state }
     ensures order { AreInOrder
-        (map (λ b. code (b.vtable, b.value)) session.new.setup.methods.now.methods.items) }
+        (map (λ b. code (b.vtable, b.value)) session.new.session.setup.methods.now.methods.items) }
 {
-    match session.apply(machine, batch, steps) {
+    match session.apply(batch, steps) {
         Ok(()) => {}
-        Err(NoMemory) => match session.apply(machine, batch, steps) {
+        Err(NoMemory) => match session.apply(batch, steps) {
             Ok(()) => {}
             Err(NoMemory) => panic!(rt; "refused once more"),
         },
@@ -232,11 +230,19 @@ fn is_told(
     session: &Session<'_>,
     want: &str,
 ) -> bool {
-    let run = session.run();
+    let run = session.session.run();
     if basin.control().stamps.count() < run.closed {
         return false;
     }
-    match section(alloc, basin, batch, run, Some(session.reran()), true, true) {
+    match section(
+        alloc,
+        basin,
+        batch,
+        run,
+        Some(session.session.reran()),
+        true,
+        true,
+    ) {
         Ok(text) => has_bytes(&text, want),
         Err(NoMemory) => panic!(rt; "memory"),
     }
@@ -246,26 +252,25 @@ fn check_batches<L: Ledger>(
     rt: &impl Abort,
     alloc: Global,
     basin: &Basin,
-    machine: &mut Machine,
     session: &mut Session<'_>,
     batches: &[Batch],
     steps: &mut Steps<L>,
 )
-    requires basin { session.old.setup.basin.now ≡ basin.now }
-    requires made { IsSessionOf session.old.setup.basin.now session.old.setup.policy.now
-        session.old.state }
+    requires basin { session.old.session.setup.basin.now ≡ basin.now }
+    requires made { IsSessionOf session.old.session.setup.basin.now session.old.session.setup.policy.now
+        session.old.session.state }
     requires order { AreInOrder
-        (map (λ b. code (b.vtable, b.value)) session.old.setup.methods.now.methods.items) }
+        (map (λ b. code (b.vtable, b.value)) session.old.session.setup.methods.now.methods.items) }
     requires batches { All (IsBatch basin.now) batches.now }
 {
     assert!(rt; batches.len() == 4);
-    apply(rt, basin, machine, session, &batches[0], steps);
+    apply(rt, basin, session, &batches[0], steps);
     assert!(rt; is_told(rt, alloc, basin, 1, session, SECOND_DAY));
-    apply(rt, basin, machine, session, &batches[1], steps);
+    apply(rt, basin, session, &batches[1], steps);
     assert!(rt; is_told(rt, alloc, basin, 2, session, BOTH_DAYS));
-    apply(rt, basin, machine, session, &batches[2], steps);
+    apply(rt, basin, session, &batches[2], steps);
     assert!(rt; is_told(rt, alloc, basin, 3, session, NO_DAY));
-    apply(rt, basin, machine, session, &batches[3], steps);
+    apply(rt, basin, session, &batches[3], steps);
     assert!(rt; is_told(rt, alloc, basin, 4, session, OVERDRAWN));
 }
 
@@ -276,7 +281,6 @@ fn check_session<L: Ledger>(
     methods: &Catalogue,
     policy: &Verified,
     predefs: &Predefs,
-    machine: &mut Machine,
     steps: &mut Steps<L>,
 )
     requires fits { verified basin.now policy.now.blocks ≡ Ok policy.now }
@@ -284,11 +288,16 @@ fn check_session<L: Ledger>(
 {
     let inputs = read_inputs(alloc, basin, INFLOWS.as_bytes()).expect(rt, "inputs");
     let batches = read_edits(alloc, basin, EDITS.as_bytes()).expect(rt, "edits");
-    match Session::start(
-        alloc, basin, methods, policy, predefs, machine, inputs, true, steps,
-    ) {
+    match run_all(alloc, basin, methods, policy, predefs, &inputs, steps) {
+        Ok(run) => {
+            assert!(rt; run.closed == 2);
+            drop(run);
+        }
+        Err(NoMemory) => panic!(rt; "memory"),
+    }
+    match Session::start(alloc, basin, methods, policy, predefs, inputs, true, steps) {
         Ok(mut session) => {
-            check_batches(rt, alloc, basin, machine, &mut session, &batches, steps);
+            check_batches(rt, alloc, basin, &mut session, &batches, steps);
             drop(session);
         }
         Err(NoMemory) => panic!(rt; "memory"),
@@ -302,7 +311,6 @@ fn check<L: Ledger>(
     blank: Blank,
     methods: &Catalogue,
     predefs: &Predefs,
-    machine: &mut Machine,
 )
     requires name { blank.name ≡ L.name }
     requires parts { blank.parts ≡ L.parts }
@@ -312,23 +320,13 @@ fn check<L: Ledger>(
     let mut steps = Steps::<L>::of(blank);
     let basin = basin(rt, alloc, DAM);
     let policy = accepted(rt, alloc, basin, CAP_AND_BASE);
-    check_session(
-        rt, alloc, basin, methods, policy, predefs, machine, &mut steps,
-    );
+    check_session(rt, alloc, basin, methods, policy, predefs, &mut steps);
 }
 
 #[test]
 fn a_refused_batch_is_applied_once_more(rt: HostRuntime) -> Result<(), Fail> {
     let methods = Catalogue::of(all_methods(rt.alloc())?).expect(&rt, "a catalogue");
     let predefs = predefs(rt.alloc())?;
-    let mut machine = Machine::new(rt.alloc());
-    check::<Brand>(
-        &rt,
-        rt.alloc(),
-        Blank::new(1),
-        &methods,
-        &predefs,
-        &mut machine,
-    );
+    check::<Brand>(&rt, rt.alloc(), Blank::new(1), &methods, &predefs);
     Ok(())
 }

@@ -6,11 +6,11 @@ ghost use Rattle.rw_method.specs.Catalogue.{AreInOrder};
 ghost use Rattle.rw_model.specs.Turn.{IsStep};
 
 use crate::shared::{basin, lasting, none_is_wrong};
-use rpl_machine::Machine;
 use rpl_predef::Predefs;
 use rpl_verify::Verified;
 use rw_base::{Ledger, NoMemory, StepNo, Steps};
-use rw_engine::{Engine, Held, StepEnd, StepRecord};
+use rw_calls::Engine;
+use rw_engine::{Held, StepEnd, StepRecord};
 use rw_inputs::read_inputs;
 use rw_method::Catalogue;
 use rw_model::Basin;
@@ -63,7 +63,7 @@ fn check_record(rt: &impl Abort, kept: &StepRecord) {
 
 // The record of the timestep that an engine closed last.
 fn last_record<'a>(rt: &impl Abort, alloc: Global, engine: &Engine) -> &'a StepRecord {
-    match engine.last_record(alloc) {
+    match engine.engine.last_record(alloc) {
         Ok(Some(kept)) => lasting(rt, alloc, kept),
         _ => panic!(rt; "no record"),
     }
@@ -72,7 +72,7 @@ fn last_record<'a>(rt: &impl Abort, alloc: Global, engine: &Engine) -> &'a StepR
 // An engine of the inputs, for which there is memory, and which is never freed.
 fn begun<'a>(rt: &impl Abort, alloc: Global, basin: &Basin, policy: &Verified) -> &'a mut Engine
     requires { verified basin.now policy.now.blocks ≡ Ok policy.now }
-    ensures { IsEngineOf basin.now policy.now result.now }
+    ensures { IsEngineOf basin.now policy.now result.now.engine }
 {
     let Ok(inputs) = read_inputs(alloc, basin, INPUTS.as_bytes()) else {
         panic!(rt; "no inputs")
@@ -92,16 +92,15 @@ fn pass<L: Ledger>(
     methods: &Catalogue,
     policy: &Verified,
     predefs: &Predefs,
-    machine: &mut Machine,
     engine: &mut Engine,
     steps: &mut Steps<L>,
 ) -> Result<StepEnd, NoMemory>
-    requires made { IsEngineOf basin.now policy.now engine.old }
+    requires made { IsEngineOf basin.now policy.now engine.old.engine }
     requires order { AreInOrder (map (λ b. code (b.vtable, b.value)) methods.now.methods.items) }
     requires day { IsStep basin.now 1 }
     ensures { IsErr result → steps.new ≡ steps.old }
 {
-    engine.run_step(basin, methods, policy, predefs, machine, StepNo(1), steps)
+    engine.run_step(basin, methods, policy, predefs, StepNo(1), steps)
 }
 
 /// Tests that the record of a day has what the lake looked at, and what its puts reached.
@@ -110,7 +109,6 @@ pub(crate) fn check_records<L: Ledger>(
     alloc: Global,
     methods: &Catalogue,
     predefs: &Predefs,
-    machine: &mut Machine,
     steps: &mut Steps<L>,
 )
     requires { AreInOrder (map (λ b. code (b.vtable, b.value)) methods.now.methods.items) }
@@ -119,7 +117,7 @@ pub(crate) fn check_records<L: Ledger>(
     assert!(rt; basin.control().stamps.count() == 3);
     let none = lasting(rt, alloc, Verified::none(alloc));
     let engine = begun(rt, alloc, basin, none);
-    match pass(basin, methods, none, predefs, machine, engine, steps) {
+    match pass(basin, methods, none, predefs, engine, steps) {
         Ok(StepEnd::Closed) => check_record(rt, last_record(rt, alloc, engine)),
         _ => panic!(rt; "the first day isn't closed"),
     }

@@ -118,7 +118,7 @@ fn check<L: Ledger>(
 {
     let mut steps = Steps::<L>::of(blank);
     check_lines(rt, run(rt, alloc, methods, predefs, machine, &mut steps));
-    check_records(rt, alloc, methods, predefs, machine, &mut steps);
+    check_records(rt, alloc, methods, predefs, &mut steps);
 }
 
 #[test]
