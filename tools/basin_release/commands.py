@@ -130,7 +130,7 @@ def manual(guide: str, version: str, day: str) -> str:
         "The folder in which the program is installed has the guide (\\fIdocs/GUIDE.md\\fR), the references",
         "(\\fIdocs/FORMATS.md\\fR, \\fIdocs/LANGUAGE.md\\fR), \\fIexamples\\fR, scripts (\\fItools\\fR), and",
         "\\fIPROOF.txt\\fR, which says what was proved. The Debian package has it at \\fI/usr/lib/basin\\fR, and",
-        "each script as a command of its own: \\fBbasin\\-doctor\\fR, \\fBbasin\\-inputs\\fR and so on.",
+        "each script as a command of its own: \\fBbasin\\-doctor\\fR, \\fBbasin\\-require\\fR and so on.",
         ".SH EXAMPLES", ".EX",
         "basin simulate examples/one\\-reservoir/model.toml examples/one\\-reservoir/inputs.csv", ".EE",
     ]
