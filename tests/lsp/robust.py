@@ -13,7 +13,7 @@ from talking import TOP, Editor, edited
 sys.path[:0] = [str(TOP / "tools"), str(TOP / "tests" / "mutated")]
 import rulesets  # noqa: E402
 
-WORDS = ("hover", "completion", "definition", "documentHighlight", "prepareRename")
+WORDS = ("hover", "completion", "definition", "documentHighlight", "prepareRename", "references", "signatureHelp")
 
 
 def refusal(program, folder, text):
@@ -36,8 +36,10 @@ def tried(editor, uri, text, draw, fixes=True):
         if isinstance(answer, dict) and "error" in answer and answer["error"]["code"] != -32803:
             errors.append((word, answer))
     line, column = len(lines) - 1, len(lines[-1].encode("utf-16-le")) // 2
-    for word in ("semanticTokens/full", "documentSymbol", "formatting"):
-        extra = {"options": {"tabSize": 2, "insertSpaces": True}} if word == "formatting" else {}
+    whole = {"start": {"line": 0, "character": 0}, "end": {"line": line, "character": column}}
+    for word in ("semanticTokens/full", "documentSymbol", "formatting", "rangeFormatting", "inlayHint", "codeLens"):
+        extra = {"options": {"tabSize": 2, "insertSpaces": True}} if "ormatting" in word else {}
+        extra |= {"range": whole} if word in ("rangeFormatting", "inlayHint") else {}
         answer = editor.of(f"textDocument/{word}", uri, **extra)
         if isinstance(answer, dict) and "error" in answer:
             errors.append((word, answer))

@@ -8,15 +8,17 @@ MODIFIERS = ("declaration", "modification", "defaultLibrary", "readonly")
 SORTS = {"object": "class", "slot": "property", "local": "variable", "predefined": "function", "rule": "string"}
 
 
-def colours_of(document):
-    """The colours as the protocol wants them: each relative to the one before it."""
+def colours_of(document, words=()):
+    """The colours as the protocol wants them: each relative to the one before it. `words` are keywords besides."""
     tokens, comments, _ = lexed(document.source.text)
     uses = {one.begin: one for one in document.keep("uses", lambda: uses_of(tokens))}
     found = [(one.begin, one.end, "comment", 0) for one in comments]
     for token in tokens:
         use = uses.get(token.begin)
         marks = 0
-        if use:
+        if token.kind == "name" and token.text in words:
+            sort = "keyword"
+        elif use:
             sort = SORTS.get(use.sort, use.sort)
             marks = use.makes | use.sets << 1 | (use.sort == "predefined") << 2
         elif token.kind == "mark":

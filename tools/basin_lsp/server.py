@@ -16,11 +16,12 @@ from basin_files.program import Unable, built
 from basin_files.reasons import LONG, plain
 
 from basin_rules.findings import Finding
-from basin_rules.places import Span
+from basin_rules.places import Source, Span
 
-from . import checking, colours, completing, fixes, models, renaming, telling
+from . import beside, checking, colours, completing, fixes, hints, models, renaming, telling
 from .documents import Document, path_of, uri_of
 from .layout import Same, laid_out
+from .reading import read
 from .wire import (
     CANCELLED,
     INTERNAL_ERROR,
@@ -35,7 +36,7 @@ from .wire import (
 PATIENCE = 0.05  # seconds without a change, before diagnostics are told
 LONGEST_RUN = 60  # seconds of the program
 REFUSED_MODEL, REFUSED_RULES, REFUSED_CODE = 6, 7, 9
-VERSION = "pilot"
+VERSION = "1"
 
 
 class Server:
@@ -205,6 +206,15 @@ class Server:
         name = document.path.name if document.path else document.uri
         return models.is_like_model(name, document.text) or (document.language == "toml" and "[[object]]" in document.text)
 
+    def sort(self, document):
+        """What a text is: a model, rules, code, requirements or inputs."""
+        return beside.MODEL if self.is_model(document) else beside.sort_of(document)
+
+    def rules_of(self, params):
+        """The ruleset of a request, or `None` where its text is something else."""
+        document = self.document(params)
+        return document if self.sort(document) == beside.RULES else None
+
     def on_disk(self, path):
         """The text of a file, as it is open or as it stands in the folder; `None` where there is none."""
         path = Path(path)
@@ -250,14 +260,15 @@ class Server:
         return found.content if found else None
 
     def rulesets(self, model_document):
-        """The rulesets of a model: those that are open, and those in its folder."""
+        """The rulesets and requirements of a model: those that are open, and those in its folder."""
         found = [one for one in self.documents.values() if not self.is_model(one) and self.model_document(one) is model_document]
         paths = {one.path for one in found}
         if model_document and model_document.path:
-            for path in sorted(model_document.path.parent.glob("*.rpl")):
+            folder = model_document.path.parent
+            for path in sorted([*folder.glob("*.rpl"), *folder.glob("*.require")]):
                 if path not in paths and (one := self.on_disk(path)) and self.model_document(one) is model_document:
                     found.append(one)
-        return [one for one in found if not checking.is_code(one)]
+        return [one for one in found if beside.sort_of(one) in (beside.RULES, beside.REQUIREMENTS)]
 
     # ---- diagnostics
 
@@ -282,13 +293,15 @@ class Server:
         if document.version is not None:
             told["version"] = document.version
         self.wire.tell("textDocument/publishDiagnostics", told)
-        if again and not self.is_model(document):
+        if again and self.sort(document) in (beside.RULES, beside.CODE):
             self.begin_judging(document)
 
     def found(self, document):
         """The diagnostics of a text."""
         if self.is_model(document):
             return checking.diagnostics_of_model(document)
+        if self.sort(document) in (beside.REQUIREMENTS, beside.INPUTS):
+            return beside.diagnostics_of(document, self.model(document), self.model_document(document))
         return checking.diagnostics_of(document, self.model(document), self.inputs(document))
 
     def begin_judging(self, document):
@@ -346,6 +359,10 @@ class Server:
                 "documentHighlightProvider": True,
                 "documentSymbolProvider": True,
                 "documentFormattingProvider": True,
+                "documentRangeFormattingProvider": True,
+                "inlayHintProvider": True,
+                "codeLensProvider": {},
+                "signatureHelpProvider": {"triggerCharacters": ["(", ","]},
                 "renameProvider": {"prepareProvider": True},
                 "codeActionProvider": {"codeActionKinds": ["quickfix"]},
                 "semanticTokensProvider": {
@@ -362,8 +379,8 @@ class Server:
 
     def fix(self, params):
         """The changes that hints mean, for what is wrong in a stretch."""
-        document = self.document(params)
-        if self.is_model(document) or checking.is_code(document):
+        document = self.rules_of(params)
+        if not document:
             return []
         only = params.get("context", {}).get("only")
         if only and not any("quickfix".startswith(one) for one in only):
@@ -399,7 +416,10 @@ class Server:
         byte = document.byte(params["position"])
         if self.is_model(document):
             return completing.completions_of_model(document, byte)
-        if checking.is_code(document):
+        sort = self.sort(document)
+        if sort in (beside.REQUIREMENTS, beside.INPUTS):
+            return beside.completions(document, self.model(document), byte)
+        if sort == beside.CODE:
             return []
         return completing.completions(document, self.model(document), byte)
 
@@ -409,6 +429,8 @@ class Server:
         byte = document.byte(params["position"])
         if self.is_model(document):
             found = telling.hover_model(document, byte)
+        elif self.sort(document) in (beside.REQUIREMENTS, beside.INPUTS):
+            found = beside.hover(document, self.model(document), byte)
         else:
             found = None if checking.is_code(document) else telling.hover(document, self.model(document), byte)
         if not found:
@@ -424,6 +446,8 @@ class Server:
             return document, telling.use_at(models.places_of(document), byte), document
         if checking.is_code(document):
             return document, None, None
+        if self.sort(document) == beside.INPUTS:
+            return document, telling.use_at(beside.places_of(document), byte), self.model_document(document)
         return document, telling.use_at(renaming.uses_in(document), byte), self.model_document(document)
 
     def define(self, params):
@@ -458,8 +482,11 @@ class Server:
     def highlight(self, params):
         """The places of a name in its own text."""
         document, use, _ = self.key_at(params)
-        if not use or self.is_model(document) or use.key == ("local", -1):
+        if not use or use.key == ("local", -1):
             return []
+        if self.is_model(document) or self.sort(document) == beside.INPUTS:
+            places = models.places_of(document) if self.is_model(document) else beside.places_of(document)
+            return [{"range": document.range(one.begin, one.end), "kind": 2 + one.makes} for one in places if one.key == use.key]
         found = renaming.others_with(document, use.key)
         return [{"range": document.range(one.begin, one.end), "kind": 3 if one.sets or one.makes else 2} for one in found]
 
@@ -495,9 +522,11 @@ class Server:
         if use.sort in ("object", "slot") and model and model.path:
             for path in sorted(model.path.parent.glob("*.csv")):
                 where = self.on_disk(path)
-                if where and "slot" in where.text.split("\n", 1)[0].strip().split(","):
-                    for begin, end in renaming.rows_with(where.content, use.key):
-                        changes.setdefault(where.uri, []).append({"range": where.range(begin, end), "newText": new})
+                if not where:
+                    continue
+                is_long = "slot" in where.text.split("\n", 1)[0].strip().split(",")
+                for begin, end in (renaming.rows_with if is_long else beside.headings_with)(where.content, use.key):
+                    changes.setdefault(where.uri, []).append({"range": where.range(begin, end), "newText": new})
         return {"changes": changes}
 
     def symbols(self, params):
@@ -505,6 +534,8 @@ class Server:
         document = self.document(params)
         if self.is_model(document):
             return self.symbols_of_model(document)
+        if self.sort(document) in (beside.REQUIREMENTS, beside.INPUTS):
+            return beside.symbols(document)
         if checking.is_code(document):
             return []
         reading = checking.reading_of(document, self.model(document))
@@ -536,20 +567,56 @@ class Server:
             found.append({"name": place.text or "-", "kind": 5, "detail": thing.kind if thing else "", "range": whole, "selectionRange": where, "children": slots})
         return found
 
+    def layout(self, params):
+        """A ruleset, and its layout; `None` for it where there is none."""
+        document = self.rules_of(params)
+        if not document:
+            return None, None
+        kinds = ("bad token", "bad declaration", "too many")
+        if any(one.refusal.endswith(kinds) for one in checking.reading_of(document, self.model(document)).findings):
+            return document, None
+        try:
+            return document, laid_out(document.source.text).encode("latin-1").decode()
+        except Same:
+            return document, None
+
     def format(self, params):
         """The layout of a ruleset; nothing where its grammar isn't in order."""
-        document = self.document(params)
-        if self.is_model(document) or checking.is_code(document):
+        document, text = self.layout(params)
+        return self.rows_changed(document, text) if text is not None and text != document.text else []
+
+    def format_range(self, params):
+        """The layout of the declarations in a range."""
+        document, text = self.layout(params)
+        if text is None:
             return []
-        reading = checking.reading_of(document, self.model(document))
-        kinds = ("bad token", "bad declaration")
-        if any(one.refusal.endswith(kinds) for one in reading.findings):
+        begin, end = (document.byte(params["range"][one]) for one in ("start", "end"))
+        old = checking.reading_of(document, self.model(document)).ruleset.declarations
+        new = read(Source("", text.encode()), None)
+        found = []
+        for one, other in zip(old, new.ruleset.declarations, strict=True):
+            piece = new.source.content[other.head.begin : other.end].decode()
+            if one.head.begin <= end and begin <= one.end and document.source.content[one.head.begin : one.end].decode() != piece:
+                found.append({"range": document.range(one.head.begin, one.end), "newText": piece})
+        return found
+
+    def hint(self, params):
+        """The units of names that are made within a range, and of slots that are set."""
+        document = self.rules_of(params)
+        if not document:
             return []
-        try:
-            text = laid_out(document.source.text).encode("latin-1").decode()
-        except Same:
-            return []
-        return [] if text == document.text else self.rows_changed(document, text)
+        begin, end = (document.byte(params["range"][one]) for one in ("start", "end"))
+        return hints.hints_of(document, self.model(document), begin, end)
+
+    def lens(self, params):
+        """What each rule costs."""
+        document = self.rules_of(params)
+        return hints.lenses_of(document, self.model(document)) if document else []
+
+    def sign(self, params):
+        """What the call takes at a place."""
+        document = self.rules_of(params)
+        return hints.signature_at(document, self.model(document), document.byte(params["position"])) if document else None
 
     def rows_changed(self, document, text):
         """One change, of the rows alone that become others, so that the cursor stays where it was."""
@@ -572,7 +639,8 @@ class Server:
     def colour(self, params):
         """What each token is."""
         document = self.document(params)
-        return {"data": [] if self.is_model(document) or checking.is_code(document) else colours.colours_of(document)}
+        words = beside.WORDS if self.sort(document) == beside.REQUIREMENTS else ()
+        return {"data": colours.colours_of(document, words) if words or self.sort(document) == beside.RULES else []}
 
 
 class Judging:
@@ -661,6 +729,10 @@ ASKED = {
     "textDocument/rename": Server.rename,
     "textDocument/documentSymbol": Server.symbols,
     "textDocument/formatting": Server.format,
+    "textDocument/rangeFormatting": Server.format_range,
+    "textDocument/inlayHint": Server.hint,
+    "textDocument/codeLens": Server.lens,
+    "textDocument/signatureHelp": Server.sign,
     "textDocument/semanticTokens/full": Server.colour,
 }
 NOTICED = {
