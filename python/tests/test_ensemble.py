@@ -245,6 +245,11 @@ def is_at_work(process: int) -> bool:
         return False
 
 
+def heed() -> None:
+    """Has a program heed SIGINT: what a shell starts in the background ignores it."""
+    signal.signal(signal.SIGINT, signal.SIG_DFL)
+
+
 @pytest.mark.parametrize("number", [signal.SIGTERM, signal.SIGINT])
 def test_what_is_asked_to_end_ends_its_workers(tmp_path: Path, number: signal.Signals) -> None:
     begun, program, rooms = tmp_path / "begun", tmp_path / "basin", tmp_path / "rooms"
@@ -260,7 +265,7 @@ def test_what_is_asked_to_end_ends_its_workers(tmp_path: Path, number: signal.Si
     path = os.pathsep.join(str(TOP / name) for name in ("python", "tools"))
     environment = {**os.environ, "PYTHONPATH": path, "TMPDIR": str(rooms)}
     words = [sys.executable, "-m", "basin", "run", str(told.folder), "--workers", "2"]
-    with subprocess.Popen(words, env=environment, stderr=subprocess.DEVNULL) as running:
+    with subprocess.Popen(words, env=environment, stderr=subprocess.DEVNULL, preexec_fn=heed) as running:
         while (len(list(begun.iterdir())) < 2 or len(told.missing()) > 2) and running.poll() is None:
             time.sleep(0.05)
         workers = below({running.pid}) - {running.pid}
@@ -272,7 +277,7 @@ def test_what_is_asked_to_end_ends_its_workers(tmp_path: Path, number: signal.Si
     took = time.monotonic() - asked
     programs = {int(file.name) for file in begun.iterdir()}
     assert len(programs) == 2 and programs <= workers
-    assert running.returncode == 128 + number and took < 5  # a busy machine takes longer than a second
+    assert running.returncode == 128 + number and took < 20  # a busy machine takes longer than a second
     assert not list(rooms.iterdir()) and [file.name for file in (told.folder / "parts").iterdir()] == ["00000.nc"]
     program.write_text(f'#!/bin/sh\nexec {real} "$@"\n')
     assert [done.part for done in ensemble.execute(told, workers=0)] == [1, 2]

@@ -18,7 +18,7 @@ CALLS = {
     "effect": [*VALLEY],
 }
 STATUS = {signal.SIGTERM: 143, signal.SIGINT: 130}
-LONGEST = 5  # seconds; a busy machine takes longer than one
+LONGEST = 20  # seconds; a busy machine takes longer than one
 PATIENCE = 60  # seconds
 
 
@@ -38,7 +38,9 @@ def wrong_with(tool: str, words: list[str], number: signal.Signals, folder: Path
     program.write_text(f"#!/bin/sh\necho $$ > {name}.new && mv {name}.new {name}\nexec sleep 300\n")
     program.chmod(0o755)
     environment = {**os.environ, "BASIN": str(program), "TMPDIR": str(room)}
-    with subprocess.Popen([TOP / "tools" / tool, *words], cwd=room, env=environment, stderr=subprocess.DEVNULL) as running:
+    with subprocess.Popen(
+        [TOP / "tools" / tool, *words], cwd=room, env=environment, stderr=subprocess.DEVNULL, preexec_fn=heed
+    ) as running:
         has_begun = until(begun.exists)
         running.send_signal(number)
         asked = monotonic()
@@ -53,6 +55,11 @@ def wrong_with(tool: str, words: list[str], number: signal.Signals, folder: Path
     if not has_begun or not has_ended or took > LONGEST:
         return f"begun {has_begun}, ended {has_ended}, after {took:.1f} seconds"
     return None if running.returncode == STATUS[number] and not left else f"status {running.returncode}, and leaves {left}"
+
+
+def heed() -> None:
+    """Has a program heed SIGINT: what a shell starts in the background ignores it."""
+    signal.signal(signal.SIGINT, signal.SIG_DFL)
 
 
 def until(holds: Callable[[], bool]) -> bool:

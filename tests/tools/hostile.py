@@ -88,7 +88,7 @@ CALLS = {
         "{model} {policy} {inputs} {required} --show",
     ],
     "restart": ["{model} {table} --policy {policy}", "{model} {table} --step 1 --inputs {inputs} --edits {edits} --batch 1"],
-    "rules": ["{model} {policy}", "{model} {policy} --csv", "{model} {policy} --code", "--format --check {policy} {model}"],
+    "rules": ["{model} {policy}", "{model} {policy} --csv", "{model} {policy} --code", "--format --check {policy}"],
     "slots": ["{model} {inputs}", "{model} --csv"],
     "table": ["{table} --model {model} --long", "{table} --model {model} --unit {name} --wanted {name}={name}"],
     "why": ["{model} {policy} {inputs} Dam.Outflow 1", "{model} {policy} {inputs} {name} 1"],
