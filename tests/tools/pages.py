@@ -17,7 +17,7 @@ from packages import may_lack
 TOP = Path(__file__).resolve().parents[2]
 PROGRESS = re.compile(rb"^[a-z]+: \.\. .*\n", re.MULTILINE)  # what a busy machine adds to the error stream
 TYPED = re.compile(r"^    ((?:\./basin (?!--)|tools/|sed |echo |tail ).*)$", re.MULTILINE)
-ASIDE = re.compile(r"NAME|^rt |^\.ci/")
+ASIDE = re.compile(r"NAME|^rt |^\.ci/|^tools/web ")
 DRAWS = (("tools/map", "dot", "graphviz"), ("tools/plot", "gnuplot", "gnuplot"))  # a tool, its program, and the package of that
 
 
