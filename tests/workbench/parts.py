@@ -13,6 +13,7 @@ TOP = Path(__file__).resolve().parents[2]
 sys.path.insert(0, str(TOP / "tools"))
 os.environ["BASIN"] = str(Path(sys.argv[1]).resolve()) if len(sys.argv) > 1 else str(TOP / "crates/basin/out/basin")
 
+from basin_files.model import Model  # noqa: E402
 from basin_report.story import Teller  # noqa: E402
 from basin_workbench import modelling, running  # noqa: E402
 
@@ -30,11 +31,18 @@ def of_texts(texts: dict[str, str]) -> running.Texts:
     return running.Texts(texts["model"], texts.get("policy"), texts["inputs"])
 
 
+def good(texts: dict[str, str]) -> Model:
+    """The model, with which nothing is wrong."""
+    model = running.good(texts["model"])
+    assert model
+    return model
+
+
 def of_walks(texts: dict[str, str]) -> Iterator[tuple[str, bool]]:
     """The near walk and the whole one."""
-    model = running.good(texts["model"])
+    model = good(texts)
     _, walk, _ = running.walk_of(running.Runner(), of_texts(texts), "whole")
-    count = model.timesteps.count
+    count = model.run.count
     for step in sorted(random.Random(1).sample(range(1, count + 1), min(STEPS, count))):
         whole = Teller(model, walk).story(max(1, step - model.ahead), step, 10**9).text
         yield f"why at {step}", json.loads(whole) == json.loads(running.why(running.Runner(), of_texts(texts), step))
@@ -42,7 +50,7 @@ def of_walks(texts: dict[str, str]) -> Iterator[tuple[str, bool]]:
 
 def of_changes(texts: dict[str, str]) -> Iterator[tuple[str, bool]]:
     """Changes of the model."""
-    model, runner = running.good(texts["model"]), running.Runner()
+    model, runner = good(texts), running.Runner()
     before = running.ran(runner, of_texts(texts))[1].partition(b"\n# flags")[0].split(b"\n")
     for thing in model.objects:
         after = modelling.changed(texts, {"act": "rename", "object": thing.name, "name": "Renamed_"})["texts"]

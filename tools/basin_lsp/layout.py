@@ -37,7 +37,7 @@ class Word:
         return self.token.is_mark(*texts)
 
 
-def layout_of(content, path):
+def layout_of(content: bytes, path: str) -> bytes:
     """The bytes of a ruleset in its layout. `Unable` where they are code, or have a slip in their grammar."""
     if codefile.is_code(content):
         raise Unable(f"{path} is a file of code, which has no other layout")
